@@ -1,0 +1,162 @@
+-- The text of a run: replies by session, then the order of moments.
+use Rattle.std.specs.Prelude.{ℕ, ℤ, pos, negsuc, suc, zero, Bool, true, false, ◌==◌, ◌&&◌, ◌||◌, ◌+◌, ◌-◌, ◌*◌, ◌/◌, ◌%◌, ◌^◌, List, [], ◌∷◌, ◌++◌, length, codes, map, replicate, nat_lt, slice_get, slice_index_or, unwrap_or, Option, Some, None, if◌then◌else◌}
+use Rattle.std.specs.List.{join_with_byte, flat_map}
+use Rattle.std.specs.Option.{option_and_then}
+use Rattle.std.specs.Fmt.{decimal, signed_decimal}
+use Rattle.hex.specs.Hex.{encode_lower}
+use Rattle.tuple_codec.specs.declared.answers.Answer.{Answer}
+use Rattle.tuple_codec.specs.declared.values.SqlType.{SqlType}
+use Rattle.tuple_codec.specs.declared.values.SqlType.TheVariants as kind
+use Rattle.tuple_codec.specs.declared.values.Value.{Value}
+use Rattle.tuple_codec.specs.declared.values.Value.TheVariants as cell
+use Rattle.script_text.specs.declared.outputs.RunText.{RunText}
+use Rattle.script_text.specs.declared.replies.Reply.{Reply}
+use Rattle.script_text.specs.declared.replies.Reply.TheVariants.{Done, Count, Rows, Refused}
+use Rattle.script_text.specs.declared.scripts.Moment.{Moment}
+
+abbrev pub newline : List ℕ
+newline = 10 ∷ []
+
+-- a text between quotes: a quote, a backslash, a line feed, a carriage return and a zero byte are escaped
+abbrev pub escaped_byte : ℕ → List ℕ
+escaped_byte byte =
+    if byte == 39 then codes "\\'" else (
+    if byte == 92 then codes "\\\\" else (
+    if byte == 10 then codes "\\n" else (
+    if byte == 13 then codes "\\r" else (
+    if byte == 0 then codes "\\0" else
+    byte ∷ []))))
+
+abbrev pub quoted : List ℕ → List ℕ
+quoted bytes = codes "'" ++ flat_map escaped_byte bytes ++ codes "'"
+
+abbrev pub byte_string : List ℕ → List ℕ
+byte_string bytes = codes "X'" ++ encode_lower bytes ++ codes "'"
+
+abbrev pub truth : Bool → List ℕ
+truth true = codes "1"
+truth false = codes "0"
+
+-- a number in exactly so many digits
+abbrev pub padded : ℕ → ℕ → List ℕ
+padded width number = let text = decimal number in replicate (width - length text) 48 ++ text
+
+-- a decimal with exactly its scale's digits behind the point
+abbrev pub scaled : ℕ → ℕ → List ℕ
+scaled scale number = if scale == 0 then decimal number else decimal (number / 10 ^ scale) ++ codes "." ++ padded scale (number % 10 ^ scale)
+
+abbrev pub decimal_text : ℕ → ℤ → List ℕ
+decimal_text scale (pos number) = scaled scale number
+decimal_text scale (negsuc number) = codes "-" ++ scaled scale (number + 1)
+
+abbrev pub scale_of : SqlType → ℕ
+scale_of (kind.Decimal digits scale) = scale
+scale_of type = 0
+
+-- a value, in a column of this type
+abbrev pub value_text : SqlType → Value → List ℕ
+value_text type cell.Null = codes "NULL"
+value_text type (cell.Int number) = signed_decimal number
+value_text type (cell.Bool bit) = truth bit
+value_text type (cell.Text text) = quoted text
+value_text type (cell.Bytes bytes) = byte_string bytes
+value_text type (cell.Decimal number) = decimal_text (scale_of type) number
+
+-- a row's values, each in its column's type
+abbrev pub value_texts : List SqlType → List Value → List (List ℕ)
+value_texts [] values = []
+value_texts kinds [] = []
+value_texts (type ∷ kinds) (value ∷ values) = value_text type value ∷ value_texts kinds values
+
+abbrev pub row_text : List SqlType → List Value → List ℕ
+row_text kinds row = join_with_byte 44 (value_texts kinds row)
+
+-- a line feed and a row, for each row
+abbrev pub row_lines : List SqlType → List (List Value) → List ℕ
+row_lines kinds [] = []
+row_lines kinds (row ∷ rows) = newline ++ row_text kinds row ++ row_lines kinds rows
+
+abbrev pub answer_text : Answer → List ℕ
+answer_text answer = codes "rows " ++ decimal (length answer.rows) ++ newline ++ join_with_byte 44 answer.names ++ row_lines answer.kinds answer.rows
+
+-- the text of a refusal; none for a number that is no refusal
+abbrev pub refusal_text : ℕ → Option (List ℕ)
+refusal_text number =
+    if number == 1 then Some (codes "out of memory") else (
+    if number == 2 then Some (codes "out of memory after start") else (
+    if number == 3 then Some (codes "collision") else (
+    if number == 1048 then Some (codes "column cannot be null") else (
+    if number == 1050 then Some (codes "table exists") else (
+    if number == 1054 then Some (codes "unknown column") else (
+    if number == 1062 then Some (codes "duplicate key") else (
+    if number == 1064 then Some (codes "syntax") else (
+    if number == 1136 then Some (codes "column count") else (
+    if number == 1146 then Some (codes "no such table") else (
+    if number == 1213 then Some (codes "retry transaction") else (
+    if number == 1264 then Some (codes "out of range") else (
+    if number == 1406 then Some (codes "data too long") else (
+    if number == 1451 then Some (codes "parent row in use") else (
+    if number == 1452 then Some (codes "no parent row") else (
+    if number == 3819 then Some (codes "check violated") else (
+    if number == 9001 then Some (codes "type mismatch") else (
+    if number == 9002 then Some (codes "unresolved conflicts") else (
+    if number == 9003 then Some (codes "constraint violations") else (
+    if number == 9004 then Some (codes "no such branch or commit") else (
+    if number == 9005 then Some (codes "branch exists") else (
+    if number == 9006 then Some (codes "uncommitted changes") else (
+    if number == 9007 then Some (codes "nothing to commit") else (
+    if number == 9008 then Some (codes "bad procedure argument") else (
+    if number == 9009 then Some (codes "schema conflict") else (
+    if number == 9010 then Some (codes "limit") else (
+    if number == 9011 then Some (codes "unsettled tables") else (
+    if number == 9012 then Some (codes "no merge in progress") else (
+    if number == 9013 then Some (codes "outside the subset") else (
+    if number == 9014 then Some (codes "branch is checked out") else (
+    if number == 9015 then Some (codes "commit has not one parent") else (
+    if number == 9016 then Some (codes "pick conflicts") else (
+    if number == 9017 then Some (codes "not a fast-forward") else
+    None))))))))))))))))))))))))))))))))
+
+abbrev pub reply_text : Reply → List ℕ
+reply_text Done = codes "ok"
+reply_text (Count rows) = codes "ok " ++ decimal rows
+reply_text (Rows answer) = answer_text answer
+reply_text (Refused number) = codes "refused " ++ decimal number ++ codes " " ++ unwrap_or (refusal_text number) []
+
+-- the replies of a session, each behind its statement's number
+abbrev pub reply_lines : ℕ → List Reply → List ℕ
+reply_lines number [] = []
+reply_lines number (reply ∷ replies) = decimal number ++ codes " " ++ reply_text reply ++ newline ++ reply_lines (number + 1) replies
+
+abbrev pub session_lines : List (List ℕ) → List (List Reply) → List ℕ
+session_lines [] replies = []
+session_lines names [] = []
+session_lines (name ∷ names) (replies ∷ more) = codes "session " ++ name ++ newline ++ reply_lines 1 replies ++ session_lines names more
+
+-- the moments, each by its session's name and its statement's number
+abbrev pub moment_text : List (List ℕ) → Moment → List ℕ
+moment_text names moment = codes " " ++ slice_index_or names moment.session [] ++ codes "/" ++ decimal moment.statement
+
+abbrev pub order_line : List (List ℕ) → List Moment → List ℕ
+order_line names order = codes "order" ++ flat_map (moment_text names) order ++ newline
+
+abbrev pub text : RunText → List ℕ
+text run = session_lines run.names run.replies ++ order_line run.names run.order
+
+-- a want of memory, as a reply tells it: before the statement took a moment, or after its start
+pub data Shortage : Type 0 where
+  AtOnce : Shortage
+  AfterStart : Shortage
+
+abbrev pub shortage_of : ℕ → Option Shortage
+shortage_of number = if number == 1 then Some AtOnce else (if number == 2 then Some AfterStart else None)
+
+abbrev pub shortage : Reply → Option Shortage
+shortage Done = None
+shortage (Count rows) = None
+shortage (Rows answer) = None
+shortage (Refused number) = shortage_of number
+
+-- which statements were refused for want of memory, by session and by the statement's number
+abbrev pub shortages_in : List (List Reply) → ℕ → ℕ → Option Shortage
+shortages_in replies session statement = option_and_then shortage (slice_get (slice_index_or replies session []) (statement - 1))

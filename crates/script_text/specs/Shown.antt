@@ -1,0 +1,88 @@
+-- What can be printed, and what a text tells of the run that it was printed from.
+use Rattle.std.specs.Prelude.{◌≡◌, ℕ, Bool, true, false, ◌==◌, ◌&&◌, ◌||◌, ◌<◌, ◌^◌, List, [], ◌∷◌, length, map, is_some, nat_lt, not, slice_index_or}
+use Rattle.std.specs.Str.{bytes_eq}
+use Rattle.std.specs.List.{list_all, IsDistinct}
+use Rattle.tuple_codec.specs.declared.answers.Answer.{Answer}
+use Rattle.tuple_codec.specs.declared.values.SqlType.{SqlType}
+use Rattle.tuple_codec.specs.declared.values.SqlType.TheVariants as kind
+use Rattle.tuple_codec.specs.declared.values.Value.{Value}
+use Rattle.tuple_codec.specs.declared.values.Value.TheVariants as cell
+use Rattle.script_text.specs.Input.{is_name_byte, is_name}
+use Rattle.script_text.specs.Output.{reply_text, refusal_text, shortages_in, text}
+use Rattle.script_text.specs.declared.outputs.RunText.{RunText}
+use Rattle.script_text.specs.declared.replies.Reply.{Reply}
+use Rattle.script_text.specs.declared.replies.Reply.TheVariants.{Done, Count, Rows, Refused}
+use Rattle.script_text.specs.declared.scripts.Moment.{Moment}
+
+-- a decimal stands only under a type that tells its scale
+abbrev pub is_printable_value : SqlType → Value → Bool
+is_printable_value (kind.Decimal digits scale) value = true
+is_printable_value type (cell.Decimal number) = false
+is_printable_value type value = true
+
+-- a value for each column
+abbrev pub is_printable_row : List SqlType → List Value → Bool
+is_printable_row [] [] = true
+is_printable_row (type ∷ kinds) (value ∷ values) = is_printable_value type value && is_printable_row kinds values
+is_printable_row kinds values = false
+
+-- one type for each name, and rows of these types
+abbrev pub is_printable_answer : Answer → Bool
+is_printable_answer answer = length answer.names == length answer.kinds && list_all (is_printable_row answer.kinds) answer.rows
+
+abbrev pub is_printable_reply : Reply → Bool
+is_printable_reply Done = true
+is_printable_reply (Count rows) = true
+is_printable_reply (Rows answer) = is_printable_answer answer
+is_printable_reply (Refused number) = is_some (refusal_text number)
+
+abbrev pub is_printable_moment : ℕ → Moment → Bool
+is_printable_moment sessions moment = nat_lt moment.session sessions
+
+-- what `print_output` asks of a run
+pub record IsPrintable (run : RunText) : Type 0 where
+  pub lists : length run.replies ≡ length run.names
+  pub replies : list_all (list_all is_printable_reply) run.replies ≡ true
+  pub moments : list_all (is_printable_moment (length run.names)) run.order ≡ true
+
+-- without a line feed
+abbrev pub is_one_line : List ℕ → Bool
+is_one_line bytes = list_all (λ byte. not (byte == 10)) bytes
+
+abbrev pub is_shown_reply : Reply → Bool
+is_shown_reply Done = true
+is_shown_reply (Count rows) = nat_lt rows (2 ^ 64)
+is_shown_reply (Rows answer) = nat_lt (length answer.rows) (2 ^ 64) && list_all is_one_line answer.names
+is_shown_reply (Refused number) = nat_lt number (2 ^ 16) && is_some (refusal_text number)
+
+abbrev pub is_shown_session : List Reply → Bool
+is_shown_session replies = nat_lt (length replies) (2 ^ 32) && list_all is_shown_reply replies
+
+abbrev pub is_shown_name : List ℕ → Bool
+is_shown_name name = is_name name && list_all is_name_byte name
+
+abbrev pub is_shown_moment : ℕ → Moment → Bool
+is_shown_moment sessions moment = nat_lt moment.session sessions && nat_lt moment.statement (2 ^ 32)
+
+-- what every printed run has, and by which its text is read back
+pub record IsShown (run : RunText) : Type 0 where
+  pub names : list_all is_shown_name run.names ≡ true
+  pub distinct : IsDistinct bytes_eq run.names
+  pub lists : length run.replies ≡ length run.names
+  pub replies : list_all is_shown_session run.replies ≡ true
+  pub moments : list_all (is_shown_moment (length run.names)) run.order ≡ true
+
+-- the replies as they are printed
+abbrev pub reply_texts : List (List Reply) → List (List (List ℕ))
+reply_texts replies = map (λ session. map reply_text session) replies
+
+-- two runs of one text have the same sessions, the same printed replies, the same refusals for want of memory and the
+-- same order of moments
+pub record IsSameShown (a b : RunText) : Type 0 where
+  pub names : a.names ≡ b.names
+  pub replies : reply_texts a.replies ≡ reply_texts b.replies
+  pub shortages : (session statement : ℕ) → shortages_in a.replies session statement ≡ shortages_in b.replies session statement
+  pub order : a.order ≡ b.order
+
+abbrev pub HasOneReading : Type 0
+HasOneReading = (a b : RunText) → IsShown a → IsShown b → text a ≡ text b → IsSameShown a b

@@ -1,0 +1,16 @@
+//! The script that the program reads and the text that it writes.
+//!
+//! The crates above use two definitions: `Input.script`, the script that bytes hold or the first line that breaks a
+//! rule, and `Output.text`, the bytes that a run's replies and order are printed as; `read_script` and
+//! `print_output` are these, and `one_reading` says that a text shows one run alone.
+#![tactic(auto)]
+
+mod faults;
+mod outputs;
+mod replies;
+mod scripts;
+
+pub use faults::{BadScript, ScriptFault};
+pub use outputs::RunText;
+pub use replies::Reply;
+pub use scripts::{Line, Moment, OrderItem, Script};

@@ -1,0 +1,10 @@
+use crate::addresses::Address;
+
+/// What a branch holds: its newest commit, its working and its staged database, and the commit of a merge in progress.
+#[derive(Clone, Copy, Debug, PartialEq, Eq)]
+pub struct BranchRecord {
+    pub head: Address,
+    pub working: Address,
+    pub staged: Address,
+    pub merging: Option<Address>,
+}
