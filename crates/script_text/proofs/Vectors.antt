@@ -1,10 +1,8 @@
 -- The definitions, computed on scripts and runs whose texts are known.
-use Rattle.std.proofs.Common.{◌≡◌, refl, codes, List, [], ◌∷◌, ◌++◌, Some, None, Ok, Err, ℕ, pos, Result, map, true, false}
+use Rattle.std.proofs.Common.{◌≡◌, refl, codes, [], ◌∷◌, Some, None, Err, pos, map, true, false}
 use Rattle.std.specs.Fmt.{digits}
-use Rattle.script_text.specs.Input.{Parts, add_statement, is_skipped, lines_of, parts_of}
+use Rattle.script_text.specs.Input.{add_statement, is_skipped, lines_of, parts_of}
 use Rattle.script_text.specs.Output.{text}
-use Rattle.script_text.specs.declared.faults.BadScript.{BadScript}
-use Rattle.script_text.specs.declared.outputs.RunText.{RunText}
 use Rattle.script_text.specs.declared.replies.Reply.TheVariants.{Done, Count, Rows, Refused}
 use Rattle.tuple_codec.specs.declared.values.SqlType.TheVariants as kind
 use Rattle.tuple_codec.specs.declared.values.Value.TheVariants as cell

@@ -1,12 +1,11 @@
 -- The script that bytes hold, or the first line that breaks a rule with the least rule broken there.
-use Rattle.std.specs.Prelude.{ℕ, Bool, true, false, ◌==◌, ◌&&◌, ◌||◌, ◌+◌, ◌-◌, List, [], ◌∷◌, ◌++◌, length, take, drop, take_while, nat_le, nat_lt, not, codes, position, unwrap_or, is_none, slice_index, Option, Some, None, Result, Ok, Err, if◌then◌else◌}
+use Rattle.std.specs.Prelude.{ℕ, Bool, ◌==◌, ◌&&◌, ◌||◌, ◌+◌, ◌-◌, List, [], ◌∷◌, ◌++◌, length, take, drop, take_while, nat_le, nat_lt, not, codes, position, unwrap_or, is_none, slice_index, Option, Some, None, Result, Ok, Err, if◌then◌else◌}
 use Rattle.std.specs.Str.{bytes_eq}
-use Rattle.std.specs.Option.{option_map, option_and_then, option_map_or}
+use Rattle.std.specs.Option.{option_map, option_map_or}
 use Rattle.std.specs.List.{slice_split, list_all, starts_with}
 use Rattle.std.specs.Prelude.{nat_eq}
 use Rattle.tuple_codec.specs.Texts.{is_utf8}
 use Rattle.script_text.specs.declared.faults.BadScript.{BadScript}
-use Rattle.script_text.specs.declared.scripts.Line.{Line}
 use Rattle.script_text.specs.declared.scripts.Script.{Script}
 
 -- the limits of a script

@@ -1,5 +1,5 @@
 -- What can be printed, and what a text tells of the run that it was printed from.
-use Rattle.std.specs.Prelude.{◌≡◌, ℕ, Bool, true, false, ◌==◌, ◌&&◌, ◌||◌, ◌<◌, ◌^◌, List, [], ◌∷◌, length, map, is_some, nat_lt, not, slice_index_or}
+use Rattle.std.specs.Prelude.{◌≡◌, ℕ, Bool, true, false, ◌==◌, ◌&&◌, ◌^◌, List, [], ◌∷◌, length, map, is_some, nat_lt, not}
 use Rattle.std.specs.Str.{bytes_eq}
 use Rattle.std.specs.List.{list_all, IsDistinct}
 use Rattle.tuple_codec.specs.declared.answers.Answer.{Answer}

@@ -1,5 +1,5 @@
 -- Rows: which value fits a type, and how cells and keys are ordered.
-use Rattle.std.specs.Prelude.{ℕ, ℤ, pos, negsuc, zero, suc, Bool, true, false, ◌&&◌, ◌^◌, List, [], ◌∷◌, length, nat_le, nat_lt, map, slice_index_or, unsigned_abs}
+use Rattle.std.specs.Prelude.{ℕ, ℤ, pos, negsuc, Bool, true, false, ◌&&◌, ◌^◌, List, [], ◌∷◌, length, nat_le, nat_lt, map, slice_index_or, unsigned_abs}
 use Rattle.std.specs.Ordering.{nat_cmp, int_cmp, bool_cmp}
 use Rattle.std.specs.declared.cmp.Ordering.{Ordering}
 use Rattle.std.specs.Cmp.Lexicographic.{slice_cmp}

@@ -1,0 +1,6 @@
+pub mod Tokens
+pub mod Language
+pub mod Tables
+pub mod Effects
+pub mod Machine
+pub mod Sound

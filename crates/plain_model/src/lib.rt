@@ -1,0 +1,14 @@
+//! The plain machine: whole tables, statements on them, and runs of a script along an order of moments.
+//!
+//! The crates above use its definitions: `Language.read`, the statement of a text; `Effects.effect`, what a statement
+//! answers and what it makes of a database; `Machine.IsPlainRun`, that what a run shows is the machine's run along the
+//! order, and with the wants of memory, that it shows itself.
+#![tactic(auto)]
+
+mod statements;
+mod tables;
+mod tokens;
+
+pub use statements::{Create, Insert, Statement};
+pub use tables::{Column, NamedTable, Schema, Table};
+pub use tokens::{Sign, Slot, Token};

@@ -1,0 +1,53 @@
+use tuple_codec::Text;
+
+/// The signs that stand in a statement of the three forms.
+#[derive(Clone, Copy, Debug, PartialEq, Eq)]
+pub enum Sign {
+    Open,
+    Close,
+    Comma,
+    Star,
+    Minus,
+}
+
+/// A token of the three forms.
+#[derive(Debug, Drop)]
+pub enum Token {
+    /// A bare word, in lower case: a keyword or a name.
+    Word(Text),
+    /// A word in backquotes, in lower case: a name, also where the word is reserved.
+    Quoted(Text),
+    /// A string, with its escapes resolved.
+    Quotation(Text),
+    /// A whole literal; each value above 2^63 reads as 2^63 + 1.
+    Whole(u64),
+    Sign(Sign),
+}
+
+/// Where the reader of tokens stands.
+#[derive(Clone, Copy, Debug, PartialEq, Eq)]
+pub enum Place {
+    Between,
+    InWord,
+    InWhole,
+    /// Behind a backquote that opens a name, and within the name.
+    NameStart,
+    InName,
+    /// Within a string of this quote; behind such a quote, which ends the string unless it comes twice; behind a backslash.
+    InString(u8),
+    AfterQuote(u8),
+    AfterSlash(u8),
+}
+
+/// Where the reader of an INSERT's tuples stands.
+#[derive(Clone, Copy, Debug, PartialEq, Eq)]
+pub enum Slot {
+    /// A tuple's opening parenthesis is to come.
+    AtTuple,
+    /// A value is to come.
+    AtValue,
+    /// A minus was read: a whole literal is to come.
+    AtNumber,
+    AfterValue,
+    AfterTuple,
+}
