@@ -1,1 +1,5 @@
 mod Vectors
+mod TextParts
+mod LineParts
+mod ReplyParts
+mod RunParts

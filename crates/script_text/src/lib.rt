@@ -6,11 +6,13 @@
 #![tactic(auto)]
 
 mod faults;
+mod law;
 mod outputs;
 mod replies;
 mod scripts;
 
 pub use faults::{BadScript, ScriptFault};
+pub use law::one_reading;
 pub use outputs::RunText;
 pub use replies::Reply;
 pub use scripts::{Line, Moment, OrderItem, Script};
