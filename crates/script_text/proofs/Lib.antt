@@ -1,4 +1,5 @@
 mod Vectors
+mod ShownVectors
 mod TextParts
 mod LineParts
 mod ReplyParts

@@ -1,9 +1,9 @@
 -- What stands on one line: values, rows, lists of names, and the texts of refusals.
-use Rattle.std.proofs.Common.{◌≡◌, refl, ap, ℕ, suc, zero, ◌+◌, ◌-◌, ◌/◌, ◌%◌, ◌^◌, ◌==◌, Bool, true, false, List, [], ◌∷◌, ◌++◌, codes, length, not, ℤ, pos, negsuc, decimal, replicate, slice_index, flat_map, Option, Some, if◌then◌else◌}
+use Rattle.std.proofs.Common.{◌≡◌, refl, sym, ap, subst, ℕ, suc, zero, ◌+◌, ◌-◌, ◌<◌, ◌/◌, ◌%◌, ◌^◌, ◌==◌, Bool, true, false, List, [], ◌∷◌, ◌++◌, codes, length, not, ℤ, pos, negsuc, decimal, replicate, slice_index, flat_map, Option, Some, None, if◌then◌else◌, is_some, nat_lt, ltb-true, eqb-true}
 use Rattle.std.specs.Option.{unwrap_or}
 use Rattle.std.specs.List.{list_all, join_with_byte}
 use Rattle.std.specs.Fmt.{signed_decimal}
-use Rattle.std.proofs.lemmas.Bool.{and_parts, and_from, cond_both}
+use Rattle.std.proofs.lemmas.Bool.{and_parts, and_from, cond_both, false≢true}
 use Rattle.hex.specs.Hex.{encode_with, lower_digits}
 use Rattle.tuple_codec.specs.declared.values.SqlType.{SqlType}
 use Rattle.tuple_codec.specs.declared.values.Value.{Value}
@@ -93,3 +93,20 @@ told test text others all each = cond_both test (Some text) others (λ x. is_one
 
 pub refusal_in_line : (number : ℕ) → is_one_line (unwrap_or (refusal_text number) []) ≡ true
 refusal_in_line number = search told depth 80
+
+-- the numbers that have a text are numerals
+record InRange (number : ℕ) (text : Option (List ℕ)) : Type 0 where
+  small : is_some text ≡ true → number < 2 ^ 64
+
+none_told : (number : ℕ) → InRange number None
+none_told number = record { small = λ e. absurd (false≢true e) }
+
+one_told : (number refusal : ℕ) (text : List ℕ) (others : Option (List ℕ)) → nat_lt refusal (2 ^ 64) ≡ true → InRange number others → InRange number (if number == refusal then Some text else others)
+one_told number refusal text others low more = cond_both (number == refusal) (Some text) others (λ x. InRange number x)
+    (λ e. record { small = λ some. subst (λ n. n < 2 ^ 64) (sym (eqb-true number refusal e)) (ltb-true refusal (2 ^ 64) low) }) (λ e. more)
+
+told_in_range : (number : ℕ) → InRange number (refusal_text number)
+told_in_range number = search (one_told, none_told) depth 80
+
+pub refusal_in_range : (number : ℕ) → is_some (refusal_text number) ≡ true → number < 2 ^ 64
+refusal_in_range number told = (told_in_range number).small told

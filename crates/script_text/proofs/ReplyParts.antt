@@ -13,7 +13,7 @@ use Rattle.script_text.specs.declared.replies.Reply.TheVariants.{Done, Count, Ro
 use Rattle.script_text.specs.Output.{answer_text, refusal_text, reply_text, row_lines, row_text, shortage, shortage_of}
 use Rattle.script_text.specs.Shown.{is_one_line, is_shown_reply}
 use Rattle.script_text.proofs.TextParts.{Stops, until, is_digit, decimal_in_digits, decimal_in_line, line_append}
-use Rattle.script_text.proofs.LineParts.{joined_in_line, refusal_in_line, row_in_line}
+use Rattle.script_text.proofs.LineParts.{joined_in_line, refusal_in_line, refusal_in_range, row_in_line}
 
 abbrev in_line : ℕ → Bool
 in_line byte = not (byte == 10)
@@ -97,9 +97,14 @@ shape (Rows answer) shown = table (record {
   text = refl;
   want = refl;
 })
-shape (Refused number) shown =
-    let low : number < 2 ^ 16 = ltb-true _ _ (and_parts _ _ shown).0 in
-    refusal (record { number = number; end = unwrap_or (refusal_text number) []; small = omega arith; text = simp append_assoc; line = refusal_in_line number; want = refl })
+shape (Refused number) shown = refusal (record {
+  number = number;
+  end = unwrap_or (refusal_text number) [];
+  small = refusal_in_range number shown;
+  text = simp append_assoc;
+  line = refusal_in_line number;
+  want = refl;
+})
 
 -- two replies that print the same, and tell of the same want of memory
 pub record SameReply (a b : Reply) : Type 0 where

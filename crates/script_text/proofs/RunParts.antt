@@ -12,7 +12,7 @@ use Rattle.script_text.specs.declared.replies.Reply.{Reply}
 use Rattle.script_text.specs.declared.scripts.Moment.{Moment}
 use Rattle.script_text.specs.Input.{is_name_byte}
 use Rattle.script_text.specs.Output.{Shortage, moment_text, newline, order_line, reply_lines, reply_text, session_lines, shortage, shortages_in}
-use Rattle.script_text.specs.Shown.{HasOneReading, is_shown_moment, is_shown_name, is_shown_reply, is_shown_session, reply_texts}
+use Rattle.script_text.specs.Shown.{HasOneReading, is_shown_moment, is_shown_name, is_shown_reply, reply_texts}
 use Rattle.script_text.proofs.TextParts.{Stops, until, is_digit, no_digit, all_weaker}
 use Rattle.script_text.proofs.ReplyParts.{line_part, number_part, reply_part}
 
@@ -77,7 +77,7 @@ name_in_line name shown = all_weaker is_name_byte (λ byte. not (byte == 10)) na
 
 -- what follows the sessions begins with an `o`
 sessions_part : (names : List (List ℕ)) (a : List (List Reply)) (others : List (List ℕ)) (b : List (List Reply)) (x y : List ℕ) → length a ≡ length names → length b ≡ length others
-    → list_all is_shown_name names ≡ true → list_all is_shown_name others ≡ true → list_all is_shown_session a ≡ true → list_all is_shown_session b ≡ true
+    → list_all is_shown_name names ≡ true → list_all is_shown_name others ≡ true → list_all (list_all is_shown_reply) a ≡ true → list_all (list_all is_shown_reply) b ≡ true
     → session_lines names a ++ (111 ∷ x) ≡ session_lines others b ++ (111 ∷ y) → ReadSessions names others a b (111 ∷ x) (111 ∷ y)
 sessions_part [] [] [] [] x y lengths sizes all each shown printed e = record { sessions = refl; texts = refl; wants = refl; rest = e }
 sessions_part (name ∷ names) (replies ∷ a) (other ∷ others) (answers ∷ b) x y lengths sizes all each shown printed e =
@@ -88,7 +88,7 @@ sessions_part (name ∷ names) (replies ∷ a) (other ∷ others) (answers ∷ b
     let first = line_part name other (reply_lines 1 replies ++ (session_lines names a ++ (111 ∷ x))) (reply_lines 1 answers ++ (session_lines others b ++ (111 ∷ y)))
     (name_in_line name (and_parts _ _ all).0) (name_in_line other (and_parts _ _ each).0) after in
     let second = replies_part 1 replies answers (session_lines names a ++ (111 ∷ x)) (session_lines others b ++ (111 ∷ y))
-    (and_parts _ _ (and_parts _ _ shown).0).1 (and_parts _ _ (and_parts _ _ printed).0).1 (after_replies names a x) (after_replies others b y) first.1 in
+    (and_parts _ _ shown).0 (and_parts _ _ printed).0 (after_replies names a x) (after_replies others b y) first.1 in
     let more = sessions_part names a others b x y fewer less (and_parts _ _ all).1 (and_parts _ _ each).1 (and_parts _ _ shown).1 (and_parts _ _ printed).1 second.rest in
     record {
       sessions = ap₂ ◌∷◌ first.0 more.sessions;

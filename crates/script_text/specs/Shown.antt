@@ -51,12 +51,9 @@ is_one_line bytes = list_all (λ byte. not (byte == 10)) bytes
 
 abbrev pub is_shown_reply : Reply → Bool
 is_shown_reply Done = true
-is_shown_reply (Count rows) = nat_lt rows (2 ^ 64)
+is_shown_reply (Count rows) = true
 is_shown_reply (Rows answer) = nat_lt (length answer.rows) (2 ^ 64) && list_all is_one_line answer.names
-is_shown_reply (Refused number) = nat_lt number (2 ^ 16) && is_some (refusal_text number)
-
-abbrev pub is_shown_session : List Reply → Bool
-is_shown_session replies = nat_lt (length replies) (2 ^ 32) && list_all is_shown_reply replies
+is_shown_reply (Refused number) = is_some (refusal_text number)
 
 abbrev pub is_shown_name : List ℕ → Bool
 is_shown_name name = is_name name && list_all is_name_byte name
@@ -69,7 +66,7 @@ pub record IsShown (run : RunText) : Type 0 where
   pub names : list_all is_shown_name run.names ≡ true
   pub distinct : IsDistinct bytes_eq run.names
   pub lists : length run.replies ≡ length run.names
-  pub replies : list_all is_shown_session run.replies ≡ true
+  pub replies : list_all (list_all is_shown_reply) run.replies ≡ true
   pub moments : list_all (is_shown_moment (length run.names)) run.order ≡ true
 
 -- the replies as they are printed

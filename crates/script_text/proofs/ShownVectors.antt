@@ -1,0 +1,24 @@
+-- Runs that can be read back: the law of one reading speaks of them.
+use Rattle.std.proofs.Common.{refl, codes, [], ◌∷◌}
+use Rattle.std.specs.List.{IsDistinct}
+use Rattle.script_text.specs.Shown.{IsShown}
+use Rattle.script_text.specs.declared.outputs.RunText.{RunText}
+use Rattle.script_text.specs.declared.replies.Reply.TheVariants.{Done, Count, Rows, Refused}
+use Rattle.tuple_codec.specs.declared.values.SqlType.TheVariants as kind
+use Rattle.tuple_codec.specs.declared.values.Value.TheVariants as cell
+
+-- a session that is named as the line of moments begins, one with no reply, and a column whose name holds a comma
+run : RunText
+run = record {
+  names = codes "order" ∷ codes "session" ∷ [];
+  replies = (Done ∷ Count 2 ∷ Rows (record { names = codes "a,b" ∷ []; kinds = kind.Varchar 20 ∷ []; rows = (cell.Text (codes "2 ok\norder") ∷ []) ∷ [] }) ∷ Refused 1050 ∷ []) ∷ [] ∷ [];
+  order = (record { session = 0; statement = 1 }) ∷ (record { session = 0; statement = 3 }) ∷ [];
+}
+
+shown : IsShown run
+unfolding run IsDistinct
+shown = record { names = refl; distinct = ((refl, tt), (tt, tt)); lists = refl; replies = refl; moments = refl }
+
+no_session : IsShown (record { names = []; replies = []; order = [] })
+unfolding IsDistinct
+no_session = record { names = refl; distinct = tt; lists = refl; replies = refl; moments = refl }
