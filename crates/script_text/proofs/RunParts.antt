@@ -132,9 +132,9 @@ moment_more names moment order x = simp append_assoc
 at_slash : (x : List ℕ) → Stops is_name_byte (47 ∷ x)
 at_slash x = record { byte = 47; rest = x; is = refl; stops = refl }
 
-after_moment : (names : List (List ℕ)) (order : List Moment) → Stops is_digit (flat_map (moment_text names) order ++ (10 ∷ []))
-after_moment names [] = record { byte = 10; rest = []; is = refl; stops = refl }
-after_moment names (moment ∷ order) = record { byte = 32; rest = slice_index_or names moment.session [] ++ (47 ∷ moment_end names moment order (10 ∷ [])); is = moment_more names moment order (10 ∷ []); stops = refl }
+after_moment : (names : List (List ℕ)) (order : List Moment) (x : List ℕ) → Stops is_digit (flat_map (moment_text names) order ++ (10 ∷ x))
+after_moment names [] x = record { byte = 10; rest = x; is = refl; stops = refl }
+after_moment names (moment ∷ order) x = record { byte = 32; rest = slice_index_or names moment.session [] ++ (47 ∷ moment_end names moment order (10 ∷ x)); is = moment_more names moment order (10 ∷ x); stops = refl }
 
 same_moment : (a b : Moment) → a.session ≡ b.session → a.statement ≡ b.statement → a ≡ b
 same_moment a b p q = λ i. record { session = p i; statement = q i }
@@ -142,28 +142,30 @@ same_moment a b p q = λ i. record { session = p i; statement = q i }
 blank_bytes : ◌≡◌ {A = ℕ} 10 32 → ⊥
 blank_bytes e = omega arith
 
-no_moment : (x : List ℕ) → 10 ∷ [] ≡ 32 ∷ x → ⊥
-no_moment x e = blank_bytes (ap (λ text. slice_index text 0) e)
+no_moment : (x y : List ℕ) → 10 ∷ x ≡ 32 ∷ y → ⊥
+no_moment x y e = blank_bytes (ap (λ text. slice_index text 0) e)
 
 statement_in_range : (moment : Moment) → nat_lt moment.statement (2 ^ 32) ≡ true → moment.statement < 2 ^ 64
 statement_in_range moment low = let small : moment.statement < 2 ^ 32 = ltb-true _ _ low in omega arith
 
-order_part : (names : List (List ℕ)) (a b : List Moment) → list_all is_shown_name names ≡ true → IsDistinct bytes_eq names
+-- two lines of moments, of sessions with the same names, are the same, and so is what follows
+order_part : (names : List (List ℕ)) (a b : List Moment) (x y : List ℕ) → list_all is_shown_name names ≡ true → IsDistinct bytes_eq names
     → list_all (is_shown_moment (length names)) a ≡ true → list_all (is_shown_moment (length names)) b ≡ true
-    → flat_map (moment_text names) a ++ (10 ∷ []) ≡ flat_map (moment_text names) b ++ (10 ∷ []) → a ≡ b
-order_part names [] [] all distinct shown printed e = refl
-order_part names [] (other ∷ b) all distinct shown printed e = absurd (no_moment _ (e ∙ moment_more names other b (10 ∷ [])))
-order_part names (moment ∷ a) [] all distinct shown printed e = absurd (no_moment _ (sym e ∙ moment_more names moment a (10 ∷ [])))
-order_part names (moment ∷ a) (other ∷ b) all distinct shown printed e =
-    let after = ap (drop 1) (sym (moment_more names moment a (10 ∷ [])) ∙ e ∙ moment_more names other b (10 ∷ [])) in
+    → flat_map (moment_text names) a ++ (10 ∷ x) ≡ flat_map (moment_text names) b ++ (10 ∷ y) → (a ≡ b) × (x ≡ y)
+order_part names [] [] x y all distinct shown printed e = (refl, ap (drop 1) e)
+order_part names [] (other ∷ b) x y all distinct shown printed e = absurd (no_moment _ _ (e ∙ moment_more names other b (10 ∷ y)))
+order_part names (moment ∷ a) [] x y all distinct shown printed e = absurd (no_moment _ _ (sym e ∙ moment_more names moment a (10 ∷ x)))
+order_part names (moment ∷ a) (other ∷ b) x y all distinct shown printed e =
+    let after = ap (drop 1) (sym (moment_more names moment a (10 ∷ x)) ∙ e ∙ moment_more names other b (10 ∷ y)) in
     let left = and_parts _ _ (and_parts _ _ shown).0 in
     let right = and_parts _ _ (and_parts _ _ printed).0 in
-    let first = until is_name_byte (slice_index_or names moment.session []) (slice_index_or names other.session []) (47 ∷ moment_end names moment a (10 ∷ [])) (47 ∷ moment_end names other b (10 ∷ []))
+    let first = until is_name_byte (slice_index_or names moment.session []) (slice_index_or names other.session []) (47 ∷ moment_end names moment a (10 ∷ x)) (47 ∷ moment_end names other b (10 ∷ y))
     (name_at names moment.session all) (name_at names other.session all) (at_slash _) (at_slash _) after in
-    let second = number_part moment.statement other.statement (flat_map (moment_text names) a ++ (10 ∷ [])) (flat_map (moment_text names) b ++ (10 ∷ []))
-    (statement_in_range moment left.1) (statement_in_range other right.1) (after_moment names a) (after_moment names b) (ap (drop 1) first.1) in
+    let second = number_part moment.statement other.statement (flat_map (moment_text names) a ++ (10 ∷ x)) (flat_map (moment_text names) b ++ (10 ∷ y))
+    (statement_in_range moment left.1) (statement_in_range other right.1) (after_moment names a x) (after_moment names b y) (ap (drop 1) first.1) in
     let place = same_place names moment.session other.session distinct (ltb-true _ _ left.0) (ltb-true _ _ right.0) first.0 in
-    ap₂ ◌∷◌ (same_moment moment other place second.0) (order_part names a b all distinct (and_parts _ _ shown).1 (and_parts _ _ printed).1 second.1)
+    let more = order_part names a b x y all distinct (and_parts _ _ shown).1 (and_parts _ _ printed).1 second.1 in
+    (ap₂ ◌∷◌ (same_moment moment other place second.0) more.0, more.1)
 
 -- refusals for want of memory, from what the replies tell
 wants_at : (replies : List (List Reply)) (session : ℕ) → slice_index_or (wants_in replies) session [] ≡ map shortage (slice_index_or replies session [])
@@ -206,5 +208,5 @@ one_reading a b left right e =
       names = read.sessions;
       replies = read.texts;
       shortages = same_shortages a.replies b.replies read.wants;
-      order = order_part a.names a.order b.order left.names left.distinct left.moments moments after;
+      order = (order_part a.names a.order b.order [] [] left.names left.distinct left.moments moments after).0;
     }
