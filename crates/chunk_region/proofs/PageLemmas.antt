@@ -1,12 +1,12 @@
-use Rattle.std.proofs.Common.{◌≡◌, ℕ, zero, suc, ◌+◌, ◌-◌, ◌<◌, ◌≤◌, Bool, true, false, cond, leb, List, [], ◌∷◌, ◌++◌, length, take, drop, get_or, set, map, Option, Some, None, sym, refl, ap, ◌∙◌, subst, arith, slice_get, Vec}
+use Rattle.std.proofs.Common.{◌≡◌, ℕ, zero, suc, ◌+◌, ◌-◌, ◌<◌, ◌≤◌, cond, List, [], ◌∷◌, ◌++◌, length, take, drop, get_or, set, Some, None, sym, refl, ap, ◌∙◌, subst, arith, slice_get, Vec}
 use Rattle.std.specs.declared.alloc.Global.{Global}
 use Rattle.std.specs.Option.{option_and_then}
-use Rattle.std.proofs.lemmas.List.{append-nil, append_assoc, length-append, length-map, map-append, map-set, take-map, get_or-map, get_or-take, take_all, take-append-le, drop-append-le, length-drop, length-take, drop-take, take-take, take-append-drop}
-use Rattle.std.proofs.lemmas.Option.{cond_some, option_and_then_some}
+use Rattle.std.proofs.lemmas.List.{append-nil, append_assoc, length-append, length-map, map-set, take-map, get_or-map, get_or-take, take_all, take-append-le, drop-append-le, length-drop, length-take, drop-take, take-take, take-append-drop}
+use Rattle.std.proofs.lemmas.Option.{cond_some}
 use Rattle.std.proofs.lemmas.Bool.{leb-true, le-leb}
 use Rattle.chunk_region.specs.declared.span.Span.{Span}
 use Rattle.chunk_region.specs.declared.mark.Mark.{Mark}
-use Rattle.chunk_region.specs.Pages.{Pages, pages_of, part_of, bytes_at, Stands, on_last_page, mark_of, cut, cut_page, cut_pages, IsLater, IsLaterPage, IsBefore, IsWritten, WritesOn}
+use Rattle.chunk_region.specs.Pages.{Pages, pages_of, part_of, Stands, on_last_page, mark_of, cut, cut_pages, IsLater, IsLaterPage, IsBefore, IsWritten, WritesOn}
 
 page_itself : (pages : Pages) (page : List ℕ) → IsLaterPage pages page page
 page_itself [] page = ([], sym (append-nil page))

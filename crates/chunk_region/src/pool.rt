@@ -9,7 +9,7 @@ use std::marker::Model;
 const PAGE_BYTES: usize = 65_536;
 
 /// Room for one page.
-#[derive(Drop)]
+#[derive(Debug, Drop)]
 pub(crate) struct Page {
     bytes: Vec<u8>,
 }
@@ -35,7 +35,7 @@ impl Page {
 }
 
 /// Pages that are free, each with room for 65,536 bytes. A contract sees their number.
-#[derive(Drop)]
+#[derive(Debug, Drop)]
 pub struct PagePool {
     pub(crate) pages: Vec<Page>,
 }

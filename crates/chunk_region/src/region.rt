@@ -13,7 +13,7 @@ use std::marker::Model;
 /// In this form each piece lies in memory of its own, made to its measure, and counts as a page written on; no page
 /// of the pool is taken. A region that has 2^32 pieces answers want of memory to a further one, since no span could
 /// name it.
-#[derive(Drop)]
+#[derive(Debug, Drop)]
 pub struct Region {
     pieces: Vec<Vec<u8>>,
     pool: PagePool,

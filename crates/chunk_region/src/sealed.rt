@@ -8,7 +8,7 @@ use crate::region::read;
 use std::marker::Model;
 
 /// What a region held when it was sealed, to be read by the same spans.
-#[derive(Drop)]
+#[derive(Debug, Drop)]
 pub struct Sealed {
     pub(crate) pieces: Vec<Vec<u8>>,
 }

@@ -1,7 +1,7 @@
-use Rattle.std.proofs.Common.{◌≡◌, ◌-◌, ◌<◌, ◌≤◌, ℕ, List, Vec, length, get_or, take, set, sym, ap, ◌∙◌, subst, arith}
+use Rattle.std.proofs.Common.{◌≡◌, ◌-◌, ℕ, List, Vec, get_or, set, sym, ap, ◌∙◌, subst, arith}
 use Rattle.std.proofs.lemmas.List.{length-map}
 use Rattle.std.specs.declared.alloc.Global.{Global}
-use Rattle.chunk_region.specs.Pages.{cut, pages_of}
+use Rattle.chunk_region.specs.Pages.{pages_of}
 use Rattle.chunk_region.proofs.PageLemmas.{cut_short, cut_last_piece}
 use Rattle.chunk_region.proofs.region.cut_back.Goals as goal
 

@@ -1,6 +1,6 @@
-use Rattle.std.proofs.Common.{◌≡◌, sym, subst}
+use Rattle.std.proofs.Common.{sym, subst}
 use Rattle.std.proofs.lemmas.Result.{IfOk-at_ok}
-use Rattle.chunk_region.specs.Pages.{IsWritten, Pages, Stands}
+use Rattle.chunk_region.specs.Pages.{IsWritten, Pages}
 use Rattle.chunk_region.proofs.PageLemmas.{is_written}
 use Rattle.chunk_region.proofs.tests.what_is_sealed_is_read_by_the_same_spans.Goals as goal
 

@@ -1,4 +1,3 @@
-use Rattle.std.proofs.Common.{◌≡◌, sym, subst}
 use Rattle.std.proofs.lemmas.Result.{IfOk-at_ok}
 use Rattle.chunk_region.proofs.PageLemmas.{is_written}
 use Rattle.chunk_region.proofs.tests.what_was_placed_before_a_mark_stays.Goals as goal

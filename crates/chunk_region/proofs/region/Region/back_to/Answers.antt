@@ -1,7 +1,7 @@
-use Rattle.std.proofs.Common.{◌≡◌, ℕ, List, sym, ap, ◌∙◌, subst}
+use Rattle.std.proofs.Common.{sym, ap, ◌∙◌, subst}
 use Rattle.chunk_region.specs.declared.mark.Mark.{Mark}
 use Rattle.chunk_region.specs.Holding.{Holding}
-use Rattle.chunk_region.specs.Pages.{Pages, Stands, cut, pages_of}
+use Rattle.chunk_region.specs.Pages.{Pages, Stands, cut}
 use Rattle.chunk_region.proofs.PageLemmas.{comes_back, stays}
 use Rattle.chunk_region.proofs.region.Region.back_to.Goals as goal
 

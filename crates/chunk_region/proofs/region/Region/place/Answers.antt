@@ -1,4 +1,4 @@
-use Rattle.std.proofs.Common.{◌≡◌, ◌∷◌, ◌++◌, [], List, ℕ, length, sym, ap, ◌∙◌, subst}
+use Rattle.std.proofs.Common.{◌≡◌, ◌∷◌, ◌++◌, [], length, sym, ap, ◌∙◌, subst}
 use Rattle.std.proofs.lemmas.List.{length-map}
 use Rattle.chunk_region.specs.Holding.{Holding}
 use Rattle.chunk_region.specs.Pages.{IsLater, Stands, Pages, pages_of}
