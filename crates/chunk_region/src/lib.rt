@@ -1,0 +1,55 @@
+//! Bytes kept in regions of pages: a piece that is placed keeps its bytes until a mark before it is gone back to.
+//!
+//! The crates above use the clauses of [`Region`]: a span stands for the bytes that were placed
+//! (`Stands` in `specs/Pages.antt`), writing on keeps every span, and going back to a mark gives the pages that were
+//! there when it was taken. `law_of_writing` has the facts about these definitions.
+#![tactic(auto)]
+
+mod laws;
+mod mark;
+mod pool;
+mod region;
+mod sealed;
+mod span;
+
+pub use laws::law_of_writing;
+pub use mark::Mark;
+pub use pool::PagePool;
+pub use region::Region;
+pub use sealed::Sealed;
+pub use span::Span;
+
+#[cfg(test)]
+mod tests {
+    use super::*;
+
+    #[test]
+    fn what_was_placed_before_a_mark_stays(rt: HostRuntime) {
+        let pool = PagePool::with_pages(rt.alloc(), 2).expect(&rt, "memory for two pages");
+        assert_eq!(rt; pool.free_pages(), 2);
+        let mut region = Region::new(pool);
+        let first = region
+            .place(b"ten bytes.")
+            .expect(&rt, "memory for ten bytes");
+        let mark = region.mark();
+        let page = [7u8; 65_536];
+        let second = region.place(&page).expect(&rt, "memory for a page");
+        assert_eq!(rt; region.bytes(first), b"ten bytes.".as_slice());
+        assert_eq!(rt; region.bytes(second), &page[..]);
+        region.back_to(mark);
+        assert_eq!(rt; region.bytes(first), b"ten bytes.".as_slice());
+        assert_eq!(rt; region.release().free_pages(), 2);
+    }
+
+    #[test]
+    fn what_is_sealed_is_read_by_the_same_spans(rt: HostRuntime) {
+        let pool = PagePool::with_pages(rt.alloc(), 1).expect(&rt, "memory for a page");
+        let mut region = Region::new(pool);
+        let empty = region.place(b"").expect(&rt, "memory for nothing");
+        let word = region.place(b"word").expect(&rt, "memory for a word");
+        let (sealed, pool) = region.seal();
+        assert_eq!(rt; sealed.bytes(word), b"word".as_slice());
+        assert_eq!(rt; sealed.bytes(empty), b"".as_slice());
+        assert_eq!(rt; pool.free_pages(), 1);
+    }
+}

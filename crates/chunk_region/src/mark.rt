@@ -1,0 +1,8 @@
+//! A place in a region to go back to.
+
+/// Where the writing in a region ended at one moment: so many pages, and so many bytes on the last of them.
+#[derive(Debug, Clone, Copy, PartialEq, Eq)]
+pub struct Mark {
+    pub(crate) pages: usize,
+    pub(crate) last: usize,
+}
