@@ -1,4 +1,4 @@
-ghost use Rattle.std.specs.Prelude.{ℕ, ◌≡◌};
+ghost use Rattle.std.specs.Prelude.{◌≡◌, ◌≤◌};
 ghost use Rattle.wire_io.specs.Causes.{counted};
 
 use crate::outside::{Failed, Sink, Source};
@@ -22,10 +22,19 @@ impl<R: Read + Drop> Model for StdSource<R> {
 }
 
 impl<R: Read + Drop> StdSource<R> {
+    /// A source over `reader`, as yet without a fault.
     pub fn new(reader: R) -> StdSource<R>
         ensures { result ≡ 0 }
     {
         StdSource { reader, faults: 0 }
+    }
+
+    fn fail(&mut self) -> Failed
+        ensures counted { self.new ≡ counted self.old }
+        ensures later { self.old ≤ self.new }
+    {
+        self.faults = self.faults.saturating_add(1);
+        Failed
     }
 }
 
@@ -35,10 +44,7 @@ impl<R: Read + Drop> Source for StdSource<R> {
     fn read(&mut self, buf: &mut [u8]) -> Result<usize, Failed> {
         match self.reader.read(buf) {
             Ok(count) => Ok(count),
-            Err(_) => {
-                self.faults = self.faults.saturating_add(1);
-                Err(Failed)
-            }
+            Err(_) => Err(self.fail()),
         }
     }
 }
@@ -61,10 +67,19 @@ impl<W: Write + Drop> Model for StdSink<W> {
 }
 
 impl<W: Write + Drop> StdSink<W> {
+    /// A sink over `writer`, as yet without a fault.
     pub fn new(writer: W) -> StdSink<W>
         ensures { result ≡ 0 }
     {
         StdSink { writer, faults: 0 }
+    }
+
+    fn fail(&mut self) -> Failed
+        ensures counted { self.new ≡ counted self.old }
+        ensures later { self.old ≤ self.new }
+    {
+        self.faults = self.faults.saturating_add(1);
+        Failed
     }
 }
 
@@ -74,10 +89,7 @@ impl<W: Write + Drop> Sink for StdSink<W> {
     fn write(&mut self, piece: &[u8]) -> Result<usize, Failed> {
         match self.writer.write(piece) {
             Ok(count) if count > 0 || piece.is_empty() => Ok(count),
-            _ => {
-                self.faults = self.faults.saturating_add(1);
-                Err(Failed)
-            }
+            _ => Err(self.fail()),
         }
     }
 }

@@ -4,6 +4,7 @@ use crate::{
     Failed, MemorySink, MemorySource, NoPace, Pacer, ReadStop, Sink, Source, StdSink, StdSource,
     read_up_to, write_whole,
 };
+use std::alloc::{AllocError, Global};
 use std::io::{Error, ErrorKind, Read, Write};
 use std::test::Fail;
 
@@ -75,6 +76,41 @@ fn a_steady_sink_takes_what_its_room_holds_and_then_fails(rt: HostRuntime) -> Re
     assert_eq!(rt; sink.write(b"e"), Err(Failed));
     assert_eq!(rt; sink.write(b""), Ok(0));
     assert_eq!(rt; sink.bytes(), b"abcd".as_slice());
+    Ok(())
+}
+
+/// Its proof shows that over a steady source no reading fails.
+fn read_steady(alloc: Global, bytes: &[u8]) -> Result<Vec<u8>, AllocError> {
+    let mut source = MemorySource::steady(bytes.to_vec(alloc)?);
+    match read_up_to(alloc, &mut source, 16) {
+        Ok(bytes) => Ok(bytes),
+        Err(ReadStop::Memory) => Err(AllocError),
+        Err(ReadStop::Failed) => unreachable!(),
+    }
+}
+
+#[test]
+fn over_a_steady_source_no_reading_fails(rt: HostRuntime) -> Result<(), Fail> {
+    assert_eq!(rt;
+        read_steady(rt.alloc(), b"abcde")?.as_slice(),
+        b"abcde".as_slice()
+    );
+    Ok(())
+}
+
+/// Its proof shows that in a steady sink's room no writing fails, one after another.
+fn write_steady(alloc: Global) -> Result<MemorySink, AllocError> {
+    let mut sink = MemorySink::steady(alloc, 5)?;
+    let first = write_whole(&mut sink, b"abc");
+    prove!(first.is_ok());
+    let second = write_whole(&mut sink, b"de");
+    prove!(second.is_ok());
+    Ok(sink)
+}
+
+#[test]
+fn in_a_steady_sinks_room_no_writing_fails(rt: HostRuntime) -> Result<(), Fail> {
+    assert_eq!(rt; write_steady(rt.alloc())?.bytes(), b"abcde".as_slice());
     Ok(())
 }
 
