@@ -1,9 +1,9 @@
 -- What a source and a sink in memory are, and what one call makes of them.
-use Rattle.std.specs.Prelude.{ℕ, ◌+◌, ◌-◌, ◌^◌, ◌==◌, ◌≡◌, ◌++◌, Bool, ◌&&◌, ◌||◌, not, if◌then◌else◌, List, [], length, take, drop, min, Result, IfOk, is_err}
+use Rattle.std.specs.Prelude.{ℕ, ◌-◌, ◌^◌, ◌==◌, ◌++◌, Bool, ◌&&◌, ◌||◌, not, if◌then◌else◌, List, [], length, take, drop, min}
 use Rattle.std.specs.List.{list_any}
 use Rattle.wire_io.specs.Causes.{counted}
 
--- Calls are numbered from 0.
+-- a source; calls are numbered from 0
 pub record Supply : Type 0 where
   pub left : List ℕ  -- the bytes left
   pub most : ℕ  -- how many bytes a call moves at most
@@ -11,13 +11,14 @@ pub record Supply : Type 0 where
   pub calls : ℕ  -- the number of the next call
   pub faults : ℕ  -- the failures so far
 
+-- a sink
 pub record Holding : Type 0 where
   pub held : List ℕ  -- the bytes held
   pub room : ℕ  -- for how many more bytes room is left
-  pub most : ℕ
-  pub failing : List ℕ
-  pub calls : ℕ
-  pub faults : ℕ
+  pub most : ℕ  -- how many bytes a call takes at most
+  pub failing : List ℕ  -- the numbers of the calls that fail, room or not
+  pub calls : ℕ  -- the number of the next call
+  pub faults : ℕ  -- the failures so far
 
 -- call `number` is one of those listed
 abbrev pub is_listed : ℕ → List ℕ → Bool
@@ -31,10 +32,11 @@ supply bytes most failing = record { left = bytes; most = most; failing = failin
 abbrev pub holding : ℕ → ℕ → List ℕ → Holding
 holding room most failing = record { held = []; room = room; most = most; failing = failing; calls = 0; faults = 0 }
 
--- a call's number at which there is no limit on the bytes of a call
+-- a limit that no call meets, since no buffer and no piece is longer
 abbrev pub no_limit : ℕ
 no_limit = 2 ^ 64 - 1
 
+-- the next read fails
 abbrev pub read_fails : Supply → Bool
 read_fails source = is_listed source.calls source.failing
 
@@ -48,6 +50,7 @@ after_read source space = if read_fails source
     then record source { calls = counted source.calls; faults = counted source.faults }
     else record source { left = drop (read_count source space) source.left; calls = counted source.calls }
 
+-- the next write fails: it is listed, or there is something to take and no room
 abbrev pub write_fails : Holding → List ℕ → Bool
 write_fails sink piece = is_listed sink.calls sink.failing || (not (length piece == 0) && (sink.room == 0))
 

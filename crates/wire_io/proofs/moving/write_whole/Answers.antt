@@ -1,4 +1,4 @@
-use Rattle.std.proofs.Common.{arith, rules, take, drop}
+use Rattle.std.proofs.Common.{arith}
 use Rattle.std.proofs.lemmas.Grind.{common_steps}
 use Rattle.wire_io.proofs.MovesLemmas.{appends_further}
 use Rattle.wire_io.proofs.moving.write_whole.Goals as goal
