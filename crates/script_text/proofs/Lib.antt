@@ -1,3 +1,4 @@
+pub mod BlankLemmas
 mod Vectors
 mod ShownVectors
 mod TextParts

@@ -5,14 +5,18 @@
 //! `print_output` are these, and `one_reading` says that a text shows one run alone.
 #![tactic(auto)]
 
+mod blanks;
 mod faults;
 mod law;
 mod outputs;
+mod parts;
+mod reading;
 mod replies;
 mod scripts;
 
 pub use faults::{BadScript, ScriptFault};
 pub use law::one_reading;
 pub use outputs::RunText;
+pub use reading::read_script;
 pub use replies::Reply;
 pub use scripts::{Line, Moment, OrderItem, Script};
