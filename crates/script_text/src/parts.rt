@@ -1,6 +1,7 @@
-ghost use Rattle.std.specs.Prelude.{◌≡◌, drop, length, take_while};
+ghost use Rattle.std.specs.Prelude.{◌≡◌, ◌≤◌, drop, length, nat_eq, take_while};
+ghost use Rattle.std.specs.List.{list_all, starts_with};
 ghost use Rattle.std.specs.Option.{option_map};
-ghost use Rattle.script_text.specs.Input.{if_any, is_name, is_name_byte, is_skipped, parts_after, parts_of, statement_in};
+ghost use Rattle.script_text.specs.Input.{if_any, is_blank, is_name, is_name_byte, is_skipped, parts_after, parts_of, statement_in};
 ghost use Rattle.script_text.specs.LineParts.{lent_parts};
 
 use crate::blanks::{is_blank_byte, trim, trim_end};
@@ -18,7 +19,19 @@ pub struct LineParts<'a> {
 pub fn says_nothing(line: &[u8]) -> bool
     ensures { result ≡ is_skipped line.now }
 {
-    line.iter().all(|byte| is_blank_byte(*byte)) || line.starts_with(b"#") || line.starts_with(b"--")
+    is_all_blank(line) || begins_with(line, b"#") || begins_with(line, b"--")
+}
+
+fn is_all_blank(line: &[u8]) -> bool
+    ensures { result ≡ list_all is_blank line.now }
+{
+    line.iter().all(|byte| is_blank_byte(*byte))
+}
+
+fn begins_with(line: &[u8], mark: &[u8]) -> bool
+    ensures { result ≡ starts_with nat_eq line.now mark.now }
+{
+    line.starts_with(mark)
 }
 
 /// The parts of a line `@name statement;`, if it has this form.
@@ -39,8 +52,17 @@ fn split_name(bytes: &[u8]) -> (&[u8], &[u8])
     ensures name { result.0.now ≡ take_while is_name_byte bytes.now }
     ensures rest { result.1.now ≡ drop (length (take_while is_name_byte bytes.now)) bytes.now }
 {
-    let count = bytes.iter().take_while(|byte| is_name_letter(**byte)).count();
-    bytes.split_at(count)
+    bytes.split_at(name_length(bytes))
+}
+
+fn name_length(bytes: &[u8]) -> usize
+    ensures length { result ≡ length (take_while is_name_byte bytes.now) }
+    ensures within { result ≤ length bytes.now }
+{
+    bytes
+        .iter()
+        .take_while(|byte| is_name_letter(**byte))
+        .count()
 }
 
 fn is_name_letter(byte: u8) -> bool
@@ -58,7 +80,7 @@ fn is_name_long(name: &[u8]) -> bool
 fn parts_behind<'a>(name: &'a [u8], rest: &'a [u8]) -> Option<LineParts<'a>>
     ensures { option_map lent_parts result ≡ parts_after name.now rest.now }
 {
-    if !(is_name_long(name) && rest.starts_with(b" ")) {
+    if !(is_name_long(name) && begins_with(rest, b" ")) {
         return None;
     }
     match read_statement(rest) {
@@ -80,5 +102,9 @@ fn read_statement(bytes: &[u8]) -> Option<&[u8]>
 fn some_statement(statement: &[u8]) -> Option<&[u8]>
     ensures { option_map (λ s. s.now) result ≡ if_any statement.now }
 {
-    if statement.is_empty() { None } else { Some(statement) }
+    if statement.is_empty() {
+        None
+    } else {
+        Some(statement)
+    }
 }

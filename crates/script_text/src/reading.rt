@@ -1,4 +1,4 @@
-ghost use Rattle.std.specs.Prelude.{◌≡◌, ◌≤◌, ◌<◌, ◌∷◌, false, length, unwrap_or, IfErr, IfOk, OnOk};
+ghost use Rattle.std.specs.Prelude.{◌≡◌, ◌≤◌, ◌<◌, ◌∷◌, ◌==◌, false, length, position, unwrap_or, IfErr, IfOk, IfSome, OnOk};
 ghost use Rattle.script_text.specs.Input.{add_line, add_statement, bad, is_one_too_many, lines_of, most_bytes, most_sessions, no_script, place_of, script, script_from, with_name, with_statement, without_return};
 ghost use Rattle.script_text.specs.LineParts.{lent_parts};
 ghost use Rattle.script_text.specs.Reading.{Gives};
@@ -11,8 +11,11 @@ use std::alloc::Global;
 use tuple_codec::{Sequence, Text, is_text};
 
 const MOST_BYTES: usize = 16_777_216;
+
 const MOST_STATEMENT_BYTES: usize = 65_536;
+
 const MOST_SESSIONS: usize = 1;
+
 const MOST_STATEMENTS: usize = 20_000;
 
 /// The script that bytes hold, or the first line that breaks a rule with the least rule that it breaks.
@@ -67,10 +70,17 @@ fn next_line(bytes: &[u8]) -> (&[u8], &[u8])
     ensures lines { lines_of bytes.now ≡ result.0.now ∷ lines_of result.1.now }
     ensures shorter { length result.1.now < length bytes.now }
 {
-    match bytes.iter().position(|byte| *byte == b'\n') {
+    match find_feed(bytes) {
         Some(end) => (drop_return(&bytes[..end]), &bytes[end + 1..]),
-        None => (bytes, &bytes[bytes.len()..]),
+        None => (bytes, &[]),
     }
+}
+
+fn find_feed(bytes: &[u8]) -> Option<usize>
+    ensures feed { result ≡ position (λ byte. byte == 10) bytes.now }
+    ensures within { IfSome result (λ end. end < length bytes.now) }
+{
+    bytes.iter().position(|byte| *byte == b'\n')
 }
 
 fn drop_return(line: &[u8]) -> &[u8]
@@ -100,7 +110,12 @@ fn with_line(alloc: Global, number: u32, said: Script, line: &[u8]) -> Result<Sc
     }
 }
 
-fn with_parts(alloc: Global, number: u32, said: Script, parts: &LineParts<'_>) -> Result<Script, ScriptFault>
+fn with_parts(
+    alloc: Global,
+    number: u32,
+    said: Script,
+    parts: &LineParts<'_>,
+) -> Result<Script, ScriptFault>
     requires { length said.names ≤ most_sessions }
     ensures gives { Gives result (add_statement number said (lent_parts parts.now)) }
     ensures few { IfOk result (λ more. length more.names ≤ most_sessions) }
@@ -135,11 +150,19 @@ fn push_parts(alloc: Global, said: Script, parts: &LineParts<'_>) -> Result<Scri
     ensures gives { Gives result (Ok (with_statement said (lent_parts parts.now))) }
     ensures few { IfOk result (λ more. length more.names ≤ most_sessions) }
 {
-    let Script { mut names, mut lines, order } = said;
+    let Script {
+        mut names,
+        mut lines,
+        order,
+    } = said;
     let session = session_of(alloc, &mut names, parts.name)?;
     let statement = Text::from_slice(alloc, parts.statement)?;
     lines.push(Line { session, statement })?;
-    Ok(Script { names, lines, order })
+    Ok(Script {
+        names,
+        lines,
+        order,
+    })
 }
 
 /// The place of the session of this name; a new one gets the next.
