@@ -1,4 +1,5 @@
 pub mod BlankLemmas
+pub mod CommaLemmas
 pub mod LineLemmas
 mod Vectors
 mod ShownVectors

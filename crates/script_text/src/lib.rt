@@ -10,13 +10,17 @@ mod faults;
 mod law;
 mod outputs;
 mod parts;
+mod printed_values;
+mod printing;
 mod reading;
+mod refusals;
 mod replies;
 mod scripts;
 
 pub use faults::{BadScript, ScriptFault};
 pub use law::one_reading;
 pub use outputs::RunText;
+pub use printing::print_output;
 pub use reading::read_script;
 pub use replies::Reply;
 pub use scripts::{Line, Moment, OrderItem, Script};
