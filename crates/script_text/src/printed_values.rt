@@ -17,7 +17,12 @@ pub fn push_number(alloc: Global, out: &mut Vec<u8>, number: u64) -> Result<(), 
 }
 
 /// Writes a row's values with commas between them, each in its column's type.
-pub fn push_row(alloc: Global, out: &mut Vec<u8>, kinds: &[SqlType], row: &[Value]) -> Result<(), AllocError>
+pub fn push_row(
+    alloc: Global,
+    out: &mut Vec<u8>,
+    kinds: &[SqlType],
+    row: &[Value],
+) -> Result<(), AllocError>
     ensures { OnOk result (out.new.items ≡ out.old.items ++ row_text kinds.now row.now) }
 {
     match (kinds, row) {
@@ -30,7 +35,12 @@ pub fn push_row(alloc: Global, out: &mut Vec<u8>, kinds: &[SqlType], row: &[Valu
 }
 
 /// Writes values with a comma before each.
-fn push_more_values(alloc: Global, out: &mut Vec<u8>, kinds: &[SqlType], values: &[Value]) -> Result<(), AllocError>
+fn push_more_values(
+    alloc: Global,
+    out: &mut Vec<u8>,
+    kinds: &[SqlType],
+    values: &[Value],
+) -> Result<(), AllocError>
     ensures { OnOk result (out.new.items ≡ out.old.items ++ flat_map (λ text. 44 ∷ text) (value_texts kinds.now values.now)) }
 {
     for (kind, value) in kinds.iter().zip(values) {
@@ -40,7 +50,12 @@ fn push_more_values(alloc: Global, out: &mut Vec<u8>, kinds: &[SqlType], values:
     Ok(())
 }
 
-fn push_value(alloc: Global, out: &mut Vec<u8>, kind: &SqlType, value: &Value) -> Result<(), AllocError>
+fn push_value(
+    alloc: Global,
+    out: &mut Vec<u8>,
+    kind: &SqlType,
+    value: &Value,
+) -> Result<(), AllocError>
     ensures { OnOk result (out.new.items ≡ out.old.items ++ value_text kind.now value.now) }
 {
     match value {
@@ -160,7 +175,7 @@ fn push_padded(alloc: Global, out: &mut Vec<u8>, width: u8, number: u64) -> Resu
 fn push_zeros(out: &mut Vec<u8>, count: usize) -> Result<(), AllocError>
     ensures { OnOk result (out.new.items ≡ out.old.items ++ replicate count 48) }
 {
-    for _ in 0..count {
+    'zeros: for _written in 0..count {
         out.push(b'0')?;
     }
     Ok(())

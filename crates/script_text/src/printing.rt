@@ -20,12 +20,22 @@ pub fn print_output(alloc: Global, run: &RunText) -> Result<Blob, AllocError>
     ensures { IfOk result (λ bytes. bytes ≡ text run.now) }
 {
     let mut out = Vec::new(alloc);
-    push_sessions(alloc, &mut out, run.names.as_slice(), run.replies.as_slice())?;
+    push_sessions(
+        alloc,
+        &mut out,
+        run.names.as_slice(),
+        run.replies.as_slice(),
+    )?;
     push_order(alloc, &mut out, run.names.as_slice(), run.order.as_slice())?;
     Ok(Blob::from_vec(out))
 }
 
-fn push_sessions(alloc: Global, out: &mut Vec<u8>, names: &[Text], replies: &[Sequence<Reply>]) -> Result<(), AllocError>
+fn push_sessions(
+    alloc: Global,
+    out: &mut Vec<u8>,
+    names: &[Text],
+    replies: &[Sequence<Reply>],
+) -> Result<(), AllocError>
     ensures { OnOk result (out.new.items ≡ out.old.items ++ session_lines names.now replies.now) }
 {
     for (name, session) in names.iter().zip(replies) {
@@ -114,7 +124,12 @@ fn push_more_names(out: &mut Vec<u8>, names: &[Text]) -> Result<(), AllocError>
 }
 
 /// Writes rows with a line feed before each.
-fn push_rows(alloc: Global, out: &mut Vec<u8>, kinds: &[SqlType], rows: &[Row]) -> Result<(), AllocError>
+fn push_rows(
+    alloc: Global,
+    out: &mut Vec<u8>,
+    kinds: &[SqlType],
+    rows: &[Row],
+) -> Result<(), AllocError>
     ensures { OnOk result (out.new.items ≡ out.old.items ++ row_lines kinds.now rows.now) }
 {
     for row in rows {
@@ -124,7 +139,12 @@ fn push_rows(alloc: Global, out: &mut Vec<u8>, kinds: &[SqlType], rows: &[Row]) 
     Ok(())
 }
 
-fn push_order(alloc: Global, out: &mut Vec<u8>, names: &[Text], order: &[Moment]) -> Result<(), AllocError>
+fn push_order(
+    alloc: Global,
+    out: &mut Vec<u8>,
+    names: &[Text],
+    order: &[Moment],
+) -> Result<(), AllocError>
     ensures { OnOk result (out.new.items ≡ out.old.items ++ order_line names.now order.now) }
 {
     out.extend_from_slice(b"order")?;
@@ -132,7 +152,12 @@ fn push_order(alloc: Global, out: &mut Vec<u8>, names: &[Text], order: &[Moment]
     out.extend_from_slice(b"\n")
 }
 
-fn push_moments(alloc: Global, out: &mut Vec<u8>, names: &[Text], order: &[Moment]) -> Result<(), AllocError>
+fn push_moments(
+    alloc: Global,
+    out: &mut Vec<u8>,
+    names: &[Text],
+    order: &[Moment],
+) -> Result<(), AllocError>
     ensures { OnOk result (out.new.items ≡ out.old.items ++ flat_map (moment_text names.now) order.now) }
 {
     for moment in order {
@@ -141,7 +166,12 @@ fn push_moments(alloc: Global, out: &mut Vec<u8>, names: &[Text], order: &[Momen
     Ok(())
 }
 
-fn push_moment(alloc: Global, out: &mut Vec<u8>, names: &[Text], moment: &Moment) -> Result<(), AllocError>
+fn push_moment(
+    alloc: Global,
+    out: &mut Vec<u8>,
+    names: &[Text],
+    moment: &Moment,
+) -> Result<(), AllocError>
     ensures { OnOk result (out.new.items ≡ out.old.items ++ moment_text names.now moment.now) }
 {
     out.extend_from_slice(b" ")?;
