@@ -16,6 +16,8 @@ mod reading;
 mod refusals;
 mod replies;
 mod scripts;
+#[cfg(test)]
+mod tests;
 
 pub use faults::{BadScript, ScriptFault};
 pub use law::one_reading;
