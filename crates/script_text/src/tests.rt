@@ -1,4 +1,4 @@
-ghost use Rattle.std.specs.Prelude.{◌≡◌, ◌∷◌, [], IfOk};
+ghost use Rattle.std.specs.Prelude.{◌≡◌, ◌∷◌, [], IfOk, true};
 ghost use Rattle.script_text.specs.Shown.{IsPrintable, is_printable_answer, is_printable_row};
 ghost use Rattle.tuple_codec.specs.declared.values.SqlType.TheVariants.{BigInt, Varchar};
 
