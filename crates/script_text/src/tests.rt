@@ -94,7 +94,9 @@ fn reports_what_is_too_much(rt: HostRuntime) -> Result<(), Fail> {
     Ok(())
 }
 
-fn moment(statement: u32) -> Moment {
+fn moment(statement: u32) -> Moment
+    ensures { result.session ≡ 0 }
+{
     Moment {
         session: 0,
         statement,
