@@ -1,5 +1,5 @@
 -- The first line of bytes, and the lines that follow it.
-use Rattle.std.proofs.Common.{◌≡◌, ℕ, ◌==◌, ◌<◌, ◌+◌, List, [], ◌∷◌, length, take, drop, arith, Bool, true, false, refl, ap, sym, ◌∙◌, subst, Option, Some, None, cond, nat_lt, not, zero, suc}
+use Rattle.std.proofs.Common.{◌≡◌, ℕ, ◌==◌, ◌<◌, ◌+◌, List, [], ◌∷◌, length, take, drop, arith, Bool, true, false, refl, ap, ◌∙◌, subst, Some, None, cond, nat_lt, not, suc}
 use Rattle.std.specs.List.{position, position_or_len, slice_split, onto_first}
 use Rattle.std.proofs.lemmas.List.Splits.{slice_split_first, slice_split-cons_no, length-slice_split}
 use Rattle.std.proofs.lemmas.List.Sums.{prefix_len-le-length}

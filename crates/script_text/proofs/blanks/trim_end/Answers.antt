@@ -1,4 +1,4 @@
-use Rattle.std.proofs.Common.{◌≡◌, ◌∙◌, ◌-◌, sym, arith, refl}
+use Rattle.std.proofs.Common.{◌∙◌, ◌-◌, sym, arith}
 use Rattle.script_text.proofs.BlankLemmas.{blank_at, other_at}
 use Rattle.script_text.proofs.blanks.trim_end.Goals as goal
 

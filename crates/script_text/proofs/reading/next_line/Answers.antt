@@ -1,4 +1,4 @@
-use Rattle.std.proofs.Common.{◌≡◌, ◌∙◌, ◌+◌, sym, arith, refl}
+use Rattle.std.proofs.Common.{◌+◌, sym}
 use Rattle.std.proofs.lemmas.List.{take_rest}
 use Rattle.script_text.proofs.LineLemmas.{last_line, line_at}
 use Rattle.script_text.proofs.reading.next_line.Goals as goal
