@@ -1,3 +1,7 @@
+pub mod BlankLemmas
+pub mod CommaLemmas
+pub mod LineLemmas
+pub mod ScaleLemmas
 mod Vectors
 mod ShownVectors
 mod TextParts

@@ -1,3 +1,5 @@
 pub mod Input
+pub mod LineParts
 pub mod Output
+pub mod Reading
 pub mod Shown

@@ -5,14 +5,24 @@
 //! `print_output` are these, and `one_reading` says that a text shows one run alone.
 #![tactic(auto)]
 
+mod blanks;
 mod faults;
 mod law;
 mod outputs;
+mod parts;
+mod printed_values;
+mod printing;
+mod reading;
+mod refusals;
 mod replies;
 mod scripts;
+#[cfg(test)]
+mod tests;
 
 pub use faults::{BadScript, ScriptFault};
 pub use law::one_reading;
 pub use outputs::RunText;
+pub use printing::print_output;
+pub use reading::read_script;
 pub use replies::Reply;
 pub use scripts::{Line, Moment, OrderItem, Script};

@@ -1,0 +1,183 @@
+// Each function writes behind what `out` holds. Where memory was wanting, `out` holds a part of the text.
+
+ghost use Rattle.std.specs.Prelude.{◌≡◌, ◌++◌, ◌∷◌, IfOk, OnOk, length};
+ghost use Rattle.std.specs.List.{flat_map, join_with_byte};
+ghost use Rattle.script_text.specs.Output.{answer_text, moment_text, order_line, reply_lines, reply_text, row_lines, session_lines, text};
+ghost use Rattle.script_text.specs.Shown.{IsPrintable};
+ghost use Rattle.script_text.specs.declared.replies.Reply.TheVariants.{Refused};
+
+use crate::outputs::RunText;
+use crate::printed_values::{push_number, push_row};
+use crate::refusals::refusal_words;
+use crate::replies::Reply;
+use crate::scripts::Moment;
+use std::alloc::{AllocError, Global};
+use tuple_codec::{Answer, Blob, Row, Sequence, SqlType, Text};
+
+/// The text of a run: for each session its name and its replies, and then the order of the moments.
+pub fn print_output(alloc: Global, run: &RunText) -> Result<Blob, AllocError>
+    requires { IsPrintable run.now }
+    ensures { IfOk result (λ bytes. bytes ≡ text run.now) }
+{
+    let mut out = Vec::new(alloc);
+    push_sessions(
+        alloc,
+        &mut out,
+        run.names.as_slice(),
+        run.replies.as_slice(),
+    )?;
+    push_order(alloc, &mut out, run.names.as_slice(), run.order.as_slice())?;
+    Ok(Blob::from_vec(out))
+}
+
+fn push_sessions(
+    alloc: Global,
+    out: &mut Vec<u8>,
+    names: &[Text],
+    replies: &[Sequence<Reply>],
+) -> Result<(), AllocError>
+    ensures { OnOk result (out.new.items ≡ out.old.items ++ session_lines names.now replies.now) }
+{
+    for (name, session) in names.iter().zip(replies) {
+        out.extend_from_slice(b"session ")?;
+        out.extend_from_slice(name.as_slice())?;
+        out.extend_from_slice(b"\n")?;
+        push_replies(alloc, out, session.as_slice())?;
+    }
+    Ok(())
+}
+
+/// Writes a session's replies, each behind its statement's number, from 1 on.
+fn push_replies(alloc: Global, out: &mut Vec<u8>, replies: &[Reply]) -> Result<(), AllocError>
+    ensures { OnOk result (out.new.items ≡ out.old.items ++ reply_lines 1 replies.now) }
+{
+    let mut number: u64 = 0;
+    for reply in replies {
+        number += 1;
+        push_number(alloc, out, number)?;
+        out.extend_from_slice(b" ")?;
+        push_reply(alloc, out, reply)?;
+        out.extend_from_slice(b"\n")?;
+    }
+    Ok(())
+}
+
+fn push_reply(alloc: Global, out: &mut Vec<u8>, reply: &Reply) -> Result<(), AllocError>
+    ensures { OnOk result (out.new.items ≡ out.old.items ++ reply_text reply.now) }
+{
+    match reply {
+        Reply::Done => out.extend_from_slice(b"ok"),
+        Reply::Count(rows) => {
+            out.extend_from_slice(b"ok ")?;
+            push_number(alloc, out, *rows)
+        }
+        Reply::Rows(answer) => push_answer(alloc, out, answer),
+        Reply::Refused(number) => push_refusal(alloc, out, *number),
+    }
+}
+
+fn push_refusal(alloc: Global, out: &mut Vec<u8>, number: u16) -> Result<(), AllocError>
+    ensures { OnOk result (out.new.items ≡ out.old.items ++ reply_text (Refused number)) }
+{
+    out.extend_from_slice(b"refused ")?;
+    push_number(alloc, out, u64::from(number))?;
+    out.extend_from_slice(b" ")?;
+    match refusal_words(number) {
+        Some(words) => out.extend_from_slice(words.as_bytes()),
+        None => Ok(()),
+    }
+}
+
+fn push_answer(alloc: Global, out: &mut Vec<u8>, answer: &Answer) -> Result<(), AllocError>
+    ensures { OnOk result (out.new.items ≡ out.old.items ++ answer_text answer.now) }
+{
+    let rows = answer.rows.as_slice();
+    out.extend_from_slice(b"rows ")?;
+    push_number(alloc, out, rows.len() as u64)?;
+    out.extend_from_slice(b"\n")?;
+    push_names(out, answer.names.as_slice())?;
+    push_rows(alloc, out, answer.kinds.as_slice(), rows)
+}
+
+/// Writes names with commas between them.
+fn push_names(out: &mut Vec<u8>, names: &[Text]) -> Result<(), AllocError>
+    ensures { OnOk result (out.new.items ≡ out.old.items ++ join_with_byte 44 names.now) }
+{
+    match names {
+        [name, names @ ..] => {
+            out.extend_from_slice(name.as_slice())?;
+            push_more_names(out, names)
+        }
+        [] => Ok(()),
+    }
+}
+
+/// Writes names with a comma before each.
+fn push_more_names(out: &mut Vec<u8>, names: &[Text]) -> Result<(), AllocError>
+    ensures { OnOk result (out.new.items ≡ out.old.items ++ flat_map (λ name. 44 ∷ name) names.now) }
+{
+    for name in names {
+        out.push(b',')?;
+        out.extend_from_slice(name.as_slice())?;
+    }
+    Ok(())
+}
+
+/// Writes rows with a line feed before each.
+fn push_rows(
+    alloc: Global,
+    out: &mut Vec<u8>,
+    kinds: &[SqlType],
+    rows: &[Row],
+) -> Result<(), AllocError>
+    ensures { OnOk result (out.new.items ≡ out.old.items ++ row_lines kinds.now rows.now) }
+{
+    for row in rows {
+        out.extend_from_slice(b"\n")?;
+        push_row(alloc, out, kinds, row.as_slice())?;
+    }
+    Ok(())
+}
+
+fn push_order(
+    alloc: Global,
+    out: &mut Vec<u8>,
+    names: &[Text],
+    order: &[Moment],
+) -> Result<(), AllocError>
+    ensures { OnOk result (out.new.items ≡ out.old.items ++ order_line names.now order.now) }
+{
+    out.extend_from_slice(b"order")?;
+    push_moments(alloc, out, names, order)?;
+    out.extend_from_slice(b"\n")
+}
+
+fn push_moments(
+    alloc: Global,
+    out: &mut Vec<u8>,
+    names: &[Text],
+    order: &[Moment],
+) -> Result<(), AllocError>
+    ensures { OnOk result (out.new.items ≡ out.old.items ++ flat_map (moment_text names.now) order.now) }
+{
+    for moment in order {
+        push_moment(alloc, out, names, moment)?;
+    }
+    Ok(())
+}
+
+fn push_moment(
+    alloc: Global,
+    out: &mut Vec<u8>,
+    names: &[Text],
+    moment: &Moment,
+) -> Result<(), AllocError>
+    ensures { OnOk result (out.new.items ≡ out.old.items ++ moment_text names.now moment.now) }
+{
+    out.extend_from_slice(b" ")?;
+    if let Some(name) = names.get(moment.session as usize) {
+        out.extend_from_slice(name.as_slice())?;
+    }
+    out.extend_from_slice(b"/")?;
+    push_number(alloc, out, u64::from(moment.statement))
+}
