@@ -1,0 +1,4 @@
+mod HistoryLemmas
+mod PlaceLemmas
+mod Moves
+mod Meetings

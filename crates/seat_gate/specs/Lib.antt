@@ -1,0 +1,4 @@
+pub mod History
+pub mod Places
+pub mod Rule
+pub mod Words
