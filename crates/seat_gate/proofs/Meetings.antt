@@ -7,7 +7,7 @@ use lib.ListN.{get_elem?}
 use Rattle.std.specs.List.{AllByRecursion}
 use Rattle.atomic_table.specs.Table.{State, Me, opening, Splits, Joins, Final, Seen}
 use Rattle.atomic_table.proofs.Lists.{at_set, set_else, set_here, at_longer}
-use Rattle.seat_gate.specs.History.{Spelling, Entry, Past, entries_of, StartsWith, past_of, longer, shorter}
+use Rattle.seat_gate.specs.History.{Spelling, Entry, Past, entries_of, StartsWith, View, past_of, joined_with}
 use Rattle.seat_gate.specs.Places.{first_place, giving, given_out, taking_in, gone, only, is_at_rest}
 use Rattle.seat_gate.specs.Rule.{turn, waiting, PastFits, SeatFits, Rule, Ordered}
 use Rattle.seat_gate.specs.declared.place.Place.{Place}
@@ -278,3 +278,19 @@ module _ {T : Type 0} (fits : T → Spelling → List Entry → Type 0) (opened 
             known = subst (λ n. AllByRecursion (λ (e : Entry). e.seat < n) log) (sym count) r.known;
           },
         )
+
+at_behind : (xs ys : List Past) (k : ℕ) (a : Past) → get_elem? ys k ≡ some a → (i : ℕ) × (get_elem? (xs ++ ys) i ≡ some a)
+at_behind [] ys k a e = (k, e)
+at_behind (x ∷ xs) ys k a e = let m = at_behind xs ys k a e in (suc m.0, m.1)
+
+-- a seat that takes another in keeps it, and whom either had joined
+pub joined_kept : (v w : View) (k : ℕ) → (k ≡ w.number) ⊎ (HasJoined k v ⊎ HasJoined k w) → HasJoined k (joined_with v w)
+joined_kept v w k h =
+    let more : List Past = past_of w ∷ w.joined in
+    ⊎_elim
+    (λ (is : k ≡ w.number). let m = at_behind v.joined more 0 (past_of w) refl in (m.0, past_of w, m.1, sym is))
+    (λ (t : HasJoined k v ⊎ HasJoined k w). ⊎_elim
+    (λ (a : HasJoined k v). (a.0, a.1, at_longer v.joined more a.0 a.1 a.2, a.3))
+    (λ (b : HasJoined k w). let m = at_behind v.joined more (suc b.0) b.1 b.2 in (m.0, b.1, m.1, b.3))
+    t)
+    h

@@ -72,3 +72,7 @@ having_seen log v = record v { seen = log }
 -- the seat has made one entry more, at the end of what it has seen
 abbrev pub with_entry : Entry → View → View
 with_entry e v = record v { seen = v.seen ++ e ∷ []; made = v.made ++ e ∷ [] }
+
+-- its entries, in what the seat has seen, are those that it made
+abbrev pub HasMade : View → Type 0
+HasMade v = entries_of v.number v.seen ≡ v.made

@@ -4,8 +4,9 @@ use mathlib.Core.Option.{some}
 use Rattle.std.specs.List.{AllByRecursion}
 use lib.ListN.{get_elem?}
 use Rattle.atomic_table.specs.Seated.{TableId}
-use Rattle.seat_gate.specs.History.{Spelling, Entry, Past, View, entries_of, StartsWith}
+use Rattle.seat_gate.specs.History.{Spelling, Entry, Past, View, entries_of, StartsWith, HasMade}
 use Rattle.seat_gate.specs.Places.{only}
+use Rattle.seat_gate.specs.declared.entry.Entry.{Entry as Shown}
 use Rattle.seat_gate.specs.declared.gate.Gate.{Gate}
 use Rattle.seat_gate.specs.declared.seat.Seat.{Seat}
 use Rattle.seat_gate.specs.declared.held.Held.{Held}
@@ -34,9 +35,13 @@ module _ {T : Type 0} where
   abbrev pub held_at : Held T → TableId
   held_at held = gate_id held.gate.now
 
-  -- it is this seat's turn at that gate, and it holds the slot, emptied. `enter` gives it so, and no call changes that
+  -- it is this seat's turn at that gate, it holds the slot, emptied, and has made its entries of the history. `enter` gives it so, and no call changes that
   abbrev pub IsTaken : Held T → Type 0
-  IsTaken held = (held.seat.table_id ≡ held_at held) × (held.seat.me.0.serves ≡ true) × (held.seat.me.0.spent ≡ false) × (held.seat.me.1 ≡ (0, None) ∷ [])
+  IsTaken held = (held.seat.table_id ≡ held_at held) × (held.seat.me.0.serves ≡ true) × (held.seat.me.0.spent ≡ false) × (held.seat.me.1 ≡ (0, None) ∷ []) × HasMade (held_view held)
+
+-- an entry as running code knows it
+abbrev pub shown : Entry → Shown
+shown e = record { seat = e.seat; note = e.note }
 
 -- a seat of this number was joined in
 abbrev pub HasJoined : ℕ → View → Type 0

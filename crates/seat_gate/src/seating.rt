@@ -1,5 +1,5 @@
 //! Seats: a gate is opened with one, which gives out the others, takes them in again and closes the gate.
-ghost use Rattle.std.specs.Prelude.{◌≡◌, ◌≢◌, ℕ, ◌+◌, ◌^◌, ◌<◌, List, [], IfOk, OnOk, OnErr};
+ghost use Rattle.std.specs.Prelude.{◌≡◌, ◌≢◌, ℕ, ◌+◌, ◌^◌, ◌<◌, ◌⊎◌, List, [], IfOk, OnOk, OnErr};
 ghost use Rattle.seat_gate.specs.History.{Entry, StartsWith, first_view, parted, newcomer, joined_with};
 ghost use Rattle.seat_gate.specs.Words.{gate_id, gate_of, seat_view, HasJoined, IsWhole};
 
@@ -58,6 +58,7 @@ impl<T: Kept> Gate<T> {
         requires other { gate_of other ≡ gate_id self.now }
         ensures gate { gate_of result ≡ gate_id self.now }
         ensures both { seat_view result ≡ joined_with (seat_view into) (seat_view other) }
+        ensures joined { (k : ℕ) → (k ≡ (seat_view other).number) ⊎ (HasJoined k (seat_view into) ⊎ HasJoined k (seat_view other)) → HasJoined k (seat_view result) }
         ensures longer { StartsWith (seat_view result).seen (seat_view into).seen × StartsWith (seat_view result).seen (seat_view other).seen }
     {
         let mut place = into.badge.into_seat::<Option<T>>();

@@ -1,6 +1,6 @@
 //! A turn: a seat draws a ticket, waits until it is served, takes the value out, and puts it back.
 ghost use Rattle.std.specs.Prelude.{◌≡◌, ◌++◌, ◌∷◌, []};
-ghost use Rattle.seat_gate.specs.History.{StartsWith, entry, entries_of, having_seen, with_entry};
+ghost use Rattle.seat_gate.specs.History.{StartsWith, entry, entries_of, having_seen, with_entry, HasMade};
 ghost use Rattle.seat_gate.specs.Words.{gate_id, gate_of, seat_view, held_at, held_view, held_value, IsTaken};
 
 use crate::gate::Gate;
@@ -48,6 +48,7 @@ impl<'a, T: Kept> Held<'a, T> {
         requires fits { T.fits (held_value self) (held_view self).opened (held_view self).seen }
         ensures gate { gate_of result ≡ held_at self.entry }
         ensures view { seat_view result ≡ held_view self.entry }
+        ensures own { HasMade (seat_view result) }
     {
         let Held {
             gate,
@@ -67,6 +68,7 @@ impl<'a, T: Kept> Held<'a, T> {
         requires fits { T.fits (held_value self) (held_view self).opened ((held_view self).seen ++ entry (held_view self).number note (T.spelled (held_value self)) ∷ []) }
         ensures gate { gate_of result ≡ held_at self.entry }
         ensures view { seat_view result ≡ with_entry (entry (held_view self.entry).number note (T.spelled (held_value self.entry))) (held_view self.entry) }
+        ensures own { HasMade (seat_view result) }
     {
         let Held {
             gate,

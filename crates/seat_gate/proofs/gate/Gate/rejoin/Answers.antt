@@ -1,5 +1,8 @@
-use Rattle.std.proofs.Common.{◌∙◌, arith}
-use Rattle.seat_gate.proofs.Meetings.{rests, joins}
+use Rattle.std.proofs.Common.{◌≡◌, ◌∙◌, sym, ap, subst, arith}
+use Rattle.seat_gate.specs.History.{View, joined_with}
+use Rattle.seat_gate.specs.Places.{only}
+use Rattle.seat_gate.specs.Words.{HasJoined, seat_view}
+use Rattle.seat_gate.proofs.Meetings.{rests, joins, joined_kept}
 use Rattle.seat_gate.proofs.gate.Gate.rejoin.Goals as goal
 
 pub join_seat-requires : goal.join_seat-requires
@@ -17,3 +20,13 @@ join_seat-requires g c =
       omega arith,
       joins g.T.Kept.fits _ _ p _ q r.idle r.off_turn r.live t.idle t.off_turn t.live,
     )
+
+pub returns-clause-joined : goal.returns-clause-joined
+returns-clause-joined g c k h =
+    let v : View = seat_view c.args.into in
+    let w : View = seat_view c.args.other in
+    let as_now = ap (λ l. (only l).view) c.into_badge.ensures.2 in
+    let as_joined = ap (λ m. m.0.view) c.recall.ensures.same.1 ∙ ap (λ m. m.0.view) c.join_seat.ensures.2 in
+    let as_into = ap (λ l. (only l).view) c.into_seat-place.ensures.2 in
+    let as_other = ap (λ l. (only l).view) c.into_seat-spent.ensures.2 in
+    subst (HasJoined k) (ap (λ (z : View × View). joined_with z.0 z.1) (λ i. (as_into i, as_other i)) ∙ sym (as_now ∙ as_joined)) (joined_kept v w k h)
