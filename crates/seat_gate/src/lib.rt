@@ -1,4 +1,10 @@
-//! A gate.
+//! A gate keeps one value, at which threads take turns: each enters with its seat, holds the value alone, and leaves
+//! it, with an entry in the history or without. The history is known to contracts alone.
+//!
+//! A crate above says by `Kept` when its value fits a history, and uses the clauses of `Gate::enter`, `Held::value`,
+//! `Held::leave` and `Held::leave_marked`: on entering, the value fits one history, which begins with what the seat had
+//! seen, and in which its entries are those that it made. `Gate::close` says the same of the whole history and of each
+//! seat. The words of these clauses are in `specs/Words.antt` and `specs/History.antt`.
 #![tactic(auto)]
 
 mod entry;
