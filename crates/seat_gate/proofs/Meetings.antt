@@ -1,20 +1,20 @@
 -- A gate is opened, seats are given out and taken in, and the gate is closed.
-use Rattle.std.proofs.Common.{◌≡◌, ℕ, zero, suc, ◌+◌, ◌%◌, ◌<◌, ◌≤◌, ◌≢◌, Bool, true, false, not, ◌&&◌, List, [], ◌∷◌, ◌++◌, length, get_or, set, Option, Some, refl, sym, ap, ◌∙◌, subst, arith, length-set, length-append, append-nil, inl, inr, ◌⊎◌, ⊎_elim}
+use Rattle.std.proofs.Common.{◌≡◌, ℕ, zero, suc, ◌+◌, ◌%◌, ◌<◌, ◌≤◌, ◌≢◌, Bool, true, false, not, ◌&&◌, List, [], ◌∷◌, ◌++◌, length, set, Option, Some, refl, sym, ap, ◌∙◌, subst, arith, length-set, length-append, ◌⊎◌, ⊎_elim}
 use native.Mathlib.Decide.{ℕ_discrete}
 use mathlib.Core.Logic.{dite}
 use mathlib.Core.Option.{some, some-ne-none, some-injective}
 use lib.ListN.{get_elem?}
 use Rattle.std.specs.List.{AllByRecursion}
-use Rattle.atomic_table.specs.Table.{State, Me, opening, Splits, Joins, Final, Seen}
-use Rattle.atomic_table.proofs.Lists.{at_set, set_else, set_here, at_longer}
-use Rattle.seat_gate.specs.History.{Spelling, Entry, Past, entries_of, StartsWith, View, past_of, joined_with}
+use Rattle.atomic_table.specs.Table.{State, opening, Splits, Joins, Final, Seen}
+use Rattle.atomic_table.proofs.Lists.{set_else, set_here, at_longer}
+use Rattle.seat_gate.specs.History.{Spelling, Entry, Past, entries_of, View, past_of, joined_with}
 use Rattle.seat_gate.specs.Places.{first_place, giving, given_out, taking_in, gone, only, is_at_rest}
 use Rattle.seat_gate.specs.Rule.{turn, waiting, PastFits, SeatFits, Rule, Ordered}
 use Rattle.seat_gate.specs.declared.place.Place.{Place}
 use Rattle.seat_gate.specs.Words.{HasJoined, StandsIn, IsWhole}
 use Rattle.seat_gate.proofs.HistoryLemmas.{longest, entries_none, all_map, all_join, all_at}
-use Rattle.seat_gate.proofs.PlaceLemmas.{not_true, off, inside, one_there, each_set, each_snoc, one_if, waiting_set, waiting_snoc, Apart, apart_set, apart_snoc, past_set, none_before}
-use Rattle.seat_gate.proofs.Moves.{carried, given_set}
+use Rattle.seat_gate.proofs.PlaceLemmas.{off, inside, one_there, each_set, each_snoc, one_if, waiting_set, waiting_snoc, apart_set, apart_snoc, past_set, none_before}
+use Rattle.seat_gate.proofs.Moves.{carried}
 
 -- the only place of a seat at rest neither waits nor serves, and is not joined away
 pub record Rests (ps : List Place) (p : Place) : Type 0 where

@@ -11,7 +11,7 @@ use Rattle.atomic_table.specs.Table.{State, Me, keeps, takes, gives, stepped, Al
 use Rattle.atomic_table.proofs.Lists.{set_again, set_here, one_turn}
 use Rattle.seat_gate.specs.History.{Spelling, Entry, Past, entries_of, StartsWith}
 use Rattle.seat_gate.specs.Places.{drawn, served, marked, done}
-use Rattle.seat_gate.specs.Rule.{turn, waiting, PastFits, SeatFits, Rule, Ordered, Drew, HasTurn, Looked, Rose, Recalled}
+use Rattle.seat_gate.specs.Rule.{turn, waiting, PastFits, SeatFits, Rule, Ordered, Drew, Looked, Rose, Recalled}
 use Rattle.seat_gate.specs.declared.place.Place.{Place}
 use Rattle.seat_gate.proofs.HistoryLemmas.{starts_more, entries_mine, entries_other, all_map, all_join}
 use Rattle.seat_gate.proofs.PlaceLemmas.{not_true, off, inside, one_there, each_set, one_if, waiting_few, waiting_set, apart_set, past_set, past_more, none_before}

@@ -1,11 +1,11 @@
 -- Lists of places, of which one changes or one is added.
-use Rattle.std.proofs.Common.{◌≡◌, ℕ, zero, suc, ◌+◌, ◌<◌, ◌≤◌, ◌≢◌, Bool, true, false, true≢false, if◌then◌else◌, List, [], ◌∷◌, ◌++◌, length, set, refl, sym, ap, ◌∙◌, subst, arith, ◌⊎◌, inl, inr, ⊎_elim}
+use Rattle.std.proofs.Common.{◌≡◌, ℕ, zero, suc, ◌+◌, ◌<◌, ◌≤◌, ◌≢◌, Bool, true, false, true≢false, if◌then◌else◌, List, [], ◌∷◌, ◌++◌, length, set, refl, sym, ap, ◌∙◌, subst, arith, ⊎_elim}
 use mathlib.Core.Logic.{dite}
 use mathlib.Core.Option.{some, some-ne-none, some-injective}
 use native.Mathlib.Decide.{ℕ_discrete}
 use lib.ListN.{get_elem?}
 use Rattle.atomic_table.proofs.Lists.{at_set, set_else}
-use Rattle.seat_gate.specs.History.{Entry, Past, entries_of, StartsWith}
+use Rattle.seat_gate.specs.History.{Entry, Past}
 use Rattle.seat_gate.specs.Rule.{waiting, PastFits}
 use Rattle.seat_gate.specs.declared.place.Place.{Place}
 use Rattle.seat_gate.proofs.HistoryLemmas.{starts_more, entries_other}

@@ -1,5 +1,4 @@
-use Rattle.std.proofs.Common.{ap, ◌∙◌, subst, arith, ◌≡◌, ℕ}
-use Rattle.atomic_table.specs.Table.{Me, Allows}
+use Rattle.std.proofs.Common.{ap, arith}
 use Rattle.seat_gate.specs.History.{Entry}
 use Rattle.seat_gate.proofs.Moves.{writes}
 use Rattle.seat_gate.proofs.gate.Gate.count_entry.Goals as goal

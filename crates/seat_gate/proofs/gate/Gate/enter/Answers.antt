@@ -1,4 +1,4 @@
-use Rattle.std.proofs.Common.{◌≡◌, ◌∷◌, ℕ, ◌%◌, ap, sym, ◌∙◌, subst, List, Some}
+use Rattle.std.proofs.Common.{◌∷◌, ◌%◌, ap, sym, ◌∙◌, subst, List, Some}
 use Rattle.atomic_table.specs.Table.{rest}
 use Rattle.seat_gate.specs.History.{Entry, StartsWith}
 use Rattle.seat_gate.specs.Places.{only}

@@ -1,4 +1,4 @@
-use Rattle.std.proofs.Common.{◌≡◌, ◌∙◌, sym, ap, subst, arith}
+use Rattle.std.proofs.Common.{◌∙◌, sym, ap, subst, arith}
 use Rattle.seat_gate.specs.History.{View, joined_with}
 use Rattle.seat_gate.specs.Places.{only}
 use Rattle.seat_gate.specs.Words.{HasJoined, seat_view}

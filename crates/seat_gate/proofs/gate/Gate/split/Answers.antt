@@ -1,4 +1,4 @@
-use Rattle.std.proofs.Common.{◌≡◌, ◌+◌, ◌<◌, ◌∷◌, [], ap, sym, ◌∙◌, subst, arith}
+use Rattle.std.proofs.Common.{◌+◌, ◌<◌, ap, sym, ◌∙◌, subst, arith}
 use Rattle.seat_gate.proofs.Meetings.{rests, splits}
 use Rattle.seat_gate.specs.declared.place.Place.{Place}
 use Rattle.seat_gate.proofs.gate.Gate.split.Goals as goal

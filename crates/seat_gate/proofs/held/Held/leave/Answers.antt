@@ -1,4 +1,4 @@
-use Rattle.std.proofs.Common.{◌≡◌, ◌∷◌, ap, sym, ◌∙◌, subst, Some}
+use Rattle.std.proofs.Common.{◌∷◌, ap, sym, ◌∙◌, subst, Some}
 use Rattle.atomic_table.specs.Table.{rest}
 use Rattle.seat_gate.specs.declared.place.Place.{Place}
 use Rattle.seat_gate.proofs.held.Held.leave.Goals as goal
