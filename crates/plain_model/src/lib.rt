@@ -5,7 +5,10 @@
 //! order, and with the wants of memory, that it shows itself.
 #![tactic(auto)]
 
+mod letters;
+mod lexer;
 mod statements;
+mod stops;
 mod tables;
 mod tokens;
 
