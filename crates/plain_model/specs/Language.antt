@@ -160,10 +160,11 @@ abbrev pub key_places : ℕ → List Described → List ℕ
 key_places at [] = []
 key_places at (first ∷ more) = if first.is_key then at ∷ key_places (at + 1) more else key_places (at + 1) more
 
--- whether a column has one of these names, or the name of a column before it
-abbrev pub has_repeated_name : List (List ℕ) → List Described → Bool
-has_repeated_name names [] = false
-has_repeated_name names (first ∷ more) = list_any (λ name. bytes_eq name first.column.name) names || has_repeated_name (first.column.name ∷ names) more
+-- whether one of the later columns has the name of a column before it
+abbrev pub has_repeated_name : List Described → List Described → Bool
+has_repeated_name before [] = false
+has_repeated_name before (first ∷ later) =
+    list_any (λ other. bytes_eq other.column.name first.column.name) before || has_repeated_name (before ++ first ∷ []) later
 
 abbrev pub schema_of : List Described → Option Schema
 schema_of columns =
