@@ -5,6 +5,7 @@ use Rattle.std.proofs.lemmas.List.Folds.{list_all-append}
 use Rattle.std.specs.List.{list_all}
 use Rattle.std.specs.Option.{option_and_then, option_map}
 use Rattle.script_text.specs.Input.{is_blank}
+use Rattle.plain_model.proofs.Each.{Each, both, given, nothing, tested}
 use Rattle.plain_model.specs.Sound.{is_word_text}
 use Rattle.plain_model.specs.Tokens.{after_quote, after_slash, begin, begin_quote, begin_sign, closed, finish, held_more, in_name, in_string, in_whole, in_word, is_digit, is_upper, is_word_byte, is_word_start, lower, name_start, nothing_read, sign_at, step, tokens, tokens_from}
 use Rattle.plain_model.specs.declared.lexer.Reading.{Reading}
@@ -36,28 +37,14 @@ record HoldsWords (reading : Reading) : Type 0 where
   held : is_held_word reading.place reading.held ≡ true
 
 -- whatever reading comes next, it holds words
-record Leads (next : Option Reading) : Type 0 where
-  all : (reading : Reading) → next ≡ Some reading → HoldsWords reading
-
-both : (a b : Bool) → a ≡ true → b ≡ true → (a && b) ≡ true
-both true b p q = q
-both false b p q = p
+abbrev Leads : Option Reading → Type 0
+Leads next = Each HoldsWords next
 
 one_more_token : (tokens : List Token) (read : Token) → list_all is_word_token tokens ≡ true → is_word_token read ≡ true → list_all is_word_token (tokens ++ read ∷ []) ≡ true
 one_more_token tokens read h k = list_all-append is_word_token tokens (read ∷ []) ∙ both _ _ h (both _ _ k refl)
 
 one_more_byte : (held : List ℕ) (byte : ℕ) → is_word_text held ≡ true → is_word_byte byte ≡ true → is_word_text (held ++ byte ∷ []) ≡ true
 one_more_byte held byte h k = list_all-append is_word_byte held (byte ∷ []) ∙ both _ _ h (both _ _ k refl)
-
-given : (reading : Reading) → HoldsWords reading → Leads (Some reading)
-given reading h = record { all = λ next e. let same : reading ≡ next = cc in subst HoldsWords same h }
-
-nothing : Leads None
-nothing = record { all = λ next e. cc }
-
-tested : (test : Bool) (x y : Option Reading) → (test ≡ true → Leads x) → (test ≡ false → Leads y) → Leads (cond test x y)
-tested true x y at_true at_false = at_true refl
-tested false x y at_true at_false = at_false refl
 
 lower_word : (byte : ℕ) → is_word_byte byte ≡ true → is_word_byte (lower byte) ≡ true
 lower_word byte h = grind (arith, nat_tests)
@@ -127,34 +114,33 @@ step_words (InString quote) byte reading h at = string_words quote byte reading 
 step_words (AfterQuote quote) byte reading h at = quoted_words quote byte reading h.done
 step_words (AfterSlash quote) byte reading h at = given _ (record { done = h.done; held = refl })
 
+AreWords : List Token → Type 0
+AreWords read = list_all is_word_token read ≡ true
+
 -- whatever the tokens are, they hold words
-record ListsWords (read : Option (List Token)) : Type 0 where
-  all : (tokens : List Token) → read ≡ Some tokens → list_all is_word_token tokens ≡ true
-
-listed : (tokens : List Token) → list_all is_word_token tokens ≡ true → ListsWords (Some tokens)
-listed tokens h = record { all = λ others e. let same : tokens ≡ others = cc in ap (list_all is_word_token) (sym same) ∙ h }
-
-unlisted : ListsWords None
-unlisted = record { all = λ others e. cc }
+abbrev ListsWords : Option (List Token) → Type 0
+ListsWords read = Each AreWords read
 
 finish_words : (place : Place) (reading : Reading) → HoldsWords reading → reading.place ≡ place → ListsWords (finish place reading)
-finish_words Between reading h at = listed _ h.done
-finish_words InWord reading h at = listed _ (one_more_token reading.done (token.Word reading.held) h.done (sym (ap (λ (place : Place). is_held_word place reading.held) at) ∙ h.held))
-finish_words InWhole reading h at = listed _ (one_more_token reading.done (token.Whole reading.value) h.done refl)
-finish_words NameStart reading h at = unlisted
-finish_words InName reading h at = unlisted
-finish_words (InString quote) reading h at = unlisted
-finish_words (AfterQuote quote) reading h at = listed _ (one_more_token reading.done (token.Quotation reading.held) h.done refl)
-finish_words (AfterSlash quote) reading h at = unlisted
+unfolding AreWords
+finish_words Between reading h at = given _ h.done
+finish_words InWord reading h at = given _ (one_more_token reading.done (token.Word reading.held) h.done (sym (ap (λ (place : Place). is_held_word place reading.held) at) ∙ h.held))
+finish_words InWhole reading h at = given _ (one_more_token reading.done (token.Whole reading.value) h.done refl)
+finish_words NameStart reading h at = nothing
+finish_words InName reading h at = nothing
+finish_words (InString quote) reading h at = nothing
+finish_words (AfterQuote quote) reading h at = given _ (one_more_token reading.done (token.Quotation reading.held) h.done refl)
+finish_words (AfterSlash quote) reading h at = nothing
 
 tokens_from_words : (bytes : List ℕ) (reading : Reading) → HoldsWords reading → ListsWords (tokens_from reading bytes)
 tokens_from_words [] reading h = finish_words reading.place reading h refl
 tokens_from_words (byte ∷ bytes) reading h =
     elim (step reading.place byte reading) as (λ next. Leads next → ListsWords (option_and_then (λ after. tokens_from after bytes) next)) [
-      None ↦ λ leads. unlisted
+      None ↦ λ leads. nothing
     | Some after ↦ λ leads. tokens_from_words bytes after (leads.all after refl)
     ] (step_words reading.place byte reading h refl)
 
 -- the tokens of a text hold words
 pub tokens_words : (text : List ℕ) (read : List Token) → tokens text ≡ Some read → list_all is_word_token read ≡ true
+unfolding AreWords
 tokens_words text read e = (tokens_from_words text nothing_read (record { done = refl; held = refl })).all read e
