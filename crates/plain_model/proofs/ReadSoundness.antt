@@ -64,7 +64,7 @@ varchar_named name (a ∷ []) h = nothing
 varchar_named name (a ∷ b ∷ []) h = nothing
 varchar_named name (open_ ∷ number ∷ close ∷ rest) h =
     tested (is_open open_ && is_close close) (varchar_with name number rest) None
-        (λ _. then_each AnyValue _ (length_of number) (anything _) (λ most _. described_named name (kind.Varchar most) rest h)) (λ _. nothing)
+    (λ _. then_each AnyValue _ (length_of number) (anything _) (λ most _. described_named name (kind.Varchar most) rest h)) (λ _. nothing)
 
 typed_named : (name : List ℕ) (type : Token) (rest : List Token) → IsWordText name → Each IsNamed (typed name type rest)
 typed_named name type rest h =
@@ -126,8 +126,8 @@ sound_columns : (columns : List Described) → AreNamed columns → IsSoundSchem
 unfolding AreNamed IsSoundSchema
 sound_columns columns h =
     both _ _
-        (list_all-map is_word_text (λ column. column.name) (map (λ each. each.column) columns) ∙ list_all-map (λ column. is_word_text column.name) (λ each. each.column) columns ∙ h)
-        (places_below columns 0 (length (map (λ each. each.column) columns)) (rw (length-map columns (λ each. each.column)) (omega arith)))
+    (list_all-map is_word_text (λ column. column.name) (map (λ each. each.column) columns) ∙ list_all-map (λ column. is_word_text column.name) (λ each. each.column) columns ∙ h)
+    (places_below columns 0 (length (map (λ each. each.column) columns)) (rw (length-map columns (λ each. each.column)) (omega arith)))
 
 schema_sound : (columns : List Described) → AreNamed columns → Each IsSoundSchema (schema_of columns)
 schema_sound columns h =
@@ -156,8 +156,8 @@ create_sound (a ∷ []) h = nothing
 create_sound (a ∷ b ∷ []) h = nothing
 create_sound (table ∷ name ∷ open_ ∷ rest) h =
     tested (is_word (codes "table") table && is_open open_) _ None
-        (λ _. then_each AnyValue _ (own_name_of name) (anything _) (λ own _.
-        map_each IsSoundSchema _ (table_of rest) (table_sound rest (rest_words open_ rest (rest_words name (open_ ∷ rest) (rest_words table (name ∷ open_ ∷ rest) h)))) (λ schema s. s))) (λ _. nothing)
+    (λ _. then_each AnyValue _ (own_name_of name) (anything _) (λ own _.
+    map_each IsSoundSchema _ (table_of rest) (table_sound rest (rest_words open_ rest (rest_words name (open_ ∷ rest) (rest_words table (name ∷ open_ ∷ rest) h)))) (λ schema s. s))) (λ _. nothing)
 
 insert_sound : (rest : List Token) → Each IsSound (insert_of rest)
 unfolding IsSound
@@ -166,8 +166,8 @@ insert_sound (a ∷ []) = nothing
 insert_sound (a ∷ b ∷ []) = nothing
 insert_sound (into ∷ name ∷ values ∷ rest) =
     tested (is_word (codes "into") into && is_word (codes "values") values) _ None
-        (λ _. then_each AnyValue _ (own_name_of name) (anything _) (λ own _.
-        map_each AnyValue _ (rows_of rest) (anything _) (λ rows _. refl))) (λ _. nothing)
+    (λ _. then_each AnyValue _ (own_name_of name) (anything _) (λ own _.
+    map_each AnyValue _ (rows_of rest) (anything _) (λ rows _. refl))) (λ _. nothing)
 
 select_sound : (rest : List Token) → Each IsSound (select_of rest)
 unfolding IsSound

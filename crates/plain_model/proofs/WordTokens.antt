@@ -75,8 +75,8 @@ begin_words byte reading h =
 word_words : (byte : ℕ) (reading : Reading) → list_all is_word_token reading.done ≡ true → is_word_text reading.held ≡ true → reading.place ≡ InWord → Leads (in_word byte reading)
 word_words byte reading done held at =
     tested (is_word_byte byte) _ _
-        (λ k. given _ (record { done = done; held = ap (λ (place : Place). is_held_word place (reading.held ++ lower byte ∷ [])) at ∙ one_more_byte reading.held (lower byte) held (lower_word byte k) }))
-        (λ _. begin_words byte _ (close_words (token.Word reading.held) reading done held))
+    (λ k. given _ (record { done = done; held = ap (λ (place : Place). is_held_word place (reading.held ++ lower byte ∷ [])) at ∙ one_more_byte reading.held (lower byte) held (lower_word byte k) }))
+    (λ _. begin_words byte _ (close_words (token.Word reading.held) reading done held))
 
 whole_words : (byte : ℕ) (reading : Reading) → HoldsWords reading → Leads (in_whole byte reading)
 whole_words byte reading h =
@@ -89,8 +89,8 @@ start_words byte reading h =
 name_words : (byte : ℕ) (reading : Reading) → list_all is_word_token reading.done ≡ true → is_word_text reading.held ≡ true → reading.place ≡ InName → Leads (in_name byte reading)
 name_words byte reading done held at =
     tested (is_word_byte byte) _ _
-        (λ k. given _ (record { done = done; held = ap (λ (place : Place). is_held_word place (reading.held ++ lower byte ∷ [])) at ∙ one_more_byte reading.held (lower byte) held (lower_word byte k) }))
-        (λ _. tested (byte == 96) _ _ (λ _. given _ (close_words (token.Quoted reading.held) reading done held)) (λ _. nothing))
+    (λ k. given _ (record { done = done; held = ap (λ (place : Place). is_held_word place (reading.held ++ lower byte ∷ [])) at ∙ one_more_byte reading.held (lower byte) held (lower_word byte k) }))
+    (λ _. tested (byte == 96) _ _ (λ _. given _ (close_words (token.Quoted reading.held) reading done held)) (λ _. nothing))
 
 string_words : (quote byte : ℕ) (reading : Reading) → list_all is_word_token reading.done ≡ true → reading.place ≡ InString quote → Leads (in_string quote byte reading)
 string_words quote byte reading done at =
@@ -136,8 +136,8 @@ tokens_from_words : (bytes : List ℕ) (reading : Reading) → HoldsWords readin
 tokens_from_words [] reading h = finish_words reading.place reading h refl
 tokens_from_words (byte ∷ bytes) reading h =
     elim (step reading.place byte reading) as (λ next. Leads next → ListsWords (option_and_then (λ after. tokens_from after bytes) next)) [
-      None ↦ λ leads. nothing
-    | Some after ↦ λ leads. tokens_from_words bytes after (leads.all after refl)
+      | None ↦ λ leads. nothing
+      | Some after ↦ λ leads. tokens_from_words bytes after (leads.all after refl)
     ] (step_words reading.place byte reading h refl)
 
 -- the tokens of a text hold words

@@ -34,7 +34,11 @@ fn read_before_close(tokens: &[Token]) -> Result<&[Token], Stop>
     ensures { Reads (before_close tokens.now) (lent_tokens result) }
 {
     match tokens {
-        [body @ .., last] => if last.closes() { Ok(body) } else { Err(Stop::Outside) },
+        [body @ .., last] => if last.closes() {
+            Ok(body)
+        } else {
+            Err(Stop::Outside)
+        },
         [] => Err(Stop::Outside),
     }
 }
@@ -107,7 +111,9 @@ fn read_length(token: &Token) -> Result<u16, Stop>
 {
     match token {
         Token::Whole(number) => checked_length(*number),
-        Token::Word(_) | Token::Quoted(_) | Token::Quotation(_) | Token::Sign(_) => Err(Stop::Outside),
+        Token::Word(_) | Token::Quoted(_) | Token::Quotation(_) | Token::Sign(_) => Err(
+            Stop::Outside,
+        ),
     }
 }
 
@@ -170,10 +176,17 @@ fn places_of_keys(alloc: Global, columns: &[Described]) -> Result<Sequence<usize
     Ok(places)
 }
 
-fn without_marks(alloc: Global, columns: Sequence<Described>) -> Result<Sequence<Column>, AllocError>
+fn without_marks(
+    alloc: Global,
+    columns: Sequence<Described>,
+) -> Result<Sequence<Column>, AllocError>
     ensures { IfOk result (λ plain. plain ≡ map (λ each. each.column) columns) }
 {
-    let plain = columns.into_vec().into_iter().map(|each| each.column).collect(alloc)?;
+    let plain = columns
+        .into_vec()
+        .into_iter()
+        .map(|each| each.column)
+        .collect(alloc)?;
     Ok(Sequence::from_vec(plain))
 }
 

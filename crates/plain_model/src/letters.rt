@@ -51,7 +51,10 @@ pub fn with_one_digit(value: u64, byte: u8) -> u64
     ensures { result ≡ with_digit value byte }
 {
     let digit = u64::from(byte.saturating_sub(b'0'));
-    value.saturating_mul(10).saturating_add(digit).min(TOO_LARGE)
+    value
+        .saturating_mul(10)
+        .saturating_add(digit)
+        .min(TOO_LARGE)
 }
 
 /// Adds what a backslash before this byte stands for.

@@ -4,7 +4,10 @@ ghost use Rattle.plain_model.specs.Tokens.{after_quote, after_slash, begin, begi
 ghost use Rattle.plain_model.specs.declared.tokens.Place.TheVariants.{InWhole};
 ghost use Rattle.plain_model.specs.declared.tokens.Token.TheVariants as token;
 
-use crate::letters::{begins_word, continues_word, is_blank_byte, is_decimal_digit, lower_case, push_escape, with_one_digit};
+use crate::letters::{
+    begins_word, continues_word, is_blank_byte, is_decimal_digit, lower_case, push_escape,
+    with_one_digit,
+};
 use crate::stops::Stop;
 use crate::tokens::{Place, Sign, Token};
 use std::alloc::{AllocError, Global};
@@ -276,7 +279,8 @@ impl Reading {
             Place::InWord => done.push(Token::Word(held))?,
             Place::InWhole => done.push(Token::Whole(value))?,
             Place::AfterQuote(_) => done.push(Token::Quotation(held))?,
-            Place::NameStart | Place::InName | Place::InString(_) | Place::AfterSlash(_) => return Err(Stop::Outside),
+            Place::NameStart | Place::InName | Place::InString(_) | Place::AfterSlash(_) =>
+                return Err(Stop::Outside),
         }
         Ok(done)
     }

@@ -61,7 +61,10 @@ fn is_of_system(name: &Text) -> bool
 fn is_reserved_word(word: &Text) -> bool
     ensures { result ≡ is_reserved word.now }
 {
-    is_of_statements(word) || is_of_queries(word) || is_of_constraints(word) || is_of_expressions(word)
+    is_of_statements(word)
+        || is_of_queries(word)
+        || is_of_constraints(word)
+        || is_of_expressions(word)
 }
 
 fn is_of_statements(word: &Text) -> bool

@@ -27,13 +27,13 @@ at_column : (xs : List Described) (i : ℕ) (d : Described) → i < length xs �
     → has_repeated_name (take i xs) (drop i xs) ≡ (has_name d.column.name (take i xs) || has_repeated_name (take (i + 1) xs) (drop (i + 1) xs))
 at_column xs i d h e =
     subst (λ (x : Described). has_repeated_name (take i xs) (drop i xs) ≡ (has_name x.column.name (take i xs) || has_repeated_name (take (i + 1) xs) (drop (i + 1) xs)))
-        (sym e) (one_more xs i d h)
+    (sym e) (one_more xs i d h)
 
 with_column : (xs : List Described) (i : ℕ) (d : Described) (name : List ℕ) → i < length xs → d ≡ get_or xs i d
     → has_name name (take (i + 1) xs) ≡ (has_name name (take i xs) || bytes_eq d.column.name name)
 with_column xs i d name h e =
     subst (λ (x : Described). has_name name (take (i + 1) xs) ≡ (has_name name (take i xs) || bytes_eq x.column.name name))
-        (sym e) (list_any_more _ xs i d h)
+    (sym e) (list_any_more _ xs i d h)
 
 true_or : (a b : Bool) → a ≡ true → (a || b) ≡ true
 true_or true b e = refl
