@@ -1,13 +1,12 @@
 -- Each statement that is read is sound.
-use Rattle.std.proofs.Common.{◌≡◌, refl, sym, ap, ◌∙◌, ◌+◌, ◌-◌, ◌++◌, ◌&&◌, ◌≤◌, ◌<◌, Bool, true, false, cond, ◌==◌, ℕ, List, [], ◌∷◌, Option, Some, None, codes, length, map, take, not, nat_le, nat_lt, suc, zero, arith, rules, slice_get}
+use Rattle.std.proofs.Common.{◌≡◌, refl, ◌∙◌, ◌+◌, ◌-◌, ◌++◌, ◌&&◌, ◌≤◌, ◌<◌, Bool, true, false, cond, ◌==◌, ℕ, List, [], ◌∷◌, Some, None, codes, length, map, take, not, nat_le, nat_lt, suc, zero, arith, slice_get}
 use Rattle.std.proofs.lemmas.Bool.{lt-ltb}
 use Rattle.std.proofs.lemmas.List.{length-map}
 use Rattle.std.proofs.lemmas.List.Folds.{list_all-append, list_all-map}
 use Rattle.std.specs.List.{list_all, onto_first, slice_split}
-use Rattle.std.specs.Option.{option_and_then, option_map}
 use Rattle.plain_model.proofs.Each.{Each, AnyValue, anything, both, given, left_of, map_each, nothing, right_of, tested, then_each}
 use Rattle.plain_model.proofs.WordTokens.{is_word_token, tokens_words}
-use Rattle.plain_model.specs.Language.{bare_name, before_close, column_of, columns_from, columns_of, create_of, described, has_repeated_name, insert_of, is_close, is_comma, is_open, is_reserved, is_star, is_system_name, is_word, key_mark, key_places, length_of, most_name_bytes, name_of, own_name_of, read, rows_of, schema_of, select_of, short_name, statement_of, table_of, typed, varchar_of, varchar_with}
+use Rattle.plain_model.specs.Language.{before_close, column_of, columns_from, columns_of, create_of, described, has_repeated_name, insert_of, is_close, is_comma, is_open, is_reserved, is_star, is_word, key_mark, key_places, length_of, most_name_bytes, name_of, own_name_of, read, rows_of, schema_of, select_of, short_name, statement_of, table_of, typed, varchar_of, varchar_with}
 use Rattle.plain_model.specs.Sound.{is_sound_schema, is_sound_statement, is_word_text}
 use Rattle.plain_model.specs.Tokens.{tokens}
 use Rattle.plain_model.specs.declared.columns.Described.{Described}

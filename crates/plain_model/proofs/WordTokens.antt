@@ -1,5 +1,5 @@
 -- Each word and each name in backquotes that is read holds letters, digits and `_` alone.
-use Rattle.std.proofs.Common.{◌≡◌, refl, sym, ap, ◌∙◌, subst, ◌+◌, ◌++◌, ◌&&◌, ◌||◌, Bool, true, false, cond, ◌==◌, ℕ, List, [], ◌∷◌, Option, Some, None, arith, rules}
+use Rattle.std.proofs.Common.{◌≡◌, refl, sym, ap, ◌∙◌, ◌+◌, ◌++◌, ◌||◌, Bool, true, ◌==◌, ℕ, List, [], ◌∷◌, Option, Some, None, arith}
 use Rattle.std.proofs.lemmas.Bool.Decides.{nat_tests}
 use Rattle.std.proofs.lemmas.List.Folds.{list_all-append}
 use Rattle.std.specs.List.{list_all}
@@ -7,7 +7,7 @@ use Rattle.std.specs.Option.{option_and_then, option_map}
 use Rattle.script_text.specs.Input.{is_blank}
 use Rattle.plain_model.proofs.Each.{Each, both, given, nothing, tested}
 use Rattle.plain_model.specs.Sound.{is_word_text}
-use Rattle.plain_model.specs.Tokens.{after_quote, after_slash, begin, begin_quote, begin_sign, closed, finish, held_more, in_name, in_string, in_whole, in_word, is_digit, is_upper, is_word_byte, is_word_start, lower, name_start, nothing_read, sign_at, step, tokens, tokens_from}
+use Rattle.plain_model.specs.Tokens.{after_quote, begin, begin_quote, closed, finish, in_name, in_string, in_whole, in_word, is_digit, is_word_byte, is_word_start, lower, name_start, nothing_read, sign_at, step, tokens, tokens_from}
 use Rattle.plain_model.specs.declared.lexer.Reading.{Reading}
 use Rattle.plain_model.specs.declared.tokens.Place.{Place}
 use Rattle.plain_model.specs.declared.tokens.Place.TheVariants.{Between, InWord, InWhole, NameStart, InName, InString, AfterQuote, AfterSlash}

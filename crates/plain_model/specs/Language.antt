@@ -16,7 +16,6 @@ use Rattle.plain_model.specs.declared.columns.Described.{Described}
 use Rattle.plain_model.specs.declared.tuples.Filling.{Filling}
 use Rattle.plain_model.specs.declared.tokens.Slot.{Slot}
 use Rattle.plain_model.specs.declared.tokens.Slot.TheVariants.{AtTuple, AtValue, AtNumber, AfterValue, AfterTuple}
-use Rattle.plain_model.specs.declared.tables.Column.{Column}
 use Rattle.plain_model.specs.declared.tables.Schema.{Schema}
 use Rattle.plain_model.specs.declared.tokens.Token.{Token}
 use Rattle.plain_model.specs.declared.tokens.Token.TheVariants.{Word, Quoted, Quotation, Whole, Sign}

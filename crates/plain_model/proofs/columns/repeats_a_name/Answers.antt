@@ -1,4 +1,4 @@
-use Rattle.std.proofs.Common.{◌≡◌, ◌∙◌, sym, subst, ap, refl, Bool, true, false, cond, not, ◌||◌, ◌+◌, ◌++◌, ◌<◌, List, [], ◌∷◌, ℕ, length, drop, take, get_or, nat_cmp, add-one, arith}
+use Rattle.std.proofs.Common.{◌≡◌, ◌∙◌, sym, subst, ap, refl, Bool, true, false, cond, not, ◌||◌, ◌+◌, ◌<◌, List, ℕ, length, drop, take, get_or, nat_cmp, add-one, arith}
 use Rattle.std.proofs.Math.Seq.{drop-cons}
 use Rattle.std.proofs.lemmas.List.{take_more}
 use Rattle.std.proofs.lemmas.List.Folds.{list_any_more}
