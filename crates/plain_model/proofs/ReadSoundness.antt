@@ -11,7 +11,6 @@ use Rattle.plain_model.specs.Sound.{is_sound_schema, is_sound_statement, is_word
 use Rattle.plain_model.specs.Tokens.{tokens}
 use Rattle.plain_model.specs.declared.columns.Described.{Described}
 use Rattle.plain_model.specs.declared.statements.Statement.{Statement}
-use Rattle.plain_model.specs.declared.statements.Statement.TheVariants as form
 use Rattle.plain_model.specs.declared.tables.Schema.{Schema}
 use Rattle.plain_model.specs.declared.tokens.Token.{Token}
 use Rattle.plain_model.specs.declared.tokens.Token.TheVariants as token
