@@ -1,1 +1,4 @@
 mod Vectors
+mod Each
+mod WordTokens
+mod ReadSoundness

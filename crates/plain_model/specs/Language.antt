@@ -5,16 +5,17 @@
 --     SELECT * FROM name
 --
 -- CREATE has exactly one PRIMARY KEY, and columns of different names. Every other text is read as none.
-use Rattle.std.specs.Prelude.{ℕ, pos, neg_ℤ, Bool, true, false, ◌==◌, ◌&&◌, ◌||◌, ◌+◌, ◌^◌, List, [], ◌∷◌, ◌++◌, length, map, not, codes, nat_le, nat_lt, nat_eq, Option, Some, None, if◌then◌else◌}
+use Rattle.std.specs.Prelude.{ℕ, ℤ, pos, neg_ℤ, Bool, true, false, ◌==◌, ◌&&◌, ◌||◌, ◌+◌, ◌-◌, ◌^◌, List, [], ◌∷◌, ◌++◌, length, map, take, slice_get, not, codes, nat_le, nat_lt, nat_eq, Option, Some, None, if◌then◌else◌}
 use Rattle.std.specs.Str.{bytes_eq}
 use Rattle.std.specs.Option.{option_and_then, option_map}
 use Rattle.std.specs.List.{slice_split, list_any, starts_with}
 use Rattle.plain_model.specs.Tokens.{tokens}
 use Rattle.plain_model.specs.declared.statements.Statement.{Statement}
 use Rattle.plain_model.specs.declared.statements.Statement.TheVariants as form
+use Rattle.plain_model.specs.declared.columns.Described.{Described}
+use Rattle.plain_model.specs.declared.tuples.Filling.{Filling}
 use Rattle.plain_model.specs.declared.tokens.Slot.{Slot}
 use Rattle.plain_model.specs.declared.tokens.Slot.TheVariants.{AtTuple, AtValue, AtNumber, AfterValue, AfterTuple}
-use Rattle.plain_model.specs.declared.tables.Column.{Column}
 use Rattle.plain_model.specs.declared.tables.Schema.{Schema}
 use Rattle.plain_model.specs.declared.tokens.Token.{Token}
 use Rattle.plain_model.specs.declared.tokens.Token.TheVariants.{Word, Quoted, Quotation, Whole, Sign}
@@ -25,17 +26,32 @@ use Rattle.tuple_codec.specs.declared.values.SqlType.TheVariants as kind
 use Rattle.tuple_codec.specs.declared.values.Value.{Value}
 use Rattle.tuple_codec.specs.declared.values.Value.TheVariants as cell
 
--- the words of the whole grammar that are no names unless they stand in backquotes
-abbrev pub reserved_words : List (List ℕ)
-reserved_words =
-    codes "create" ∷ codes "table" ∷ codes "if" ∷ codes "not" ∷ codes "exists" ∷ codes "drop" ∷ codes "insert" ∷ codes "into" ∷ codes "values" ∷ codes "update"
-    ∷ codes "set" ∷ codes "where" ∷ codes "delete" ∷ codes "from" ∷ codes "select" ∷ codes "distinct" ∷ codes "inner" ∷ codes "join" ∷ codes "on" ∷ codes "group"
-    ∷ codes "by" ∷ codes "order" ∷ codes "limit" ∷ codes "as" ∷ codes "start" ∷ codes "true" ∷ codes "false" ∷ codes "call" ∷ codes "null" ∷ codes "default"
-    ∷ codes "primary" ∷ codes "key" ∷ codes "unique" ∷ codes "index" ∷ codes "constraint" ∷ codes "check" ∷ codes "foreign" ∷ codes "references" ∷ codes "restrict" ∷ codes "or"
-    ∷ codes "and" ∷ codes "is" ∷ codes "in" ∷ codes "between" ∷ codes "asc" ∷ codes "desc" ∷ []
+-- the words of the whole grammar that are no names unless they stand in backquotes, in four groups
+abbrev pub statement_words : List (List ℕ)
+statement_words =
+    codes "create" ∷ codes "drop" ∷ codes "table" ∷ codes "insert" ∷ codes "into" ∷ codes "values" ∷ codes "update" ∷ codes "set" ∷ codes "delete" ∷ codes "select"
+    ∷ codes "start" ∷ codes "call" ∷ []
+
+abbrev pub query_words : List (List ℕ)
+query_words =
+    codes "distinct" ∷ codes "from" ∷ codes "inner" ∷ codes "join" ∷ codes "on" ∷ codes "where" ∷ codes "group" ∷ codes "by" ∷ codes "order" ∷ codes "asc"
+    ∷ codes "desc" ∷ codes "limit" ∷ []
+
+abbrev pub constraint_words : List (List ℕ)
+constraint_words =
+    codes "if" ∷ codes "exists" ∷ codes "default" ∷ codes "primary" ∷ codes "key" ∷ codes "unique" ∷ codes "index" ∷ codes "constraint" ∷ codes "check" ∷ codes "foreign"
+    ∷ codes "references" ∷ codes "restrict" ∷ []
+
+abbrev pub expression_words : List (List ℕ)
+expression_words =
+    codes "as" ∷ codes "true" ∷ codes "false" ∷ codes "null" ∷ codes "not" ∷ codes "and" ∷ codes "or" ∷ codes "is" ∷ codes "in" ∷ codes "between"
+    ∷ []
+
+abbrev pub is_any_of : List (List ℕ) → List ℕ → Bool
+is_any_of words word = list_any (λ other. bytes_eq word other) words
 
 abbrev pub is_reserved : List ℕ → Bool
-is_reserved word = list_any (λ other. bytes_eq other word) reserved_words
+is_reserved word = is_any_of statement_words word || is_any_of query_words word || is_any_of constraint_words word || is_any_of expression_words word
 
 abbrev pub most_name_bytes : ℕ
 most_name_bytes = 64
@@ -46,9 +62,12 @@ most_characters = 2000
 abbrev pub short_name : List ℕ → Option (List ℕ)
 short_name name = if nat_le (length name) most_name_bytes then Some name else None
 
+abbrev pub bare_name : List ℕ → Option (List ℕ)
+bare_name word = if is_reserved word then None else short_name word
+
 -- the name that a token stands for
 abbrev pub name_of : Token → Option (List ℕ)
-name_of (Word word) = if is_reserved word then None else short_name word
+name_of (Word word) = bare_name word
 name_of (Quoted word) = short_name word
 name_of (Quotation text) = None
 name_of (Whole number) = None
@@ -91,11 +110,6 @@ abbrev pub select_of : List Token → Option Statement
 select_of (star ∷ from ∷ name ∷ []) = if is_star star && is_word (codes "from") from then option_map form.Select (name_of name) else None
 select_of rest = None
 
--- a column of CREATE, and whether it is the primary key
-pub record Described : Type 0 where
-  pub column : Column
-  pub is_key : Bool
-
 -- what stands behind a column's type: nothing, or PRIMARY KEY
 abbrev pub key_mark : List Token → Option Bool
 key_mark [] = Some false
@@ -106,15 +120,21 @@ abbrev pub described : List ℕ → SqlType → List Token → Option Described
 described name type rest = option_map (λ is_key. record { column = record { name = name; kind = type }; is_key = is_key }) (key_mark rest)
 
 -- the number of characters in VARCHAR's parentheses
+abbrev pub length_in : ℕ → Option ℕ
+length_in number = if nat_le 1 number && nat_le number most_characters then Some number else None
+
 abbrev pub length_of : Token → Option ℕ
-length_of (Whole number) = if nat_le 1 number && nat_le number most_characters then Some number else None
+length_of (Whole number) = length_in number
 length_of (Word word) = None
 length_of (Quoted word) = None
 length_of (Quotation text) = None
 length_of (Sign sign) = None
 
+abbrev pub varchar_with : List ℕ → Token → List Token → Option Described
+varchar_with name number rest = option_and_then (λ most. described name (kind.Varchar most) rest) (length_of number)
+
 abbrev pub varchar_of : List ℕ → List Token → Option Described
-varchar_of name (open_ ∷ number ∷ close ∷ rest) = if is_open open_ && is_close close then option_and_then (λ most. described name (kind.Varchar most) rest) (length_of number) else None
+varchar_of name (open_ ∷ number ∷ close ∷ rest) = if is_open open_ && is_close close then varchar_with name number rest else None
 varchar_of name rest = None
 
 abbrev pub typed : List ℕ → Token → List Token → Option Described
@@ -127,29 +147,33 @@ abbrev pub column_of : List Token → Option Described
 column_of (name ∷ type ∷ rest) = option_and_then (λ own. typed own type rest) (name_of name)
 column_of rest = None
 
+abbrev pub columns_from : List Described → List (List Token) → Option (List Described)
+columns_from done [] = Some done
+columns_from done (part ∷ parts) = option_and_then (λ next. columns_from (done ++ next ∷ []) parts) (column_of part)
+
 abbrev pub columns_of : List (List Token) → Option (List Described)
-columns_of [] = Some []
-columns_of (part ∷ parts) = option_and_then (λ first. option_map (λ more. first ∷ more) (columns_of parts)) (column_of part)
+columns_of parts = columns_from [] parts
 
 -- the places of the columns that are marked as the key
 abbrev pub key_places : ℕ → List Described → List ℕ
 key_places at [] = []
 key_places at (first ∷ more) = if first.is_key then at ∷ key_places (at + 1) more else key_places (at + 1) more
 
-abbrev pub has_repeated_name : List Described → Bool
-has_repeated_name [] = false
-has_repeated_name (first ∷ more) = list_any (λ other. bytes_eq other.column.name first.column.name) more || has_repeated_name more
+-- whether one of the later columns has the name of a column before it
+abbrev pub has_repeated_name : List Described → List Described → Bool
+has_repeated_name before [] = false
+has_repeated_name before (first ∷ later) =
+    list_any (λ other. bytes_eq other.column.name first.column.name) before || has_repeated_name (before ++ first ∷ []) later
 
 abbrev pub schema_of : List Described → Option Schema
 schema_of columns =
-    if length (key_places 0 columns) == 1 && not (has_repeated_name columns)
+    if length (key_places 0 columns) == 1 && not (has_repeated_name [] columns)
     then Some (record { columns = map (λ each. each.column) columns; key = key_places 0 columns }) else None
 
 -- what stands before the closing parenthesis that ends these tokens
 abbrev pub before_close : List Token → Option (List Token)
-before_close [] = None
-before_close (last ∷ []) = if is_close last then Some [] else None
-before_close (first ∷ next ∷ rest) = option_map (λ more. first ∷ more) (before_close (next ∷ rest))
+before_close tokens =
+    option_and_then (λ last. if is_close last then Some (take (length tokens - 1) tokens) else None) (slice_get tokens (length tokens - 1))
 
 -- the columns between the parentheses, each between two commas
 abbrev pub table_of : List Token → Option Schema
@@ -161,12 +185,6 @@ create_of (table ∷ name ∷ open_ ∷ rest) =
     then option_and_then (λ own. option_map (λ schema. form.Create (record { name = own; schema = schema })) (table_of rest)) (own_name_of name) else None
 create_of rest = None
 
--- the tuples read so far: the open one's values, and the closed ones
-pub record Filling : Type 0 where
-  pub slot : Slot
-  pub open_row : Cells
-  pub rows : List Cells
-
 abbrev pub at_slot : Slot → Filling → Filling
 at_slot slot filling = record filling { slot = slot }
 
@@ -177,22 +195,41 @@ abbrev pub with_row : Filling → Filling
 with_row filling = record { slot = AfterTuple; open_row = []; rows = filling.rows ++ filling.open_row ∷ [] }
 
 -- whole numbers go up to 2 ^ 63 - 1, and behind a minus up to 2 ^ 63
+abbrev pub positive_of : ℕ → Option ℤ
+positive_of number = if nat_lt number (2 ^ 63) then Some (pos number) else None
+
+abbrev pub negative_of : ℕ → Option ℤ
+negative_of number = if nat_le number (2 ^ 63) then Some (neg_ℤ (pos number)) else None
+
+abbrev pub with_whole : Option ℤ → Filling → Option Filling
+with_whole number filling = option_map (λ whole. with_value (cell.Int whole) filling) number
+
+-- a token at each slot
+abbrev pub tuple_start : Token → Filling → Option Filling
+tuple_start token filling = if is_open token then Some (at_slot AtValue filling) else None
+
 abbrev pub value_token : Token → Filling → Option Filling
-value_token (Whole number) filling = if nat_lt number (2 ^ 63) then Some (with_value (cell.Int (pos number)) filling) else None
+value_token (Whole number) filling = with_whole (positive_of number) filling
 value_token (Quotation text) filling = Some (with_value (cell.Text text) filling)
 value_token (Sign Minus) filling = Some (at_slot AtNumber filling)
 value_token token filling = None
 
 abbrev pub number_token : Token → Filling → Option Filling
-number_token (Whole number) filling = if nat_le number (2 ^ 63) then Some (with_value (cell.Int (neg_ℤ (pos number))) filling) else None
+number_token (Whole number) filling = with_whole (negative_of number) filling
 number_token token filling = None
 
+abbrev pub after_value : Token → Filling → Option Filling
+after_value token filling = if is_comma token then Some (at_slot AtValue filling) else (if is_close token then Some (with_row filling) else None)
+
+abbrev pub after_tuple : Token → Filling → Option Filling
+after_tuple token filling = if is_comma token then Some (at_slot AtTuple filling) else None
+
 abbrev pub fill : Slot → Token → Filling → Option Filling
-fill AtTuple token filling = if is_open token then Some (at_slot AtValue filling) else None
+fill AtTuple token filling = tuple_start token filling
 fill AtValue token filling = value_token token filling
 fill AtNumber token filling = number_token token filling
-fill AfterValue token filling = if is_comma token then Some (at_slot AtValue filling) else (if is_close token then Some (with_row filling) else None)
-fill AfterTuple token filling = if is_comma token then Some (at_slot AtTuple filling) else None
+fill AfterValue token filling = after_value token filling
+fill AfterTuple token filling = after_tuple token filling
 
 abbrev pub filled : Slot → Filling → Option (List Cells)
 filled AtTuple filling = None
@@ -205,8 +242,11 @@ abbrev pub rows_from : Filling → List Token → Option (List Cells)
 rows_from filling [] = filled filling.slot filling
 rows_from filling (token ∷ rest) = option_and_then (λ next. rows_from next rest) (fill filling.slot token filling)
 
+abbrev pub no_rows : Filling
+no_rows = record { slot = AtTuple; open_row = []; rows = [] }
+
 abbrev pub rows_of : List Token → Option (List Cells)
-rows_of rest = rows_from (record { slot = AtTuple; open_row = []; rows = [] }) rest
+rows_of rest = rows_from no_rows rest
 
 abbrev pub insert_of : List Token → Option Statement
 insert_of (into ∷ name ∷ values ∷ rest) =

@@ -1,3 +1,4 @@
+pub mod Stops
 pub mod Tokens
 pub mod Language
 pub mod Tables

@@ -5,10 +5,19 @@
 //! order, and with the wants of memory, that it shows itself.
 #![tactic(auto)]
 
+mod columns;
+mod forms;
+mod letters;
+mod lexer;
+mod names;
+mod reading;
 mod statements;
+mod stops;
 mod tables;
 mod tokens;
+mod tuples;
 
+pub use reading::read_statement;
 pub use statements::{Create, Insert, Statement};
 pub use tables::{Column, NamedTable, Schema, Table};
 pub use tokens::{Sign, Slot, Token};

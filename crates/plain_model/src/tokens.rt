@@ -1,3 +1,6 @@
+ghost use Rattle.std.specs.Prelude.{◌≡◌};
+ghost use Rattle.plain_model.specs.Language.{is_close, is_comma, is_open, is_star, is_word};
+
 use tuple_codec::Text;
 
 /// The signs that stand in a statement of the three forms.
@@ -50,4 +53,40 @@ pub enum Slot {
     AtNumber,
     AfterValue,
     AfterTuple,
+}
+
+impl Token {
+    /// Whether this is the keyword, which is given in lower case.
+    pub fn is_keyword(&self, keyword: &[u8]) -> bool
+        ensures { result ≡ is_word keyword.now self.now }
+    {
+        match self {
+            Token::Word(word) => word.is(keyword),
+            Token::Quoted(_) | Token::Quotation(_) | Token::Whole(_) | Token::Sign(_) => false,
+        }
+    }
+
+    pub fn opens(&self) -> bool
+        ensures { result ≡ is_open self.now }
+    {
+        matches!(self, Token::Sign(Sign::Open))
+    }
+
+    pub fn closes(&self) -> bool
+        ensures { result ≡ is_close self.now }
+    {
+        matches!(self, Token::Sign(Sign::Close))
+    }
+
+    pub fn separates(&self) -> bool
+        ensures { result ≡ is_comma self.now }
+    {
+        matches!(self, Token::Sign(Sign::Comma))
+    }
+
+    pub fn means_all(&self) -> bool
+        ensures { result ≡ is_star self.now }
+    {
+        matches!(self, Token::Sign(Sign::Star))
+    }
 }
