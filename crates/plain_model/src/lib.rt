@@ -5,10 +5,13 @@
 //! order, and with the wants of memory, that it shows itself.
 #![tactic(auto)]
 
+mod databases;
+mod keyed;
 mod statements;
 mod tables;
 mod tokens;
 
+pub use databases::{Database, Executed};
 pub use statements::{Create, Insert, Statement};
 pub use tables::{Column, NamedTable, Schema, Table};
 pub use tokens::{Sign, Slot, Token};
