@@ -1,1 +1,3 @@
 mod Vectors
+pub mod RowLemmas
+pub mod TableLemmas

@@ -1,9 +1,9 @@
 ghost use Rattle.std.specs.Prelude.{◌≡◌, ◌^◌, true, false, [], map, not, nat_lt, length, IfOk, IfErr, OnOk, OnErr, vec_len};
 ghost use Rattle.plain_model.specs.Effects.{effect};
 ghost use Rattle.plain_model.specs.Sound.{is_sound_database, is_sound_statement, names_rise, rises};
-ghost use Rattle.plain_model.specs.Steps.{IsGapFor, IsPlaceOf, fill_reply, fill_table, merged, meets};
+ghost use Rattle.plain_model.specs.Steps.{IsGapFor, IsPlaceOf, IsShowable, fill_reply, fill_table, merged, meets};
 ghost use Rattle.plain_model.specs.Tables.{is_same_database, is_same_table, kinds_of, names_of};
-ghost use Rattle.script_text.specs.Shown.{is_printable_reply, is_shown_reply};
+ghost use Rattle.script_text.specs.declared.replies.Reply.TheVariants.{Done};
 ghost use Rattle.plain_model.specs.declared.statements.Statement.TheVariants as form;
 
 use crate::keyed::{merge_rows, repeats_key, rows_fit, sort_rows};
@@ -120,7 +120,7 @@ fn fill(table: &mut Table, rows: Sequence<Row>) -> Result<Executed, AllocError>
     ensures table { OnOk result (table.new ≡ fill_table table.old rows) }
     ensures changed { IfOk result (λ done. done.is_changed ≡ not (is_same_table table.new table.old)) }
     ensures err { OnErr result (table.new ≡ table.old) }
-    ensures size { nat_lt (length rows) (2 ^ 64) ≡ true }
+    ensures shown { IfOk result (λ done. IsShowable done.reply) }
 {
     let mut rows = rows.into_vec();
     let count = rows.len();
@@ -160,7 +160,7 @@ impl Database {
         ensures changed { IfOk result (λ done. done.is_changed ≡ not (is_same_database self.new self.old)) }
         ensures err { OnErr result (self.new ≡ self.old) }
         ensures sound { is_sound_database self.new ≡ true }
-        ensures shown { IfOk result (λ done. (is_printable_reply done.reply ≡ true) × (is_shown_reply done.reply ≡ true)) }
+        ensures shown { IfOk result (λ done. IsShowable done.reply) }
     {
         match statement {
             Statement::Create(create) => self.create(create),
@@ -171,13 +171,24 @@ impl Database {
 
     fn create(&mut self, create: Create) -> Result<Executed, AllocError>
         requires { is_sound_database self.old ≡ true }
+        ensures shown { IfOk result (λ done. IsShowable done.reply) }
         ensures ok { IfOk result (λ done. effect self.old (form.Create create) ≡ record { reply = done.reply; database = self.new }) }
         ensures changed { IfOk result (λ done. done.is_changed ≡ not (is_same_database self.new self.old)) }
         ensures err { OnErr result (self.new ≡ self.old) }
     {
-        let Err(place) = place_of(self.tables.as_slice(), create.name.as_slice()) else {
-            return Ok(unchanged(Reply::Refused(1050)));
-        };
+        match place_of(self.tables.as_slice(), create.name.as_slice()) {
+            Ok(_) => Ok(unchanged(Reply::Refused(1050))),
+            Err(place) => self.add(place, create),
+        }
+    }
+
+    fn add(&mut self, place: usize, create: Create) -> Result<Executed, AllocError>
+        requires { IsGapFor create.name self.old place }
+        ensures ok { IfOk result (λ done. effect self.old (form.Create create) ≡ record { reply = done.reply; database = self.new }) }
+        ensures changed { IfOk result (λ done. done.is_changed ≡ not (is_same_database self.new self.old)) }
+        ensures err { OnErr result (self.new ≡ self.old) }
+        ensures shown { IfOk result (λ done. done.reply ≡ Done) }
+    {
         let table = Table {
             schema: create.schema,
             rows: Sequence::new(*self.tables.allocator()),
@@ -192,12 +203,11 @@ impl Database {
 
     fn insert(&mut self, insert: Insert) -> Result<Executed, AllocError>
         requires { is_sound_database self.old ≡ true }
+        ensures shown { IfOk result (λ done. IsShowable done.reply) }
         ensures ok { IfOk result (λ done. effect self.old (form.Insert insert) ≡ record { reply = done.reply; database = self.new }) }
         ensures changed { IfOk result (λ done. done.is_changed ≡ not (is_same_database self.new self.old)) }
         ensures err { OnErr result (self.new ≡ self.old) }
-        ensures size { nat_lt (length insert.rows) (2 ^ 64) ≡ true }
     {
-        let _count = insert.rows.as_slice().len();
         match place_of(self.tables.as_slice(), insert.name.as_slice()) {
             Ok(place) => fill(&mut self.tables[place].table, insert.rows),
             Err(_) => Ok(unchanged(Reply::Refused(1146))),
@@ -206,6 +216,7 @@ impl Database {
 
     fn select(&mut self, name: Text) -> Result<Executed, AllocError>
         requires { is_sound_database self.old ≡ true }
+        ensures shown { IfOk result (λ done. IsShowable done.reply) }
         ensures ok { IfOk result (λ done. effect self.old (form.Select name) ≡ record { reply = done.reply; database = self.new }) }
         ensures changed { IfOk result (λ done. done.is_changed ≡ not (is_same_database self.new self.old)) }
         ensures same { self.new ≡ self.old }
