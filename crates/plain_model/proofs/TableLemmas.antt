@@ -1,5 +1,5 @@
 -- Tables by name, databases of equal contents, and what is true of every database that statements make.
-use Rattle.std.proofs.Common.{◌≡◌, refl, sym, ap, ◌∙◌, subst, ℕ, zero, suc, ◌+◌, ◌-◌, ◌<◌, ◌≤◌, ◌^◌, ◌≢◌, Bool, true, false, cond, not, ◌&&◌, ◌||◌, ◌==◌, nat_lt, nat_le, List, [], ◌∷◌, ◌++◌, length, map, take, drop, get_or, arith, append-nil, drop_of_length-le, slice_get, slice_set, Option, Some, None, option_map, is_some, eq-eqb, insert, bytes_eq, HoldsAt, IfOk, IfErr, MatchResult, Result, Ok, Err, nat_cmp, is_lt, is_eq, Less, Equal, Greater, Ordering}
+use Rattle.std.proofs.Common.{◌≡◌, refl, sym, ap, ◌∙◌, subst, ℕ, zero, suc, ◌+◌, ◌-◌, ◌<◌, ◌≤◌, ◌^◌, ◌≢◌, Bool, true, false, cond, not, ◌&&◌, ◌||◌, ◌==◌, nat_lt, nat_le, List, [], ◌∷◌, ◌++◌, length, map, take, drop, get_or, arith, append-nil, drop_of_length-le, slice_get, slice_set, Option, Some, None, option_map, is_some, eq-eqb, insert, bytes_eq, HoldsAt, IfOk, IfErr, OnOk, OnErr, MatchResult, Result, Ok, Err, nat_cmp, is_lt, is_eq, Less, Equal, Greater, Ordering}
 use Rattle.std.specs.List.{list_all, list_any, AllWithin}
 use Rattle.std.specs.List.Sorted.{IsBinarySearchResult, IsPartitionPoint, IsSortedBy, IsSearchInRange}
 use borrow.Author.Tests.{eqb-true, le-leb, leb-true, lt-ltb}
@@ -23,6 +23,7 @@ use Rattle.plain_model.specs.Sound.{is_sound_database, is_sound_named, is_sound_
 use Rattle.plain_model.specs.Steps.{IsGapFor, IsPlaceOf, IsShowable, kinds_in, fill_reply, fill_table, merged}
 use Rattle.plain_model.specs.Tables.{Tables, has_repeated_key, in_key_order, is_same_column, is_same_database, is_same_kind, is_same_named, is_same_row, is_same_schema, is_same_table, kinds_of, names_of, table_in, with_table}
 use Rattle.plain_model.specs.Tokens.{is_word_byte}
+use Rattle.plain_model.specs.declared.databases.Executed.{Executed}
 use Rattle.plain_model.specs.declared.statements.Create.{Create}
 use Rattle.plain_model.specs.declared.statements.Insert.{Insert}
 use Rattle.plain_model.specs.declared.statements.Statement.{Statement}
@@ -209,6 +210,7 @@ more_tables ts k one h = unequal is_same_named (insert ts k one) ts (λ e. absur
     grown ts zero one h = refl
     grown [] (suc k) one h = absurd (omega arith)
     grown (t ∷ ts) (suc k) one h = ap suc (grown ts k one (omega arith))
+
     longer : (ts : Tables) (k : ℕ) (one : NamedTable) → k ≤ length ts → length (insert ts k one) ≡ length ts → ⊥
     longer ts k one h e = let g = grown ts k one h in omega (arith, g, e)
 
@@ -238,7 +240,7 @@ filled_same table [] r =
 filled_same table (row ∷ rows) r =
     let more = in_key_order table.schema.key (table.rows ++ row ∷ rows) in
     ap not (ap (λ b. b && pointwise is_same_row more table.rows) (schema_itself table.schema)
-        ∙ unequal is_same_row more table.rows (λ e. longer table.rows row rows (sym (order_length table.schema.key (table.rows ++ row ∷ rows)) ∙ e)))
+    ∙ unequal is_same_row more table.rows (λ e. longer table.rows row rows (sym (order_length table.schema.key (table.rows ++ row ∷ rows)) ∙ e)))
     ∙ sym (lt-ltb 0 (suc (length rows)) (omega arith))
   where
     longer : (others : List Cells) (row : Cells) (rows : List Cells) → length (others ++ row ∷ rows) ≡ length others → ⊥
@@ -285,7 +287,7 @@ pub effect_select : (db : Tables) (name : List ℕ) (place : ℕ) (one : NamedTa
 unfolding effect
 effect_select db name place one p e = ap (λ found. option_map_or (selected db) found (refuses 1146 db)) (found_at db name place one p e)
 
-set_itself : (ts : Tables) (k : ℕ) (one : NamedTable) → slice_get ts k ≡ Some one → slice_set ts k one ≡ ts
+pub set_itself : (ts : Tables) (k : ℕ) (one : NamedTable) → slice_get ts k ≡ Some one → slice_set ts k one ≡ ts
 set_itself [] k one e = cc
 set_itself (t ∷ ts) zero one e = let same : one ≡ t = cc in ap (λ each. each ∷ ts) same
 set_itself (t ∷ ts) (suc k) one e = ap (λ more. t ∷ more) (set_itself ts k one e)
@@ -307,7 +309,7 @@ effect_insert db insert place one p e =
     let new : Table = record { schema = table.schema; rows = in_key_order key (table.rows ++ insert.rows) } in
     ap (λ found. option_map_or (inserted db insert) found (refuses 1146 db)) (found_at db insert.name place one p e)
     ∙ by_tests (not (list_all (fits_all (kinds_of table.schema)) insert.rows)) (has_repeated_key key (table.rows ++ insert.rows)) one.name (length insert.rows)
-        db (with_table insert.name new db) place table new (sym (set_itself db place one e)) (p.puts new ∙ ap (λ each. slice_set db place (named each new)) name)
+    db (with_table insert.name new db) place table new (sym (set_itself db place one e)) (p.puts new ∙ ap (λ each. slice_set db place (named each new)) name)
 
 -- ---- soundness
 
@@ -316,8 +318,8 @@ with_below x name table [] h l = l
 with_below x name table (t ∷ ts) h l = two (bytes_eq t.name name)
     (λ e. ap (first_below x) (stop_if (bytes_eq t.name name) (named name table ∷ ts) _ e) ∙ l)
     (λ e. ap (first_below x) (past_if (bytes_eq t.name name) (named name table ∷ ts) _ e) ∙ two (is_lt (by_name name t.name))
-        (λ f. ap (first_below x) (stop_if (is_lt (by_name name t.name)) (named name table ∷ t ∷ ts) _ f) ∙ l)
-        (λ f. ap (first_below x) (past_if (is_lt (by_name name t.name)) (named name table ∷ t ∷ ts) _ f) ∙ h))
+    (λ f. ap (first_below x) (stop_if (is_lt (by_name name t.name)) (named name table ∷ t ∷ ts) _ f) ∙ l)
+    (λ f. ap (first_below x) (past_if (is_lt (by_name name t.name)) (named name table ∷ t ∷ ts) _ f) ∙ h))
 
 name_first : (a b : List ℕ) (r : Ordering) → by_name a b ≡ r → bytes_eq a b ≡ false → is_lt (by_name b a) ≡ false → is_lt (by_name a b) ≡ true
 name_first a b Less e n l = ap is_lt e
@@ -328,20 +330,20 @@ with_rises : (name : List ℕ) (table : Table) (ts : Tables) → names_rise ts �
 with_rises name table [] r = refl
 with_rises name table (t ∷ ts) r = two (bytes_eq t.name name)
     (λ e. ap names_rise (stop_if (bytes_eq t.name name) (named name table ∷ ts) _ e)
-        ∙ rise_make (named name table) ts (subst (λ each. first_below each ts ≡ true) (name_same t.name name e) (rise_head t ts r)) (rise_tail t ts r))
+    ∙ rise_make (named name table) ts (subst (λ each. first_below each ts ≡ true) (name_same t.name name e) (rise_head t ts r)) (rise_tail t ts r))
     (λ e. ap names_rise (past_if (bytes_eq t.name name) (named name table ∷ ts) _ e) ∙ two (is_lt (by_name name t.name))
-        (λ f. ap names_rise (stop_if (is_lt (by_name name t.name)) (named name table ∷ t ∷ ts) _ f) ∙ both_so f r)
-        (λ f. ap names_rise (past_if (is_lt (by_name name t.name)) (named name table ∷ t ∷ ts) _ f)
-            ∙ rise_make t (with_table name table ts) (with_below t.name name table ts (rise_head t ts r) (name_first t.name name _ refl e f)) (with_rises name table ts (rise_tail t ts r))))
+    (λ f. ap names_rise (stop_if (is_lt (by_name name t.name)) (named name table ∷ t ∷ ts) _ f) ∙ both_so f r)
+    (λ f. ap names_rise (past_if (is_lt (by_name name t.name)) (named name table ∷ t ∷ ts) _ f)
+    ∙ rise_make t (with_table name table ts) (with_below t.name name table ts (rise_head t ts r) (name_first t.name name _ refl e f)) (with_rises name table ts (rise_tail t ts r))))
 
 with_sound : (name : List ℕ) (table : Table) (ts : Tables) → is_sound_table table ≡ true → list_all is_sound_named ts ≡ true → list_all is_sound_named (with_table name table ts) ≡ true
 with_sound name table [] s a = both_so s refl
 with_sound name table (t ∷ ts) s a = two (bytes_eq t.name name)
     (λ e. ap (list_all is_sound_named) (stop_if (bytes_eq t.name name) (named name table ∷ ts) _ e) ∙ both_so s (right_so (is_sound_named t) _ a))
     (λ e. ap (list_all is_sound_named) (past_if (bytes_eq t.name name) (named name table ∷ ts) _ e) ∙ two (is_lt (by_name name t.name))
-        (λ f. ap (list_all is_sound_named) (stop_if (is_lt (by_name name t.name)) (named name table ∷ t ∷ ts) _ f) ∙ both_so s a)
-        (λ f. ap (list_all is_sound_named) (past_if (is_lt (by_name name t.name)) (named name table ∷ t ∷ ts) _ f)
-            ∙ both_so (left_so (is_sound_named t) (list_all is_sound_named ts) a) (with_sound name table ts s (right_so (is_sound_named t) _ a))))
+    (λ f. ap (list_all is_sound_named) (stop_if (is_lt (by_name name t.name)) (named name table ∷ t ∷ ts) _ f) ∙ both_so s a)
+    (λ f. ap (list_all is_sound_named) (past_if (is_lt (by_name name t.name)) (named name table ∷ t ∷ ts) _ f)
+    ∙ both_so (left_so (is_sound_named t) (list_all is_sound_named ts) a) (with_sound name table ts s (right_so (is_sound_named t) _ a))))
 
 pub sound_names : (ts : Tables) → is_sound_database ts ≡ true → names_rise ts ≡ true
 unfolding is_sound_database
@@ -355,8 +357,8 @@ sound_in : (name : List ℕ) (ts : Tables) (table : Table) → list_all is_sound
 sound_in name [] table a e = cc
 sound_in name (t ∷ ts) table a e = two (bytes_eq t.name name)
     (λ f. let d : Some t.table ≡ Some table = sym (stop_if (bytes_eq t.name name) (Some t.table) (table_in ts name) f) ∙ e in
-        let same : t.table ≡ table = cc in
-        subst (λ each. is_sound_table each ≡ true) same (left_so _ (list_all is_sound_named ts) a))
+    let same : t.table ≡ table = cc in
+    subst (λ each. is_sound_table each ≡ true) same (left_so _ (list_all is_sound_named ts) a))
     (λ f. sound_in name ts table (right_so (is_sound_named t) _ a) (sym (past_if (bytes_eq t.name name) (Some t.table) (table_in ts name) f) ∙ e))
 
 sound_table : (name : List ℕ) (ts : Tables) (table : Table) → is_sound_database ts ≡ true → table_in ts name ≡ Some table → is_sound_table table ≡ true
@@ -481,9 +483,10 @@ map_lengths columns = eq-eqb _ _ (same columns)
 
 pub rows_shown : (table : Table) → is_sound_table table ≡ true → nat_lt (length table.rows) (2 ^ 64) ≡ true
     → IsShowable (Rows (record { names = names_of table.schema; kinds = kinds_of table.schema; rows = table.rows }))
-rows_shown table s n =
-    (both_so (map_lengths table.schema.columns) (rows_printable (kinds_of table.schema) table.rows (sound_fits table s)),
-     both_so n (names_inline (names_of table.schema) (left_so _ (list_all (λ place. nat_lt place (length table.schema.columns)) table.schema.key) (sound_schema table s))))
+rows_shown table s n = (
+  both_so (map_lengths table.schema.columns) (rows_printable (kinds_of table.schema) table.rows (sound_fits table s)),
+  both_so n (names_inline (names_of table.schema) (left_so _ (list_all (λ place. nat_lt place (length table.schema.columns)) table.schema.key) (sound_schema table s))),
+)
 
 pub fill_shown : (table : Table) (rows : List Cells) → nat_lt (length rows) (2 ^ 64) ≡ true → IsShowable (fill_reply table rows)
 fill_shown table rows n = pick (not (list_all (fits_all (kinds_of table.schema)) rows)) (has_repeated_key table.schema.key (table.rows ++ rows)) (length rows) n
@@ -545,3 +548,30 @@ filled_well table rows sorted r f n s =
       fills = ap (λ all. record { schema = table.schema; rows = all }) after ∙ sym (fill_past _ _ table table _ f n);
       changes = sym (filled_same table rows r) ∙ ap (λ all. not (is_same_table (record { schema = table.schema; rows = all }) table)) (sym after);
     }
+
+-- ---- a table filled in its database
+
+pub get_at : (ts : Tables) (k : ℕ) (one : NamedTable) → k < length ts → one ≡ get_or ts k one → slice_get ts k ≡ Some one
+get_at [] k one h e = absurd (omega arith)
+get_at (t ∷ ts) zero one h e = ap Some (sym e)
+get_at (t ∷ ts) (suc k) one h e = get_at ts k one (omega arith) e
+
+pub insert_ok : {E : Type 0} (r : Result Executed E) (db : Tables) (insert : Insert) (place : ℕ) (one : NamedTable) (after : Table) → IsPlaceOf insert.name db place → slice_get db place ≡ Some one
+    → IfOk r (λ done. done.reply ≡ fill_reply one.table insert.rows) → OnOk r (after ≡ fill_table one.table insert.rows)
+    → (db2 : Tables) → db2 ≡ slice_set db place (named one.name after) → IfOk r (λ done. effect db (form.Insert insert) ≡ record { reply = done.reply; database = db2 })
+insert_ok (Ok done) db insert place one after p e reply table db2 d =
+    effect_insert db insert place one p e
+    ∙ (λ i. effect_of (sym reply i) (slice_set db place (named one.name (sym table i)))) ∙ ap (effect_of done.reply) (sym d)
+insert_ok (Err error) db insert place one after p e reply table db2 d = tt
+
+pub insert_changed : {E : Type 0} (r : Result Executed E) (db : Tables) (place : ℕ) (one : NamedTable) (after : Table) → slice_get db place ≡ Some one
+    → IfOk r (λ done. done.is_changed ≡ not (is_same_table after one.table))
+    → (db2 : Tables) → db2 ≡ slice_set db place (named one.name after) → IfOk r (λ done. done.is_changed ≡ not (is_same_database db2 db))
+insert_changed (Ok done) db place one after e changed db2 d =
+    changed ∙ ap not (sym (same_named_table one.name after one.table) ∙ sym (set_same db place one (named one.name after) e) ∙ ap (λ ts. is_same_database ts db) (sym d))
+insert_changed (Err error) db place one after e changed db2 d = tt
+
+pub sound_ok : {E : Type 0} (r : Result Executed E) (db db2 : Tables) (statement : Statement) → is_sound_database db ≡ true → is_sound_statement statement ≡ true
+    → IfOk r (λ done. effect db statement ≡ record { reply = done.reply; database = db2 }) → OnErr r (db2 ≡ db) → is_sound_database db2 ≡ true
+sound_ok (Ok done) db db2 statement s t ok err = ap is_sound_database (sym (ap database_of ok)) ∙ effect_sound db statement s t
+sound_ok (Err error) db db2 statement s t ok err = ap is_sound_database err ∙ s

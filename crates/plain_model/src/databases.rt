@@ -1,20 +1,21 @@
-ghost use Rattle.std.specs.Prelude.{◌≡◌, ◌^◌, true, false, [], map, not, nat_lt, length, IfOk, IfErr, OnOk, OnErr, vec_len};
+ghost use Rattle.std.specs.Prelude.{◌≡◌, true, false, [], not, IfOk, IfErr, OnOk, OnErr};
 ghost use Rattle.plain_model.specs.Effects.{effect};
 ghost use Rattle.plain_model.specs.Sound.{is_sound_database, is_sound_statement, names_rise, rises};
 ghost use Rattle.plain_model.specs.Steps.{IsGapFor, IsPlaceOf, IsShowable, fill_reply, fill_table, merged, meets};
-ghost use Rattle.plain_model.specs.Tables.{is_same_database, is_same_table, kinds_of, names_of};
+ghost use Rattle.plain_model.specs.Tables.{is_same_database, is_same_table};
 ghost use Rattle.script_text.specs.declared.replies.Reply.TheVariants.{Done};
 ghost use Rattle.plain_model.specs.declared.statements.Statement.TheVariants as form;
 
+use crate::copies::all_rows;
 use crate::keyed::{merge_rows, repeats_key, rows_fit, sort_rows};
 use crate::statements::{Create, Insert, Statement};
-use crate::tables::{Column, NamedTable, Table};
+use crate::tables::{NamedTable, Table};
 use script_text::Reply;
 use std::alloc::{AllocError, Global};
 use std::collections::VecDeque;
 use std::marker::Model;
 use std::mem;
-use tuple_codec::{Answer, Row, Sequence, SqlType, Text};
+use tuple_codec::{Row, Sequence, Text};
 
 /// Tables by name.
 #[derive(Debug, Drop)]
@@ -55,40 +56,6 @@ fn place_of(tables: &[NamedTable], name: &[u8]) -> Result<usize, usize>
     ensures gap { IfErr result (IsGapFor name.now tables.now) }
 {
     tables.binary_search_by(|named| named.name.as_slice().cmp(name))
-}
-
-fn names_in(alloc: Global, columns: &[Column]) -> Result<Sequence<Text>, AllocError>
-    ensures { IfOk result (λ names. names ≡ map (λ column. column.name) columns.now) }
-{
-    let mut names = Sequence::new(alloc);
-    for column in columns {
-        names.push(column.name.clone()?)?;
-    }
-    Ok(names)
-}
-
-fn kinds_in(alloc: Global, columns: &[Column]) -> Result<Sequence<SqlType>, AllocError>
-    ensures { IfOk result (λ kinds. kinds ≡ map (λ column. column.kind) columns.now) }
-{
-    let mut kinds = Sequence::new(alloc);
-    for column in columns {
-        kinds.push(column.kind)?;
-    }
-    Ok(kinds)
-}
-
-/// All rows, in key order.
-fn all_rows(alloc: Global, table: &Table) -> Result<Answer, AllocError>
-    ensures answer { IfOk result (λ answer. answer ≡ record { names = names_of table.now.schema; kinds = kinds_of table.now.schema; rows = table.now.rows }) }
-    ensures size { IfOk result (λ answer. nat_lt (length answer.rows) (2 ^ 64) ≡ true) }
-{
-    let columns = table.schema.columns.as_slice();
-    let _count = table.rows.as_slice().len();
-    Ok(Answer {
-        names: names_in(alloc, columns)?,
-        kinds: kinds_in(alloc, columns)?,
-        rows: table.rows.clone()?,
-    })
 }
 
 /// The table with these rows too, which are in key order; no two of all have one key.

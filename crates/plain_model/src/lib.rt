@@ -5,6 +5,7 @@
 //! order, and with the wants of memory, that it shows itself.
 #![tactic(auto)]
 
+mod copies;
 mod databases;
 mod keyed;
 mod statements;
