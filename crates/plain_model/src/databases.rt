@@ -111,8 +111,10 @@ fn fill(table: &mut Table, rows: Sequence<Row>) -> Result<Executed, AllocError>
 
 impl Database {
     /// A database without tables.
+    #[tactic(auto, unfolding(crate::specs::Sound::is_sound_database))]
     pub fn new(alloc: Global) -> Database
-        ensures { result ≡ [] }
+        ensures empty { result ≡ [] }
+        ensures sound { is_sound_database result ≡ true }
     {
         Database {
             tables: Vec::new(alloc),

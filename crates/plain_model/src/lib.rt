@@ -10,6 +10,8 @@ mod databases;
 mod keyed;
 mod statements;
 mod tables;
+#[cfg(test)]
+mod tests;
 mod tokens;
 
 pub use databases::{Database, Executed};
