@@ -1,5 +1,5 @@
 -- The order of cells is total, and so is that of keys.
-use Rattle.std.proofs.Common.{◌≡◌, refl, sym, subst, ℕ, ℤ, pos, Bool, false, List, []}
+use Rattle.std.proofs.Common.{◌≡◌, refl, subst, ℕ, ℤ, pos, Bool, false, List, []}
 use Rattle.std.specs.Cmp.{IsTotalOrder}
 use Rattle.std.specs.Cmp.Lexicographic.{slice_cmp}
 use Rattle.std.specs.Ordering.{nat_cmp, int_cmp, bool_cmp, on, then_cmp, ordering_then}
@@ -7,7 +7,7 @@ use Rattle.std.specs.declared.cmp.Ordering.{Ordering}
 use Rattle.std.specs.declared.cmp.Ordering.TheVariants.{Less, Equal, Greater}
 use Rattle.std.proofs.lemmas.Cmp.{nat_cmp_total, int_cmp_total, nat_list_cmp_total, lists_total, on_total, then_total}
 use Rattle.std.specs.Cmp.{bool_cmp_total}
-use Rattle.tuple_codec.specs.Rows.{Cells, rank, value_cmp, key_cmp}
+use Rattle.tuple_codec.specs.Rows.{rank, value_cmp, key_cmp}
 use Rattle.tuple_codec.specs.declared.values.Value.{Value}
 use Rattle.tuple_codec.specs.declared.values.Value.TheVariants as cell
 
