@@ -2,3 +2,5 @@ mod Vectors
 mod Each
 mod WordTokens
 mod ReadSoundness
+pub mod RowLemmas
+pub mod TableLemmas

@@ -29,7 +29,7 @@ created database create =
 abbrev pub inserted : Tables → Insert → Table → Effect
 inserted database insert table =
     if not (list_all (fits_all (kinds_of table.schema)) insert.rows) then refuses 9013 database else (
-    if has_repeated_key table.schema.key (in_key_order table.schema.key (table.rows ++ insert.rows)) then refuses 1062 database else
+    if has_repeated_key table.schema.key (table.rows ++ insert.rows) then refuses 1062 database else
     record {
       reply = Count (length insert.rows);
       database = with_table insert.name (record { schema = table.schema; rows = in_key_order table.schema.key (table.rows ++ insert.rows) }) database;

@@ -5,3 +5,4 @@ pub mod Tables
 pub mod Effects
 pub mod Machine
 pub mod Sound
+pub mod Steps

@@ -1,6 +1,8 @@
 -- What is true of every statement that is read, and of every database that statements make.
 use Rattle.std.specs.Prelude.{ℕ, Bool, true, ◌&&◌, List, [], ◌∷◌, length, nat_lt}
 use Rattle.std.specs.List.{list_all}
+use Rattle.std.specs.Cmp.Lexicographic.{slice_cmp}
+use Rattle.std.specs.Ordering.{nat_cmp, is_lt}
 use Rattle.tuple_codec.specs.Rows.{Cells, fits_all}
 use Rattle.plain_model.specs.Tables.{Tables, is_before, kinds_of, names_of}
 use Rattle.plain_model.specs.Tokens.{is_word_byte}
@@ -30,8 +32,14 @@ is_sound_table table = is_sound_schema table.schema && list_all (fits_all (kinds
 abbrev pub is_sound_named : NamedTable → Bool
 is_sound_named named = is_sound_table named.table
 
+-- each table before the next by its name
+abbrev pub names_rise : Tables → Bool
+names_rise [] = true
+names_rise (first ∷ []) = true
+names_rise (first ∷ next ∷ tables) = is_lt (slice_cmp nat_cmp first.name next.name) && names_rise (next ∷ tables)
+
 unfoldable pub is_sound_database : Tables → Bool
-is_sound_database tables = list_all is_sound_named tables
+is_sound_database tables = list_all is_sound_named tables && names_rise tables
 
 abbrev pub is_sound_statement : Statement → Bool
 is_sound_statement (form.Create create) = is_sound_schema create.schema

@@ -1,6 +1,7 @@
 -- Plain tables and databases.
 use Rattle.std.specs.Prelude.{ℕ, Bool, true, false, ◌==◌, ◌&&◌, ◌||◌, List, [], ◌∷◌, map, nat_eq, Option, Some, None, if◌then◌else◌}
 use Rattle.std.specs.Str.{bytes_eq}
+use Rattle.std.specs.List.{list_any}
 use Rattle.std.specs.Cmp.Lexicographic.{slice_cmp, pointwise}
 use Rattle.std.specs.Ordering.{nat_cmp, is_lt, is_eq}
 use Rattle.tuple_codec.specs.Rows.{Cells, key_cmp, key_of}
@@ -51,11 +52,10 @@ abbrev pub in_key_order : List ℕ → List Cells → List Cells
 in_key_order key [] = []
 in_key_order key (row ∷ rows) = put_row key row (in_key_order key rows)
 
--- whether two neighbours have one key
+-- whether two rows have one key
 abbrev pub has_repeated_key : List ℕ → List Cells → Bool
 has_repeated_key key [] = false
-has_repeated_key key (row ∷ []) = false
-has_repeated_key key (row ∷ next ∷ rows) = has_same_key key row next || has_repeated_key key (next ∷ rows)
+has_repeated_key key (row ∷ rows) = list_any (has_same_key key row) rows || has_repeated_key key rows
 
 -- equal contents
 abbrev pub is_same_kind : SqlType → SqlType → Bool

@@ -2,11 +2,15 @@
 //!
 //! The crates above use its definitions: `Language.read`, the statement of a text; `Effects.effect`, what a statement
 //! answers and what it makes of a database; `Machine.IsPlainRun`, that what a run shows is the machine's run along the
-//! order, and with the wants of memory, that it shows itself.
+//! order, and with the wants of memory, that it shows itself. `read_statement` is the first of these and `Database::execute`
+//! the second.
 #![tactic(auto)]
 
 mod columns;
+mod copies;
+mod databases;
 mod forms;
+mod keyed;
 mod letters;
 mod lexer;
 mod names;
@@ -14,9 +18,12 @@ mod reading;
 mod statements;
 mod stops;
 mod tables;
+#[cfg(test)]
+mod tests;
 mod tokens;
 mod tuples;
 
+pub use databases::{Database, Executed};
 pub use reading::read_statement;
 pub use statements::{Create, Insert, Statement};
 pub use tables::{Column, NamedTable, Schema, Table};

@@ -1,0 +1,84 @@
+-- The order of cells is total, and so is that of keys.
+use Rattle.std.proofs.Common.{◌≡◌, refl, subst, ℕ, ℤ, pos, Bool, false, List, []}
+use Rattle.std.specs.Cmp.{IsTotalOrder}
+use Rattle.std.specs.Cmp.Lexicographic.{slice_cmp}
+use Rattle.std.specs.Ordering.{nat_cmp, int_cmp, bool_cmp, on, then_cmp, ordering_then}
+use Rattle.std.specs.declared.cmp.Ordering.{Ordering}
+use Rattle.std.specs.declared.cmp.Ordering.TheVariants.{Less, Equal, Greater}
+use Rattle.std.proofs.lemmas.Cmp.{nat_cmp_total, int_cmp_total, nat_list_cmp_total, lists_total, on_total, then_total}
+use Rattle.std.specs.Cmp.{bool_cmp_total}
+use Rattle.tuple_codec.specs.Rows.{rank, value_cmp, key_cmp}
+use Rattle.tuple_codec.specs.declared.values.Value.{Value}
+use Rattle.tuple_codec.specs.declared.values.Value.TheVariants as cell
+
+-- a cell's parts, with a constant where the variant has none: cells go by their ranks, then by each part
+number_in : Value → ℤ
+number_in (cell.Int n) = n
+number_in (cell.Decimal n) = n
+number_in value = pos 0
+
+truth_in : Value → Bool
+truth_in (cell.Bool b) = b
+truth_in value = false
+
+bytes_in : Value → List ℕ
+bytes_in (cell.Text text) = text
+bytes_in (cell.Bytes bytes) = bytes
+bytes_in value = []
+
+by_parts : Value → Value → Ordering
+by_parts = then_cmp (on rank nat_cmp) (then_cmp (on number_in int_cmp) (then_cmp (on truth_in bool_cmp) (on bytes_in (slice_cmp nat_cmp))))
+
+by_parts_total : IsTotalOrder by_parts
+unfolding by_parts
+by_parts_total = then_total (on_total rank nat_cmp_total) (then_total (on_total number_in int_cmp_total) (then_total (on_total truth_in bool_cmp_total) (on_total bytes_in nat_list_cmp_total)))
+
+then_equal : (o : Ordering) → ordering_then o Equal ≡ o
+then_equal Less = refl
+then_equal Equal = refl
+then_equal Greater = refl
+
+same : (a b : Value) → by_parts a b ≡ value_cmp a b
+unfolding by_parts number_in truth_in bytes_in
+same cell.Null cell.Null = refl
+same cell.Null (cell.Int b) = refl
+same cell.Null (cell.Bool b) = refl
+same cell.Null (cell.Text b) = refl
+same cell.Null (cell.Bytes b) = refl
+same cell.Null (cell.Decimal b) = refl
+same (cell.Int a) cell.Null = refl
+same (cell.Int a) (cell.Int b) = then_equal (int_cmp a b)
+same (cell.Int a) (cell.Bool b) = refl
+same (cell.Int a) (cell.Text b) = refl
+same (cell.Int a) (cell.Bytes b) = refl
+same (cell.Int a) (cell.Decimal b) = refl
+same (cell.Bool a) cell.Null = refl
+same (cell.Bool a) (cell.Int b) = refl
+same (cell.Bool a) (cell.Bool b) = then_equal (bool_cmp a b)
+same (cell.Bool a) (cell.Text b) = refl
+same (cell.Bool a) (cell.Bytes b) = refl
+same (cell.Bool a) (cell.Decimal b) = refl
+same (cell.Text a) cell.Null = refl
+same (cell.Text a) (cell.Int b) = refl
+same (cell.Text a) (cell.Bool b) = refl
+same (cell.Text a) (cell.Text b) = refl
+same (cell.Text a) (cell.Bytes b) = refl
+same (cell.Text a) (cell.Decimal b) = refl
+same (cell.Bytes a) cell.Null = refl
+same (cell.Bytes a) (cell.Int b) = refl
+same (cell.Bytes a) (cell.Bool b) = refl
+same (cell.Bytes a) (cell.Text b) = refl
+same (cell.Bytes a) (cell.Bytes b) = refl
+same (cell.Bytes a) (cell.Decimal b) = refl
+same (cell.Decimal a) cell.Null = refl
+same (cell.Decimal a) (cell.Int b) = refl
+same (cell.Decimal a) (cell.Bool b) = refl
+same (cell.Decimal a) (cell.Text b) = refl
+same (cell.Decimal a) (cell.Bytes b) = refl
+same (cell.Decimal a) (cell.Decimal b) = then_equal (int_cmp a b)
+
+pub value_cmp_total : IsTotalOrder value_cmp
+value_cmp_total = subst IsTotalOrder (λ i a b. same a b i) by_parts_total
+
+pub key_cmp_total : IsTotalOrder key_cmp
+key_cmp_total = lists_total value_cmp_total
