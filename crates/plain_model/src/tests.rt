@@ -1,5 +1,5 @@
 ghost use Rattle.std.specs.Prelude.{◌≡◌, true, IfOk};
-ghost use Rattle.plain_model.specs.Sound.{is_sound_statement};
+ghost use Rattle.plain_model.specs.Sound.{is_sound_database, is_sound_statement};
 
 use crate::{Column, Create, Database, Executed, Insert, Schema, Statement};
 use script_text::Reply;
@@ -71,44 +71,77 @@ fn has_values(rows: &[Row], values: &[Value]) -> bool {
             .all(|(row, value)| row.as_slice().get(0) == Some(value))
 }
 
+/// Does a statement; of the contract only soundness is passed on, which is what the next statement asks.
+fn does(database: &mut Database, statement: Statement) -> Result<Executed, AllocError>
+    requires database { is_sound_database database.old ≡ true }
+    requires statement { is_sound_statement statement ≡ true }
+    ensures { is_sound_database database.new ≡ true }
+{
+    database.execute(statement)
+}
+
+fn create(alloc: Global, database: &mut Database, kind: SqlType) -> Result<Executed, AllocError>
+    requires { is_sound_database database.old ≡ true }
+    ensures { is_sound_database database.new ≡ true }
+{
+    does(database, create_t(alloc, kind)?)
+}
+
+fn insert(
+    alloc: Global,
+    database: &mut Database,
+    first: Value,
+    second: Value,
+) -> Result<Executed, AllocError>
+    requires { is_sound_database database.old ≡ true }
+    ensures { is_sound_database database.new ≡ true }
+{
+    let mut values = Vec::new(alloc);
+    values.push(first)?;
+    values.push(second)?;
+    does(database, insert_t(alloc, values)?)
+}
+
+fn text(alloc: Global, bytes: &[u8]) -> Result<Value, AllocError> {
+    Ok(Value::Text(Text::from_slice(alloc, bytes)?))
+}
+
 #[test]
-fn numbers_come_back_by_size(rt: HostRuntime) -> Result<(), AllocError> {
-    let alloc = rt.alloc();
-    let mut database = Database::new(alloc);
-    let done = database.execute(create_t(alloc, SqlType::BigInt)?)?;
-    assert!(rt; done.is_changed);
-    let done = database.execute(create_t(alloc, SqlType::BigInt)?)?;
-    assert!(rt; is_refused(&done, 1050));
-    let done = database.execute(insert_t(alloc, vec![in alloc; Value::Int(10), Value::Int(-9)]?)?)?;
-    assert!(rt; is_count(&done, 2));
-    let done = database.execute(insert_t(alloc, vec![in alloc; Value::Int(9), Value::Int(10)]?)?)?;
-    assert!(rt; is_refused(&done, 1062));
-    let done = database.execute(insert_t(alloc, vec![in alloc; Value::Int(9)]?)?)?;
-    assert!(rt; is_count(&done, 1));
-    let done = database.execute(select_t(alloc)?)?;
-    assert!(rt; is_rows(&done, &[Value::Int(-9), Value::Int(9), Value::Int(10)]));
+fn a_second_create_is_refused(rt: HostRuntime) -> Result<(), AllocError> {
+    let mut database = Database::new(rt.alloc());
+    let made = create(rt.alloc(), &mut database, SqlType::BigInt)?;
+    assert!(rt; made.is_changed);
+    let again = create(rt.alloc(), &mut database, SqlType::BigInt)?;
+    assert!(rt; is_refused(&again, 1050));
+    Ok(())
+}
+
+#[test]
+fn refused_rows_stay_out_and_numbers_come_by_size(rt: HostRuntime) -> Result<(), AllocError> {
+    let mut database = Database::new(rt.alloc());
+    let _made = create(rt.alloc(), &mut database, SqlType::BigInt)?;
+    let two = insert(rt.alloc(), &mut database, Value::Int(10), Value::Int(-9))?;
+    assert!(rt; is_count(&two, 2));
+    let twice = insert(rt.alloc(), &mut database, Value::Int(9), Value::Int(10))?;
+    assert!(rt; is_refused(&twice, 1062));
+    let all = does(&mut database, select_t(rt.alloc())?)?;
+    assert!(rt; is_rows(&all, &[Value::Int(-9), Value::Int(10)]));
     Ok(())
 }
 
 #[test]
 fn texts_are_measured_in_characters(rt: HostRuntime) -> Result<(), AllocError> {
-    let alloc = rt.alloc();
-    let mut database = Database::new(alloc);
-    let _done = database.execute(create_t(alloc, SqlType::Varchar(2))?)?;
-    let two = Text::from_slice(alloc, "éé".as_bytes())?;
-    let done = database.execute(insert_t(alloc, vec![in alloc; Value::Text(two)]?)?)?;
-    assert!(rt; is_count(&done, 1));
-    let three = Text::from_slice(alloc, b"abc")?;
-    let done = database.execute(insert_t(alloc, vec![in alloc; Value::Text(three)]?)?)?;
-    assert!(rt; is_refused(&done, 9013));
-    let done = database.execute(insert_t(
-        alloc,
-        vec![in alloc; Value::Text(Text::from_slice(alloc, b"z")?)]?,
-    )?)?;
-    assert!(rt; is_count(&done, 1));
-    let done = database.execute(select_t(alloc)?)?;
-    let first = Value::Text(Text::from_slice(alloc, b"z")?);
-    let second = Value::Text(Text::from_slice(alloc, "éé".as_bytes())?);
-    assert!(rt; is_rows(&done, &[first, second]));
+    let mut database = Database::new(rt.alloc());
+    let _made = create(rt.alloc(), &mut database, SqlType::Varchar(2))?;
+    let accents = text(rt.alloc(), "éé".as_bytes())?;
+    let fit = insert(rt.alloc(), &mut database, accents, text(rt.alloc(), b"z")?)?;
+    assert!(rt; is_count(&fit, 2));
+    let long = insert(
+        rt.alloc(),
+        &mut database,
+        text(rt.alloc(), b"abc")?,
+        text(rt.alloc(), b"b")?,
+    )?;
+    assert!(rt; is_refused(&long, 9013));
     Ok(())
 }
