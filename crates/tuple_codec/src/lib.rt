@@ -7,13 +7,21 @@
 mod addresses;
 mod answers;
 mod bytes;
+mod cells;
+mod forms;
+mod key_codec;
+mod numbers;
 mod records;
+mod row_codec;
 mod sequences;
+mod texts;
 mod values;
 
 pub use addresses::{Address, Digester};
 pub use answers::Answer;
 pub use bytes::Text;
+pub use key_codec::{decode_key, encode_key, keys_are_one_spelling, keys_keep_order};
 pub use records::BranchRecord;
+pub use row_codec::{decode_row, encode_row, rows_are_one_spelling};
 pub use sequences::Sequence;
 pub use values::{Blob, Row, SqlType, Value, is_text, value_fits};

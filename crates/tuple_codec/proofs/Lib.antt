@@ -1,0 +1,5 @@
+pub mod NumberLemmas
+pub mod TextLemmas
+pub mod Utf8Lemmas
+pub mod CellLemmas
+pub mod OrderLemmas
