@@ -8,15 +8,12 @@ use Rattle.std.proofs.lemmas.Bool.{eqb-true}
 use Rattle.std.proofs.lemmas.Bool.Decides.{nat_tests}
 use Rattle.std.proofs.lemmas.List.{length-append}
 use Rattle.std.proofs.Math.Seq.{take-length}
+use Rattle.std.proofs.lemmas.List.Sums.{sum_by-append}
 use Rattle.std.proofs.lemmas.Str.{IsUtf8-from_is_utf8}
 use Rattle.tuple_codec.specs.Texts.{is_utf8, is_continuation, char_count}
 
-starts : ℕ → Bool
-starts byte = not (is_continuation byte)
-
 chars_append : (a b : List ℕ) → char_count (a ++ b) ≡ char_count a + char_count b
-chars_append [] b = omega arith
-chars_append (x ∷ a) b = let ih = chars_append a b in grind arith
+chars_append a b = sum_by-append (λ byte. cond (not (is_continuation byte)) 1 0) a b
 
 few : (c : ℕ) → length (encode c) ≤ 4 * char_count (encode c)
 unfolding encode

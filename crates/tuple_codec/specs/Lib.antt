@@ -6,3 +6,4 @@ pub mod RowBytes
 pub mod Spellings
 pub mod Cells
 pub mod Fronts
+pub mod AddressTexts

@@ -4,6 +4,7 @@
 //! the clauses that tie `value_fits` and the comparisons to them.
 #![tactic(auto)]
 
+mod address_text;
 mod addresses;
 mod answers;
 mod bytes;

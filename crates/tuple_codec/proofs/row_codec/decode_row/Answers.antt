@@ -7,4 +7,4 @@ pub returns-in-Ok : goal.returns-in-Ok
 returns-in-Ok c = found form.Row c.args.types.now c.args.bytes.now c.in-Ok.row (λ i. omega (arith, c.type_inv.bytes i)) c.in-Ok.ensures
 
 pub returns-in-Err-NoRow : goal.returns-in-Err-NoRow
-returns-in-Err-NoRow c = none form.Row c.args.types.now c.args.bytes.now c.in-Err-NoRow.ensures
+returns-in-Err-NoRow c = none form.Row c.args.types.now c.args.bytes.now (rw c.in-Err-NoRow.field-0-is at c.in-Err-NoRow.ensures)
