@@ -3,3 +3,4 @@ pub mod TextLemmas
 pub mod Utf8Lemmas
 pub mod CellLemmas
 pub mod OrderLemmas
+pub mod AddressLemmas

@@ -20,6 +20,10 @@ abbrev pub address_text : List ℕ → List ℕ
 address_text (a ∷ b ∷ c ∷ d ∷ e ∷ rest) = letters 8 (forty_bits a b c d e) ++ address_text rest
 address_text rest = []
 
+-- the number of the first five of some bytes
+abbrev pub number_of_five : List ℕ → ℕ
+number_of_five bytes = forty_bits (slice_index bytes 0) (slice_index bytes 1) (slice_index bytes 2) (slice_index bytes 3) (slice_index bytes 4)
+
 -- twenty bytes
 abbrev pub IsAddress : List ℕ → Type 0
 IsAddress bytes = (length bytes ≡ 20) × ((i : ℕ) → slice_index bytes i < 256)
@@ -37,11 +41,16 @@ bits_of_letter byte = if nat_le 48 byte && nat_lt byte 58 then byte - 48 else (i
 abbrev pub of_letters : ℕ → ℕ → ℕ → ℕ → ℕ → ℕ → ℕ → ℕ → ℕ
 of_letters a b c d e f g h = ((((((a * 32 + b) * 32 + c) * 32 + d) * 32 + e) * 32 + f) * 32 + g) * 32 + h
 
+-- the number of the first eight characters of a text
+abbrev pub number_of_eight : List ℕ → ℕ
+number_of_eight text =
+    of_letters (bits_of_letter (slice_index text 0)) (bits_of_letter (slice_index text 1)) (bits_of_letter (slice_index text 2)) (bits_of_letter (slice_index text 3))
+        (bits_of_letter (slice_index text 4)) (bits_of_letter (slice_index text 5)) (bits_of_letter (slice_index text 6)) (bits_of_letter (slice_index text 7))
+
 abbrev pub five_bytes : ℕ → List ℕ
 five_bytes n = n / 256 ^ 4 % 256 ∷ n / 256 ^ 3 % 256 ∷ n / 256 ^ 2 % 256 ∷ n / 256 % 256 ∷ n % 256 ∷ []
 
 -- each eight characters as five bytes
 abbrev pub address_bytes : List ℕ → List ℕ
-address_bytes (a ∷ b ∷ c ∷ d ∷ e ∷ f ∷ g ∷ h ∷ rest) =
-    five_bytes (of_letters (bits_of_letter a) (bits_of_letter b) (bits_of_letter c) (bits_of_letter d) (bits_of_letter e) (bits_of_letter f) (bits_of_letter g) (bits_of_letter h)) ++ address_bytes rest
+address_bytes (a ∷ b ∷ c ∷ d ∷ e ∷ f ∷ g ∷ h ∷ rest) = five_bytes (number_of_eight (a ∷ b ∷ c ∷ d ∷ e ∷ f ∷ g ∷ h ∷ [])) ++ address_bytes rest
 address_bytes rest = []

@@ -1,6 +1,6 @@
 ghost use Rattle.std.specs.Prelude.{◌≡◌, ◌+◌, ◌*◌, ◌<◌, ◌^◌, length};
 ghost use Rattle.tuple_codec.specs.AddressTexts.{
-    ReadsAddress, address_bytes, address_text, bits_of_letter, five_bytes, forty_bits, letter, letters
+    ReadsAddress, address_bytes, address_text, bits_of_letter, five_bytes, letter, letters, number_of_eight, number_of_five
 };
 
 use crate::addresses::Address;
@@ -11,10 +11,10 @@ impl Address {
         ensures { result ≡ address_text self.now.0 }
     {
         let mut text = [0; 32];
-        text[..8].copy_from_slice(&eight_letters(&self.0[..5]));
-        text[8..16].copy_from_slice(&eight_letters(&self.0[5..10]));
-        text[16..24].copy_from_slice(&eight_letters(&self.0[10..15]));
-        text[24..].copy_from_slice(&eight_letters(&self.0[15..]));
+        text[..8].copy_from_slice(&eight_letters(forty_bits(&self.0[..5])));
+        text[8..16].copy_from_slice(&eight_letters(forty_bits(&self.0[5..10])));
+        text[16..24].copy_from_slice(&eight_letters(forty_bits(&self.0[10..15])));
+        text[24..32].copy_from_slice(&eight_letters(forty_bits(&self.0[15..20])));
         text
     }
 
@@ -34,14 +34,12 @@ impl Address {
     }
 }
 
-/// Five bytes as text.
-fn eight_letters(bytes: &[u8]) -> [u8; 8]
-    requires { length bytes.now ≡ 5 }
-    ensures { result ≡ address_text bytes.now }
+/// Forty bits as text.
+fn eight_letters(number: u64) -> [u8; 8]
+    ensures { result ≡ letters 8 number }
 {
-    let number = forty_bits(bytes[0], bytes[1], bytes[2], bytes[3], bytes[4]);
     [
-        letter(number >> 35),
+        letter((number >> 35) % 32),
         letter((number >> 30) % 32),
         letter((number >> 25) % 32),
         letter((number >> 20) % 32),
@@ -53,11 +51,11 @@ fn eight_letters(bytes: &[u8]) -> [u8; 8]
 }
 
 /// The number of five bytes.
-fn forty_bits(a: u8, b: u8, c: u8, d: u8, e: u8) -> u64
-    ensures value { result ≡ forty_bits a b c d e }
-    ensures bound { result < 2 ^ 40 }
+fn forty_bits(bytes: &[u8]) -> u64
+    requires { length bytes.now ≡ 5 }
+    ensures { result ≡ number_of_five bytes.now }
 {
-    u64::from_be_bytes([0, 0, 0, a, b, c, d, e])
+    u64::from_be_bytes([0, 0, 0, bytes[0], bytes[1], bytes[2], bytes[3], bytes[4]])
 }
 
 /// The character of five bits.
@@ -79,22 +77,29 @@ fn twenty_bytes(text: &[u8]) -> [u8; 20]
     ensures { result ≡ address_bytes text.now }
 {
     let mut bytes = [0; 20];
-    bytes[..5].copy_from_slice(&five_bytes(&text[..8]));
-    bytes[5..10].copy_from_slice(&five_bytes(&text[8..16]));
-    bytes[10..15].copy_from_slice(&five_bytes(&text[16..24]));
-    bytes[15..].copy_from_slice(&five_bytes(&text[24..]));
+    bytes[..5].copy_from_slice(&five_bytes(of_letters(&text[..8])));
+    bytes[5..10].copy_from_slice(&five_bytes(of_letters(&text[8..16])));
+    bytes[10..15].copy_from_slice(&five_bytes(of_letters(&text[16..24])));
+    bytes[15..20].copy_from_slice(&five_bytes(of_letters(&text[24..32])));
     bytes
 }
 
-/// The bytes that eight characters stand for.
-fn five_bytes(text: &[u8]) -> [u8; 5]
-    requires { length text.now ≡ 8 }
-    ensures { result ≡ address_bytes text.now }
+/// The last five bytes of a number.
+fn five_bytes(number: u64) -> [u8; 5]
+    ensures { result ≡ five_bytes number }
 {
-    let high = (two_letters(text[0], text[1]) * 1024) + two_letters(text[2], text[3]);
-    let low = (two_letters(text[4], text[5]) * 1024) + two_letters(text[6], text[7]);
-    let bytes = (high * 0x10_0000 + low).to_be_bytes();
+    let bytes = number.to_be_bytes();
     [bytes[3], bytes[4], bytes[5], bytes[6], bytes[7]]
+}
+
+/// The number of eight characters.
+fn of_letters(text: &[u8]) -> u64
+    requires { length text.now ≡ 8 }
+    ensures { result ≡ number_of_eight text.now }
+{
+    let high = two_letters(text[0], text[1]) * 1024 + two_letters(text[2], text[3]);
+    let low = two_letters(text[4], text[5]) * 1024 + two_letters(text[6], text[7]);
+    high * 0x10_0000 + low
 }
 
 /// The bits of two characters.
