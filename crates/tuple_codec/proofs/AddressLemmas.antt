@@ -109,7 +109,7 @@ text_of xs g h k l len eg eh ek el =
     let none : drop 20 xs ≡ [] = nil_from_length (drop 20 xs) (omega (arith, length-drop 20 xs)) in
     let last : address_text (drop 15 xs) ≡ letters 8 p = fourth ∙ ap (λ (t : List ℕ). letters 8 p ++ address_text t) none in
     let whole : address_text xs ≡ letters 8 m ++ (letters 8 n ++ (letters 8 o ++ letters 8 p)) =
-        first ∙ ap (λ (t : List ℕ). letters 8 m ++ t) (second ∙ ap (λ (t : List ℕ). letters 8 n ++ t) (third ∙ ap (λ (t : List ℕ). letters 8 o ++ t) last)) in
+    first ∙ ap (λ (t : List ℕ). letters 8 m ++ t) (second ∙ ap (λ (t : List ℕ). letters 8 n ++ t) (third ∙ ap (λ (t : List ℕ). letters 8 o ++ t) last)) in
     ap (λ (t : List ℕ). put_mid 24 8 (put_mid 16 8 (put_mid 8 8 (t ++ 0 ∷ 0 ∷ 0 ∷ 0 ∷ 0 ∷ 0 ∷ 0 ∷ 0 ∷ 0 ∷ zeros) h) k) l) eg
     ∙ ap (λ (t : List ℕ). put_mid 24 8 (put_mid 16 8 (put_mid 8 8 (letters 8 m ++ 0 ∷ 0 ∷ 0 ∷ 0 ∷ 0 ∷ 0 ∷ 0 ∷ 0 ∷ 0 ∷ zeros) t) k) l) eh
     ∙ ap (λ (t : List ℕ). put_mid 24 8 (put_mid 16 8 (put_mid 8 8 (letters 8 m ++ 0 ∷ 0 ∷ 0 ∷ 0 ∷ 0 ∷ 0 ∷ 0 ∷ 0 ∷ 0 ∷ zeros) (letters 8 n)) t) l) ek
@@ -130,7 +130,7 @@ bytes_of xs g h k l len eg eh ek el =
     let none : drop 32 xs ≡ [] = nil_from_length (drop 32 xs) (omega (arith, length-drop 32 xs)) in
     let last : address_bytes (drop 24 xs) ≡ five_bytes p = fourth ∙ ap (λ (t : List ℕ). five_bytes p ++ address_bytes t) none in
     let whole : address_bytes xs ≡ five_bytes m ++ (five_bytes n ++ (five_bytes o ++ five_bytes p)) =
-        first ∙ ap (λ (t : List ℕ). five_bytes m ++ t) (second ∙ ap (λ (t : List ℕ). five_bytes n ++ t) (third ∙ ap (λ (t : List ℕ). five_bytes o ++ t) last)) in
+    first ∙ ap (λ (t : List ℕ). five_bytes m ++ t) (second ∙ ap (λ (t : List ℕ). five_bytes n ++ t) (third ∙ ap (λ (t : List ℕ). five_bytes o ++ t) last)) in
     ap (λ (t : List ℕ). put_mid 15 5 (put_mid 10 5 (put_mid 5 5 (t ++ zeros) h) k) l) eg
     ∙ ap (λ (t : List ℕ). put_mid 15 5 (put_mid 10 5 (put_mid 5 5 (five_bytes m ++ zeros) t) k) l) eh
     ∙ ap (λ (t : List ℕ). put_mid 15 5 (put_mid 10 5 (put_mid 5 5 (five_bytes m ++ zeros) (five_bytes n)) t) l) ek

@@ -187,10 +187,10 @@ decimal_found f digits scale n rest fit =
     elim (cases_Bool (fits_bits 63 n)) [
       | inl wide ↦ (cell.Decimal n, cell_again f (kind.Decimal digits scale) (cell.Decimal n) rest wide fit)
       | inr far ↦
-        let k = number_of f (from_be_bytes w64 (to_be_bytes w64 (bits_of f n))) in
-        let small : unsigned_abs k < 10 ^ digits = read_within f n (10 ^ digits) far (ltb-true _ _ fit) in
-        let read : value_front f (kind.Decimal digits scale) (to_be_bytes w64 (bits_of f n) ++ rest) ≡ Some (cell.Decimal k, rest) = ap (made (λ j. cell.Decimal j)) (number_read f (bits_of f n) rest) in
-        (cell.Decimal k, ap (λ (t : List ℕ). cell_front f (kind.Decimal digits scale) (t ++ rest)) (decimal_bytes f n) ∙ fitting_is (kind.Decimal digits scale) (value_front f (kind.Decimal digits scale) (to_be_bytes w64 (bits_of f n) ++ rest)) (cell.Decimal k) rest read (lt-ltb _ _ small))
+          let k = number_of f (from_be_bytes w64 (to_be_bytes w64 (bits_of f n))) in
+          let small : unsigned_abs k < 10 ^ digits = read_within f n (10 ^ digits) far (ltb-true _ _ fit) in
+          let read : value_front f (kind.Decimal digits scale) (to_be_bytes w64 (bits_of f n) ++ rest) ≡ Some (cell.Decimal k, rest) = ap (made (λ j. cell.Decimal j)) (number_read f (bits_of f n) rest) in
+          (cell.Decimal k, ap (λ (t : List ℕ). cell_front f (kind.Decimal digits scale) (t ++ rest)) (decimal_bytes f n) ∙ fitting_is (kind.Decimal digits scale) (value_front f (kind.Decimal digits scale) (to_be_bytes w64 (bits_of f n) ++ rest)) (cell.Decimal k) rest read (lt-ltb _ _ small))
     ]
 
 cell_found : (f : Form) (type : SqlType) (v : Value) (rest : List ℕ) → fits type v ≡ true → (w : Value) × (cell_front f type (cell_bytes f v ++ rest) ≡ Some (w, rest))

@@ -112,7 +112,7 @@ large (pos n) e = ltb-false _ _ e
 large (negsuc n) e = omega (arith, ltb-false n (2 ^ 63) e)
 
 pub read_within : (form : Form) (n : ℤ) (limit : ℕ) → fits_bits 63 n ≡ false → unsigned_abs n < limit → unsigned_abs (number_of form (from_be_bytes w64 (to_be_bytes w64 (bits_of form n)))) < limit
-read_within form n limit wide_ lt = 
+read_within form n limit wide_ lt =
     let small = read_small form (from_be_bytes w64 (to_be_bytes w64 (bits_of form n))) (byte_bits (bits_of form n)) in
     let big = large n wide_ in
     omega (arith, small, big, lt)

@@ -45,7 +45,7 @@ of_letters a b c d e f g h = ((((((a * 32 + b) * 32 + c) * 32 + d) * 32 + e) * 3
 abbrev pub number_of_eight : List ℕ → ℕ
 number_of_eight text =
     of_letters (bits_of_letter (slice_index text 0)) (bits_of_letter (slice_index text 1)) (bits_of_letter (slice_index text 2)) (bits_of_letter (slice_index text 3))
-        (bits_of_letter (slice_index text 4)) (bits_of_letter (slice_index text 5)) (bits_of_letter (slice_index text 6)) (bits_of_letter (slice_index text 7))
+    (bits_of_letter (slice_index text 4)) (bits_of_letter (slice_index text 5)) (bits_of_letter (slice_index text 6)) (bits_of_letter (slice_index text 7))
 
 abbrev pub five_bytes : ℕ → List ℕ
 five_bytes n = n / 256 ^ 4 % 256 ∷ n / 256 ^ 3 % 256 ∷ n / 256 ^ 2 % 256 ∷ n / 256 % 256 ∷ n % 256 ∷ []

@@ -1,6 +1,14 @@
 ghost use Rattle.std.specs.Prelude.{◌≡◌, ◌+◌, ◌*◌, ◌<◌, ◌^◌, length};
 ghost use Rattle.tuple_codec.specs.AddressTexts.{
-    ReadsAddress, address_bytes, address_text, bits_of_letter, five_bytes, letter, letters, number_of_eight, number_of_five
+  ReadsAddress,
+  address_bytes,
+  address_text,
+  bits_of_letter,
+  five_bytes,
+  letter,
+  letters,
+  number_of_eight,
+  number_of_five,
 };
 
 use crate::addresses::Address;

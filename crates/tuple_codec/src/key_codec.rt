@@ -19,11 +19,7 @@ pub fn encode_key(alloc: Global, types: &[SqlType], row: &Row) -> Result<Blob, A
 }
 
 /// The key that has these bytes, or None where no row of these types has them.
-pub fn decode_key(
-    alloc: Global,
-    types: &[SqlType],
-    bytes: &[u8],
-) -> Result<Option<Row>, AllocError>
+pub fn decode_key(alloc: Global, types: &[SqlType], bytes: &[u8]) -> Result<Option<Row>, AllocError>
     ensures { IfOk result (λ row. Decodes key_bytes types.now bytes.now row) }
 {
     match decode(alloc, Form::Key, types, bytes) {
@@ -37,11 +33,9 @@ pub fn decode_key(
 pub fn keys_keep_order()
     ensures whole { KeepsOrder }
     ensures before { KeepsOrderBefore }
-{
-}
+{}
 
 /// Two keys of the same types with the same bytes are one, so decoding inverts encoding.
 pub fn keys_are_one_spelling()
     ensures { IsOneSpelling key_bytes }
-{
-}
+{}

@@ -1,7 +1,8 @@
 //! Rows and what they are made of: types, values, texts, addresses, and the records that name them.
 //!
-//! The crates above use the definitions of `specs/` (which value fits a type, how cells and keys are ordered) and
-//! the clauses that tie `value_fits` and the comparisons to them.
+//! The crates above use the definitions of `specs/` (which value fits a type, how cells and keys are ordered, which
+//! bytes a key, a row and an address have), the clauses that tie the calls to them, and the laws that key bytes keep
+//! the order of keys and that bytes are one row's alone.
 #![tactic(auto)]
 
 mod address_text;
@@ -15,6 +16,8 @@ mod numbers;
 mod records;
 mod row_codec;
 mod sequences;
+#[cfg(test)]
+mod tests;
 mod texts;
 mod values;
 

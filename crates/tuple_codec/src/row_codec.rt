@@ -19,11 +19,7 @@ pub fn encode_row(alloc: Global, types: &[SqlType], row: &Row) -> Result<Blob, A
 }
 
 /// The row that has these bytes, or None where no row of these types has them.
-pub fn decode_row(
-    alloc: Global,
-    types: &[SqlType],
-    bytes: &[u8],
-) -> Result<Option<Row>, AllocError>
+pub fn decode_row(alloc: Global, types: &[SqlType], bytes: &[u8]) -> Result<Option<Row>, AllocError>
     ensures { IfOk result (λ row. Decodes row_bytes types.now bytes.now row) }
 {
     match decode(alloc, Form::Row, types, bytes) {
@@ -36,5 +32,4 @@ pub fn decode_row(
 /// Two rows of the same types with the same bytes are one, so decoding inverts encoding.
 pub fn rows_are_one_spelling()
     ensures { IsOneSpelling row_bytes }
-{
-}
+{}
