@@ -1,18 +1,16 @@
 -- What is read from the front of bytes is what has them, cell by cell and row by row.
-use Rattle.std.proofs.Common.{◌≡◌, ℕ, zero, suc, ◌+◌, ◌^◌, ◌<◌, ◌≤◌, ℤ, pos, negsuc, Bool, true, false, cond, eqb, ltb, leb, List, [], ◌∷◌, ◌++◌, length, Option, Some, None, refl, sym, ap, subst, ◌∙◌, append_assoc, arith, inl, inr}
+use Rattle.std.proofs.Common.{◌≡◌, ℕ, zero, suc, ◌^◌, ◌<◌, ◌≤◌, ℤ, pos, negsuc, Bool, true, false, cond, eqb, leb, List, [], ◌∷◌, ◌++◌, length, Option, Some, None, refl, sym, ap, subst, ◌∙◌, append_assoc, arith, inl, inr}
 use Rattle.std.specs.Prelude.{◌&&◌, unsigned_abs}
 use Rattle.std.specs.Option.{option_map, option_and_then}
-use Rattle.std.specs.List.{flat_map}
 use Rattle.std.specs.Int.{w64, from_be_bytes, to_be_bytes}
-use Rattle.std.proofs.lemmas.Bool.{ltb-true, lt-ltb, leb-true, and_parts, and_from, cases_Bool, eqb-true, eq-eqb}
+use Rattle.std.proofs.lemmas.Bool.{ltb-true, lt-ltb, leb-true, and_parts, and_from, cases_Bool, eqb-true}
 use Rattle.std.proofs.lemmas.List.{append-nil, nil_from_length}
 use Rattle.std.proofs.Math.Nat.{pow-le-pow_right}
 use Rattle.tuple_codec.specs.Rows.{Cells, fits, fits_all, fits_bits}
 use Rattle.tuple_codec.specs.Limits.{is_type, are_types}
-use Rattle.tuple_codec.specs.KeyBytes.{bit, turned, escaped, key_cell}
-use Rattle.tuple_codec.specs.RowBytes.{counted, row_cell}
+use Rattle.tuple_codec.specs.KeyBytes.{bit}
 use Rattle.tuple_codec.specs.Cells.{bits_of, text_bytes, cell_bytes, spelling}
-use Rattle.tuple_codec.specs.Fronts.{number_of, number_front, bool_front, unescaped, uncounted, text_front, made, value_front, fitting, cell_front, cells_front, whole}
+use Rattle.tuple_codec.specs.Fronts.{number_of, number_front, bool_front, text_front, made, value_front, fitting, cell_front, cells_front, whole}
 use Rattle.tuple_codec.specs.declared.values.SqlType.{SqlType}
 use Rattle.tuple_codec.specs.declared.values.SqlType.TheVariants as kind
 use Rattle.tuple_codec.specs.declared.values.Value.{Value}

@@ -1,9 +1,9 @@
 -- Key bytes are ordered as keys are, and what fits can be written.
-use Rattle.std.proofs.Common.{◌≡◌, ℕ, ◌+◌, ◌*◌, ◌<◌, ◌≤◌, Bool, true, false, leb, List, [], ◌∷◌, ◌++◌, length, refl, sym, ap, ◌∙◌, append_assoc, arith}
-use Rattle.std.specs.Prelude.{◌&&◌, ℤ}
+use Rattle.std.proofs.Common.{◌≡◌, ℕ, ◌≤◌, true, false, leb, List, [], ◌∷◌, ◌++◌, length, refl, sym, ap, ◌∙◌, append_assoc, arith}
+use Rattle.std.specs.Prelude.{ℤ}
 use Rattle.std.specs.List.{list_all}
 use Rattle.std.specs.Int.{w64, to_be_bytes}
-use Rattle.std.specs.Ordering.{nat_cmp, int_cmp, bool_cmp, ordering_then}
+use Rattle.std.specs.Ordering.{nat_cmp, int_cmp, ordering_then}
 use Rattle.std.specs.declared.cmp.Ordering.{Ordering}
 use Rattle.std.specs.declared.cmp.Ordering.TheVariants.{Less, Equal, Greater}
 use Rattle.std.specs.Cmp.Lexicographic.{slice_cmp}
@@ -12,8 +12,8 @@ use Rattle.std.proofs.lemmas.List.{append-nil}
 use Rattle.tuple_codec.specs.Texts.{is_utf8, char_count}
 use Rattle.tuple_codec.specs.Rows.{Cells, fits, fits_all, fits_bits, value_cmp, key_cmp}
 use Rattle.tuple_codec.specs.Limits.{is_type, are_types}
-use Rattle.tuple_codec.specs.KeyBytes.{turned, escaped, key_cell, key_bytes}
-use Rattle.tuple_codec.specs.Cells.{bits_of, is_spelled}
+use Rattle.tuple_codec.specs.KeyBytes.{turned, key_cell, key_bytes}
+use Rattle.tuple_codec.specs.Cells.{is_spelled}
 use Rattle.tuple_codec.specs.declared.values.SqlType.{SqlType}
 use Rattle.tuple_codec.specs.declared.values.SqlType.TheVariants as kind
 use Rattle.tuple_codec.specs.declared.values.Value.{Value}

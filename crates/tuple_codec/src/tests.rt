@@ -1,3 +1,6 @@
+ghost use Rattle.std.specs.Prelude.{◌≡◌, ◌∷◌, [], true, IfOk};
+ghost use Rattle.tuple_codec.specs.Limits.{are_types};
+
 use super::*;
 use std::alloc::{AllocError, Global};
 use std::cmp::Ordering;
@@ -7,42 +10,47 @@ fn text(alloc: Global, bytes: &[u8]) -> Result<Value, AllocError> {
     Ok(Value::Text(Text::from_slice(alloc, bytes)?))
 }
 
-fn row_of(alloc: Global, value: Value) -> Result<Row, AllocError> {
+fn row_of(alloc: Global, value: Value) -> Result<Row, AllocError>
+    ensures { IfOk result (λ row. row ≡ value ∷ []) }
+{
     let mut row = Row::new(alloc);
     row.push(value)?;
     Ok(row)
 }
 
+/// Whether the key of one value has these bytes and is read from them.
+fn has_key(alloc: Global, kind: SqlType, value: Value, bytes: &[u8]) -> Result<bool, AllocError>
+    requires { are_types (kind ∷ []) ≡ true }
+{
+    if !value_fits(&kind, &value) {
+        return Ok(false);
+    }
+    let row = row_of(alloc, value)?;
+    let key = encode_key(alloc, &[kind], &row)?;
+    let read = decode_key(alloc, &[kind], bytes)?;
+    Ok(key.as_slice() == bytes && read == Some(row))
+}
+
 #[test]
 fn keys_are_spelled_and_read(rt: HostRuntime) -> Result<(), Fail> {
     let alloc = rt.alloc();
-    let cells: [(SqlType, Value, &[u8]); 6] = [
-        (
-            SqlType::BigInt,
-            Value::Int(1),
-            &[1, 0x80, 0, 0, 0, 0, 0, 0, 1],
-        ),
-        (
-            SqlType::BigInt,
-            Value::Int(-1),
-            &[1, 0x7f, 0xff, 0xff, 0xff, 0xff, 0xff, 0xff, 0xff],
-        ),
-        (SqlType::Bool, Value::Bool(true), &[1, 1]),
-        (SqlType::BigInt, Value::Null, &[0]),
-        (SqlType::Varchar(5), text(alloc, b"a")?, &[1, 0x61, 0, 0]),
-        (
+    let one = [1, 0x80, 0, 0, 0, 0, 0, 0, 1];
+    assert!(rt; has_key(alloc, SqlType::BigInt, Value::Int(1), &one)?);
+    let minus_one = [1, 0x7f, 0xff, 0xff, 0xff, 0xff, 0xff, 0xff, 0xff];
+    assert!(rt; has_key(alloc, SqlType::BigInt, Value::Int(-1), &minus_one)?);
+    assert!(rt; has_key(alloc, SqlType::BigInt, Value::Null, &[0])?);
+    assert!(rt; has_key(alloc, SqlType::Bool, Value::Bool(true), &[1, 1])?);
+    let letter = text(alloc, b"a")?;
+    assert!(rt; has_key(alloc, SqlType::Varchar(5), letter, &[1, 0x61, 0, 0])?);
+    let zero = text(alloc, b"a\0b")?;
+    assert!(rt;
+        has_key(
+            alloc,
             SqlType::Varchar(5),
-            text(alloc, b"a\0b")?,
-            &[1, 0x61, 0, 0xff, 0x62, 0, 0],
-        ),
-    ];
-    for (kind, value, bytes) in cells {
-        let row = row_of(alloc, value)?;
-        let key = encode_key(alloc, &[kind], &row)?;
-        assert!(rt; key.as_slice() == bytes);
-        let read = decode_key(alloc, &[kind], bytes)?;
-        assert!(rt; read == Some(row));
-    }
+            zero,
+            &[1, 0x61, 0, 0xff, 0x62, 0, 0]
+        )?
+    );
     Ok(())
 }
 
@@ -62,17 +70,25 @@ fn other_bytes_are_no_key(rt: HostRuntime) -> Result<(), Fail> {
     Ok(())
 }
 
+/// The bytes of a row of a text and NULL, if the text fits, where the row is read from them again.
+fn row_with_null(alloc: Global, value: Value) -> Result<Option<Blob>, AllocError> {
+    let types = [SqlType::Varchar(5), SqlType::BigInt];
+    if !value_fits(&SqlType::Varchar(5), &value) {
+        return Ok(None);
+    }
+    let mut row = row_of(alloc, value)?;
+    row.push(Value::Null)?;
+    let bytes = encode_row(alloc, &types, &row)?;
+    let read = decode_row(alloc, &types, bytes.as_slice())?;
+    Ok(if read == Some(row) { Some(bytes) } else { None })
+}
+
 #[test]
 fn rows_are_spelled_and_read(rt: HostRuntime) -> Result<(), Fail> {
     let alloc = rt.alloc();
-    let types = [SqlType::Varchar(5), SqlType::BigInt];
-    let mut row = row_of(alloc, text(alloc, b"a")?)?;
-    row.push(Value::Null)?;
-    let bytes = encode_row(alloc, &types, &row)?;
-    assert!(rt; bytes.as_slice() == &[1, 0, 1, 0x61, 0][..]);
-    let read = decode_row(alloc, &types, bytes.as_slice())?;
-    assert!(rt; read == Some(row));
-    let short = decode_row(alloc, &types[..1], &[1, 0, 2, 0x61])?;
+    let bytes = row_with_null(alloc, text(alloc, b"a")?)?;
+    assert!(rt; bytes.is_some_and(|bytes| bytes.as_slice() == &[1, 0, 1, 0x61, 0][..]));
+    let short = decode_row(alloc, &[SqlType::Varchar(5)], &[1, 0, 2, 0x61])?;
     assert!(rt; short.is_none());
     Ok(())
 }

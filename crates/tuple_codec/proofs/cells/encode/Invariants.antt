@@ -1,4 +1,4 @@
-use Rattle.std.proofs.Common.{◌≡◌, ◌++◌, take}
+use Rattle.std.proofs.Common.{◌≡◌, take}
 use Rattle.tuple_codec.specs.Cells.{spelling}
 use Rattle.tuple_codec.proofs.cells.encode.Given as goal
 
