@@ -1,0 +1,45 @@
+-- A text of few characters has few bytes.
+use Rattle.std.proofs.Common.{◌≡◌, ℕ, zero, suc, ◌+◌, ◌*◌, ◌≤◌, Bool, true, false, cond, List, [], ◌∷◌, ◌++◌, length, take, refl, subst, arith}
+use Rattle.std.specs.Prelude.{not}
+use Rattle.std.specs.Str.{is_utf8 as is_text}
+use Rattle.std.specs.Str.Lossy.{utf8_valid_len, valid_len_up_to}
+use Rattle.std.proofs.Math.Utf8.{encode, encodes}
+use Rattle.std.proofs.lemmas.Bool.{eqb-true}
+use Rattle.std.proofs.lemmas.Bool.Decides.{nat_tests}
+use Rattle.std.proofs.lemmas.List.{length-append}
+use Rattle.std.proofs.Math.Seq.{take-length}
+use Rattle.std.proofs.lemmas.List.Sums.{sum_by-append}
+use Rattle.std.proofs.lemmas.Str.{IsUtf8-from_is_utf8}
+use Rattle.tuple_codec.specs.Texts.{is_utf8, is_continuation, char_count}
+
+chars_append : (a b : List ℕ) → char_count (a ++ b) ≡ char_count a + char_count b
+chars_append a b = sum_by-append (λ byte. cond (not (is_continuation byte)) 1 0) a b
+
+few : (c : ℕ) → length (encode c) ≤ 4 * char_count (encode c)
+unfolding encode
+few c = grind (arith, nat_tests)
+
+all_few : (cs : List ℕ) → length (encodes cs) ≤ 4 * char_count (encodes cs)
+all_few [] = omega arith
+all_few (c ∷ cs) = omega (arith, few c, all_few cs, length-append (encode c) (encodes cs), chars_append (encode c) (encodes cs))
+
+up_to : (bs : List ℕ) (n : ℕ) → valid_len_up_to bs n ≤ n
+up_to bs zero = omega arith
+up_to bs (suc n) = let ih = up_to bs n in grind arith
+
+whole : (c : Bool) (n m : ℕ) → m ≤ n → cond c (suc n) m ≡ suc n → c ≡ true
+whole true n m h e = refl
+whole false n m h e = absurd (omega arith)
+
+valid_front : (bs : List ℕ) (n : ℕ) → valid_len_up_to bs (suc n) ≡ suc n → is_text (take (suc n) bs) ≡ true
+valid_front bs n e = whole (is_text (take (suc n) bs)) n (valid_len_up_to bs n) (up_to bs n) e
+
+pub few_bytes : (bs : List ℕ) → is_utf8 bs ≡ true → length bs ≤ 4 * char_count bs
+unfolding utf8_valid_len
+few_bytes [] e = omega arith
+few_bytes (b ∷ bs) e =
+    let n = length bs in
+    let valid : valid_len_up_to (b ∷ bs) (suc n) ≡ suc n = eqb-true _ _ e in
+    let text : is_text (b ∷ bs) ≡ true = subst (λ (t : List ℕ). is_text t ≡ true) (take-length (b ∷ bs)) (valid_front (b ∷ bs) n valid) in
+    let u = IsUtf8-from_is_utf8 (b ∷ bs) text in
+    subst (λ (t : List ℕ). length t ≤ 4 * char_count t) u.1.1 (all_few u.0)

@@ -1,0 +1,35 @@
+ghost use Rattle.std.specs.Prelude.{◌≡◌, true, IfOk};
+ghost use Rattle.tuple_codec.specs.Rows.{fits_all};
+ghost use Rattle.tuple_codec.specs.Limits.{are_types};
+ghost use Rattle.tuple_codec.specs.RowBytes.{row_bytes};
+ghost use Rattle.tuple_codec.specs.Spellings.{Decodes, IsOneSpelling};
+
+use crate::cells::{decode, encode};
+use crate::forms::{Form, Unread};
+use crate::values::{Blob, Row, SqlType};
+use std::alloc::{AllocError, Global};
+
+/// The bytes of a row's cells that aren't in its key.
+pub fn encode_row(alloc: Global, types: &[SqlType], row: &Row) -> Result<Blob, AllocError>
+    requires types { are_types types.now ≡ true }
+    requires fit { fits_all types.now row.now ≡ true }
+    ensures { IfOk result (λ blob. blob ≡ row_bytes row.now) }
+{
+    encode(alloc, Form::Row, row)
+}
+
+/// The row that has these bytes, or None where no row of these types has them.
+pub fn decode_row(alloc: Global, types: &[SqlType], bytes: &[u8]) -> Result<Option<Row>, AllocError>
+    ensures { IfOk result (λ row. Decodes row_bytes types.now bytes.now row) }
+{
+    match decode(alloc, Form::Row, types, bytes) {
+        Ok(row) => Ok(Some(row)),
+        Err(Unread::NoRow) => Ok(None),
+        Err(Unread::Memory) => Err(AllocError),
+    }
+}
+
+/// Two rows of the same types with the same bytes are one, so decoding inverts encoding.
+pub fn rows_are_one_spelling()
+    ensures { IsOneSpelling row_bytes }
+{}
