@@ -89,11 +89,11 @@ step_here : (answers : Shortages) (moment : Moment) (shared : Shared) (runners :
 step_here answers moment shared runners session replies text todo after h1 h2 h3 =
     let test : (session.statement == moment.statement) ≡ true = grind (arith, nat_tests) in
     ap (option_and_then (λ runner. option_map (put_runner moment.session runners)
-        (step_of (answers moment.session) moment.statement shared runner.session runner.replies runner.todo))) h1
+    (step_of (answers moment.session) moment.statement shared runner.session runner.replies runner.todo))) h1
     ∙ ap (λ b. option_map (put_runner moment.session runners)
-        (if b then option_map (λ after. (after.0, went_on (answers moment.session) session text todo replies after.1)) (moment_at (answers moment.session session.statement) shared session text) else None)) test
+    (if b then option_map (λ after. (after.0, went_on (answers moment.session) session text todo replies after.1)) (moment_at (answers moment.session session.statement) shared session text) else None)) test
     ∙ ap (λ found. option_map (put_runner moment.session runners)
-        (option_map (λ after. (after.0, went_on (answers moment.session) session text todo replies after.1)) found)) h3
+    (option_map (λ after. (after.0, went_on (answers moment.session) session text todo replies after.1)) found)) h3
 
 pub first_runners : (answers : Shortages) (lines : List Line) (place : ℕ) (names : List (List ℕ))
     → runners_of answers lines place names ≡ resting answers lines place (map (λ (name : List ℕ). []) names)
@@ -127,12 +127,12 @@ behind answers line lines replies reply =
 -- the sessions behind a line
 put_behind : (answers : Shortages) (line : Line) (lines : List Line) (spoken : List (List Reply)) (replies : List Reply) (reply : Reply) → slice_get spoken line.session ≡ Some replies
     → slice_set (resting answers (line ∷ lines) 0 spoken) line.session
-        (advance (answers line.session) (statements_of line.session lines) (replies ++ reply ∷ []) (session_after (length replies + 1)))
+    (advance (answers line.session) (statements_of line.session lines) (replies ++ reply ∷ []) (session_after (length replies + 1)))
     ≡ resting answers lines 0 (more_replies spoken line replies reply)
 put_behind answers line lines spoken replies reply h =
     let zeroth : line.session ≡ 0 + line.session = omega arith in
     ap (λ runner. slice_set (resting answers (line ∷ lines) 0 spoken) line.session runner)
-        (behind answers line lines replies reply ∙ ap (λ n. runner_of answers lines n (replies ++ reply ∷ [])) zeroth)
+    (behind answers line lines replies reply ∙ ap (λ n. runner_of answers lines n (replies ++ reply ∷ [])) zeroth)
     ∙ moved answers line lines 0 line.session spoken replies (replies ++ reply ∷ []) h zeroth
 
 -- a line without a moment
@@ -141,14 +141,14 @@ pub by_itself : (answers : Shortages) (line : Line) (lines : List Line) (databas
     → state_before answers (line ∷ lines) database spoken ≡ state_before answers lines database (more_replies spoken line replies reply)
 by_itself answers line lines database spoken replies reply h said =
     let went : advance (answers line.session) (line.statement ∷ statements_of line.session lines) replies (session_after (length replies))
-        ≡ advance (answers line.session) (statements_of line.session lines) (replies ++ reply ∷ []) (session_after (length replies + 1))
-        = ap (λ found. option_map_or (λ said. advance (answers line.session) (statements_of line.session lines) (replies ++ said.1 ∷ []) said.0)
-            found (record { session = session_after (length replies); replies = replies; todo = line.statement ∷ statements_of line.session lines })) said in
+    ≡ advance (answers line.session) (statements_of line.session lines) (replies ++ reply ∷ []) (session_after (length replies + 1))
+    = ap (λ found. option_map_or (λ said. advance (answers line.session) (statements_of line.session lines) (replies ++ said.1 ∷ []) said.0)
+    found (record { session = session_after (length replies); replies = replies; todo = line.statement ∷ statements_of line.session lines })) said in
     let there : slice_get (resting answers (line ∷ lines) 0 spoken) line.session
-        ≡ Some (advance (answers line.session) (statements_of line.session lines) (replies ++ reply ∷ []) (session_after (length replies + 1)))
-        = at_line answers line lines spoken replies h ∙ ap (λ runner. Some runner) went in
+    ≡ Some (advance (answers line.session) (statements_of line.session lines) (replies ++ reply ∷ []) (session_after (length replies + 1)))
+    = at_line answers line lines spoken replies h ∙ ap (λ runner. Some runner) went in
     ap (λ runners. record { shared = record { working = database }; runners = runners })
-        (sym (put_same _ line.session _ there) ∙ put_behind answers line lines spoken replies reply h)
+    (sym (put_same _ line.session _ there) ∙ put_behind answers line lines spoken replies reply h)
 
 -- a line that waits for a moment
 waits : (answers : Shortages) (line : Line) (lines : List Line) (spoken : List (List Reply)) (replies : List Reply) → slice_get spoken line.session ≡ Some replies
@@ -158,7 +158,7 @@ waits : (answers : Shortages) (line : Line) (lines : List Line) (spoken : List (
 waits answers line lines spoken replies h said =
     at_line answers line lines spoken replies h
     ∙ ap (λ found. Some (option_map_or (λ said. advance (answers line.session) (statements_of line.session lines) (replies ++ said.1 ∷ []) said.0)
-        found (record { session = session_after (length replies); replies = replies; todo = line.statement ∷ statements_of line.session lines }))) said
+    found (record { session = session_after (length replies); replies = replies; todo = line.statement ∷ statements_of line.session lines }))) said
 
 -- a line with one moment
 pub by_moment : (answers : Shortages) (line : Line) (lines : List Line) (database next : Tables) (spoken : List (List Reply)) (replies : List Reply) (reply : Reply) → slice_get spoken line.session ≡ Some replies
@@ -169,7 +169,7 @@ pub by_moment : (answers : Shortages) (line : Line) (lines : List Line) (databas
     ≡ Some (state_before answers lines next (more_replies spoken line replies reply))
 by_moment answers line lines database next spoken replies reply h waiting went =
     step_here answers (here line replies) (record { working = database }) (resting answers (line ∷ lines) 0 spoken) (session_after (length replies)) replies line.statement
-        (statements_of line.session lines) (record { working = next }, Past (session_after (length replies + 1), reply)) (waits answers line lines spoken replies h waiting) refl went
+    (statements_of line.session lines) (record { working = next }, Past (session_after (length replies + 1), reply)) (waits answers line lines spoken replies h waiting) refl went
     ∙ ap (λ runners. Some (record { shared = record { working = next }; runners = runners })) (put_behind answers line lines spoken replies reply h)
 
 -- a line with a start and a decision
@@ -186,14 +186,14 @@ by_moments answers line lines database next spoken replies reply transaction pla
     let runners : List Runner = resting answers (line ∷ lines) 0 spoken in
     let pending : Runner = record { session = awaiting (session_after (length replies)) transaction place; replies = replies; todo = line.statement ∷ statements_of line.session lines } in
     let first : step answers (here line replies) (state_before answers (line ∷ lines) database spoken)
-        ≡ Some (record { shared = record { working = database }; runners = slice_set runners line.session pending })
-        = step_here answers (here line replies) (record { working = database }) runners (session_after (length replies)) replies line.statement
-            (statements_of line.session lines) (record { working = database }, Still transaction place) (waits answers line lines spoken replies h waiting) refl started in
+    ≡ Some (record { shared = record { working = database }; runners = slice_set runners line.session pending })
+    = step_here answers (here line replies) (record { working = database }) runners (session_after (length replies)) replies line.statement
+    (statements_of line.session lines) (record { working = database }, Still transaction place) (waits answers line lines spoken replies h waiting) refl started in
     let there : slice_get (slice_set runners line.session pending) line.session ≡ Some pending
-        = put_there runners line.session _ pending (waits answers line lines spoken replies h waiting) in
+    = put_there runners line.session _ pending (waits answers line lines spoken replies h waiting) in
     ap (option_and_then (step answers (here line replies))) first
     ∙ step_here answers (here line replies) (record { working = database }) (slice_set runners line.session pending) (awaiting (session_after (length replies)) transaction place) replies line.statement
-        (statements_of line.session lines) (record { working = next }, Past (session_after (length replies + 1), reply)) there refl decided
+    (statements_of line.session lines) (record { working = next }, Past (session_after (length replies + 1), reply)) there refl decided
     ∙ ap (λ runners. Some (record { shared = record { working = next }; runners = runners }))
-        (set-set runners line.session pending (advance (answers line.session) (statements_of line.session lines) (replies ++ reply ∷ []) (session_after (length replies + 1)))
-        ∙ put_behind answers line lines spoken replies reply h)
+    (set-set runners line.session pending (advance (answers line.session) (statements_of line.session lines) (replies ++ reply ∷ []) (session_after (length replies + 1)))
+    ∙ put_behind answers line lines spoken replies reply h)

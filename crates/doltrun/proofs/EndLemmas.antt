@@ -1,9 +1,9 @@
 -- A run from its opening to its end, line by line.
-use Rattle.std.proofs.Common.{◌≡◌, ◌≢◌, refl, sym, ◌∙◌, ap, subst, ℕ, ℤ, zero, suc, ◌+◌, ◌-◌, ◌<◌, ◌≤◌, ◌^◌, Bool, true, false, ◌==◌, ◌&&◌, nat_lt, nat_le, List, [], ◌∷◌, ◌++◌, length, map, take, drop, replicate, Option, Some, None, slice_get, slice_set, arith, if◌then◌else◌}
+use Rattle.std.proofs.Common.{◌≡◌, ◌≢◌, refl, sym, ◌∙◌, ap, subst, ℕ, ℤ, zero, suc, ◌+◌, ◌-◌, ◌*◌, ◌<◌, ◌≤◌, ◌^◌, Bool, true, false, ◌==◌, ◌&&◌, nat_lt, nat_le, List, [], ◌∷◌, ◌++◌, length, map, take, drop, replicate, Option, Some, None, slice_get, slice_set, arith, if◌then◌else◌}
 use Rattle.std.specs.Option.{option_map, option_and_then}
 use Rattle.std.specs.List.{list_all}
 use Rattle.std.specs.Prelude.{slice_index_or}
-use Rattle.std.proofs.lemmas.List.{append-nil, drop_all, length-set, length_push, length-map, length-take}
+use Rattle.std.proofs.lemmas.List.{append-nil, drop_all, length-set, length_push, length-map, length-take, length-append, length-replicate}
 use Rattle.std.proofs.lemmas.Option.{get_or_from_slice_get, slice_get_within}
 use Rattle.std.proofs.lemmas.Bool.Decides.{nat_tests}
 use Rattle.script_text.specs.Output.{shortage, shortages_in}
@@ -42,26 +42,27 @@ run_first script = record {
   behind = refl;
   within = refl;
   sound = unsaid_sound script.names;
+  short = omega arith;
 }
 
 statements_fit : (place : ℕ) (lines : List Line) → length (statements_of place lines) ≤ length lines
 statements_fit place [] = omega arith
 statements_fit place (line ∷ lines) =
     elim (line.session == place) as (λ test. length (if test then line.statement ∷ statements_of place lines else statements_of place lines) ≤ length (line ∷ lines)) [
-      true ↦ let rest : length (statements_of place lines) ≤ length lines = statements_fit place lines in omega arith
-    | false ↦ let rest : length (statements_of place lines) ≤ length lines = statements_fit place lines in omega arith
+      | true ↦ let rest : length (statements_of place lines) ≤ length lines = statements_fit place lines in omega arith
+      | false ↦ let rest : length (statements_of place lines) ≤ length lines = statements_fit place lines in omega arith
     ]
 
 pub run_to_next : (script : Script) (count : ℕ) (order : List Moment) (database : Tables) (spoken : List (List Reply)) (line : Line) (replies : List Reply) (out : Served)
     → slice_get script.lines count ≡ Some line → slice_get spoken line.session ≡ Some replies → served (shortage out.reply) database line.statement ≡ Some out
-    → is_sound_reply out.reply ≡ true
+    → is_sound_reply out.reply ≡ true → out.moments ≤ 2
     → IsRunTo script count order database spoken
     → IsRunTo script (count + 1) (order ++ replicate out.moments (here line replies)) out.database (more_replies spoken line replies out.reply)
-run_to_next script count order database spoken line replies out at h is_served good before =
+run_to_next script count order database spoken line replies out at h is_served good few before =
     let taken : take (count + 1) script.lines ≡ take count script.lines ++ line ∷ [] = take_at_get script.lines count line at in
     let many : length replies ≡ length (statements_of line.session (take count script.lines)) = before.counted line.session replies h in
     let place : line_of 0 script.lines line.session (length replies + 1) ≡ count
-        = line_found script.lines count 0 (length replies + 1) line at (ap (λ n. n + 1) many) ∙ omega arith in
+    = line_found script.lines count 0 (length replies + 1) line at (ap (λ n. n + 1) many) ∙ omega arith in
     let next_behind : is_behind script.lines (count + 1) (here line replies) ≡ true = grind (arith, nat_tests) in
     let there : count < length script.lines = slice_get_within script.lines count line at in
     let fit : length (statements_of line.session (take count script.lines)) ≤ length (take count script.lines) = statements_fit line.session (take count script.lines) in
@@ -83,6 +84,7 @@ run_to_next script count order database spoken line replies out at h is_served g
           (all_replicated (is_within script) out.moments (here line replies) (join (nat_lt line.session (length script.names)) (nat_le (length replies + 1) (length script.lines)) in_names in_lines));
       sound = all_put (list_all is_sound_reply) spoken line.session (replies ++ out.reply ∷ []) before.sound
           (all_append is_sound_reply replies (out.reply ∷ []) (all_at (list_all is_sound_reply) spoken line.session replies h before.sound) (join (is_sound_reply out.reply) true good refl));
+      short = let old : length order ≤ 2 * count = before.short in omega (arith, length-append order (replicate out.moments (here line replies)), length-replicate out.moments (here line replies));
     }
 
 -- the replies tell of the wants of memory themselves
@@ -110,8 +112,8 @@ plain_at_end script epoch order database spoken done =
     let answers : Shortages = shortages_in spoken in
     let none : drop (length script.lines) script.lines ≡ [] = drop_all (length script.lines) script.lines (omega arith) in
     let stepped : steps_along answers order (opening answers script) ≡ Some (state_before answers [] database spoken)
-        = ap (λ moments. steps_along answers moments (opening answers script)) (sym (append-nil order))
-        ∙ done.run answers [] (agrees_self spoken) ∙ ap (λ rest. Some (state_before answers rest database spoken)) none in
+    = ap (λ moments. steps_along answers moments (opening answers script)) (sym (append-nil order))
+    ∙ done.run answers [] (agrees_self spoken) ∙ ap (λ rest. Some (state_before answers rest database spoken)) none in
     ap (λ found. option_map (shown script order) (option_and_then (λ last. if list_all is_over last.runners then Some last else None) found)) stepped
     ∙ ap (λ test. option_map (shown script order) (if test then Some (state_before answers [] database spoken) else None)) (all_over answers 0 spoken)
     ∙ ap (λ replies. Some (record { names = script.names; replies = replies; order = order })) (all_said answers 0 spoken)
@@ -152,7 +154,7 @@ shown_at_end script order database spoken sound done = record {
       let less : length replies < 2 ^ 32 = omega (arith, length-take (length script.lines) script.lines) in
       let test : nat_lt (length replies) (2 ^ 32) ≡ true = grind (arith, nat_tests) in
       join (nat_lt (length replies) (2 ^ 32)) (list_all is_shown_reply replies) test
-          (all_weaker is_sound_reply is_shown_reply shown_reply replies (all_at (list_all is_sound_reply) spoken place replies h done.sound)));
+      (all_weaker is_sound_reply is_shown_reply shown_reply replies (all_at (list_all is_sound_reply) spoken place replies h done.sound)));
   moments = all_weaker (is_within script) (is_shown_moment (length script.names)) (λ moment h.
       let parts = both (nat_lt moment.session (length script.names)) (nat_le moment.statement (length script.lines)) h in
       let up : nat_le moment.statement (length script.lines) ≡ true = parts.1 in
@@ -162,3 +164,24 @@ shown_at_end script order database spoken sound done = record {
       let test : nat_lt moment.statement (2 ^ 32) ≡ true = grind (arith, nat_tests) in
       join (nat_lt moment.session (length script.names)) (nat_lt moment.statement (2 ^ 32)) parts.0 test) order done.within;
 }
+
+-- a run before its first line
+replicated : (names : List (List ℕ)) → unsaid names ≡ replicate (length names) []
+replicated [] = refl
+replicated (name ∷ names) = ap (λ more. [] ∷ more) (replicated names)
+
+pub run_opened : (script : Script) (order : List Moment) (database : Tables) (spoken : List (List Reply)) (sessions : ℕ) → order ≡ [] → database ≡ [] → spoken ≡ replicate sessions []
+    → sessions ≡ length script.names → IsRunTo script 0 order database spoken
+run_opened script order database spoken sessions no_order no_table no_reply all =
+    let silent : spoken ≡ unsaid script.names = no_reply ∙ ap (λ n. replicate n []) all ∙ sym (replicated script.names) in
+    subst (λ (o : List Moment). IsRunTo script 0 o database spoken) (sym no_order)
+    (subst (λ (d : Tables). IsRunTo script 0 [] d spoken) (sym no_table)
+    (subst (λ (s : List (List Reply)). IsRunTo script 0 [] [] s) (sym silent) (run_first script)))
+
+-- a session has answered no more statements than lines were run
+pub replies_within : (script : Script) (count : ℕ) (order : List Moment) (database : Tables) (spoken : List (List Reply)) (session : ℕ) (replies : List Reply) → IsRunTo script count order database spoken
+    → slice_get spoken session ≡ Some replies → length replies ≤ count
+replies_within script count order database spoken session replies run h =
+    let many : length replies ≡ length (statements_of session (take count script.lines)) = run.counted session replies h in
+    let fit : length (statements_of session (take count script.lines)) ≤ length (take count script.lines) = statements_fit session (take count script.lines) in
+    omega (arith, length-take count script.lines)

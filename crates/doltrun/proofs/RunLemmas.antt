@@ -24,18 +24,18 @@ agrees_before : (answers : Shortages) (spoken : List (List Reply)) (session : �
     → Agrees answers (slice_set spoken session (replies ++ reply ∷ [])) → Agrees answers spoken
 agrees_before answers spoken session replies reply h agrees place at said there below =
     elim (place == session) as (λ test. (place == session) ≡ test → answers place (at + 1) ≡ option_and_then shortage (slice_get said at)) [
-      true ↦ λ test.
-        let same : place ≡ session = grind (arith, nat_tests) in
-        let said_is : said ≡ replies = cc (ap (slice_get spoken) same) in
-        let less : at < length replies = subst (λ (n : List Reply). at < length n) said_is below in
-        let more : at < length (replies ++ reply ∷ []) = omega (arith, length_push replies reply) in
-        let there_now : slice_get (slice_set spoken session (replies ++ reply ∷ [])) place ≡ Some (replies ++ reply ∷ [])
-            = ap (slice_get (slice_set spoken session (replies ++ reply ∷ []))) same ∙ get_put spoken session replies (replies ++ reply ∷ []) h in
-        agrees place at (replies ++ reply ∷ []) there_now more
-        ∙ ap (option_and_then shortage) (get_front replies (reply ∷ []) at less ∙ ap (λ r. slice_get r at) (sym said_is))
-    | false ↦ λ test.
-        let apart : place ≢ session = grind (arith, nat_tests) in
-        agrees place at said (get_put_other spoken session place (replies ++ reply ∷ []) apart ∙ there) below
+      | true ↦ λ test.
+          let same : place ≡ session = grind (arith, nat_tests) in
+          let said_is : said ≡ replies = cc (ap (slice_get spoken) same) in
+          let less : at < length replies = subst (λ (n : List Reply). at < length n) said_is below in
+          let more : at < length (replies ++ reply ∷ []) = omega (arith, length_push replies reply) in
+          let there_now : slice_get (slice_set spoken session (replies ++ reply ∷ [])) place ≡ Some (replies ++ reply ∷ [])
+          = ap (slice_get (slice_set spoken session (replies ++ reply ∷ []))) same ∙ get_put spoken session replies (replies ++ reply ∷ []) h in
+          agrees place at (replies ++ reply ∷ []) there_now more
+          ∙ ap (option_and_then shortage) (get_front replies (reply ∷ []) at less ∙ ap (λ r. slice_get r at) (sym said_is))
+      | false ↦ λ test.
+          let apart : place ≢ session = grind (arith, nat_tests) in
+          agrees place at said (get_put_other spoken session place (replies ++ reply ∷ []) apart ∙ there) below
     ] refl
 
 -- and knows of the want of memory of the last reply
@@ -61,27 +61,27 @@ statements_push : (place : ℕ) (lines : List Line) (line : Line) → statements
 statements_push place [] line = refl
 statements_push place (first ∷ lines) line =
     elim (first.session == place) as (λ test. (if test then first.statement ∷ statements_of place (lines ++ line ∷ []) else statements_of place (lines ++ line ∷ []))
-        ≡ (if test then first.statement ∷ statements_of place lines else statements_of place lines) ++ statements_of place (line ∷ [])) [
-      true ↦ ap (λ more. first.statement ∷ more) (statements_push place lines line)
-    | false ↦ statements_push place lines line
+    ≡ (if test then first.statement ∷ statements_of place lines else statements_of place lines) ++ statements_of place (line ∷ [])) [
+      | true ↦ ap (λ more. first.statement ∷ more) (statements_push place lines line)
+      | false ↦ statements_push place lines line
     ]
 
 pub counted_next : (lines : List Line) (spoken : List (List Reply)) (line : Line) (replies : List Reply) (reply : Reply) → slice_get spoken line.session ≡ Some replies
     → AreCounted lines spoken → AreCounted (lines ++ line ∷ []) (more_replies spoken line replies reply)
 counted_next lines spoken line replies reply h counted place said there =
     elim (line.session == place) as (λ test. (line.session == place) ≡ test → length said ≡ length (statements_of place (lines ++ line ∷ []))) [
-      true ↦ λ test.
-        let same : place ≡ line.session = grind (arith, nat_tests) in
-        let said_is : said ≡ replies ++ reply ∷ [] = cc (ap (slice_get (more_replies spoken line replies reply)) same, get_put spoken line.session replies (replies ++ reply ∷ []) h) in
-        let before : length replies ≡ length (statements_of place lines) = counted place replies (ap (slice_get spoken) same ∙ h) in
-        let one : statements_of place (line ∷ []) ≡ line.statement ∷ [] = if_true (line.session == place) (line.statement ∷ []) [] test in
-        ap length said_is ∙ length_push replies reply ∙ ap (λ n. n + 1) before ∙ sym (length_push (statements_of place lines) line.statement)
-        ∙ ap (λ more. length (statements_of place lines ++ more)) (sym one) ∙ ap length (sym (statements_push place lines line))
-    | false ↦ λ test.
-        let apart : place ≢ line.session = grind (arith, nat_tests) in
-        let none : statements_of place (line ∷ []) ≡ [] = if_false (line.session == place) (line.statement ∷ []) [] test in
-        counted place said (sym (get_put_other spoken line.session place (replies ++ reply ∷ []) apart) ∙ there)
-        ∙ ap length (sym (append-nil (statements_of place lines)) ∙ ap (λ more. statements_of place lines ++ more) (sym none) ∙ sym (statements_push place lines line))
+      | true ↦ λ test.
+          let same : place ≡ line.session = grind (arith, nat_tests) in
+          let said_is : said ≡ replies ++ reply ∷ [] = cc (ap (slice_get (more_replies spoken line replies reply)) same, get_put spoken line.session replies (replies ++ reply ∷ []) h) in
+          let before : length replies ≡ length (statements_of place lines) = counted place replies (ap (slice_get spoken) same ∙ h) in
+          let one : statements_of place (line ∷ []) ≡ line.statement ∷ [] = if_true (line.session == place) (line.statement ∷ []) [] test in
+          ap length said_is ∙ length_push replies reply ∙ ap (λ n. n + 1) before ∙ sym (length_push (statements_of place lines) line.statement)
+          ∙ ap (λ more. length (statements_of place lines ++ more)) (sym one) ∙ ap length (sym (statements_push place lines line))
+      | false ↦ λ test.
+          let apart : place ≢ line.session = grind (arith, nat_tests) in
+          let none : statements_of place (line ∷ []) ≡ [] = if_false (line.session == place) (line.statement ∷ []) [] test in
+          counted place said (sym (get_put_other spoken line.session place (replies ++ reply ∷ []) apart) ∙ there)
+          ∙ ap length (sym (append-nil (statements_of place lines)) ∙ ap (λ more. statements_of place lines ++ more) (sym none) ∙ sym (statements_push place lines line))
     ] refl
 
 -- the line of a session's next statement
@@ -98,17 +98,17 @@ line_found (first ∷ lines) zero at number line h is =
 line_found (first ∷ lines) (suc count) at number line h is =
     let shift : at + 1 + count ≡ at + suc count = omega arith in
     elim (first.session == line.session) as (λ test. (first.session == line.session) ≡ test
-        → (if test then (if number == 1 then at else line_of (at + 1) lines line.session (number - 1)) else line_of (at + 1) lines line.session number) ≡ at + suc count) [
-      true ↦ λ test.
-        let many : number ≡ suc (length (statements_of line.session (take count lines))) + 1
-            = is ∙ ap (λ texts. length texts + 1) (if_true (first.session == line.session) (first.statement ∷ statements_of line.session (take count lines)) (statements_of line.session (take count lines)) test) in
-        let not_one : (number == 1) ≡ false = grind (arith, nat_tests) in
-        let fewer : number - 1 ≡ length (statements_of line.session (take count lines)) + 1 = omega arith in
-        if_false (number == 1) at (line_of (at + 1) lines line.session (number - 1)) not_one ∙ line_found lines count (at + 1) (number - 1) line h fewer ∙ shift
-    | false ↦ λ test.
-        let same_number : number ≡ length (statements_of line.session (take count lines)) + 1
-            = is ∙ ap (λ texts. length texts + 1) (if_false (first.session == line.session) (first.statement ∷ statements_of line.session (take count lines)) (statements_of line.session (take count lines)) test) in
-        line_found lines count (at + 1) number line h same_number ∙ shift
+    → (if test then (if number == 1 then at else line_of (at + 1) lines line.session (number - 1)) else line_of (at + 1) lines line.session number) ≡ at + suc count) [
+      | true ↦ λ test.
+          let many : number ≡ suc (length (statements_of line.session (take count lines))) + 1
+          = is ∙ ap (λ texts. length texts + 1) (if_true (first.session == line.session) (first.statement ∷ statements_of line.session (take count lines)) (statements_of line.session (take count lines)) test) in
+          let not_one : (number == 1) ≡ false = grind (arith, nat_tests) in
+          let fewer : number - 1 ≡ length (statements_of line.session (take count lines)) + 1 = omega arith in
+          if_false (number == 1) at (line_of (at + 1) lines line.session (number - 1)) not_one ∙ line_found lines count (at + 1) (number - 1) line h fewer ∙ shift
+      | false ↦ λ test.
+          let same_number : number ≡ length (statements_of line.session (take count lines)) + 1
+          = is ∙ ap (λ texts. length texts + 1) (if_false (first.session == line.session) (first.statement ∷ statements_of line.session (take count lines)) (statements_of line.session (take count lines)) test) in
+          line_found lines count (at + 1) number line h same_number ∙ shift
     ] refl
 
 rises_again : (lines : List Line) (at count : ℕ) (moment : Moment) (times least : ℕ) → line_of 0 lines moment.session moment.statement ≡ at → least ≤ at
@@ -118,7 +118,7 @@ rises_again lines at count moment (suc times) least is up =
     let test : nat_le least (line_of 0 lines moment.session moment.statement) ≡ true = grind (arith, nat_tests) in
     let level : line_of 0 lines moment.session moment.statement ≤ at = omega arith in
     join (nat_le least (line_of 0 lines moment.session moment.statement)) (never_falls (line_of 0 lines moment.session moment.statement) lines (replicate times moment)) test
-        (rises_again lines at count moment times (line_of 0 lines moment.session moment.statement) is level)
+    (rises_again lines at count moment times (line_of 0 lines moment.session moment.statement) is level)
 
 pub rises_next : (lines : List Line) (at : ℕ) (moment : Moment) (times : ℕ) → line_of 0 lines moment.session moment.statement ≡ at → (order : List Moment) (least : ℕ) → least ≤ at
     → never_falls least lines order ≡ true → list_all (is_behind lines at) order ≡ true → never_falls least lines (order ++ replicate times moment) ≡ true
@@ -129,4 +129,4 @@ rises_next lines at moment times is (first ∷ order) least up rises behind =
     let test : nat_lt (line_of 0 lines first.session first.statement) at ≡ true = sides.0 in
     let below : line_of 0 lines first.session first.statement ≤ at = grind (arith, nat_tests) in
     join (nat_le least (line_of 0 lines first.session first.statement)) (never_falls (line_of 0 lines first.session first.statement) lines (order ++ replicate times moment)) parts.0
-        (rises_next lines at moment times is order (line_of 0 lines first.session first.statement) below parts.1 sides.1)
+    (rises_next lines at moment times is order (line_of 0 lines first.session first.statement) below parts.1 sides.1)

@@ -53,7 +53,7 @@ row_decides (a ∷ more) [] = (λ e. cc, λ e. cc)
 row_decides (a ∷ more) (b ∷ bs) =
     Decides-at _ _ (then_equal (value_cmp a b) (slice_cmp value_cmp more bs))
     (Decides-like _ (λ p. ap (λ v. v ∷ more) p.0 ∙ ap (λ vs. b ∷ vs) p.1) (λ (e : a ∷ more ≡ b ∷ bs). let first : a ≡ b = cc in let rest : more ≡ bs = cc in (first, rest))
-        (Decides-and _ _ (value_decides a b) (row_decides more bs)))
+    (Decides-and _ _ (value_decides a b) (row_decides more bs)))
 
 kind_decides : (a b : SqlType) → Decides (is_same_kind a b) (a ≡ b)
 kind_decides kind.BigInt kind.BigInt = (λ _. refl, λ _. refl)
@@ -63,28 +63,28 @@ kind_decides (kind.Varchar a) (kind.Varchar b) = Decides-like _ (λ e. ap kind.V
 kind_decides (kind.Varbinary a) (kind.Varbinary b) = Decides-like _ (λ e. ap kind.Varbinary e) (λ e. cc) (Decides-eqb a b)
 kind_decides (kind.Decimal a c) (kind.Decimal b d) =
     Decides-like _ (λ p. ap (λ n. kind.Decimal n c) p.0 ∙ ap (λ n. kind.Decimal b n) p.1) (λ (e : kind.Decimal a c ≡ kind.Decimal b d). let first : a ≡ b = cc in let rest : c ≡ d = cc in (first, rest))
-        (Decides-and _ _ (Decides-eqb a b) (Decides-eqb c d))
+    (Decides-and _ _ (Decides-eqb a b) (Decides-eqb c d))
 kind_decides a b = (λ e. cc, λ e. cc)
 
 column_decides : (a b : Column) → Decides (is_same_column a b) (a ≡ b)
 column_decides a b =
     Decides-like _ (λ p. ap (λ n. record { name = n; kind = a.kind }) p.0 ∙ ap (λ k. record { name = b.name; kind = k }) p.1) (λ e. (ap (λ c. c.name) e, ap (λ c. c.kind) e))
-        (Decides-and _ _ (bytes_decides a.name b.name) (kind_decides a.kind b.kind))
+    (Decides-and _ _ (bytes_decides a.name b.name) (kind_decides a.kind b.kind))
 
 schema_decides : (a b : Schema) → Decides (is_same_schema a b) (a ≡ b)
 schema_decides a b =
     Decides-like _ (λ p. ap (λ n. record { columns = n; key = a.key }) p.0 ∙ ap (λ k. record { columns = b.columns; key = k }) p.1) (λ e. (ap (λ c. c.columns) e, ap (λ c. c.key) e))
-        (Decides-and _ _ (pointwise_decides column_decides a.columns b.columns) (bytes_decides a.key b.key))
+    (Decides-and _ _ (pointwise_decides column_decides a.columns b.columns) (bytes_decides a.key b.key))
 
 table_decides : (a b : Table) → Decides (is_same_table a b) (a ≡ b)
 table_decides a b =
     Decides-like _ (λ p. ap (λ n. record { schema = n; rows = a.rows }) p.0 ∙ ap (λ k. record { schema = b.schema; rows = k }) p.1) (λ e. (ap (λ c. c.schema) e, ap (λ c. c.rows) e))
-        (Decides-and _ _ (schema_decides a.schema b.schema) (pointwise_decides row_decides a.rows b.rows))
+    (Decides-and _ _ (schema_decides a.schema b.schema) (pointwise_decides row_decides a.rows b.rows))
 
 named_decides : (a b : NamedTable) → Decides (is_same_named a b) (a ≡ b)
 named_decides a b =
     Decides-like _ (λ p. ap (λ n. record { name = n; table = a.table }) p.0 ∙ ap (λ k. record { name = b.name; table = k }) p.1) (λ e. (ap (λ c. c.name) e, ap (λ c. c.table) e))
-        (Decides-and _ _ (bytes_decides a.name b.name) (table_decides a.table b.table))
+    (Decides-and _ _ (bytes_decides a.name b.name) (table_decides a.table b.table))
 
 pub database_decides : (a b : Tables) → Decides (is_same_database a b) (a ≡ b)
 unfolding is_same_database

@@ -1,5 +1,5 @@
 -- One statement where no other session acts between its moments, and the machine's runs that such statements make.
-use Rattle.std.specs.Prelude.{◌≡◌, ℕ, ◌+◌, ◌<◌, ◌≤◌, Bool, true, ◌==◌, ◌&&◌, List, [], ◌∷◌, ◌++◌, length, drop, take, map, nat_lt, nat_le, Option, Some, None, slice_get, if◌then◌else◌}
+use Rattle.std.specs.Prelude.{◌≡◌, ℕ, ◌+◌, ◌*◌, ◌<◌, ◌≤◌, Bool, true, ◌==◌, ◌&&◌, List, [], ◌∷◌, ◌++◌, length, drop, take, map, nat_lt, nat_le, Option, Some, None, slice_get, if◌then◌else◌}
 use Rattle.std.specs.Option.{option_map, option_map_or, option_and_then}
 use Rattle.std.specs.List.{list_all, IsDistinct}
 use Rattle.std.specs.Str.{bytes_eq}
@@ -98,6 +98,7 @@ pub record IsRunTo (script : Script) (count : ℕ) (order : List Moment) (databa
   pub behind : list_all (is_behind script.lines count) order ≡ true
   pub within : list_all (is_within script) order ≡ true
   pub sound : list_all (list_all is_sound_reply) spoken ≡ true
+  pub short : length order ≤ 2 * count
 
 abbrev pub is_line_within : Script → Line → Bool
 is_line_within script line = nat_lt line.session (length script.names)
