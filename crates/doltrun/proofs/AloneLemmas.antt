@@ -1,16 +1,14 @@
 -- A run of statements one after another, step by step.
-use Rattle.std.proofs.Common.{◌≡◌, ◌≢◌, refl, sym, ◌∙◌, ap, subst, ℕ, zero, suc, ◌+◌, ◌<◌, Bool, true, false, ◌==◌, List, [], ◌∷◌, ◌++◌, length, map, replicate, Option, Some, None, slice_get, slice_set, arith, append_assoc, if◌then◌else◌}
+use Rattle.std.proofs.Common.{◌≡◌, ◌≢◌, refl, sym, ◌∙◌, ap, ℕ, zero, suc, ◌+◌, ◌<◌, Bool, true, false, ◌==◌, List, [], ◌∷◌, ◌++◌, length, map, Some, None, slice_get, slice_set, arith, if◌then◌else◌}
 use Rattle.std.specs.Option.{option_map, option_map_or, option_and_then}
 use Rattle.std.proofs.lemmas.List.{length_push, set-set}
-use Rattle.std.proofs.lemmas.Bool.Decides.{Decides-eqb, nat_tests}
-use Rattle.script_text.specs.Output.{Shortage, AtOnce, AfterStart, shortage}
+use Rattle.std.proofs.lemmas.Bool.Decides.{nat_tests}
 use Rattle.script_text.specs.declared.replies.Reply.{Reply}
 use Rattle.script_text.specs.declared.scripts.Line.{Line}
 use Rattle.script_text.specs.declared.scripts.Moment.{Moment}
-use Rattle.script_text.specs.declared.scripts.Script.{Script}
-use Rattle.plain_model.specs.Machine.{After, Past, Still, Place, Shared, Transaction, Session, Runner, State, Shortages, advance, alone, awaiting, moment_at, opening, runners_of, statements_of, put_runner, step, step_of, steps_along, went_on}
-use Rattle.plain_model.specs.Tables.{Tables, is_same_database}
-use Rattle.doltrun.specs.Alone.{Agrees, Served, SoFar, resting, runner_of, served, session_after, state_before}
+use Rattle.plain_model.specs.Machine.{After, Past, Still, Place, Shared, Transaction, Session, Runner, Shortages, advance, alone, awaiting, moment_at, runners_of, statements_of, put_runner, step, step_of, went_on}
+use Rattle.plain_model.specs.Tables.{Tables}
+use Rattle.doltrun.specs.Alone.{resting, runner_of, session_after, state_before}
 
 pub if_false : {X : Type 0} (b : Bool) (x y : X) → b ≡ false → (if b then x else y) ≡ y
 if_false b x y h = rw h refl

@@ -1,23 +1,23 @@
 -- A run from its opening to its end, line by line.
-use Rattle.std.proofs.Common.{◌≡◌, ◌≢◌, refl, sym, ◌∙◌, ap, subst, ℕ, ℤ, zero, suc, ◌+◌, ◌-◌, ◌*◌, ◌<◌, ◌≤◌, ◌^◌, Bool, true, false, ◌==◌, ◌&&◌, nat_lt, nat_le, List, [], ◌∷◌, ◌++◌, length, map, take, drop, replicate, Option, Some, None, slice_get, slice_set, arith, if◌then◌else◌}
+use Rattle.std.proofs.Common.{◌≡◌, refl, sym, ◌∙◌, ap, subst, ℕ, ℤ, zero, suc, ◌+◌, ◌-◌, ◌*◌, ◌<◌, ◌≤◌, ◌^◌, true, false, ◌==◌, nat_lt, nat_le, List, [], ◌∷◌, ◌++◌, length, map, take, drop, replicate, Some, None, slice_get, arith, if◌then◌else◌}
 use Rattle.std.specs.Option.{option_map, option_and_then}
 use Rattle.std.specs.List.{list_all}
 use Rattle.std.specs.Prelude.{slice_index_or}
-use Rattle.std.proofs.lemmas.List.{append-nil, drop_all, length-set, length_push, length-map, length-take, length-append, length-replicate}
+use Rattle.std.proofs.lemmas.List.{append-nil, drop_all, length-set, length-map, length-take, length-append, length-replicate}
 use Rattle.std.proofs.lemmas.Option.{get_or_from_slice_get, slice_get_within}
 use Rattle.std.proofs.lemmas.Bool.Decides.{nat_tests}
 use Rattle.script_text.specs.Output.{shortage, shortages_in}
-use Rattle.script_text.specs.Shown.{IsPrintable, IsShown, is_printable_moment, is_printable_reply, is_shown_moment, is_shown_reply, is_shown_session}
+use Rattle.script_text.specs.Shown.{IsPrintable, IsShown, is_printable_moment, is_printable_reply, is_shown_moment, is_shown_reply}
 use Rattle.script_text.specs.declared.outputs.RunText.{RunText}
 use Rattle.script_text.specs.declared.replies.Reply.{Reply}
 use Rattle.script_text.specs.declared.scripts.Line.{Line}
 use Rattle.script_text.specs.declared.scripts.Moment.{Moment}
 use Rattle.script_text.specs.declared.scripts.Script.{Script}
-use Rattle.plain_model.specs.Machine.{IsPlainRun, IsTextOrder, Runner, State, Shortages, is_over, line_of, opening, run_along, shown, statements_of, steps_along}
+use Rattle.plain_model.specs.Machine.{IsPlainRun, IsTextOrder, Runner, Shortages, is_over, line_of, opening, shown, statements_of, steps_along}
 use Rattle.plain_model.specs.Tables.{Tables}
-use Rattle.doltrun.specs.Alone.{Agrees, AreCounted, IsRunTo, IsSoundScript, Served, SoFar, is_behind, is_line_within, is_sound_reply, is_within, resting, served, state_before}
+use Rattle.doltrun.specs.Alone.{Agrees, AreCounted, IsRunTo, IsSoundScript, Served, is_behind, is_sound_reply, is_within, resting, served, state_before}
 use Rattle.doltrun.proofs.AloneLemmas.{here, more_replies, first_runners}
-use Rattle.doltrun.proofs.ListLemmas.{both, join, all_weaker, all_append, all_replicated, all_put, all_at, get_put, take_at_get}
+use Rattle.doltrun.proofs.ListLemmas.{both, join, all_weaker, all_append, all_replicated, all_put, all_at, take_at_get}
 use Rattle.doltrun.proofs.RunLemmas.{run_next, counted_next, line_found, rises_next}
 
 -- nothing is said yet
@@ -136,25 +136,13 @@ printable_at_end script order database spoken done = record {
   moments = all_weaker (is_within script) (is_printable_moment (length script.names)) (λ moment h. (both (nat_lt moment.session (length script.names)) (nat_le moment.statement (length script.lines)) h).0) order done.within;
 }
 
--- a list of which each element is well, by its places
-all_by_place : {X : Type 0} (p : X → Bool) (xs : List X) → ((place : ℕ) (x : X) → slice_get xs place ≡ Some x → p x ≡ true) → list_all p xs ≡ true
-all_by_place p [] each = refl
-all_by_place p (x ∷ xs) each = join (p x) (list_all p xs) (each 0 x refl) (all_by_place p xs (λ place y h. each (suc place) y h))
-
 pub shown_at_end : (script : Script) (order : List Moment) (database : Tables) (spoken : List (List Reply)) → IsSoundScript script → IsRunTo script (length script.lines) order database spoken
     → IsShown (shown_by script order spoken)
 shown_at_end script order database spoken sound done = record {
   names = sound.names;
   distinct = sound.distinct;
   lists = done.lists;
-  replies = all_by_place is_shown_session spoken (λ place replies h.
-      let many : length replies ≡ length (statements_of place (take (length script.lines) script.lines)) = done.counted place replies h in
-      let fit : length (statements_of place (take (length script.lines) script.lines)) ≤ length (take (length script.lines) script.lines) = statements_fit place (take (length script.lines) script.lines) in
-      let few : length script.lines ≤ 20000 = sound.few in
-      let less : length replies < 2 ^ 32 = omega (arith, length-take (length script.lines) script.lines) in
-      let test : nat_lt (length replies) (2 ^ 32) ≡ true = grind (arith, nat_tests) in
-      join (nat_lt (length replies) (2 ^ 32)) (list_all is_shown_reply replies) test
-      (all_weaker is_sound_reply is_shown_reply shown_reply replies (all_at (list_all is_sound_reply) spoken place replies h done.sound)));
+  replies = all_weaker (list_all is_sound_reply) (list_all is_shown_reply) (λ replies h. all_weaker is_sound_reply is_shown_reply shown_reply replies h) spoken done.sound;
   moments = all_weaker (is_within script) (is_shown_moment (length script.names)) (λ moment h.
       let parts = both (nat_lt moment.session (length script.names)) (nat_le moment.statement (length script.lines)) h in
       let up : nat_le moment.statement (length script.lines) ≡ true = parts.1 in

@@ -1,16 +1,16 @@
 -- What the machine makes of one line is what the statement makes by itself.
-use Rattle.std.proofs.Common.{◌≡◌, ◌≢◌, refl, sym, ◌∙◌, ap, subst, ℕ, zero, suc, ◌+◌, ◌<◌, Bool, true, false, ◌==◌, ◌&&◌, not, is_some, List, [], ◌∷◌, ◌++◌, length, map, replicate, Option, Some, None, slice_get, slice_set, arith, append_assoc, if◌then◌else◌}
+use Rattle.std.proofs.Common.{◌≡◌, refl, sym, ◌∙◌, ap, subst, ◌+◌, Bool, true, false, not, is_some, List, [], ◌∷◌, ◌++◌, length, replicate, Option, Some, None, slice_get, if◌then◌else◌}
 use Rattle.std.specs.Option.{option_map, option_map_or, option_and_then}
 use Rattle.std.specs.List.{list_all}
 use Rattle.tuple_codec.specs.Rows.{fits_all}
-use Rattle.script_text.specs.Output.{Shortage, AtOnce, AfterStart, shortage}
+use Rattle.script_text.specs.Output.{Shortage, AtOnce, AfterStart}
 use Rattle.script_text.specs.declared.replies.Reply.{Reply}
-use Rattle.script_text.specs.declared.replies.Reply.TheVariants.{Done, Count, Rows, Refused}
+use Rattle.script_text.specs.declared.replies.Reply.TheVariants.{Done, Count, Refused}
 use Rattle.script_text.specs.declared.scripts.Line.{Line}
 use Rattle.script_text.specs.declared.scripts.Moment.{Moment}
 use Rattle.plain_model.specs.Effects.{Effect, effect, created, inserted, selected, refuses}
 use Rattle.plain_model.specs.Language.{read}
-use Rattle.plain_model.specs.Machine.{After, Past, Still, Between, Place, Shared, Transaction, Session, Runner, State, Shortages, alone, alone_by, awaiting, decided, effect_alone, is_refusal, moment_at, moment_in, over, past, past_moment, start_by, started, step, steps_along}
+use Rattle.plain_model.specs.Machine.{Past, Still, Between, Place, Shared, Transaction, Session, Shortages, alone, alone_by, awaiting, is_refusal, moment_at, over, past, past_moment, start_by, started, step, steps_along}
 use Rattle.plain_model.specs.Tables.{Tables, table_in, with_table, in_key_order, has_repeated_key, kinds_of, is_same_database}
 use Rattle.plain_model.specs.declared.statements.Create.{Create}
 use Rattle.plain_model.specs.declared.statements.Insert.{Insert}
@@ -43,7 +43,7 @@ keeps_inserted database insert table h =
       reply = Count (length insert.rows);
       database = with_table insert.name (record { schema = table.schema; rows = in_key_order table.schema.key (table.rows ++ insert.rows) }) database;
     } in
-    let repeated : Bool = has_repeated_key table.schema.key (in_key_order table.schema.key (table.rows ++ insert.rows)) in
+    let repeated : Bool = has_repeated_key table.schema.key (table.rows ++ insert.rows) in
     kept_if (not (list_all (fits_all (kinds_of table.schema)) insert.rows)) database (refuses 9013 database) (if repeated then refuses 1062 database else grown)
     (λ _. refl) (λ e. kept_if repeated database (refuses 1062 database) grown (λ _. refl) (λ (d : false ≡ true). cc) e) h
 

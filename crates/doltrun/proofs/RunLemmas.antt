@@ -1,23 +1,20 @@
 -- Where a run has come to after its first lines.
-use Rattle.std.proofs.Common.{◌≡◌, ◌≢◌, refl, sym, ◌∙◌, ap, subst, ℕ, ℤ, zero, suc, ◌+◌, ◌-◌, ◌<◌, ◌≤◌, ◌^◌, Bool, true, false, ◌==◌, ◌&&◌, nat_lt, nat_le, List, [], ◌∷◌, ◌++◌, length, map, take, drop, replicate, Option, Some, None, slice_get, slice_set, arith, append_assoc, if◌then◌else◌}
-use Rattle.std.specs.Option.{option_map, option_map_or, option_and_then}
+use Rattle.std.proofs.Common.{◌≡◌, ◌≢◌, refl, sym, ◌∙◌, ap, subst, ℕ, zero, suc, ◌+◌, ◌-◌, ◌<◌, ◌≤◌, true, false, ◌==◌, nat_lt, nat_le, List, [], ◌∷◌, ◌++◌, length, take, drop, replicate, Some, slice_get, slice_set, arith, append_assoc, if◌then◌else◌}
+use Rattle.std.specs.Option.{option_and_then}
 use Rattle.std.specs.List.{list_all}
-use Rattle.std.specs.Prelude.{slice_index_or}
-use Rattle.std.proofs.lemmas.List.{append-nil, drop_all, length-set, length_push}
-use Rattle.std.proofs.lemmas.Option.{get_or_from_slice_get}
+use Rattle.std.proofs.lemmas.List.{append-nil, length_push}
 use Rattle.std.proofs.lemmas.Bool.Decides.{nat_tests}
-use Rattle.script_text.specs.Output.{Shortage, shortage, shortages_in}
-use Rattle.script_text.specs.declared.outputs.RunText.{RunText}
+use Rattle.script_text.specs.Output.{shortage}
 use Rattle.script_text.specs.declared.replies.Reply.{Reply}
 use Rattle.script_text.specs.declared.scripts.Line.{Line}
 use Rattle.script_text.specs.declared.scripts.Moment.{Moment}
 use Rattle.script_text.specs.declared.scripts.Script.{Script}
-use Rattle.plain_model.specs.Machine.{IsPlainRun, IsTextOrder, Runner, State, Shortages, advance, is_over, line_of, never_falls, opening, run_along, shown, statements_of, steps_along}
+use Rattle.plain_model.specs.Machine.{Shortages, line_of, never_falls, opening, statements_of, steps_along}
 use Rattle.plain_model.specs.Tables.{Tables}
-use Rattle.doltrun.specs.Alone.{Agrees, AreCounted, IsRunTo, IsSoundScript, Served, SoFar, is_behind, is_line_within, is_sound_reply, is_within, resting, runner_of, served, session_after, state_before}
-use Rattle.doltrun.proofs.AloneLemmas.{here, more_replies, first_runners, if_true, if_false}
-use Rattle.doltrun.proofs.LineLemmas.{Goes, goes}
-use Rattle.doltrun.proofs.ListLemmas.{both, join, all_weaker, all_append, all_replicated, all_put, all_at, get_put, get_put_other, get_front, get_behind, drop_at_get, take_at_get}
+use Rattle.doltrun.specs.Alone.{Agrees, AreCounted, Served, SoFar, is_behind, served, state_before}
+use Rattle.doltrun.proofs.AloneLemmas.{here, more_replies, if_true, if_false}
+use Rattle.doltrun.proofs.LineLemmas.{goes}
+use Rattle.doltrun.proofs.ListLemmas.{both, join, get_put, get_put_other, get_front, get_behind, drop_at_get}
 
 -- who knows of the wants of memory in more replies knows of those in fewer
 agrees_before : (answers : Shortages) (spoken : List (List Reply)) (session : ℕ) (replies : List Reply) (reply : Reply) → slice_get spoken session ≡ Some replies

@@ -1,5 +1,5 @@
 -- One more line of a run under way.
-use Rattle.std.proofs.Common.{◌≡◌, refl, sym, ◌∙◌, ap, subst, ℕ, ◌+◌, ◌<◌, ◌≤◌, nat_lt, true, vec_capacity, List, [], ◌∷◌, ◌++◌, length, map, replicate, Option, Some, slice_get, slice_set, arith}
+use Rattle.std.proofs.Common.{◌≡◌, refl, sym, ◌∙◌, ap, subst, ℕ, ◌+◌, ◌<◌, ◌≤◌, nat_lt, true, vec_capacity, List, [], ◌∷◌, ◌++◌, length, map, replicate, Some, slice_get, slice_set, arith}
 use Rattle.std.specs.Option.{option_map}
 use Rattle.std.specs.Prelude.{slice_index_or, Vec}
 use Rattle.std.proofs.lemmas.List.{length-map, map-set}
@@ -13,7 +13,7 @@ use Rattle.script_text.specs.declared.scripts.Line.{Line}
 use Rattle.script_text.specs.declared.scripts.Moment.{Moment}
 use Rattle.script_text.specs.declared.scripts.Script.{Script}
 use Rattle.plain_model.specs.Tables.{Tables}
-use Rattle.doltrun.specs.Alone.{IsRunTo, IsSoundScript, Served, is_line_within, is_sound_reply, served}
+use Rattle.doltrun.specs.Alone.{IsRunTo, IsSoundScript, is_line_within, is_sound_reply, served}
 use Rattle.doltrun.proofs.ListLemmas.{all_at}
 use Rattle.doltrun.proofs.EndLemmas.{replies_within, run_to_next}
 

@@ -1,20 +1,19 @@
 -- Databases of equal contents are equal.
-use Rattle.std.proofs.Common.{◌≡◌, refl, sym, ◌∙◌, ap, ℕ, ℤ, Bool, true, false, ◌&&◌, ◌==◌, List, [], ◌∷◌, map, arith, nat_eq}
+use Rattle.std.proofs.Common.{◌≡◌, refl, ◌∙◌, ap, ℕ, ℤ, Bool, true, false, ◌&&◌, List, [], ◌∷◌, arith}
 use Rattle.std.specs.Bool.{Decides}
-use Rattle.std.specs.Str.{bytes_eq}
 use Rattle.std.specs.Cmp.{int_ranks}
-use Rattle.std.specs.Cmp.Lexicographic.{slice_cmp, pointwise, pointwise_decides, bytes_decides}
+use Rattle.std.specs.Cmp.Lexicographic.{slice_cmp, pointwise_decides, bytes_decides}
 use Rattle.std.specs.Ordering.{nat_cmp, int_cmp, bool_cmp, is_eq, ordering_then}
 use Rattle.std.specs.declared.cmp.Ordering.{Ordering}
 use Rattle.std.specs.declared.cmp.Ordering.TheVariants.{Less, Equal, Greater}
-use Rattle.std.proofs.lemmas.Bool.Decides.{Decides-at, Decides-and, Decides-like, Decides-eqb, nat_tests}
+use Rattle.std.proofs.lemmas.Bool.Decides.{Decides-at, Decides-and, Decides-like, Decides-eqb}
 use Rattle.std.proofs.lemmas.Map.Text.{is_eq-slice_cmp}
-use Rattle.tuple_codec.specs.Rows.{Cells, key_cmp, value_cmp}
+use Rattle.tuple_codec.specs.Rows.{value_cmp}
 use Rattle.tuple_codec.specs.declared.values.SqlType.{SqlType}
 use Rattle.tuple_codec.specs.declared.values.SqlType.TheVariants as kind
 use Rattle.tuple_codec.specs.declared.values.Value.{Value}
 use Rattle.tuple_codec.specs.declared.values.Value.TheVariants as cell
-use Rattle.plain_model.specs.Tables.{Tables, is_same_kind, is_same_column, is_same_schema, is_same_row, is_same_table, is_same_named, is_same_database}
+use Rattle.plain_model.specs.Tables.{Tables, is_same_kind, is_same_column, is_same_schema, is_same_table, is_same_named, is_same_database}
 use Rattle.plain_model.specs.declared.tables.Column.{Column}
 use Rattle.plain_model.specs.declared.tables.NamedTable.{NamedTable}
 use Rattle.plain_model.specs.declared.tables.Schema.{Schema}

@@ -1,5 +1,5 @@
 -- Every script that is read is sound.
-use Rattle.std.proofs.Common.{◌≡◌, refl, sym, ◌∙◌, ap, subst, ℕ, suc, ◌+◌, ◌<◌, ◌≤◌, Bool, true, false, ◌==◌, ◌&&◌, not, is_none, nat_lt, nat_le, List, [], ◌∷◌, ◌++◌, length, drop, Option, Some, None, Result, Ok, Err, arith, if◌then◌else◌, cond}
+use Rattle.std.proofs.Common.{◌≡◌, refl, sym, ◌∙◌, ap, subst, ℕ, suc, ◌+◌, ◌<◌, ◌≤◌, true, false, ◌==◌, ◌&&◌, not, is_none, nat_lt, nat_le, List, [], ◌∷◌, ◌++◌, length, drop, Some, None, Ok, Err, arith, if◌then◌else◌, cond}
 use Rattle.std.specs.Prelude.{unwrap_or, codes, nat_eq, take_while}
 use Rattle.std.specs.Str.{bytes_eq}
 use Rattle.std.specs.Option.{option_map, option_map_or}
@@ -8,9 +8,8 @@ use Rattle.std.proofs.lemmas.List.{length_push}
 use Rattle.std.proofs.lemmas.List.Sums.{take_while-cons}
 use Rattle.std.proofs.lemmas.Bool.Decides.{nat_tests}
 use Rattle.tuple_codec.specs.Texts.{is_utf8}
-use Rattle.script_text.specs.Input.{Parts, add_line, add_statement, and_then, bad, is_name, is_name_byte, is_one_too_many, is_skipped, lines_of, most_bytes, most_statement_bytes, most_statements, no_script, parts_after, parts_of, place_of, script, script_from, statement_in, with_name, with_statement}
+use Rattle.script_text.specs.Input.{Parts, add_line, add_statement, and_then, bad, is_name, is_name_byte, is_one_too_many, is_skipped, lines_of, most_bytes, most_statement_bytes, most_statements, no_script, parts_after, parts_of, script, script_from, statement_in, with_statement}
 use Rattle.script_text.specs.Shown.{is_shown_name}
-use Rattle.script_text.specs.declared.faults.BadScript.{BadScript}
 use Rattle.script_text.specs.declared.scripts.Line.{Line}
 use Rattle.script_text.specs.declared.scripts.Script.{Script}
 use Rattle.doltrun.specs.Alone.{IsSoundScript, is_line_within}

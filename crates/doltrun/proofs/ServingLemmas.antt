@@ -3,16 +3,16 @@ use Rattle.std.proofs.Common.{◌≡◌, refl, sym, ◌∙◌, ap, ℕ, Bool, tr
 use Rattle.std.specs.Option.{option_map_or}
 use Rattle.std.specs.List.{list_all}
 use Rattle.tuple_codec.specs.Rows.{fits_all}
-use Rattle.script_text.specs.Output.{Shortage, shortage}
+use Rattle.script_text.specs.Output.{shortage}
 use Rattle.script_text.specs.declared.replies.Reply.{Reply}
 use Rattle.script_text.specs.declared.replies.Reply.TheVariants.{Done, Count}
-use Rattle.plain_model.specs.Effects.{Effect, effect, created, inserted, selected, refuses}
+use Rattle.plain_model.specs.Effects.{Effect, effect, inserted, selected, refuses}
 use Rattle.plain_model.specs.Language.{read}
 use Rattle.plain_model.specs.Tables.{Tables, table_in, with_table, in_key_order, has_repeated_key, kinds_of, is_same_database}
 use Rattle.plain_model.specs.declared.statements.Statement.{Statement}
 use Rattle.plain_model.specs.declared.statements.Statement.TheVariants as form
 use Rattle.plain_model.specs.declared.tables.Table.{Table}
-use Rattle.doltrun.specs.Alone.{Served, performed, served, served_by}
+use Rattle.doltrun.specs.Alone.{performed, served, served_by}
 
 either : (b : Bool) (x y : Effect) → shortage x.reply ≡ None → shortage y.reply ≡ None → shortage (if b then x else y).reply ≡ None
 either true x y hx hy = hx
@@ -33,7 +33,7 @@ effect_is_no_shortage database (form.Insert insert) =
       reply = Count (length insert.rows);
       database = with_table insert.name (record { schema = table.schema; rows = in_key_order table.schema.key (table.rows ++ insert.rows) }) database;
     } in
-    let repeated : Bool = has_repeated_key table.schema.key (in_key_order table.schema.key (table.rows ++ insert.rows)) in
+    let repeated : Bool = has_repeated_key table.schema.key (table.rows ++ insert.rows) in
     either (not (list_all (fits_all (kinds_of table.schema)) insert.rows)) (refuses 9013 database) (if repeated then refuses 1062 database else grown)
     refl (either repeated (refuses 1062 database) grown refl refl)) refl
 effect_is_no_shortage database (form.Select name) = at_table (table_in database name) (selected database) (refuses 1146 database) (λ table. refl) refl

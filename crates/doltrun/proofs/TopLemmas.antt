@@ -1,13 +1,13 @@
 -- From the bytes that were read to the whole input.
-use Rattle.std.proofs.Common.{◌≡◌, ◌≢◌, ◌⊎◌, inl, inr, refl, sym, ◌∙◌, ap, subst, ℕ, ◌+◌, ◌<◌, ◌≤◌, true, false, nat_lt, List, [], ◌++◌, length, Option, Some, None, Result, Ok, Err, arith, if◌then◌else◌}
+use Rattle.std.proofs.Common.{◌≡◌, ◌≢◌, inl, inr, refl, sym, ◌∙◌, ap, subst, ℕ, ◌<◌, ◌≤◌, true, false, nat_lt, List, [], ◌++◌, length, Option, Some, None, Result, Ok, Err, arith}
 use Rattle.std.specs.Io.KnownBytes.{Appends, Consumes, IsAtEnd}
 use Rattle.std.proofs.lemmas.List.{append-nil, length-append}
 use Rattle.std.proofs.lemmas.Bool.Decides.{nat_tests}
 use Rattle.script_text.specs.Input.{bad, lines_of, most_bytes, no_script, script, script_from}
 use Rattle.script_text.specs.declared.faults.BadScript.{BadScript}
 use Rattle.script_text.specs.declared.scripts.Script.{Script}
-use Rattle.doltrun.specs.Headline.{HasScript, IsAnswer, WritesAnswer, fault_line, is_form}
-use Rattle.doltrun.specs.Stops.{Answers, AnswersAll, AnswersPart, FallsShort, Faults, IsTold, IsToWrite, StopsThere, WritesFault}
+use Rattle.doltrun.specs.Headline.{HasScript, WritesAnswer, fault_line, is_form}
+use Rattle.doltrun.specs.Stops.{Answers, AnswersAll, AnswersPart, FallsShort, Faults, IsTold, StopsThere, WritesFault}
 use Rattle.doltrun.specs.declared.status.Status.{Status}
 use Rattle.doltrun.specs.declared.status.Status.TheVariants as status
 use Rattle.doltrun.proofs.AloneLemmas.{if_true}

@@ -1,4 +1,4 @@
-use Rattle.std.proofs.Common.{◌≡◌, ◌∙◌, ◌*◌, ◌+◌, ◌<◌, ◌≤◌, sym, ap, subst, refl, true, List, length, vec_len, vec_capacity, arith, ℕ, Some, slice_get}
+use Rattle.std.proofs.Common.{◌≡◌, ◌∙◌, ◌*◌, ◌+◌, ◌≤◌, sym, ap, subst, length, vec_capacity, arith}
 use Rattle.script_text.specs.Output.{shortage}
 use Rattle.doltrun.specs.Alone.{served}
 use Rattle.doltrun.proofs.RunningLemmas.{line_run, line_there, room_kept, said_within, session_there}

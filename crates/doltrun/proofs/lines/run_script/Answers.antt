@@ -1,4 +1,4 @@
-use Rattle.std.proofs.Common.{◌≡◌, length, pos}
+use Rattle.std.proofs.Common.{length, pos}
 use Rattle.doltrun.proofs.EndLemmas.{plain_at_end, printable_at_end, shown_at_end}
 use Rattle.doltrun.proofs.RunningLemmas.{run_as}
 use Rattle.doltrun.proofs.lines.run_script.Goals as goal

@@ -1,4 +1,4 @@
-use Rattle.std.proofs.Common.{◌≡◌, ◌∙◌, Err, ◌+◌, ◌<◌, ◌≤◌, true, ℕ, List, Option, length, arith, sym, ap, subst}
+use Rattle.std.proofs.Common.{◌≡◌, ◌∙◌, Err, true, ℕ, List, length, arith, sym, ap, subst}
 use Rattle.doltrun.specs.Headline.{is_form, spelled}
 use Rattle.std.specs.Io.KnownBytes.{Appends}
 use Rattle.script_text.specs.Input.{script}
