@@ -1,0 +1,10 @@
+pub mod AloneLemmas
+pub mod EndLemmas
+pub mod LineLemmas
+pub mod ListLemmas
+pub mod RunLemmas
+pub mod RunningLemmas
+pub mod SameLemmas
+pub mod ScriptLemmas
+pub mod ServingLemmas
+pub mod TopLemmas

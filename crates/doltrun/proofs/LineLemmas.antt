@@ -1,0 +1,203 @@
+-- What the machine makes of one line is what the statement makes by itself.
+use Rattle.std.proofs.Common.{◌≡◌, refl, sym, ◌∙◌, ap, subst, ◌+◌, Bool, true, false, not, is_some, List, [], ◌∷◌, ◌++◌, length, replicate, Option, Some, None, slice_get, if◌then◌else◌}
+use Rattle.std.specs.Option.{option_map, option_map_or, option_and_then}
+use Rattle.std.specs.List.{list_all}
+use Rattle.tuple_codec.specs.Rows.{fits_all}
+use Rattle.script_text.specs.Output.{Shortage, AtOnce, AfterStart}
+use Rattle.script_text.specs.declared.replies.Reply.{Reply}
+use Rattle.script_text.specs.declared.replies.Reply.TheVariants.{Done, Count, Refused}
+use Rattle.script_text.specs.declared.scripts.Line.{Line}
+use Rattle.script_text.specs.declared.scripts.Moment.{Moment}
+use Rattle.plain_model.specs.Effects.{Effect, effect, created, inserted, selected, refuses}
+use Rattle.plain_model.specs.Language.{read}
+use Rattle.plain_model.specs.Machine.{Past, Still, Between, Place, Shared, Transaction, Session, Shortages, alone, alone_by, awaiting, is_refusal, moment_at, over, past, past_moment, start_by, started, step, steps_along}
+use Rattle.plain_model.specs.Tables.{Tables, table_in, with_table, in_key_order, has_repeated_key, kinds_of, is_same_database}
+use Rattle.plain_model.specs.declared.statements.Create.{Create}
+use Rattle.plain_model.specs.declared.statements.Insert.{Insert}
+use Rattle.plain_model.specs.declared.statements.Statement.{Statement}
+use Rattle.plain_model.specs.declared.statements.Statement.TheVariants as form
+use Rattle.plain_model.specs.declared.tables.Table.{Table}
+use Rattle.doltrun.specs.Alone.{Served, stays, performed, served, served_by, session_after, starved_by, state_before}
+use Rattle.doltrun.proofs.AloneLemmas.{here, more_replies, by_itself, by_moment, by_moments}
+use Rattle.doltrun.proofs.SameLemmas.{database_decides}
+
+-- an effect that is refused, where the test was true, or was false and the rest keeps the database
+kept_if : (b : Bool) (database : Tables) (x y : Effect) → (is_refusal x.reply ≡ true → x.database ≡ database) → (is_refusal y.reply ≡ true → y.database ≡ database)
+    → is_refusal (if b then x else y).reply ≡ true → (if b then x else y).database ≡ database
+kept_if true database x y hx hy h = hx h
+kept_if false database x y hx hy h = hy h
+
+kept_at : (found : Option Table) (database : Tables) (f : Table → Effect) (y : Effect) → ((t : Table) → is_refusal (f t).reply ≡ true → (f t).database ≡ database) → (is_refusal y.reply ≡ true → y.database ≡ database)
+    → is_refusal (option_map_or f found y).reply ≡ true → (option_map_or f found y).database ≡ database
+kept_at None database f y hf hy h = hy h
+kept_at (Some t) database f y hf hy h = hf t h
+
+keeps_created : (database : Tables) (create : Create) → is_refusal (created database create).reply ≡ true → (created database create).database ≡ database
+keeps_created database create h =
+    kept_if (is_some (table_in database create.name)) database (refuses 1050 database) (record { reply = Done; database = with_table create.name (record { schema = create.schema; rows = [] }) database })
+    (λ _. refl) (λ (e : false ≡ true). cc) h
+
+keeps_inserted : (database : Tables) (insert : Insert) (table : Table) → is_refusal (inserted database insert table).reply ≡ true → (inserted database insert table).database ≡ database
+keeps_inserted database insert table h =
+    let grown : Effect = record {
+      reply = Count (length insert.rows);
+      database = with_table insert.name (record { schema = table.schema; rows = in_key_order table.schema.key (table.rows ++ insert.rows) }) database;
+    } in
+    let repeated : Bool = has_repeated_key table.schema.key (table.rows ++ insert.rows) in
+    kept_if (not (list_all (fits_all (kinds_of table.schema)) insert.rows)) database (refuses 9013 database) (if repeated then refuses 1062 database else grown)
+    (λ _. refl) (λ e. kept_if repeated database (refuses 1062 database) grown (λ _. refl) (λ (d : false ≡ true). cc) e) h
+
+-- a refused statement leaves the database
+refused_keeps : (database : Tables) (statement : Statement) → is_refusal (effect database statement).reply ≡ true → (effect database statement).database ≡ database
+unfolding effect
+refused_keeps database (form.Create create) h = keeps_created database create h
+refused_keeps database (form.Insert insert) h =
+    kept_at (table_in database insert.name) database (inserted database insert) (refuses 1146 database)
+    (keeps_inserted database insert) (λ _. refl) h
+refused_keeps database (form.Select name) h =
+    kept_at (table_in database name) database (selected database) (refuses 1146 database) (λ t e. refl) (λ _. refl) h
+
+then_then : {X Y Z : Type 0} (f : Y → Option Z) (g : X → Option Y) (o : Option X) → option_and_then (λ x. option_and_then f (g x)) o ≡ option_and_then f (option_and_then g o)
+then_then f g None = refl
+then_then f g (Some x) = refl
+
+-- what the machine makes of a line that is to come
+abbrev pub Goes : Shortages → Line → List Line → Tables → List (List Reply) → List Reply → Served → Type 0
+Goes answers line lines database spoken replies out = (more : List Moment)
+    → steps_along answers (replicate out.moments (here line replies) ++ more) (state_before answers (line ∷ lines) database spoken)
+    ≡ steps_along answers more (state_before answers lines out.database (more_replies spoken line replies out.reply))
+
+-- a line with one moment, and one with two
+one_moment : (answers : Shortages) (line : Line) (lines : List Line) (database : Tables) (spoken : List (List Reply)) (replies : List Reply) (out : Served)
+    → slice_get spoken line.session ≡ Some replies
+    → alone (answers line.session (length replies + 1)) (session_after (length replies)) line.statement ≡ None
+    → out.moments ≡ 1
+    → moment_at (answers line.session (length replies + 1)) (record { working = database }) (session_after (length replies)) line.statement
+    ≡ Some (record { working = out.database }, Past (session_after (length replies + 1), out.reply))
+    → Goes answers line lines database spoken replies out
+one_moment answers line lines database spoken replies out h waiting one went more =
+    ap (λ count. steps_along answers (replicate count (here line replies) ++ more) (state_before answers (line ∷ lines) database spoken)) one
+    ∙ ap (option_and_then (steps_along answers more)) (by_moment answers line lines database out.database spoken replies out.reply h waiting went)
+
+two_moments : (answers : Shortages) (line : Line) (lines : List Line) (database : Tables) (spoken : List (List Reply)) (replies : List Reply) (out : Served) (transaction : Transaction) (place : Place)
+    → slice_get spoken line.session ≡ Some replies
+    → alone (answers line.session (length replies + 1)) (session_after (length replies)) line.statement ≡ None
+    → out.moments ≡ 2
+    → moment_at (answers line.session (length replies + 1)) (record { working = database }) (session_after (length replies)) line.statement
+    ≡ Some (record { working = database }, Still transaction place)
+    → moment_at (answers line.session (length replies + 1)) (record { working = database }) (awaiting (session_after (length replies)) transaction place) line.statement
+    ≡ Some (record { working = out.database }, Past (session_after (length replies + 1), out.reply))
+    → Goes answers line lines database spoken replies out
+two_moments answers line lines database spoken replies out transaction place h waiting two begun settled more =
+    ap (λ count. steps_along answers (replicate count (here line replies) ++ more) (state_before answers (line ∷ lines) database spoken)) two
+    ∙ then_then (steps_along answers more) (step answers (here line replies)) (step answers (here line replies) (state_before answers (line ∷ lines) database spoken))
+    ∙ ap (option_and_then (steps_along answers more)) (by_moments answers line lines database out.database spoken replies out.reply transaction place h waiting begun settled)
+
+-- a line whose statement has an effect
+performs : (answers : Shortages) (line : Line) (lines : List Line) (database : Tables) (spoken : List (List Reply)) (replies : List Reply) (made : Effect)
+    → slice_get spoken line.session ≡ Some replies
+    → alone (answers line.session (length replies + 1)) (session_after (length replies)) line.statement ≡ None
+    → (is_refusal made.reply ≡ true → made.database ≡ database)
+    → answers line.session (length replies + 1) ≡ None
+    → moment_at (answers line.session (length replies + 1)) (record { working = database }) (session_after (length replies)) line.statement
+    ≡ Some (past_moment (length replies + 1) (record { working = database }, started (session_after (length replies)) database made))
+    → (refused same : Bool) → is_refusal made.reply ≡ refused → is_same_database made.database database ≡ same
+    → Goes answers line lines database spoken replies (performed database made)
+performs answers line lines database spoken replies made h waiting keeps memory went true same is_refused is_same =
+    let kept : made.database ≡ database = keeps is_refused in
+    one_moment answers line lines database spoken replies (performed database made) h waiting
+    (ap (λ test. if test then 1 else 2) ((database_decides made.database database).1 kept))
+    (went
+    ∙ ap (λ test. Some (past_moment (length replies + 1) (
+      record { working = database },
+      (if test then Past (session_after (length replies), made.reply) else (
+          if is_same_database made.database database then Past (session_after (length replies), made.reply) else
+          Still (record { start = database; own = made.database }) (Between made.reply))),
+    ))) is_refused
+    ∙ ap (λ working. Some (record { working = working }, Past (session_after (length replies + 1), made.reply))) (sym kept))
+performs answers line lines database spoken replies made h waiting keeps memory went false true is_refused is_same =
+    let kept : made.database ≡ database = (database_decides made.database database).0 is_same in
+    one_moment answers line lines database spoken replies (performed database made) h waiting
+    (ap (λ test. if test then 1 else 2) is_same)
+    (went
+    ∙ ap (λ test. Some (past_moment (length replies + 1) (
+      record { working = database },
+      (if test then Past (session_after (length replies), made.reply) else (
+          if is_same_database made.database database then Past (session_after (length replies), made.reply) else
+          Still (record { start = database; own = made.database }) (Between made.reply))),
+    ))) is_refused
+    ∙ ap (λ test. Some (past_moment (length replies + 1) (
+      record { working = database },
+      (if test then Past (session_after (length replies), made.reply) else
+          Still (record { start = database; own = made.database }) (Between made.reply)),
+    ))) is_same
+    ∙ ap (λ working. Some (record { working = working }, Past (session_after (length replies + 1), made.reply))) (sym kept))
+performs answers line lines database spoken replies made h waiting keeps memory went false false is_refused is_same =
+    let transaction : Transaction = record { start = database; own = made.database } in
+    two_moments answers line lines database spoken replies (performed database made) transaction (Between made.reply) h waiting
+    (ap (λ test. if test then 1 else 2) is_same)
+    (went
+    ∙ ap (λ test. Some (past_moment (length replies + 1) (
+      record { working = database },
+      (if test then Past (session_after (length replies), made.reply) else (
+          if is_same_database made.database database then Past (session_after (length replies), made.reply) else
+          Still (record { start = database; own = made.database }) (Between made.reply))),
+    ))) is_refused
+    ∙ ap (λ test. Some (past_moment (length replies + 1) (
+      record { working = database },
+      (if test then Past (session_after (length replies), made.reply) else
+          Still (record { start = database; own = made.database }) (Between made.reply)),
+    ))) is_same)
+    (ap (λ test. option_map (past_moment (length replies + 1)) (if test then Some (record { working = made.database }, Past (over (awaiting (session_after (length replies)) transaction (Between made.reply)), made.reply)) else None))
+    ((database_decides database database).1 refl))
+
+-- a line's statement by what was read and by the want of memory
+goes_read : (answers : Shortages) (line : Line) (lines : List Line) (database : Tables) (spoken : List (List Reply)) (replies : List Reply)
+    → slice_get spoken line.session ≡ Some replies → answers line.session (length replies + 1) ≡ None → (statement : Option Statement) → read line.statement ≡ statement
+    → Goes answers line lines database spoken replies (served_by database statement)
+goes_read answers line lines database spoken replies h memory None is_read = λ more.
+    ap (steps_along answers more) (by_itself answers line lines database spoken replies (Refused 9013) h
+    (ap (λ answer. option_map (past (length replies + 1)) (alone_by answer (session_after (length replies)) line.statement)) memory
+    ∙ ap (λ found. option_map (past (length replies + 1)) (option_map_or (λ (statement : Statement). None) found (Some (session_after (length replies), Refused 9013)))) is_read))
+goes_read answers line lines database spoken replies h memory (Some statement) is_read =
+    let session : Session = session_after (length replies) in
+    let shared : Shared = record { working = database } in
+    performs answers line lines database spoken replies (effect database statement) h
+    (ap (λ answer. option_map (past (length replies + 1)) (alone_by answer session line.statement)) memory
+    ∙ ap (λ found. option_map (past (length replies + 1)) (option_map_or (λ (statement : Statement). None) found (Some (session, Refused 9013)))) is_read)
+    (refused_keeps database statement) memory
+    (ap (λ answer. option_map (past_moment (length replies + 1)) (option_and_then (start_by answer shared session) (read line.statement))) memory
+    ∙ ap (λ found. option_map (past_moment (length replies + 1)) (option_and_then (start_by None shared session) found)) is_read)
+    (is_refusal (effect database statement).reply) (is_same_database (effect database statement).database database) refl refl
+
+goes_starved : (answers : Shortages) (line : Line) (lines : List Line) (database : Tables) (spoken : List (List Reply)) (replies : List Reply) (out : Served)
+    → slice_get spoken line.session ≡ Some replies → answers line.session (length replies + 1) ≡ Some AfterStart → (statement : Option Statement) → read line.statement ≡ statement
+    → starved_by database statement ≡ Some out
+    → Goes answers line lines database spoken replies out
+goes_starved answers line lines database spoken replies out h memory None is_read is_out = absurd (cc)
+goes_starved answers line lines database spoken replies out h memory (Some statement) is_read is_out =
+    let session : Session = session_after (length replies) in
+    let shared : Shared = record { working = database } in
+    let same : stays 2 1 database ≡ out = cc in
+    subst (λ (served : Served). Goes answers line lines database spoken replies served) same
+    (one_moment answers line lines database spoken replies (stays 2 1 database) h
+    (ap (λ answer. option_map (past (length replies + 1)) (alone_by answer session line.statement)) memory)
+    refl
+    (ap (λ answer. option_map (past_moment (length replies + 1)) (option_and_then (start_by answer shared session) (read line.statement))) memory
+    ∙ ap (λ found. option_map (past_moment (length replies + 1)) (option_and_then (start_by (Some AfterStart) shared session) found)) is_read))
+
+pub goes : (answers : Shortages) (line : Line) (lines : List Line) (database : Tables) (spoken : List (List Reply)) (replies : List Reply) (out : Served)
+    → slice_get spoken line.session ≡ Some replies → (answer : Option Shortage) → answers line.session (length replies + 1) ≡ answer
+    → served answer database line.statement ≡ Some out
+    → Goes answers line lines database spoken replies out
+goes answers line lines database spoken replies out h None memory is_out =
+    let same : served_by database (read line.statement) ≡ out = cc in
+    subst (λ (served : Served). Goes answers line lines database spoken replies served) same
+    (goes_read answers line lines database spoken replies h memory (read line.statement) refl)
+goes answers line lines database spoken replies out h (Some AtOnce) memory is_out =
+    let same : stays 1 0 database ≡ out = cc in
+    subst (λ (served : Served). Goes answers line lines database spoken replies served) same
+    (λ more. ap (steps_along answers more) (by_itself answers line lines database spoken replies (Refused 1) h
+    (ap (λ answer. option_map (past (length replies + 1)) (alone_by answer (session_after (length replies)) line.statement)) memory)))
+goes answers line lines database spoken replies out h (Some AfterStart) memory is_out =
+    goes_starved answers line lines database spoken replies out h memory (read line.statement) refl is_out

@@ -1,0 +1,70 @@
+use Rattle.std.proofs.Common.{◌≡◌, ◌∙◌, ◌*◌, ◌+◌, ◌≤◌, sym, ap, subst, length, vec_capacity, arith}
+use Rattle.script_text.specs.Output.{shortage}
+use Rattle.doltrun.specs.Alone.{served}
+use Rattle.doltrun.proofs.RunningLemmas.{line_run, line_there, room_kept, said_within, session_there}
+use Rattle.doltrun.proofs.lines.run_line.Goals as goal
+
+pub overflow_cast-statement : goal.overflow_cast-statement
+overflow_cast-statement g c =
+    let there = line_there c.args.script.now c.as_slice.result.now c.args.at c.index-as_slice-at.result c.as_slice.ensures c.requires.there c.index-as_slice-at.is in
+    let session = session_there c.args.script.now c.args.at c.args.running.now.order.items c.args.running.now.database c.args.running.now.replies.items c.index-as_slice-at.result c.requires.sound c.requires.before.run there in
+    let within : length c.index_mut-replies.result.now.items ≤ c.args.at
+    = said_within c.args.script.now c.args.at c.args.running.now.order.items c.args.running.now.database c.args.running.now.replies.items c.index-as_slice-at.result.session c.index_mut-replies.result.now
+    c.requires.before.run session c.index_mut-replies.ensures.value in
+    let few : length c.args.script.now.lines ≤ 20000 = c.requires.sound.few in
+    let len : c.index_mut-replies.result.now.len ≡ length c.index_mut-replies.result.now.items = c.index_mut-replies.result.now.ok.0 in
+    omega (arith, c.requires.there)
+
+pub overflow_add-statement : goal.overflow_add-statement
+overflow_add-statement g c =
+    let there = line_there c.args.script.now c.as_slice.result.now c.args.at c.index-as_slice-at.result c.as_slice.ensures c.requires.there c.index-as_slice-at.is in
+    let session = session_there c.args.script.now c.args.at c.args.running.now.order.items c.args.running.now.database c.args.running.now.replies.items c.index-as_slice-at.result c.requires.sound c.requires.before.run there in
+    let within : length c.index_mut-replies.result.now.items ≤ c.args.at
+    = said_within c.args.script.now c.args.at c.args.running.now.order.items c.args.running.now.database c.args.running.now.replies.items c.index-as_slice-at.result.session c.index_mut-replies.result.now
+    c.requires.before.run session c.index_mut-replies.ensures.value in
+    let few : length c.args.script.now.lines ≤ 20000 = c.requires.sound.few in
+    let len : c.index_mut-replies.result.now.len ≡ length c.index_mut-replies.result.now.items = c.index_mut-replies.result.now.ok.0 in
+    omega (arith, c.requires.there)
+
+pub put-requires : goal.put-requires
+put-requires g c =
+    let there = line_there c.args.script.now c.as_slice.result.now c.args.at c.index-as_slice-at.result c.as_slice.ensures c.requires.there c.index-as_slice-at.is in
+    let session = session_there c.args.script.now c.args.at c.args.running.now.order.items c.args.running.now.database c.args.running.now.replies.items c.index-as_slice-at.result c.requires.sound c.requires.before.run there in
+    let within : length c.index_mut-replies.result.now.items ≤ c.args.at
+    = said_within c.args.script.now c.args.at c.args.running.now.order.items c.args.running.now.database c.args.running.now.replies.items c.index-as_slice-at.result.session c.index_mut-replies.result.now
+    c.requires.before.run session c.index_mut-replies.ensures.value in
+    let room : length c.args.script.now.lines ≤ vec_capacity c.index_mut-replies.result.now
+    = subst (λ r. length c.args.script.now.lines ≤ vec_capacity r) (sym c.index_mut-replies.ensures.value)
+    (c.requires.before.replies_room c.index-as_slice-at.result.session c.index_mut-replies.result.now session) in
+    let len : c.index_mut-replies.result.now.len ≡ length c.index_mut-replies.result.now.items = c.index_mut-replies.result.now.ok.0 in
+    omega (arith, c.requires.there)
+
+pub put_times-requires : goal.put_times-requires
+put_times-requires g c =
+    let short : length c.args.running.now.order.items ≤ 2 * c.args.at = c.requires.before.run.short in
+    let few : c.serve-answered.result.moments ≤ 2 = c.serve-answered.ensures.few in
+    let room : 2 * length c.args.script.now.lines ≤ vec_capacity c.args.running.now.order = c.requires.before.order_room in
+    let len : c.args.running.now.order.len ≡ length c.args.running.now.order.items = c.args.running.now.order.ok.0 in
+    omega (arith, c.requires.there)
+
+pub returns : goal.returns
+returns g c =
+    let there = line_there c.args.script.now c.as_slice.result.now c.args.at c.index-as_slice-at.result c.as_slice.ensures c.requires.there c.index-as_slice-at.is in
+    let session = session_there c.args.script.now c.args.at c.args.running.now.order.items c.args.running.now.database c.args.running.now.replies.items c.index-as_slice-at.result c.requires.sound c.requires.before.run there in
+    let room : length c.args.script.now.lines ≤ vec_capacity c.index_mut-replies.result.now
+    = subst (λ r. length c.args.script.now.lines ≤ vec_capacity r) (sym c.index_mut-replies.ensures.value)
+    (c.requires.before.replies_room c.index-as_slice-at.result.session c.index_mut-replies.result.now session) in
+    let grown : vec_capacity c.index_mut-replies.result.now ≤ vec_capacity c.put.new.items = c.put.ensures.capacity in
+    let order_room : 2 * length c.args.script.now.lines ≤ vec_capacity c.args.running.now.order = c.requires.before.order_room in
+    let order_grown : vec_capacity c.args.running.now.order ≤ vec_capacity c.put_times.new.items = c.put_times.ensures.capacity in
+    record {
+      run = line_run c.args.script.now c.args.at c.args.running.now.order.items c.put_times.new.items.items c.args.running.now.database c.serve-answered.new.database c.args.running.now.replies.items
+          c.index-as_slice-at.result c.index_mut-replies.result.now c.put.new.items c.serve-answered.result.reply c.serve-answered.result.moments (c.len.result + 1)
+          there session c.index_mut-replies.ensures.value
+          (ap (λ n. n + 1) (c.len.ensures ∙ c.index_mut-replies.result.now.ok.0))
+          (ap (λ text. served (shortage c.serve-answered.result.reply) c.args.running.now.database text) (sym c.as_slice-2.ensures) ∙ c.serve-answered.ensures.served)
+          c.serve-answered.ensures.shown c.serve-answered.ensures.few c.put.ensures.items c.put_times.ensures.items c.requires.before.run;
+      sound = c.serve-answered.ensures.sound;
+      replies_room = room_kept (length c.args.script.now.lines) c.args.running.now.replies.items c.index-as_slice-at.result.session c.put.new.items (omega arith) c.requires.before.replies_room;
+      order_room = omega arith;
+    }

@@ -1,0 +1,58 @@
+-- What the program reads and writes.
+use Rattle.std.specs.Prelude.{◌≡◌, ℕ, pos, ◌+◌, Bool, false, List, [], ◌∷◌, ◌++◌, map, codes, String, string_bytes, Option, Some, None, Result, Ok}
+use Rattle.std.specs.Str.{bytes_eq}
+use Rattle.std.specs.Fmt.{decimal}
+use Rattle.std.specs.Io.KnownBytes.{Appends, IsAtEnd}
+use Rattle.script_text.specs.Input.{script, most_bytes}
+use Rattle.script_text.specs.Output.{newline, text}
+use Rattle.script_text.specs.Shown.{IsShown}
+use Rattle.script_text.specs.declared.faults.BadScript.{BadScript}
+use Rattle.script_text.specs.declared.outputs.RunText.{RunText}
+use Rattle.script_text.specs.declared.scripts.Script.{Script}
+use Rattle.plain_model.specs.Machine.{IsPlainRun, IsTextOrder}
+
+-- the bytes of the words
+abbrev pub spelled : {A : Type 0} → List (String A) → List (List ℕ)
+spelled words = map (λ word. string_bytes word) words
+
+-- the words that the program takes: the one word `ordered`
+abbrev pub is_form : List (List ℕ) → Bool
+is_form [] = false
+is_form (word ∷ []) = bytes_eq word (codes "ordered")
+is_form (word ∷ next ∷ words) = false
+
+abbrev pub usage_line : List ℕ
+usage_line = codes "usage: doltrun ordered|threads|replay [--epoch N] | load --seed N [--epoch N]\n"
+
+-- the line that a broken rule of scripts is told by
+abbrev pub fault_line : BadScript → List ℕ
+fault_line bad = codes "script line " ++ decimal bad.line ++ codes " rule " ++ decimal bad.rule ++ newline
+
+-- no more bytes than these are taken from a source: one above the longest script's
+abbrev pub most_taken : ℕ
+most_taken = most_bytes + 1
+
+-- what the script of the whole input is, where the source tells its bytes
+abbrev pub HasScript : Option (List ℕ) → Result Script BadScript → Type 0
+HasScript None read = Unit {0}
+HasScript (Some input) read = script input ≡ read
+
+-- The text that was written is that of a run which is the plain machine's run of the script, along the order and with
+-- the wants of memory that the text shows; the order is the script's own; and the text shows no other run.
+pub record IsAnswer (read : Result Script BadScript) (written : List ℕ) : Type 0 where
+  pub script : Script
+  pub run : RunText
+  pub reads : read ≡ Ok script
+  pub runs : IsPlainRun (pos 0) script run
+  pub ordered : IsTextOrder script run.order
+  pub shown : IsShown run
+  pub prints : written ≡ text run
+
+-- the whole input was read, and the whole answer to its script was appended
+pub record WritesAnswer (told left old new : Option (List ℕ)) : Type 0 where
+  pub read : Result Script BadScript
+  pub script : HasScript told read
+  pub ended : IsAtEnd left
+  pub written : List ℕ
+  pub answers : IsAnswer read written
+  pub writes : Appends old new written

@@ -1,0 +1,5 @@
+pub mod Alone
+pub mod Headline
+pub mod Running
+pub mod Statuses
+pub mod Stops

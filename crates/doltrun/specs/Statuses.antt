@@ -1,0 +1,12 @@
+-- The statuses of the process.
+use Rattle.std.specs.Prelude.{ℕ}
+use Rattle.doltrun.specs.declared.status.Status.{Status}
+use Rattle.doltrun.specs.declared.status.Status.TheVariants.{Done, Usage, Script, Read, Write, Memory}
+
+abbrev pub number_of : Status → ℕ
+number_of Done = 0
+number_of Usage = 1
+number_of Script = 2
+number_of Read = 3
+number_of Write = 4
+number_of Memory = 5

@@ -1,0 +1,51 @@
+//! The program `doltrun`: it reads a script of SQL statements from standard input, runs them one after another, and writes what
+//! each answered and the order of the moments at which they met the database.
+//!
+//! What it promises stands on `run`, which takes any source and sink. `main` gives it the standard streams.
+#![tactic(auto)]
+
+mod answering;
+mod lines;
+mod room;
+mod running;
+mod serving;
+mod status;
+#[cfg(test)]
+mod tests;
+mod top;
+mod words;
+mod writing;
+
+pub use status::Status;
+use std::env;
+use std::io::{self, ErrorKind};
+use std::process::ExitCode;
+use std::rt::Env;
+pub use top::run;
+use wire_io::{NoPace, StdSink, StdSource};
+
+fn main(rt: HostRuntime) -> ExitCode {
+    let Ok(words) = read_words(&rt) else {
+        return ExitCode::from(Status::Memory.number());
+    };
+    let mut input = StdSource::new(rt.stdin());
+    let mut output = StdSink::new(rt.stdout());
+    let status = run(
+        &rt,
+        rt.alloc(),
+        words.as_slice(),
+        &mut input,
+        &mut output,
+        &NoPace,
+    );
+    ExitCode::from(status.number())
+}
+
+/// The words behind the program's name. Where one isn't text there are none, which is no form either.
+fn read_words<R: Env + Alloc>(rt: &R) -> io::Result<Vec<String<R::A>, R::A>> {
+    match env::args(rt) {
+        Ok(words) => Ok(words.skip(1).collect(rt.alloc())?),
+        Err(error) if error.kind() == ErrorKind::InvalidData => Ok(Vec::new(rt.alloc())),
+        Err(error) => Err(error),
+    }
+}

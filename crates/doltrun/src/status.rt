@@ -1,0 +1,35 @@
+ghost use Rattle.std.specs.Prelude.{◌≡◌};
+ghost use Rattle.doltrun.specs.Statuses.{number_of};
+
+/// How a run ended.
+#[derive(Clone, Copy, Debug, PartialEq, Eq)]
+pub enum Status {
+    /// The run's text was written.
+    Done,
+    /// The words are none of the program's forms; the usage line was written.
+    Usage,
+    /// A line of the script breaks a rule; the line and the rule were written.
+    Script,
+    /// The source failed. Nothing was written.
+    Read,
+    /// The sink failed. It holds a part of what was to be written.
+    Write,
+    /// There was no memory for the input, the run's room or the text. Nothing was written.
+    Memory,
+}
+
+impl Status {
+    /// The status that the process ends with.
+    pub fn number(self) -> u8
+        ensures { result ≡ number_of self }
+    {
+        match self {
+            Status::Done => 0,
+            Status::Usage => 1,
+            Status::Script => 2,
+            Status::Read => 3,
+            Status::Write => 4,
+            Status::Memory => 5,
+        }
+    }
+}

@@ -1,0 +1,72 @@
+ghost use Rattle.std.specs.Prelude.{◌≡◌, ◌≢◌, ◌<◌, ◌≤◌, Err, length};
+ghost use Rattle.std.specs.Io.KnownBytes.{Appends};
+ghost use Rattle.wire_io.specs.Causes.{Rose};
+ghost use Rattle.wire_io.specs.Moves.{AppendsFront};
+ghost use Rattle.script_text.specs.Input.{script};
+ghost use Rattle.script_text.specs.declared.faults.BadScript.{BadScript};
+ghost use Rattle.doltrun.specs.Headline.{fault_line};
+ghost use Rattle.doltrun.specs.Stops.{AnswersAll, AnswersPart};
+
+use crate::answering::{answer, fault_text};
+use crate::status::Status;
+use script_text::{BadScript, ScriptFault};
+use std::alloc::Global;
+use wire_io::{Pacer, Sink, write_whole};
+
+/// Writes the answer to the script in these bytes, or the line of the rule that it breaks.
+pub fn write_answer<K: Sink, P: Pacer>(
+    alloc: Global,
+    pacer: &P,
+    bytes: &[u8],
+    output: &mut K,
+) -> Status
+    ensures done { result ≡ Status.Done → AnswersAll bytes.now (K.held output.old) (K.held output.new) }
+    ensures script { result ≡ Status.Script
+        → (bad : BadScript) × (script bytes.now ≡ Err bad) × Appends (K.held output.old) (K.held output.new) (fault_line bad) }
+    ensures faulty { (bad : BadScript) → script bytes.now ≡ Err bad → result ≢ Status.Done }
+    ensures part { result ≡ Status.Write → AnswersPart bytes.now (K.held output.old) (K.held output.new) (K.room output.old) }
+    ensures rose { result ≡ Status.Write → Rose (K.faults output.old) (K.faults output.new) }
+    ensures later { K.faults output.old ≤ K.faults output.new }
+    ensures memory { result ≡ Status.Memory → output.new ≡ output.old }
+    ensures words { result ≢ Status.Usage }
+    ensures source { result ≢ Status.Read }
+{
+    match answer(alloc, pacer, bytes) {
+        Ok(text) => write_last(output, text.as_slice(), Status::Done),
+        Err(ScriptFault::Bad(bad)) => write_fault(alloc, bad, output),
+        Err(ScriptFault::Memory) => Status::Memory,
+    }
+}
+
+fn write_fault<K: Sink>(alloc: Global, bad: BadScript, output: &mut K) -> Status
+    ensures script { result ≡ Status.Script → Appends (K.held output.old) (K.held output.new) (fault_line bad) }
+    ensures part { result ≡ Status.Write → AppendsFront (K.held output.old) (K.held output.new) (fault_line bad) }
+    ensures wider { result ≡ Status.Write → K.room output.old < length (fault_line bad) }
+    ensures rose { result ≡ Status.Write → Rose (K.faults output.old) (K.faults output.new) }
+    ensures later { K.faults output.old ≤ K.faults output.new }
+    ensures memory { result ≡ Status.Memory → output.new ≡ output.old }
+    ensures words { result ≢ Status.Usage }
+    ensures source { result ≢ Status.Read }
+    ensures done { result ≢ Status.Done }
+{
+    match fault_text(alloc, bad) {
+        Ok(text) => write_last(output, text.as_bytes(), Status::Script),
+        Err(_) => Status::Memory,
+    }
+}
+
+/// Writes a text whole and gives the status, which becomes `Write` where the sink fails.
+pub fn write_last<K: Sink>(output: &mut K, text: &[u8], status: Status) -> Status
+    requires { status ≢ Status.Write }
+    ensures same { result ≢ Status.Write → result ≡ status }
+    ensures whole { result ≢ Status.Write → Appends (K.held output.old) (K.held output.new) text.now }
+    ensures part { result ≡ Status.Write → AppendsFront (K.held output.old) (K.held output.new) text.now }
+    ensures wider { result ≡ Status.Write → K.room output.old < length text.now }
+    ensures rose { result ≡ Status.Write → Rose (K.faults output.old) (K.faults output.new) }
+    ensures later { K.faults output.old ≤ K.faults output.new }
+{
+    match write_whole(output, text) {
+        Ok(()) => status,
+        Err(_) => Status::Write,
+    }
+}
