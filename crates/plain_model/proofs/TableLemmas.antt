@@ -494,7 +494,7 @@ fill_shown table rows n = pick (not (list_all (fits_all (kinds_of table.schema))
     pick : (bad twice : Bool) (n : ℕ) → nat_lt n (2 ^ 64) ≡ true → IsShowable (cond bad (Refused 9013) (cond twice (Refused 1062) (Count n)))
     pick true twice n h = (refl, refl)
     pick false true n h = (refl, refl)
-    pick false false n h = (refl, h)
+    pick false false n h = (refl, refl)
 
 -- ---- filling a table
 
