@@ -7,9 +7,9 @@ use Rattle.std.specs.Int.{w16, w32, w64, to_be_bytes, from_be_bytes}
 
 -- an item of a node
 pub record Item : Type 0 where
-  pub key : List ℕ         -- in a leaf its key; in an inner node the last key below
-  pub body : List ℕ        -- in a leaf its value; in an inner node the address of the node below
-  pub rows : ℕ             -- in a leaf 1; in an inner node the rows below
+  pub key : List ℕ  -- in a leaf its key; in an inner node the last key below
+  pub body : List ℕ  -- in a leaf its value; in an inner node the address of the node below
+  pub rows : ℕ  -- in a leaf 1; in an inner node the rows below
 
 abbrev pub leaf_item : List ℕ → List ℕ → Item
 leaf_item key value = record { key = key; body = value; rows = 1 }
