@@ -1,0 +1,5 @@
+pub mod Nodes
+pub mod Views
+pub mod Reading
+pub mod Marks
+pub mod Faults

@@ -1,0 +1,8 @@
+//! Laws about what a node is, for the crates above.
+
+ghost use Rattle.node_format.specs.Faults.{HasOneSpelling};
+
+/// Two nodes with the same bytes are one: call it where a proof needs this. It does nothing.
+pub fn law_of_spelling()
+    ensures { HasOneSpelling }
+{}

@@ -1,0 +1,24 @@
+//! Nodes of trees as bytes: read in place, written, and where a node ends.
+//!
+//! The crates above use the clauses of [`NodeRef`] (the node that stands in the bytes is seen as a `Node`, a level and a
+//! list of items), of the two writers (`node_bytes` of such a node) and of [`ends_here`] (the boundary rule, `ends`).
+//! These words are in `specs/Nodes.antt`.
+#![tactic(auto)]
+
+mod boundary;
+mod fields;
+mod items;
+mod laws;
+mod marks;
+mod node;
+mod scan;
+mod writing;
+
+pub use boundary::ends_here;
+pub use items::{LeafItem, RefItem};
+pub use laws::law_of_spelling;
+pub use node::{Malformed, NodeRef};
+pub use writing::{write_inner, write_leaf};
+
+#[cfg(test)]
+mod tests;
