@@ -1,0 +1,18 @@
+//! Chunks, found by their addresses: stores of sealed chunks, and drafts with chunks of their own over a store.
+//!
+//! The crates above use the clauses of [`Draft`] and [`Store`], over the definitions of `specs/Chunks.antt` (what a
+//! list of chunks holds at an address) and `specs/Drafts.antt` (what a draft holds, and what putting bytes adds).
+#![tactic(auto)]
+
+mod digests;
+mod drafts;
+mod faults;
+mod index;
+mod segments;
+mod stores;
+
+pub use digests::Sha512Cut;
+pub use drafts::{Draft, DraftMark, SealFault};
+pub use faults::{Clash, PutFault};
+pub use segments::Segment;
+pub use stores::Store;
