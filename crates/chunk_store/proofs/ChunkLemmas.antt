@@ -1,7 +1,7 @@
-use Rattle.std.proofs.Common.{◌≡◌, ◌⊎◌, inl, inr, ℕ, zero, suc, ◌<◌, Bool, true, false, cond, List, [], ◌∷◌, ◌++◌, length, take, Option, Some, None, sym, refl, ap, ◌∙◌, subst, arith, slice_get, bytes_eq}
+use Rattle.std.proofs.Common.{◌≡◌, ◌⊎◌, inl, inr, ℕ, zero, suc, ◌<◌, Bool, true, false, cond, List, [], ◌∷◌, ◌++◌, ◌+◌, length, take, drop, map, get_or, Option, Some, None, sym, refl, ap, ◌∙◌, subst, arith, slice_get, bytes_eq}
 use Rattle.std.proofs.lemmas.Bool.{cond-true}
-use Rattle.std.proofs.lemmas.Option.{cond_some, same_Some}
-use Rattle.std.proofs.lemmas.List.{append-nil, append_assoc}
+use Rattle.std.proofs.lemmas.Option.{cond_some, same_Some, slice_get_within, get_or_from_slice_get}
+use Rattle.std.proofs.lemmas.List.{append-nil, append_assoc, drop_more, take_more}
 use Rattle.std.proofs.lemmas.Slice.Eq.{bytes_eq-Decides}
 use Rattle.chunk_store.specs.Chunks.{Chunk, Chunks, bytes_at, Listed, Lists, IsSingle, Extends, Agree, AreNamed}
 use Rattle.chunk_store.specs.Stores.{joined}
@@ -122,12 +122,15 @@ single_agree xs ys single k bytes more left right =
 pub single_join : (xs ys : List Chunk) → IsSingle xs → IsSingle ys → Agree (bytes_at xs) (bytes_at ys) → IsSingle (xs ++ ys)
 single_join xs ys left right agree k bytes others one two =
     elim (listed_either xs ys k bytes one) [
-      inl x ↦ elim (listed_either xs ys k others two) [
-        inl y ↦ left k bytes others x y
-      | inr y ↦ agree k bytes others (listed_is xs k bytes left x) (listed_is ys k others right y) ]
-    | inr x ↦ elim (listed_either xs ys k others two) [
-        inl y ↦ sym (agree k others bytes (listed_is xs k others left y) (listed_is ys k bytes right x))
-      | inr y ↦ right k bytes others x y ] ]
+      | inl x ↦ elim (listed_either xs ys k others two) [
+        | inl y ↦ left k bytes others x y
+        | inr y ↦ agree k bytes others (listed_is xs k bytes left x) (listed_is ys k others right y)
+      ]
+      | inr x ↦ elim (listed_either xs ys k others two) [
+        | inl y ↦ sym (agree k others bytes (listed_is xs k others left y) (listed_is ys k bytes right x))
+        | inr y ↦ right k bytes others x y
+      ]
+    ]
 
 single_one : (k bytes : List ℕ) → IsSingle ((k, bytes) ∷ [])
 single_one k bytes j some others (inl one) (inl two) = sym one.1 ∙ two.1
@@ -138,8 +141,9 @@ pub agree_push : (some : Chunks) (xs : List Chunk) (k bytes : List ℕ) → Agre
     → Agree some (bytes_at (xs ++ (k, bytes) ∷ []))
 agree_push some xs k bytes agree here j one two held found =
     elim (either_some (bytes_at xs j) (bytes_at ((k, bytes) ∷ []) j) two (sym (at_join xs ((k, bytes) ∷ []) j) ∙ found)) [
-      inl before ↦ agree j one two held before
-    | inr last ↦ let is = one_at k bytes j two last in here one (ap some is.0 ∙ held) ∙ is.1 ]
+      | inl before ↦ agree j one two held before
+      | inr last ↦ let is = one_at k bytes j two last in here one (ap some is.0 ∙ held) ∙ is.1
+    ]
 
 pub single_push : (base own : List Chunk) (k bytes : List ℕ) → IsSingle (base ++ own) → ((others : List ℕ) → bytes_at base k ≡ Some others → others ≡ bytes)
     → bytes_at own k ≡ None → IsSingle (base ++ (own ++ (k, bytes) ∷ []))
@@ -158,8 +162,9 @@ pub single_cut : (base own : List Chunk) (n : ℕ) → IsSingle (base ++ own) �
 single_cut base own n =
     single_fewer (base ++ take n own) (base ++ own) (λ k bytes listed.
     elim (listed_either base (take n own) k bytes listed) [
-      inl l ↦ listed_left base own k bytes l
-    | inr r ↦ listed_right base own k bytes (listed_take n own k bytes r) ])
+      | inl l ↦ listed_left base own k bytes l
+      | inr r ↦ listed_right base own k bytes (listed_take n own k bytes r)
+    ])
 
 -- ---- named lists
 
@@ -178,7 +183,20 @@ named_at a (c ∷ cs) zero k bytes named is =
     let same = same_Some c (k, bytes) is in ap a (sym (ap (λ (d : Chunk). d.1) same)) ∙ named.0 ∙ ap (λ (d : Chunk). d.0) same
 named_at a (c ∷ cs) (suc n) k bytes named is = named_at a cs n k bytes named.1 is
 
+-- ---- places in lists
+
+pub take_next : {X : Type 0} (xs : List X) (n : ℕ) (x : X) → slice_get xs n ≡ Some x → take (n + 1) xs ≡ take n xs ++ x ∷ []
+take_next xs n x is =
+    take_more xs n x (slice_get_within xs n x is) ∙ ap (λ y. take n xs ++ y ∷ []) (get_or_from_slice_get xs n x x is)
+
 -- ---- segments
+
+-- what is found from one segment on
+pub joined_next : {X : Type 0} (view : X → List Chunk) (xs : List X) (i : ℕ) (x : X) (k : List ℕ) → i < length xs → x ≡ get_or xs i x
+    → bytes_at (joined (map view (drop i xs))) k ≡ either (bytes_at (view x) k) (bytes_at (joined (map view (drop (i + 1) xs))) k)
+joined_next view xs i x k within is =
+    ap (λ l. bytes_at (joined (map view l)) k) (drop_more xs i x within ∙ ap (λ y. y ∷ drop (i + 1) xs) (sym is))
+    ∙ at_join (view x) (joined (map view (drop (i + 1) xs))) k
 
 pub joined_push : (segments : List (List Chunk)) (segment : List Chunk) → joined (segments ++ segment ∷ []) ≡ joined segments ++ segment
 joined_push [] segment = append-nil segment

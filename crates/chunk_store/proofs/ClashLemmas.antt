@@ -13,7 +13,7 @@ cause_at held brought k bytes found Memory is here cause = tt
 cause_at held brought k bytes found (Collision clash) is here cause = record {
   is_held = ap held cause.address_is ∙ sym is ∙ cause.held_is;
   is_brought = ap brought cause.address_is ∙ here ∙ ap Some (sym cause.brought_is);
-  differ = cause.differ
+  differ = cause.differ;
 }
 
 pub differ_at : (held brought : Chunks) (k bytes : List ℕ) (found : Option (List ℕ)) → found ≡ held k → brought k ≡ Some bytes → IsOther found bytes → Differ held brought
@@ -23,7 +23,7 @@ differ_at held brought k bytes found is here other = record {
   there = bytes;
   is_held = sym is ∙ other.found_is;
   is_brought = here;
-  differ = other.differ
+  differ = other.differ;
 }
 
 -- bytes that are there or at whose address nothing is differ from none

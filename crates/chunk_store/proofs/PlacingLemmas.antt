@@ -93,10 +93,11 @@ apart_last (x ∷ xs) c apart =
 pub apart_push : (xs : List Placed) (c : Placed) → AreApart xs → span_at xs c.address.0 ≡ None → AreApart (xs ++ c ∷ [])
 apart_push [] c apart absent = (refl, tt)
 apart_push (x ∷ xs) c apart absent =
-    let parts = absent_case (bytes_eq x.address.0 c.address.0) x.span (span_at xs c.address.0) absent in
-    (absent_both xs (c ∷ []) x.address.0 apart.0
-    (absent_from (bytes_eq c.address.0 x.address.0) c.span None (other_way x.address.0 c.address.0 parts.0) refl),
-    apart_push xs c apart.1 parts.1)
+    let parts = absent_case (bytes_eq x.address.0 c.address.0) x.span (span_at xs c.address.0) absent in (
+      absent_both xs (c ∷ []) x.address.0 apart.0
+          (absent_from (bytes_eq c.address.0 x.address.0) c.span None (other_way x.address.0 c.address.0 parts.0) refl),
+      apart_push xs c apart.1 parts.1,
+    )
 
 pub apart_get : (cs : List Placed) (n : ℕ) (c : Placed) → AreApart cs → slice_get cs n ≡ Some c → span_at (take n cs) c.address.0 ≡ None
 apart_get [] n c apart is = cc
@@ -110,7 +111,7 @@ pub index_push : (cs : List Placed) (c : Placed) (old new : List ℕ → Option 
     → ((k : List ℕ) → new k ≡ cond (bytes_eq c.address.0 k) (Some c.span) (old k)) → IsIndex (cs ++ c ∷ []) new
 index_push cs c old new index absent puts = record {
   finds = λ k. puts k ∙ ap (λ o. cond (bytes_eq c.address.0 k) (Some c.span) o) (index.finds k) ∙ sym (span_push cs c k absent);
-  apart = apart_push cs c index.apart absent
+  apart = apart_push cs c index.apart absent;
 }
 
 pop_case : (t : Bool) (s : Span) (o : Option Span) → (t ≡ true → o ≡ None) → cond t None (cond t (Some s) o) ≡ o
@@ -124,14 +125,18 @@ index_pop cs c old new index takes =
     let absent = apart_last cs c index.apart in
     record {
       finds = λ k. takes k ∙ ap (λ o. cond (bytes_eq c.address.0 k) None o) (index.finds k ∙ span_push cs c k absent)
-      ∙ pop_case (bytes_eq c.address.0 k) c.span (span_at cs k)
-      (λ here. ap (span_at cs) (sym (same_bytes c.address.0 k here)) ∙ absent);
-      apart = apart_front cs (c ∷ []) index.apart
+          ∙ pop_case (bytes_eq c.address.0 k) c.span (span_at cs k)
+          (λ here. ap (span_at cs) (sym (same_bytes c.address.0 k here)) ∙ absent);
+      apart = apart_front cs (c ∷ []) index.apart;
     }
 
 -- the table is another one that finds the same
 pub index_same : (cs : List Placed) (old new : List ℕ → Option Span) → IsIndex cs old → ((k : List ℕ) → new k ≡ old k) → IsIndex cs new
 index_same cs old new index same = record { finds = λ k. same k ∙ index.finds k; apart = index.apart }
+
+pub absent_span : (f : Span → List ℕ) (o : Option Span) → option_map f o ≡ None → o ≡ None
+absent_span f None none = refl
+absent_span f (Some s) none = cc
 
 -- ---- bytes on pages
 

@@ -1,6 +1,6 @@
 -- Drafts: a store, and chunks of the draft's own over it.
 use Rattle.std.specs.Prelude.{◌≡◌, ℕ, ◌+◌, ◌<◌, ◌≤◌, List, [], ◌∷◌, ◌++◌, if◌then◌else◌, is_some, take, length}
-use Rattle.chunk_store.specs.Chunks.{Chunk, Chunks, bytes_at}
+use Rattle.chunk_store.specs.Chunks.{Chunk, Chunks, AreNamed, IsSingle, bytes_at}
 
 -- the chunks of the store below, and those of the draft's own, in the order in which they came
 pub record DraftParts : Type 0 where
@@ -42,3 +42,8 @@ pub record TakesAtMostOnePage (old new : Drafting) : Type 0 where
   pub none_lost : pages_in old ≤ pages_in new
   pub none_made : 0 < old.free → pages_in new ≡ pages_in old
   pub one_made : pages_in new ≤ pages_in old + 1
+
+-- what every draft has: one address has one byte string, in the store and among its own chunks, and these are named
+pub record IsSound (address : List ℕ → List ℕ) (d : DraftParts) : Type 0 where
+  pub single : IsSingle (d.base ++ d.own)
+  pub named : AreNamed address d.own

@@ -5,7 +5,7 @@ ghost use Rattle.std.specs.Arc.{arc_value};
 ghost use Rattle.chunk_region.specs.Pages.{Pages};
 ghost use Rattle.chunk_store.specs.Chunks.{Agree, AreNamed, IsHeld, IsSingle, bytes_at};
 ghost use Rattle.chunk_store.specs.Clashes.{IsCause};
-ghost use Rattle.chunk_store.specs.Drafts.{Longer, TakesAtMostOnePage, chunks_of, cut_to, pages_in, put_in};
+ghost use Rattle.chunk_store.specs.Drafts.{IsSound, TakesAtMostOnePage, chunks_of, cut_to, pages_in, put_in};
 
 use crate::faults::{PutFault, is_there};
 use crate::index::{Index, Placed};
@@ -25,7 +25,7 @@ pub struct DraftMark {
 
 /// A store, and chunks of the draft's own over it, which lie in a region over the draft's pool of pages. A contract
 /// sees the two lists of chunks, and how many pages are free and how many are taken.
-#[derive(Drop)]
+#[derive(Debug, Drop)]
 pub struct Draft<D: Digester> {
     base: Store,
     index: Index,
@@ -45,7 +45,7 @@ impl<D: Digester> Model for Draft<D> {
 }
 
 /// Why a draft wasn't sealed; the draft comes back as it was.
-#[derive(Drop)]
+#[derive(Debug, Drop)]
 pub enum SealFault<D: Digester> {
     Memory(Draft<D>),
 }
@@ -78,9 +78,10 @@ impl<D: Digester> Draft<D> {
         ensures steps { (self.new.chunks ≡ self.old.chunks) ⊎ (self.new.chunks ≡ put_in D.address bytes.now self.old.chunks) }
     {
         let address = D::address_of(bytes);
-        if !self.has(&address, bytes)? {
-            self.add(address, bytes)?;
+        if self.has(&address, bytes)? {
+            return Ok(address);
         }
+        self.add(address, bytes)?;
         Ok(address)
     }
 
@@ -124,6 +125,13 @@ impl<D: Digester> Draft<D> {
             Some(span) => Some(self.region.bytes(span)),
             None => None,
         }
+    }
+
+    /// What every draft has, for proofs: one address has one byte string, and own chunks are named. It does nothing.
+    pub fn tell(&self)
+        ensures { IsSound D.address self.now.chunks }
+    {
+        let _index = &self.index;
     }
 
     /// Where the draft is now, to go back to.

@@ -18,7 +18,7 @@ pub(crate) struct Placed {
 }
 
 /// Chunks in the order in which they were placed, with a table that finds them by address.
-#[derive(Drop)]
+#[derive(Debug, Drop)]
 pub(crate) struct Index {
     placed: Vec<Placed>,
     spans: HashMap<[u8; 20], Span>,

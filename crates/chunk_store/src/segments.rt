@@ -10,7 +10,7 @@ use std::marker::Model;
 use tuple_codec::Address;
 
 /// Chunks that were sealed together, never to change again. A contract sees the list of them.
-#[derive(Drop)]
+#[derive(Debug, Drop)]
 pub struct Segment {
     pub(crate) index: Index,
     pub(crate) sealed: Sealed,

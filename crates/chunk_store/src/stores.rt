@@ -15,7 +15,7 @@ use tuple_codec::Address;
 
 /// A finite map from addresses to bytes, made of segments. A contract sees the list of its chunks and the number of
 /// segments for which room is kept.
-#[derive(Drop)]
+#[derive(Debug, Drop)]
 pub struct Store {
     segments: Vec<Arc<Segment>>,
 }
@@ -48,8 +48,8 @@ impl Store {
         *self.segments.allocator()
     }
 
-    /// Does nothing, and tells what every store has.
-    pub(crate) fn tell(&self)
+    /// What every store has, for proofs: chunks of one address have the same bytes. It does nothing.
+    pub fn tell(&self)
         ensures { IsSingle self.now.chunks }
     {
         let _segments = &self.segments;
@@ -121,10 +121,7 @@ impl Store {
 }
 
 /// Adds a segment at the end, or changes nothing.
-fn push_segment(
-    segments: &mut Vec<Arc<Segment>>,
-    segment: Arc<Segment>,
-) -> Result<(), AllocError>
+fn push_segment(segments: &mut Vec<Arc<Segment>>, segment: Arc<Segment>) -> Result<(), AllocError>
     ensures ok { OnOk result (segments.new.items ≡ segments.old.items ++ segment ∷ []) }
     ensures err { OnErr result (segments.new.items ≡ segments.old.items) }
     ensures full { OnErr result (vec_capacity segments.old ≤ vec_len segments.old) }

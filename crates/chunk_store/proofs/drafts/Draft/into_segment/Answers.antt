@@ -11,5 +11,5 @@ invariant_of-result g c =
     subst P (sym c.seal-sealed.ensures.kept)
     (record {
       all_written = c.self.invariant.all_written;
-      single = single_right c.self.inside.base.chunks (chunks_in pages c.self.inside.index.placed) c.self.invariant.single
+      single = single_right c.self.inside.base.chunks (chunks_in pages c.self.inside.index.placed) c.self.invariant.single;
     })
