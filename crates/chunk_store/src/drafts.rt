@@ -229,12 +229,12 @@ impl<D: Digester> Draft<D> {
     }
 
     /// Drops what the draft has of its own, and puts it on another store.
-    pub fn restart(&mut self, store: Store)
-        ensures chunks { self.new.chunks ≡ record { base = store.chunks; own = [] } }
+    pub fn restart(&mut self, base: Store)
+        ensures chunks { self.new.chunks ≡ record { base = base.chunks; own = [] } }
         ensures pages { pages_in self.new ≡ pages_in self.old }
     {
         self.back_to(DraftMark { own: 0 });
-        self.base = store;
+        self.base = base;
     }
 
     /// Drops the draft and gives back its pool, with all pages free.
