@@ -1,9 +1,9 @@
-use Rattle.std.proofs.Common.{◌≡◌, ◌⊎◌, inl, inr, ℕ, zero, suc, ◌<◌, Bool, true, false, cond, List, [], ◌∷◌, ◌++◌, ◌+◌, length, take, drop, map, get_or, Option, Some, None, sym, refl, ap, ◌∙◌, subst, arith, slice_get, bytes_eq}
+use Rattle.std.proofs.Common.{◌≡◌, ◌⊎◌, inl, inr, ℕ, zero, suc, ◌<◌, Bool, true, false, cond, List, [], ◌∷◌, ◌++◌, ◌+◌, length, take, drop, map, get_or, Option, Some, None, sym, refl, ap, ◌∙◌, slice_get, bytes_eq}
 use Rattle.std.proofs.lemmas.Bool.{cond-true}
 use Rattle.std.proofs.lemmas.Option.{cond_some, same_Some, slice_get_within, get_or_from_slice_get}
 use Rattle.std.proofs.lemmas.List.{append-nil, append_assoc, drop_more, take_more}
 use Rattle.std.proofs.lemmas.Slice.Eq.{bytes_eq-Decides}
-use Rattle.chunk_store.specs.Chunks.{Chunk, Chunks, bytes_at, Listed, Lists, IsSingle, Extends, Agree, AreNamed}
+use Rattle.chunk_store.specs.Chunks.{Chunk, Chunks, bytes_at, Listed, Lists, IsSingle, Agree, AreNamed}
 use Rattle.chunk_store.specs.Stores.{joined}
 
 pub same_bytes : (a b : List ℕ) → bytes_eq a b ≡ true → a ≡ b

@@ -1,10 +1,9 @@
-use Rattle.std.proofs.Common.{◌≡◌, ℕ, Bool, true, false, cond, List, Option, Some, None, sym, refl, ap, ◌∙◌, subst}
+use Rattle.std.proofs.Common.{◌≡◌, ℕ, Bool, cond, List, Option, Some, None, sym, ap, ◌∙◌}
 use Rattle.std.proofs.lemmas.Option.{cond_some}
-use Rattle.chunk_store.specs.declared.faults.Clash.{Clash}
 use Rattle.chunk_store.specs.declared.faults.PutFault.{PutFault}
 use Rattle.chunk_store.specs.declared.faults.PutFault.TheVariants.{Memory, Collision}
 use Rattle.chunk_store.specs.Chunks.{Chunks}
-use Rattle.chunk_store.specs.Clashes.{IsClash, IsClashAt, IsCause, IsCauseAt, IsOther, Differ}
+use Rattle.chunk_store.specs.Clashes.{IsCause, IsCauseAt, IsOther, Differ}
 
 -- a clash at one address is a clash of the two look-ups
 pub cause_at : (held brought : Chunks) (k bytes : List ℕ) (found : Option (List ℕ)) (fault : PutFault) → found ≡ held k → brought k ≡ Some bytes

@@ -1,6 +1,5 @@
-use Rattle.std.proofs.Common.{◌≡◌, ◌≤◌, ℕ, List, [], ◌∷◌, ◌++◌, length, take, Option, Some, None, option_map, sym, refl, ap, ◌∙◌, subst, slice_get}
+use Rattle.std.proofs.Common.{◌≡◌, ◌≤◌, ℕ, List, [], ◌∷◌, ◌++◌, length, take, Some, None, option_map, sym, ap, ◌∙◌, subst, slice_get}
 use Rattle.std.proofs.lemmas.List.{take-map}
-use Rattle.chunk_region.specs.declared.mark.Mark.{Mark}
 use Rattle.chunk_region.specs.Pages.{Pages, Stands, IsWritten, Keeps, KeepsBefore, AllBefore}
 use Rattle.chunk_region.proofs.PageLemmas.{is_written}
 use Rattle.chunk_store.specs.declared.index.Placed.{Placed}

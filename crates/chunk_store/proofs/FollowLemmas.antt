@@ -1,9 +1,9 @@
-use Rattle.std.proofs.Common.{◌≡◌, ◌⊎◌, inl, inr, ℕ, Bool, true, false, List, [], ◌∷◌, ◌++◌, length, take, Option, Some, None, is_some, if◌then◌else◌, cond, sym, refl, ap, ◌∙◌, subst}
+use Rattle.std.proofs.Common.{◌≡◌, inl, inr, ℕ, Bool, true, false, List, [], ◌∷◌, ◌++◌, length, take, Option, Some, None, is_some, if◌then◌else◌, sym, refl, ap, ◌∙◌}
 use Rattle.std.proofs.lemmas.List.{append-nil, append_assoc, take_at}
-use Rattle.chunk_store.specs.Chunks.{Chunk, Chunks, bytes_at, Listed, Lists, IsSingle, Extends, Agree, AreNamed}
-use Rattle.chunk_store.specs.Drafts.{DraftParts, chunks_of, put_in, cut_to, Longer}
+use Rattle.chunk_store.specs.Chunks.{Chunk, bytes_at, Listed, Extends, Agree, AreNamed}
+use Rattle.chunk_store.specs.Drafts.{DraftParts, chunks_of, Longer}
 use Rattle.chunk_store.specs.Laws.{ChunksFollow, DraftsFollow}
-use Rattle.chunk_store.proofs.ChunkLemmas.{either, either_some, at_join, left_first, right_else, found_listed, listed_is, listed_left, listed_right, single_join, single_agree}
+use Rattle.chunk_store.proofs.ChunkLemmas.{either, either_some, at_join, left_first, found_listed, listed_is, listed_left, listed_right, single_join, single_agree}
 use Rattle.chunk_store.proofs.DraftLemmas.{same_parts}
 
 listed_named : (a : List ℕ → List ℕ) (cs : List Chunk) (k bytes : List ℕ) → AreNamed a cs → Listed cs k bytes → a bytes ≡ k

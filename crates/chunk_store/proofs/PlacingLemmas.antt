@@ -1,4 +1,4 @@
-use Rattle.std.proofs.Common.{◌≡◌, ◌⊎◌, inl, inr, ℕ, zero, suc, Bool, true, false, cond, List, [], ◌∷◌, ◌++◌, length, take, map, Option, Some, None, IsSome, option_map, unwrap_or, sym, refl, ap, ◌∙◌, subst, slice_get, bytes_eq}
+use Rattle.std.proofs.Common.{◌≡◌, ℕ, zero, suc, Bool, true, false, cond, List, [], ◌∷◌, ◌++◌, take, Option, Some, None, IsSome, option_map, unwrap_or, sym, refl, ap, ◌∙◌, subst, slice_get, bytes_eq}
 use Rattle.std.specs.List.{AllByRecursion}
 use Rattle.std.proofs.lemmas.List.{map-append, take-map}
 use Rattle.std.proofs.lemmas.Option.{slice_get-map, same_Some}
@@ -8,7 +8,7 @@ use Rattle.chunk_region.specs.Pages as region
 use Rattle.chunk_region.specs.Pages.{Pages, Stands, IsWritten, IsBefore, Keeps, KeepsBefore, AllBefore}
 use Rattle.chunk_region.proofs.PageLemmas.{is_written}
 use Rattle.chunk_store.specs.declared.index.Placed.{Placed}
-use Rattle.chunk_store.specs.Chunks.{Chunk, Chunks, bytes_at, IsSingle, AreNamed}
+use Rattle.chunk_store.specs.Chunks.{Chunk, bytes_at, IsSingle}
 use Rattle.chunk_store.specs.Placing.{span_at, AreApart, IsIndex, written, chunk_of, chunks_in, AllWritten, InOrder}
 use Rattle.chunk_store.proofs.ChunkLemmas.{same_bytes, bytes_same, listed_is, listed_at}
 

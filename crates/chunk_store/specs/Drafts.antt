@@ -1,5 +1,5 @@
 -- Drafts: a store, and chunks of the draft's own over it.
-use Rattle.std.specs.Prelude.{◌≡◌, ℕ, ◌+◌, ◌<◌, ◌≤◌, List, [], ◌∷◌, ◌++◌, if◌then◌else◌, is_some, take, length}
+use Rattle.std.specs.Prelude.{◌≡◌, ℕ, ◌+◌, ◌<◌, ◌≤◌, List, [], ◌∷◌, ◌++◌, if◌then◌else◌, is_some, take}
 use Rattle.chunk_store.specs.Chunks.{Chunk, Chunks, AreNamed, IsSingle, bytes_at}
 
 -- the chunks of the store below, and those of the draft's own, in the order in which they came

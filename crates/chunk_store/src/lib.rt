@@ -71,16 +71,19 @@ mod tests {
         let first = draft.put(b"first").expect(&rt, "memory for a chunk");
         let mark = draft.mark();
         let second = draft.put(b"second").expect(&rt, "memory for a chunk");
-        assert_eq!(rt; draft.get(&second), Some(b"second".as_slice()));
+        let found = draft.get(&second).expect(&rt, "the chunk");
+        assert_eq!(rt; found, b"second".as_slice());
         draft.back_to(mark);
-        assert_eq!(rt; draft.get(&second), None);
-        assert_eq!(rt; draft.get(&first), Some(b"first".as_slice()));
+        assert!(rt; draft.get(&second).is_none());
+        let found = draft.get(&first).expect(&rt, "the chunk");
+        assert_eq!(rt; found, b"first".as_slice());
         draft
             .rebase(Store::new(rt.alloc()))
             .expect(&rt, "no collision");
-        assert_eq!(rt; draft.get(&first), Some(b"first".as_slice()));
+        let found = draft.get(&first).expect(&rt, "the chunk");
+        assert_eq!(rt; found, b"first".as_slice());
         draft.restart(Store::new(rt.alloc()));
-        assert_eq!(rt; draft.get(&first), None);
+        assert!(rt; draft.get(&first).is_none());
     }
 
     #[test]
@@ -91,7 +94,8 @@ mod tests {
         let copy = draft
             .copied(Store::new(rt.alloc()))
             .expect(&rt, "memory for a copy");
-        assert_eq!(rt; copy.get(&address), Some(b"kept".as_slice()));
+        let found = copy.get(&address).expect(&rt, "the chunk");
+        assert_eq!(rt; found, b"kept".as_slice());
         let Ok((segment, pool)) = copy.seal() else {
             panic!(rt; "no memory for a segment");
         };
@@ -100,10 +104,13 @@ mod tests {
         store.reserve(1).expect(&rt, "memory for a segment");
         store.append(segment).expect(&rt, "no collision");
         let shared = store.share().expect(&rt, "memory for a store");
-        assert_eq!(rt; store.get(&address), Some(b"kept".as_slice()));
-        assert_eq!(rt; shared.get(&address), Some(b"kept".as_slice()));
+        let found = store.get(&address).expect(&rt, "the chunk");
+        assert_eq!(rt; found, b"kept".as_slice());
+        let found = shared.get(&address).expect(&rt, "the chunk");
+        assert_eq!(rt; found, b"kept".as_slice());
         draft.restart(shared);
-        assert_eq!(rt; draft.get(&address), Some(b"kept".as_slice()));
+        let found = draft.get(&address).expect(&rt, "the chunk");
+        assert_eq!(rt; found, b"kept".as_slice());
         law_of_chunks();
         law_of_drafts();
     }

@@ -1,6 +1,6 @@
 use Rattle.std.proofs.Common.{◌≡◌, ℕ, List, [], ◌∷◌, ◌++◌, Some, None, ap, sym, ◌∙◌, subst}
 use Rattle.chunk_store.specs.declared.index.Placed.{Placed}
-use Rattle.chunk_store.specs.Chunks.{Chunk, bytes_at}
+use Rattle.chunk_store.specs.Chunks.{bytes_at}
 use Rattle.chunk_store.specs.Drafts.{Drafting}
 use Rattle.chunk_store.specs.Placing.{span_at, written, chunks_in, AreOver}
 use Rattle.chunk_store.proofs.PlacingLemmas.{found_at, absent_span, all_stay, chunks_push}

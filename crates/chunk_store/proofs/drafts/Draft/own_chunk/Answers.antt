@@ -1,4 +1,4 @@
-use Rattle.std.proofs.Common.{◌≡◌, ◌≤◌, ℕ, length, take, subst, ap, List, Some, None, slice_get}
+use Rattle.std.proofs.Common.{◌≡◌, ◌≤◌, length, take, subst, ap, List, Some, None, slice_get}
 use Rattle.chunk_region.specs.Pages.{IsWritten}
 use Rattle.chunk_store.specs.declared.index.Placed.{Placed}
 use Rattle.chunk_store.specs.Chunks.{Chunk, bytes_at}

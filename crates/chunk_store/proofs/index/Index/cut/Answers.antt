@@ -1,4 +1,4 @@
-use Rattle.std.proofs.Common.{◌≡◌, ◌≤◌, [], ◌∷◌, length, take, subst, sym, ap, ◌∙◌, bytes_eq, List, arith}
+use Rattle.std.proofs.Common.{◌≤◌, [], ◌∷◌, length, take, subst, sym, ap, ◌∙◌, bytes_eq, List, arith}
 use Rattle.std.proofs.lemmas.List.{take-append-le, length-append}
 use Rattle.std.specs.HashMap.{get}
 use Rattle.chunk_store.specs.declared.index.Placed.{Placed}

@@ -1,4 +1,4 @@
-use Rattle.std.proofs.Common.{◌≡◌, ◌+◌, ℕ, List, Some, take, subst, sym, ◌∙◌}
+use Rattle.std.proofs.Common.{◌≡◌, ℕ, List, Some, take, subst, sym, ◌∙◌}
 use Rattle.chunk_store.specs.Chunks.{Chunk, Agree, bytes_at}
 use Rattle.chunk_store.proofs.ChunkLemmas.{agree_push, take_next}
 use Rattle.chunk_store.proofs.ClashLemmas.{allowed_from}
