@@ -1,0 +1,64 @@
+use Rattle.std.proofs.Common.{◌≡◌, ◌≤◌, ℕ, List, [], ◌∷◌, ◌++◌, length, take, Some, None, option_map, sym, ap, ◌∙◌, subst, slice_get}
+use Rattle.std.proofs.lemmas.List.{take-map}
+use Rattle.chunk_region.specs.Pages.{Pages, Stands, IsWritten, Keeps, KeepsBefore, AllBefore}
+use Rattle.chunk_region.proofs.PageLemmas.{is_written}
+use Rattle.chunk_store.specs.declared.index.Placed.{Placed}
+use Rattle.chunk_store.specs.Chunks.{Chunk, bytes_at, IsSingle, AreNamed}
+use Rattle.chunk_store.specs.Drafts.{DraftParts}
+use Rattle.chunk_store.specs.Placing.{span_at, written, chunk_of, chunks_in, AllFit, AreOver}
+use Rattle.chunk_store.proofs.ChunkLemmas.{at_join, at_one, either_none, right_else, named_push, named_take, single_push, single_cut}
+use Rattle.chunk_store.proofs.PlacingLemmas.{all_push, all_take, found_at, all_stay, before_stay, kept_chunks, kept_written, chunks_push, marks_before, order_push, order_take, order_get}
+
+pub same_parts : (base own other more : List Chunk) → base ≡ other → own ≡ more
+    → ◌≡◌ {A = DraftParts} (record { base = base; own = own }) (record { base = other; own = more })
+same_parts base own other more b o =
+    let with_base : List Chunk → DraftParts = λ l. record { base = l; own = own } in
+    let with_own : List Chunk → DraftParts = λ l. record { base = other; own = l } in
+    ap with_base b ∙ ap with_own o
+
+-- nothing is found in a draft that isn't found in its parts
+pub absent_in_both : (base own : List Chunk) (k : List ℕ) → bytes_at (base ++ own) k ≡ None → (bytes_at base k ≡ None) × (bytes_at own k ≡ None)
+absent_in_both base own k none = either_none (bytes_at base k) (bytes_at own k) (sym (at_join base own k) ∙ none)
+
+-- bytes that were put are found
+pub put_held : (base own : List Chunk) (k bytes : List ℕ) → bytes_at (base ++ own) k ≡ None → bytes_at (base ++ (own ++ (k, bytes) ∷ [])) k ≡ Some bytes
+put_held base own k bytes none =
+    let parts = absent_in_both base own k none in
+    right_else base (own ++ (k, bytes) ∷ []) k parts.0 ∙ right_else own ((k, bytes) ∷ []) k parts.1 ∙ at_one k bytes
+
+-- one more chunk was placed
+pub over_push : (a : List ℕ → List ℕ) (base : List Chunk) (old new : Pages) (cs : List Placed) (c : Placed) (bytes : List ℕ) → AreOver a base old cs → Keeps old new
+    → Stands new c.span bytes → AllBefore c.before old → length bytes ≤ 65536 → a bytes ≡ c.address.0 → span_at cs c.address.0 ≡ None
+    → ((others : List ℕ) → bytes_at base c.address.0 ≡ Some others → others ≡ bytes) → AreOver a base new (cs ++ c ∷ [])
+over_push a base old new cs c bytes over keeps held before fits is absent agrees =
+    let stay = all_stay old new cs keeps in
+    let pushed = chunks_push old new cs c bytes over.all_written stay held in
+    let none = found_at old cs c.address.0 ∙ ap (option_map (written old)) absent in
+    record {
+      all_written = all_push (λ x. IsWritten new x.span) cs c (kept_written old new cs over.all_written stay) (is_written new c.span bytes held);
+      in_order = order_push cs c over.in_order (marks_before c.before old cs before over.all_written);
+      named = subst (AreNamed a) (sym pushed) (named_push a (chunks_in old cs) c.address.0 bytes over.named is);
+      fit = subst AllFit (sym pushed) (all_push (λ x. length x.1 ≤ 65536) (chunks_in old cs) (c.address.0, bytes) over.fit fits);
+      single = subst (λ l. IsSingle (base ++ l)) (sym pushed) (single_push base (chunks_in old cs) c.address.0 bytes over.single agrees none);
+    }
+
+-- the chunks before a mark, after it was gone back to
+pub cut_is : (a : List ℕ → List ℕ) (base : List Chunk) (old new : Pages) (cs : List Placed) (n : ℕ) (d : Placed) → AreOver a base old cs → KeepsBefore d.before old new
+    → slice_get cs n ≡ Some d → chunks_in new (take n cs) ≡ take n (chunks_in old cs)
+cut_is a base old new cs n d over keeps is =
+    kept_chunks old new (take n cs) (all_take (λ x. IsWritten old x.span) n cs over.all_written)
+    (before_stay d.before old new (take n cs) keeps (order_get cs n d over.in_order is))
+    ∙ sym (take-map (chunk_of old) n cs)
+
+pub over_cut : (a : List ℕ → List ℕ) (base : List Chunk) (old new : Pages) (cs : List Placed) (n : ℕ) (d : Placed) → AreOver a base old cs → KeepsBefore d.before old new
+    → slice_get cs n ≡ Some d → AreOver a base new (take n cs)
+over_cut a base old new cs n d over keeps is =
+    let same = cut_is a base old new cs n d over keeps is in
+    record {
+      all_written = kept_written old new (take n cs) (all_take (λ x. IsWritten old x.span) n cs over.all_written)
+          (before_stay d.before old new (take n cs) keeps (order_get cs n d over.in_order is));
+      in_order = order_take n cs over.in_order;
+      named = subst (AreNamed a) (sym same) (named_take a n (chunks_in old cs) over.named);
+      fit = subst AllFit (sym same) (all_take (λ x. length x.1 ≤ 65536) n (chunks_in old cs) over.fit);
+      single = subst (λ l. IsSingle (base ++ l)) (sym same) (single_cut base (chunks_in old cs) n over.single);
+    }

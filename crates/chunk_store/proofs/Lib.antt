@@ -1,0 +1,5 @@
+pub mod ChunkLemmas
+pub mod ClashLemmas
+pub mod DraftLemmas
+pub mod FollowLemmas
+pub mod PlacingLemmas

@@ -1,0 +1,49 @@
+-- Drafts: a store, and chunks of the draft's own over it.
+use Rattle.std.specs.Prelude.{◌≡◌, ℕ, ◌+◌, ◌<◌, ◌≤◌, List, [], ◌∷◌, ◌++◌, if◌then◌else◌, is_some, take}
+use Rattle.chunk_store.specs.Chunks.{Chunk, Chunks, AreNamed, IsSingle, bytes_at}
+
+-- the chunks of the store below, and those of the draft's own, in the order in which they came
+pub record DraftParts : Type 0 where
+  pub base : List Chunk
+  pub own : List Chunk
+
+-- what a draft has: its chunks, and how many pages of its pool are free and how many are taken
+pub record Drafting : Type 0 where
+  pub chunks : DraftParts
+  pub free : ℕ
+  pub taken : ℕ
+
+-- what is found in a draft
+abbrev pub chunks_of : DraftParts → Chunks
+chunks_of d = bytes_at (d.base ++ d.own)
+
+-- all pages that belong to the draft's pool, free or taken
+abbrev pub pages_in : Drafting → ℕ
+pages_in draft = draft.free + draft.taken
+
+-- the bytes are put: where their address is found nothing changes, else they are the last own chunk
+abbrev pub put_in : (List ℕ → List ℕ) → List ℕ → DraftParts → DraftParts
+put_in address bytes d =
+    if is_some (chunks_of d (address bytes)) then d
+    else record { base = d.base; own = d.own ++ (address bytes, bytes) ∷ [] }
+
+-- so many of its own chunks, from the first on
+abbrev pub cut_to : ℕ → DraftParts → DraftParts
+cut_to count d = record { base = d.base; own = take count d.own }
+
+-- more chunks of its own came after those that were there
+pub record Longer (old new : DraftParts) : Type 0 where
+  pub more : List Chunk
+  pub base : new.base ≡ old.base
+  pub own : new.own ≡ old.own ++ more
+
+-- no page is lost, none is made while the pool had a free one, and at most one otherwise
+pub record TakesAtMostOnePage (old new : Drafting) : Type 0 where
+  pub none_lost : pages_in old ≤ pages_in new
+  pub none_made : 0 < old.free → pages_in new ≡ pages_in old
+  pub one_made : pages_in new ≤ pages_in old + 1
+
+-- what every draft has: one address has one byte string, in the store and among its own chunks, and these are named
+pub record IsSound (address : List ℕ → List ℕ) (d : DraftParts) : Type 0 where
+  pub single : IsSingle (d.base ++ d.own)
+  pub named : AreNamed address d.own

@@ -1,0 +1,67 @@
+-- Chunks placed on pages, found by address.
+use Rattle.std.specs.Prelude.{◌≡◌, ◌≤◌, ◌++◌, ℕ, length, List, [], ◌∷◌, Option, Some, None, map, if◌then◌else◌, bytes_eq, unwrap_or}
+use Rattle.std.specs.List.{AllByRecursion}
+use Rattle.chunk_region.specs.declared.span.Span.{Span}
+use Rattle.chunk_region.specs.Pages as region
+use Rattle.chunk_region.specs.Pages.{Pages, IsWritten, IsBefore}
+use Rattle.chunk_store.specs.declared.index.Placed.{Placed}
+use Rattle.chunk_store.specs.Chunks.{Chunk, AreNamed, IsSingle}
+
+-- what an index has: where each chunk lies, in the order in which they came, and for how many more it has room
+pub record Indexed : Type 0 where
+  pub placed : List Placed
+  pub room : ℕ
+
+-- where the first chunk of an address lies
+abbrev pub span_at : List Placed → List ℕ → Option Span
+span_at [] k = None
+span_at (c ∷ cs) k = if bytes_eq c.address.0 k then Some c.span else span_at cs k
+
+-- no two chunks have one address
+abbrev pub AreApart : List Placed → Type 0
+AreApart [] = Unit {0}
+AreApart (c ∷ cs) = (span_at cs c.address.0 ≡ None) × AreApart cs
+
+-- a table finds by address just where each chunk lies
+pub record IsIndex (placed : List Placed) (found : List ℕ → Option Span) : Type 0 where
+  pub finds : (k : List ℕ) → found k ≡ span_at placed k
+  pub apart : AreApart placed
+
+-- the bytes that a span names
+abbrev pub written : Pages → Span → List ℕ
+written pages span = unwrap_or (region.bytes_at pages span) []
+
+-- the chunk that was placed
+abbrev pub chunk_of : Pages → Placed → Chunk
+chunk_of pages c = (c.address.0, written pages c.span)
+
+-- the chunks that were placed
+abbrev pub chunks_in : Pages → List Placed → List Chunk
+chunks_in pages placed = map (chunk_of pages) placed
+
+-- the bytes of each chunk are on the pages
+abbrev pub AllWritten : Pages → List Placed → Type 0
+AllWritten pages placed = AllByRecursion (λ c. IsWritten pages c.span) placed
+
+-- each chunk lies before the marks taken at those that came later
+abbrev pub InOrder : List Placed → Type 0
+InOrder [] = Unit {0}
+InOrder (c ∷ cs) = AllByRecursion (λ later. IsBefore later.before c.span) cs × InOrder cs
+
+-- no chunk is longer than a page
+abbrev pub AllFit : List Chunk → Type 0
+AllFit chunks = AllByRecursion (λ c. length c.1 ≤ 65536) chunks
+
+-- chunks that are sealed: each is on the pages, and one address has one byte string
+pub record AreSealed (pages : Pages) (placed : List Placed) : Type 0 where
+  pub all_written : AllWritten pages placed
+  pub single : IsSingle (chunks_in pages placed)
+
+-- chunks over a store: each is on the pages, in order, under its address and no longer than a page, and one address has one byte string,
+-- in the store and here
+pub record AreOver (address : List ℕ → List ℕ) (base : List Chunk) (pages : Pages) (placed : List Placed) : Type 0 where
+  pub all_written : AllWritten pages placed
+  pub in_order : InOrder placed
+  pub named : AreNamed address (chunks_in pages placed)
+  pub fit : AllFit (chunks_in pages placed)
+  pub single : IsSingle (base ++ chunks_in pages placed)

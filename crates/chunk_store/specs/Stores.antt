@@ -1,0 +1,13 @@
+-- Stores: the chunks of several segments, one segment after another.
+use Rattle.std.specs.Prelude.{ℕ, List, [], ◌∷◌, ◌++◌}
+use Rattle.chunk_store.specs.Chunks.{Chunk}
+
+-- what a store has: its chunks in the order in which it keeps them, and for how many segments more it has room
+pub record Stored : Type 0 where
+  pub chunks : List Chunk
+  pub room : ℕ
+
+-- segments, one after another
+abbrev pub joined : List (List Chunk) → List Chunk
+joined [] = []
+joined (segment ∷ segments) = segment ++ joined segments

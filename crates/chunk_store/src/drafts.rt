@@ -1,0 +1,277 @@
+//! A draft: chunks of its own over a store.
+
+ghost use Rattle.std.specs.Prelude.{ℕ, List, ◌≡◌, ◌⊎◌, ◌++◌, ◌<◌, ◌≤◌, [], ◌∷◌, if◌then◌else◌, length, option_map, slice_get, take, Some, None, is_some, IfOk, IfErr, OnOk, OnErr};
+ghost use Rattle.std.specs.Arc.{arc_value};
+ghost use Rattle.chunk_region.specs.Pages.{Pages};
+ghost use Rattle.chunk_store.specs.Chunks.{Agree, AreNamed, IsHeld, IsSingle, bytes_at};
+ghost use Rattle.chunk_store.specs.Clashes.{IsCause};
+ghost use Rattle.chunk_store.specs.Drafts.{IsSound, TakesAtMostOnePage, chunks_of, cut_to, pages_in, put_in};
+
+use crate::faults::{PutFault, is_there};
+use crate::index::{Index, Placed};
+use crate::segments::Segment;
+use crate::stores::Store;
+use chunk_region::{PagePool, Region};
+use std::alloc::{AllocError, Global};
+use std::marker::{Model, PhantomData};
+use std::sync::Arc;
+use tuple_codec::{Address, Digester};
+
+/// How many chunks a draft had of its own at one moment.
+#[derive(Debug, Clone, Copy, PartialEq, Eq)]
+pub struct DraftMark {
+    pub(crate) own: usize,
+}
+
+/// A store, and chunks of the draft's own over it, which lie in a region over the draft's pool of pages. A contract
+/// sees the two lists of chunks, and how many pages are free and how many are taken.
+#[derive(Debug, Drop)]
+pub struct Draft<D: Digester> {
+    base: Store,
+    index: Index,
+    region: Region,
+    digester: PhantomData<D>,
+}
+
+impl<D: Digester> Model for Draft<D> {
+    ghost use Rattle.chunk_store.specs.Drafts.{Drafting};
+    ghost use Rattle.chunk_store.specs.Placing.{AreOver, chunks_in};
+
+    ghost Value = { Drafting };
+
+    ghost view = { λ d. record { chunks = record { base = d.base.chunks; own = chunks_in d.region.pages d.index.placed }; free = d.region.free; taken = d.region.taken } };
+
+    ghost invariant = { λ d. AreOver D.address d.base.chunks d.region.pages d.index.placed };
+}
+
+/// Why a draft wasn't sealed; the draft comes back as it was.
+#[derive(Debug, Drop)]
+pub enum SealFault<D: Digester> {
+    Memory(Draft<D>),
+}
+
+impl<D: Digester> Draft<D> {
+    /// A draft over `store` that has no chunk of its own; those to come are kept on the pool's pages.
+    pub fn new(store: Store, pool: PagePool) -> Draft<D>
+        ensures chunks { result.chunks ≡ record { base = store.chunks; own = [] } }
+        ensures free { result.free ≡ pool }
+        ensures taken { result.taken ≡ 0 }
+    {
+        let index = Index::new(store.allocator());
+        Draft {
+            base: store,
+            index,
+            region: Region::new(pool),
+            digester: PhantomData,
+        }
+    }
+
+    /// Keeps these bytes, or finds that they are kept: the address is theirs. A collision shows the bytes held first.
+    pub fn put(&mut self, bytes: &[u8]) -> Result<Address, PutFault>
+        requires { length bytes.now ≤ 65536 }
+        ensures address { IfOk result (λ address. address.0 ≡ D.address bytes.now) }
+        ensures exact { OnOk result (self.new.chunks ≡ put_in D.address bytes.now self.old.chunks) }
+        ensures held { OnOk result (IsHeld D.address (chunks_of self.new.chunks) (D.address bytes.now) bytes.now) }
+        ensures cause { IfErr result (IsCause (chunks_of self.old.chunks) (bytes_at ((D.address bytes.now, bytes.now) ∷ []))) }
+        ensures same { OnErr result (self.new ≡ self.old) }
+        ensures pages { TakesAtMostOnePage self.old self.new }
+        ensures steps { (self.new.chunks ≡ self.old.chunks) ⊎ (self.new.chunks ≡ put_in D.address bytes.now self.old.chunks) }
+    {
+        let address = D::address_of(bytes);
+        if self.has(&address, bytes)? {
+            return Ok(address);
+        }
+        self.add(address, bytes)?;
+        Ok(address)
+    }
+
+    /// Whether these bytes are at this address; a collision where others are.
+    fn has(&self, address: &Address, bytes: &[u8]) -> Result<bool, PutFault>
+        ensures there { IfOk result (λ there. chunks_of self.now.chunks address.now.0 ≡ (if there then Some bytes.now else None)) }
+        ensures cause { IfErr result (IsCause (chunks_of self.now.chunks) (bytes_at ((address.now.0, bytes.now) ∷ []))) }
+    {
+        is_there(self.index.allocator(), address, self.get(address), bytes)
+    }
+
+    /// Keeps bytes as the last own chunk.
+    fn add(&mut self, address: Address, bytes: &[u8]) -> Result<(), AllocError>
+        requires size { length bytes.now ≤ 65536 }
+        requires named { D.address bytes.now ≡ address.0 }
+        requires absent { bytes_at self.old.chunks.own address.0 ≡ None }
+        requires agrees { (others : List ℕ) → bytes_at self.old.chunks.base address.0 ≡ Some others → others ≡ bytes.now }
+        ensures ok { OnOk result (self.new.chunks ≡ record { base = self.old.chunks.base; own = self.old.chunks.own ++ (address.0, bytes.now) ∷ [] }) }
+        ensures same { OnErr result (self.new ≡ self.old) }
+        ensures pages { TakesAtMostOnePage self.old self.new }
+    {
+        self.index.make_room()?;
+        let before = self.region.mark();
+        let span = self.region.place(bytes)?;
+        self.index.push(Placed {
+            address,
+            span,
+            before,
+        });
+        Ok(())
+    }
+
+    /// The bytes at an address, in the store or of the draft's own.
+    pub fn get(&self, address: &Address) -> Option<&[u8]>
+        ensures { option_map (λ bytes. bytes.now) result ≡ chunks_of self.now.chunks address.now.0 }
+    {
+        if let Some(bytes) = self.base.get(address) {
+            return Some(bytes);
+        }
+        match self.index.find(address) {
+            Some(span) => Some(self.region.bytes(span)),
+            None => None,
+        }
+    }
+
+    /// What every draft has, for proofs: one address has one byte string, and own chunks are named. It does nothing.
+    pub fn tell(&self)
+        ensures { IsSound D.address self.now.chunks }
+    {
+        let _index = &self.index;
+    }
+
+    /// Where the draft is now, to go back to.
+    pub fn mark(&self) -> DraftMark
+        ensures { result.own ≡ length self.now.chunks.own }
+    {
+        DraftMark {
+            own: self.index.len(),
+        }
+    }
+
+    /// Drops what came after `mark` was taken.
+    pub fn back_to(&mut self, mark: DraftMark)
+        ensures chunks { self.new.chunks ≡ cut_to mark.own self.old.chunks }
+        ensures pages { pages_in self.new ≡ pages_in self.old }
+    {
+        if mark.own < self.index.len() {
+            let first = self.index.at(mark.own);
+            self.region.back_to(first.before);
+            self.index.cut(mark.own);
+        }
+    }
+
+    /// Puts the draft on another store, with its own chunks. A collision shows the store's bytes first.
+    pub fn rebase(&mut self, store: Store) -> Result<(), PutFault>
+        ensures chunks { OnOk result (self.new.chunks ≡ record { base = store.chunks; own = self.old.chunks.own }) }
+        ensures agree { OnOk result (Agree (bytes_at store.chunks) (bytes_at self.old.chunks.own)) }
+        ensures cause { IfErr result (IsCause (bytes_at store.chunks) (bytes_at self.old.chunks.own)) }
+        ensures same { OnErr result (self.new ≡ self.old) }
+        ensures pages { pages_in self.new ≡ pages_in self.old }
+    {
+        self.fits(&store)?;
+        self.base = store;
+        Ok(())
+    }
+
+    /// Refuses a store that has other bytes than the draft's own at some address.
+    fn fits(&self, store: &Store) -> Result<(), PutFault>
+        ensures agree { OnOk result (Agree (bytes_at store.now.chunks) (bytes_at self.now.chunks.own)) }
+        ensures single { IsSingle store.now.chunks }
+        ensures cause { IfErr result (IsCause (bytes_at store.now.chunks) (bytes_at self.now.chunks.own)) }
+    {
+        store.tell();
+        for at in 0..self.own_count() {
+            let (address, bytes) = self.own_chunk(at);
+            is_there(self.index.allocator(), &address, store.get(&address), bytes)?;
+        }
+        Ok(())
+    }
+
+    /// How many chunks the draft has of its own.
+    fn own_count(&self) -> usize
+        ensures { result ≡ length self.now.chunks.own }
+    {
+        self.index.len()
+    }
+
+    /// An own chunk, by its place.
+    fn own_chunk(&self, at: usize) -> (Address, &[u8])
+        requires { at < length self.now.chunks.own }
+        ensures chunk { slice_get self.now.chunks.own at ≡ Some (result.0.0, result.1.now) }
+        ensures found { bytes_at self.now.chunks.own result.0.0 ≡ Some result.1.now }
+        ensures size { length result.1.now ≤ 65536 }
+        ensures named { D.address result.1.now ≡ result.0.0 }
+        ensures first { bytes_at (take at self.now.chunks.own) result.0.0 ≡ None }
+    {
+        let placed = self.index.at(at);
+        (placed.address, self.region.bytes(placed.span))
+    }
+
+    /// A draft on `store` with the same chunks of its own. A collision shows the store's bytes first.
+    pub fn copied(&self, store: Store) -> Result<Draft<D>, PutFault>
+        ensures same { IfOk result (λ draft. draft.chunks ≡ record { base = store.chunks; own = self.now.chunks.own }) }
+        ensures agree { OnOk result (Agree (bytes_at store.chunks) (bytes_at self.now.chunks.own)) }
+        ensures cause { IfErr result (IsCause (bytes_at store.chunks) (bytes_at self.now.chunks.own)) }
+    {
+        self.fits(&store)?;
+        let pool = PagePool::with_pages(self.index.allocator(), 0)?;
+        let mut draft = Draft::new(store, pool);
+        self.copy_into(&mut draft)?;
+        Ok(draft)
+    }
+
+    /// Adds the own chunks to those of a draft that has none and whose store agrees with them.
+    fn copy_into(&self, draft: &mut Draft<D>) -> Result<(), AllocError>
+        requires none { draft.old.chunks.own ≡ [] }
+        requires agree { Agree (bytes_at draft.old.chunks.base) (bytes_at self.now.chunks.own) }
+        ensures { OnOk result (draft.new.chunks ≡ record { base = draft.old.chunks.base; own = self.now.chunks.own }) }
+    {
+        for at in 0..self.own_count() {
+            let (address, bytes) = self.own_chunk(at);
+            draft.add(address, bytes)?;
+        }
+        Ok(())
+    }
+
+    /// Drops what the draft has of its own, and puts it on another store.
+    pub fn restart(&mut self, base: Store)
+        ensures chunks { self.new.chunks ≡ record { base = base.chunks; own = [] } }
+        ensures pages { pages_in self.new ≡ pages_in self.old }
+    {
+        self.back_to(DraftMark { own: 0 });
+        self.base = base;
+    }
+
+    /// Drops the draft and gives back its pool, with all pages free.
+    pub fn release(self) -> PagePool
+        ensures { result ≡ pages_in self }
+    {
+        self.region.release()
+    }
+
+    /// Seals the own chunks, to be appended to a store, and gives back the pool with the pages not in use.
+    pub fn seal(self) -> Result<(Arc<Segment>, PagePool), SealFault<D>>
+        ensures own { IfOk result (λ sealed. arc_value sealed.0 ≡ self.chunks.own) }
+        ensures pool { IfOk result (λ sealed. sealed.1 ≡ self.free) }
+        ensures same { IfErr result (λ fault. fault ≡ SealFault.Memory self) }
+    {
+        let alloc = self.index.allocator();
+        let Ok(empty) = Segment::empty(alloc) else {
+            return Err(SealFault::Memory(self));
+        };
+        let Ok(mut sealed) = Arc::new(alloc, empty) else {
+            return Err(SealFault::Memory(self));
+        };
+        let Some(place) = Arc::get_mut(&mut sealed) else {
+            return Err(SealFault::Memory(self));
+        };
+        let (segment, pool) = self.into_segment();
+        *place = segment;
+        Ok((sealed, pool))
+    }
+
+    /// The own chunks as a segment, and the pages not in use.
+    fn into_segment(self) -> (Segment, PagePool)
+        ensures own { result.0 ≡ self.chunks.own }
+        ensures pool { result.1 ≡ self.free }
+    {
+        let Draft { index, region, .. } = self;
+        let (sealed, pool) = region.seal();
+        (Segment { index, sealed }, pool)
+    }
+}

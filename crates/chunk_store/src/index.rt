@@ -1,0 +1,109 @@
+//! Where chunks lie in a region, found by address.
+
+ghost use Rattle.std.specs.Prelude.{◌≡◌, ◌<◌, ◌++◌, [], ◌∷◌, length, slice_get, take, Some, None, OnOk};
+ghost use Rattle.chunk_store.specs.Placing.{AreApart, span_at};
+
+use chunk_region::{Mark, Span};
+use std::alloc::{AllocError, Global};
+use std::collections::HashMap;
+use std::marker::Model;
+use tuple_codec::Address;
+
+/// A chunk in a region: its address, where its bytes lie, and where the writing ended just before them.
+#[derive(Debug, Clone, Copy)]
+pub(crate) struct Placed {
+    pub(crate) address: Address,
+    pub(crate) span: Span,
+    pub(crate) before: Mark,
+}
+
+/// Chunks in the order in which they were placed, with a table that finds them by address.
+#[derive(Debug, Drop)]
+pub(crate) struct Index {
+    placed: Vec<Placed>,
+    spans: HashMap<[u8; 20], Span>,
+}
+
+impl Model for Index {
+    ghost use Rattle.std.specs.Prelude.{◌-◌, min, bytes_eq, vec_len};
+    ghost use Rattle.std.specs.Vec.{vec_capacity};
+    ghost use Rattle.std.specs.HashMap.{get, spare};
+    ghost use Rattle.chunk_store.specs.Placing.{Indexed, IsIndex};
+
+    ghost Value = { Indexed };
+
+    ghost view = { λ i. record { placed = i.placed.items; room = min (vec_capacity i.placed - vec_len i.placed) (spare i.spans) } };
+
+    ghost invariant = { λ i. IsIndex i.placed.items (get bytes_eq i.spans) };
+}
+
+impl Index {
+    pub(crate) fn new(alloc: Global) -> Index
+        ensures { result.placed ≡ [] }
+    {
+        Index {
+            placed: Vec::new(alloc),
+            spans: HashMap::new(alloc),
+        }
+    }
+
+    pub(crate) fn allocator(&self) -> Global {
+        *self.placed.allocator()
+    }
+
+    /// How many chunks it has.
+    pub(crate) fn len(&self) -> usize
+        ensures { result ≡ length self.now.placed }
+    {
+        self.placed.len()
+    }
+
+    /// The chunk at a place, in the order in which they came.
+    pub(crate) fn at(&self, place: usize) -> Placed
+        requires { place < length self.now.placed }
+        ensures at { slice_get self.now.placed place ≡ Some result }
+        ensures apart { AreApart self.now.placed }
+    {
+        self.placed[place]
+    }
+
+    /// Where the chunk of this address lies.
+    pub(crate) fn find(&self, address: &Address) -> Option<Span>
+        ensures { result ≡ span_at self.now.placed address.now.0 }
+    {
+        self.spans.get(&address.0).copied()
+    }
+
+    /// Takes the memory for one more chunk.
+    pub(crate) fn make_room(&mut self) -> Result<(), AllocError>
+        ensures same { self.new.placed ≡ self.old.placed }
+        ensures room { OnOk result (0 < self.new.room) }
+    {
+        self.placed.reserve(1)?;
+        self.spans.reserve(1)
+    }
+
+    /// Adds a chunk at the end.
+    pub(crate) fn push(&mut self, chunk: Placed)
+        requires room { 0 < self.old.room }
+        requires absent { span_at self.old.placed chunk.address.0 ≡ None }
+        ensures { self.new.placed ≡ self.old.placed ++ chunk ∷ [] }
+    {
+        self.placed.push_reserved(chunk);
+        match self.spans.insert(chunk.address.0, chunk.span) {
+            Ok(_) => {}
+            Err(_) => unreachable!(),
+        }
+    }
+
+    /// Takes away all chunks but the first so many.
+    pub(crate) fn cut(&mut self, count: usize)
+        ensures { self.new.placed ≡ take count self.old.placed }
+    {
+        'chunks: while self.placed.len() > count {
+            if let Some(last) = self.placed.pop() {
+                self.spans.remove(&last.address.0);
+            }
+        }
+    }
+}
