@@ -7,9 +7,9 @@ use Rattle.chunk_store.specs.Chunks.{Chunks}
 
 -- the one string is held at the address, the other is brought for it, and they differ
 pub record IsClash (held brought : Chunks) (clash : Clash) : Type 0 where
-  pub is_held : held clash.address.0 ≡ Some clash.held
-  pub is_brought : brought clash.address.0 ≡ Some clash.brought
-  pub differ : clash.held ≢ clash.brought
+  pub is_held : held clash.address.0 ≡ Some clash.first
+  pub is_brought : brought clash.address.0 ≡ Some clash.second
+  pub differ : clash.first ≢ clash.second
 
 -- why chunks were refused: memory was wanted, which needs no reason, or two byte strings have one address
 abbrev pub IsCause : Chunks → Chunks → PutFault → Type 0
@@ -19,9 +19,9 @@ IsCause held brought (Collision clash) = IsClash held brought clash
 -- the one string is found at this address, the other is brought for it, and they differ
 pub record IsClashAt (k : List ℕ) (found : Option (List ℕ)) (brought : List ℕ) (clash : Clash) : Type 0 where
   pub address_is : clash.address.0 ≡ k
-  pub held_is : found ≡ Some clash.held
-  pub brought_is : clash.brought ≡ brought
-  pub differ : clash.held ≢ clash.brought
+  pub held_is : found ≡ Some clash.first
+  pub brought_is : clash.second ≡ brought
+  pub differ : clash.first ≢ clash.second
 
 -- why bytes were refused at one address
 abbrev pub IsCauseAt : List ℕ → Option (List ℕ) → List ℕ → PutFault → Type 0

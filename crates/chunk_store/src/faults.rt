@@ -7,12 +7,12 @@ use std::alloc::{AllocError, Global};
 use thiserror::Error;
 use tuple_codec::{Address, Blob};
 
-/// Two different byte strings of one address: the one that is held, and the one that was brought.
+/// Two different byte strings of one address: first the one that is held, second the one that was brought.
 #[derive(Debug, Drop, Clone, PartialEq, Eq)]
 pub struct Clash {
     pub address: Address,
-    pub held: Blob,
-    pub brought: Blob,
+    pub first: Blob,
+    pub second: Blob,
 }
 
 /// Why chunks weren't taken.
@@ -74,12 +74,12 @@ fn both_of(
     brought: &[u8],
 ) -> Result<Clash, AllocError>
     ensures address { IfOk result (λ clash. clash.address ≡ address.now) }
-    ensures held { IfOk result (λ clash. clash.held ≡ held.now) }
-    ensures brought { IfOk result (λ clash. clash.brought ≡ brought.now) }
+    ensures held { IfOk result (λ clash. clash.first ≡ held.now) }
+    ensures brought { IfOk result (λ clash. clash.second ≡ brought.now) }
 {
     Ok(Clash {
         address: *address,
-        held: Blob::from_vec(Vec::from_slice(alloc, held)?),
-        brought: Blob::from_vec(Vec::from_slice(alloc, brought)?),
+        first: Blob::from_vec(Vec::from_slice(alloc, held)?),
+        second: Blob::from_vec(Vec::from_slice(alloc, brought)?),
     })
 }

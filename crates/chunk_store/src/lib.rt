@@ -59,8 +59,8 @@ mod tests {
             panic!(rt; "no collision");
         };
         assert_eq!(rt; clash.address, address);
-        assert_eq!(rt; clash.held.as_slice(), b"a".as_slice());
-        assert_eq!(rt; clash.brought.as_slice(), b"b".as_slice());
+        assert_eq!(rt; clash.first.as_slice(), b"a".as_slice());
+        assert_eq!(rt; clash.second.as_slice(), b"b".as_slice());
         assert_eq!(rt; draft.release().free_pages(), 1);
     }
 
