@@ -1,4 +1,4 @@
-use Rattle.std.proofs.Common.{◌∙◌, ◌≡◌, ◌∷◌, ◌==◌, true, drop, rules, List, ℕ}
+use Rattle.std.proofs.Common.{◌∙◌, ◌≡◌, ◌==◌, true, rules}
 use Rattle.plain_run.proofs.StoreLemmas.{front, met}
 use Rattle.plain_run.proofs.seats.step_at.Goals as goal
 
