@@ -5,3 +5,4 @@ pub mod Drafts
 pub mod Laws
 pub mod Placing
 pub mod Stores
+pub mod Standing

@@ -5,7 +5,7 @@ use Rattle.std.specs.Int.{w32, from_be_bytes}
 use Rattle.std.proofs.lemmas.Bool.{le-leb, lt-leb}
 use Rattle.std.proofs.lemmas.Slice.{take-put_mid}
 use borrow.Rule.Slice.PartMut.{put_mid}
-use Rattle.node_format.specs.Nodes.{ends}
+use Rattle.tuple_codec.specs.Nodes.{ends}
 
 module _ (address : List ℕ → List ℕ) (level size count : ℕ) (key : List ℕ) where
   pub one : count < 2 → ends address level size count key ≡ false

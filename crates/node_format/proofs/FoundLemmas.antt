@@ -5,7 +5,7 @@ use Rattle.std.specs.List.{slice_get}
 use Rattle.std.specs.Int.{w64}
 use Rattle.std.proofs.Math.Nat.{div-add-mod'}
 use Rattle.std.proofs.lemmas.Option.{none-some, slice_get-get_or}
-use Rattle.node_format.specs.Nodes.{Item, Node, leaf_item}
+use Rattle.tuple_codec.specs.Nodes.{Item, Node, leaf_item}
 use Rattle.node_format.specs.Reading.{◌>>=◌, bytes_at, inner_at, item_at, items_from, leaf_at, number_at, sized_at, skip}
 use Rattle.node_format.specs.Marks.{IsRead}
 use Rattle.node_format.proofs.FieldLemmas.{bind_some, bytes_length, some_is}

@@ -5,7 +5,7 @@ use Rattle.std.specs.Int.{w16, to_be_bytes}
 use Rattle.std.proofs.lemmas.Bool.{ltb-true, lt-ltb, eqb-true}
 use Rattle.std.proofs.lemmas.List.{length-append}
 use Rattle.std.proofs.lemmas.Option.{none-some}
-use Rattle.node_format.specs.Nodes.{Item, Node, IsHeader, IsNode, header_bytes, items_bytes, kind_of, node_bytes}
+use Rattle.tuple_codec.specs.Nodes.{Item, Node, IsHeader, IsNode, header_bytes, items_bytes, kind_of, node_bytes}
 use Rattle.node_format.specs.Reading.{number_at, is_header, header_at, stop_at, items_from}
 use Rattle.node_format.specs.Marks.{node_from}
 use Rattle.node_format.specs.Faults.{HasNoHeader, HasOneSpelling, IsNoNode, StopsAt}

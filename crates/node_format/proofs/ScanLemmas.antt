@@ -1,6 +1,6 @@
 -- Reading the items of a node as a loop does, with their marks.
 use Rattle.std.proofs.Common.{◌≡◌, ℕ, suc, ◌+◌, ◌-◌, ◌*◌, ◌/◌, ◌<◌, ◌≤◌, List, [], ◌∷◌, length, drop, true, false, Option, Some, None, refl, sym, ap, subst, ◌∙◌, arith}
-use Rattle.node_format.specs.Nodes.{Item, item_bytes}
+use Rattle.tuple_codec.specs.Nodes.{Item, item_bytes}
 use Rattle.node_format.specs.Reading.{item_at, next_at, rest_of, skip, stop_at, stop_at_end}
 use Rattle.node_format.specs.Marks.{AreMarked, IsPlace, noted}
 use Rattle.node_format.proofs.FieldLemmas.{IsBytes, IsBytes-drop}

@@ -1,7 +1,7 @@
 -- Where bytes that are no node's go wrong.
 use Rattle.std.specs.Prelude.{◌≡◌, ℕ, ◌<◌, List, [], ◌∷◌, ◌++◌, length, ◌⊎◌}
 use Rattle.std.specs.List.{AllByRecursion}
-use Rattle.node_format.specs.Nodes.{Item, Node, IsHeader, IsItem, IsNode, Rise, header_bytes, item_bytes, items_bytes, node_bytes}
+use Rattle.tuple_codec.specs.Nodes.{Item, Node, IsHeader, IsItem, IsNode, Rise, header_bytes, item_bytes, items_bytes, node_bytes}
 
 -- no node has these bytes
 abbrev pub IsNoNode : List ℕ → Type 0

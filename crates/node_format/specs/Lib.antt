@@ -1,4 +1,3 @@
-pub mod Nodes
 pub mod Views
 pub mod Reading
 pub mod Marks

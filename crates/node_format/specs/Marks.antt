@@ -1,6 +1,6 @@
 -- Places noted while the items are read, so that each item is found by few steps.
 use Rattle.std.specs.Prelude.{◌≡◌, ℕ, ◌*◌, ◌/◌, ◌%◌, ◌==◌, ◌<◌, ◌≤◌, List, length, drop, get_or, slice_set, if◌then◌else◌}
-use Rattle.node_format.specs.Nodes.{Node, IsNode}
+use Rattle.tuple_codec.specs.Nodes.{Node, IsNode}
 use Rattle.node_format.specs.Reading.{items_from, skip}
 
 -- what the bytes after a header hold

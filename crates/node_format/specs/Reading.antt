@@ -1,7 +1,7 @@
 -- Reading from left to right: an item, the items one after another, and where the reading stops.
 use Rattle.std.specs.Prelude.{ℕ, zero, suc, Bool, ◌==◌, ◌&&◌, ◌||◌, nat_lt, List, [], ◌∷◌, length, take, drop, Option, Some, None, if◌then◌else◌}
 use Rattle.std.specs.Int.{Width, w16, w64, byte_len, from_be_bytes}
-use Rattle.node_format.specs.Nodes.{Item, leaf_item, is_after}
+use Rattle.tuple_codec.specs.Nodes.{Item, leaf_item, is_after}
 
 infixl 10 ◌>>=◌
 abbrev pub ◌>>=◌ : {A B : Type 0} → Option A → (A → Option B) → Option B

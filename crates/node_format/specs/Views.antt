@@ -1,6 +1,6 @@
 -- What the items of the code are, seen apart from memory.
 use Rattle.std.specs.Prelude.{ℕ, List, map}
-use Rattle.node_format.specs.Nodes.{Item, Node, leaf_item}
+use Rattle.tuple_codec.specs.Nodes.{Item, Node, leaf_item}
 use Rattle.node_format.specs.declared.items.LeafItem.{LeafItem}
 use Rattle.node_format.specs.declared.items.RefItem.{RefItem}
 use Rattle.node_format.specs.declared.fields.ItemRef.{ItemRef}

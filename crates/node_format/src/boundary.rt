@@ -2,7 +2,7 @@
 
 ghost use Rattle.std.specs.Prelude.{◌≡◌, ◌+◌, ◌≤◌, ◌∷◌, length, take};
 ghost use Rattle.std.specs.Int.{w32, from_be_bytes};
-ghost use Rattle.node_format.specs.Nodes.{ends};
+ghost use Rattle.tuple_codec.specs.Nodes.{ends};
 
 use tuple_codec::{Address, Digester};
 

@@ -3,7 +3,7 @@
 ghost use Rattle.std.specs.Prelude.{◌≡◌, ◌<◌, ◌≤◌, length, take, drop};
 ghost use Rattle.std.specs.Option.{option_map};
 ghost use Rattle.std.specs.Int.{w16, w64};
-ghost use Rattle.node_format.specs.Nodes.{leaf_item};
+ghost use Rattle.tuple_codec.specs.Nodes.{leaf_item};
 ghost use Rattle.node_format.specs.Views.{seen};
 ghost use Rattle.node_format.specs.Reading.{bytes_at, number_at, sized_at, leaf_at, inner_at, item_at};
 

@@ -3,7 +3,7 @@
 ghost use Rattle.std.specs.Prelude.{◌≡◌, ◌<◌, ◌^◌, length, IfOk, IfErr, OnErr, Some};
 ghost use Rattle.std.specs.Option.{option_map};
 ghost use Rattle.std.specs.List.{slice_get};
-ghost use Rattle.node_format.specs.Nodes.{IsNode, leaf_item, node_bytes};
+ghost use Rattle.tuple_codec.specs.Nodes.{IsNode, leaf_item, node_bytes};
 ghost use Rattle.node_format.specs.Views.{seen};
 ghost use Rattle.node_format.specs.Reading.{item_at};
 ghost use Rattle.node_format.specs.Faults.{IsFault, IsNoNode};
@@ -38,7 +38,7 @@ pub struct NodeRef<'a> {
 }
 
 impl<'a> Model for NodeRef<'a> {
-    ghost use Rattle.node_format.specs.Nodes.{Node};
+    ghost use Rattle.tuple_codec.specs.Nodes.{Node};
     ghost use Rattle.node_format.specs.Marks.{IsRead, node_from};
 
     ghost Value = { Node };

@@ -2,7 +2,7 @@
 
 ghost use Rattle.std.specs.Prelude.{◌≡◌, ◌<◌, ◌*◌, ◌^◌, length, None, Some, IfOk, IfErr, OnOk};
 ghost use Rattle.std.specs.Option.{option_map};
-ghost use Rattle.node_format.specs.Nodes.{is_after};
+ghost use Rattle.tuple_codec.specs.Nodes.{is_after};
 ghost use Rattle.node_format.specs.Marks.{AreMarked};
 ghost use Rattle.node_format.specs.Views.{seen};
 ghost use Rattle.node_format.specs.Reading.{header_at, is_header, item_at, may_follow, next_at, rest_of, stop_at};

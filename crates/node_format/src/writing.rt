@@ -1,7 +1,7 @@
 //! Nodes as bytes, each written into one buffer made to its measure.
 
 ghost use Rattle.std.specs.Prelude.{◌≡◌, ◌<◌, ◌^◌, ◌++◌, length, IfOk, OnOk};
-ghost use Rattle.node_format.specs.Nodes.{IsItem, IsNode, header_bytes, item_bytes, kind_of, node_bytes, sized};
+ghost use Rattle.tuple_codec.specs.Nodes.{IsItem, IsNode, header_bytes, item_bytes, kind_of, node_bytes, sized};
 ghost use Rattle.std.specs.Int.{w16, w64, to_be_bytes};
 ghost use Rattle.node_format.specs.Views.{inner_node, leaf_node, leaf_of, ref_of};
 

@@ -3,7 +3,7 @@ ghost use Rattle.plain_model.specs.Tables.{kinds_of, names_of};
 
 use plain_model::{Column, NamedTable, Schema, Table};
 use std::alloc::{AllocError, Global};
-use tuple_codec::{Answer, Row, Sequence, SqlType, Text, Value};
+use tuple_codec::{Answer, Row, Sequence, SqlType, Text, copy_row};
 
 fn names_in(alloc: Global, columns: &[Column]) -> Result<Sequence<Text>, AllocError>
     ensures { IfOk result (λ names. names ≡ map (λ column. column.name) columns.now) }
@@ -23,32 +23,6 @@ fn kinds_in(alloc: Global, columns: &[Column]) -> Result<Sequence<SqlType>, Allo
         kinds.push(column.kind)?;
     }
     Ok(kinds)
-}
-
-fn copy_value(alloc: Global, value: &Value) -> Result<Value, AllocError>
-    ensures { IfOk result (λ copy. copy ≡ value.now) }
-{
-    match value {
-        Value::Null => Ok(Value::Null),
-        Value::Int(number) => Ok(Value::Int(*number)),
-        Value::Bool(bit) => Ok(Value::Bool(*bit)),
-        Value::Text(text) => Ok(Value::Text(Text::from_slice(alloc, text.as_slice())?)),
-        Value::Bytes(bytes) => {
-            let bytes = Vec::from_slice(alloc, bytes.as_slice())?;
-            Ok(Value::Bytes(Sequence::from_vec(bytes)))
-        }
-        Value::Decimal(number) => Ok(Value::Decimal(*number)),
-    }
-}
-
-pub fn copy_row(alloc: Global, row: &[Value]) -> Result<Row, AllocError>
-    ensures { IfOk result (λ copy. copy ≡ row.now) }
-{
-    let mut copy = Sequence::new(alloc);
-    for value in row {
-        copy.push(copy_value(alloc, value)?)?;
-    }
-    Ok(copy)
 }
 
 /// Adds copies of rows behind those that are there.

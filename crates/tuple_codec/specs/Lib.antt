@@ -7,3 +7,7 @@ pub mod Spellings
 pub mod Cells
 pub mod Fronts
 pub mod AddressTexts
+pub mod Nodes
+pub mod Trees
+pub mod Edits
+pub mod formers

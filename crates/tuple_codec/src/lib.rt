@@ -8,8 +8,11 @@
 mod address_text;
 mod addresses;
 mod answers;
+mod boxed;
 mod bytes;
 mod cells;
+mod copies;
+mod edits;
 mod forms;
 mod key_codec;
 mod numbers;
@@ -23,7 +26,10 @@ mod values;
 
 pub use addresses::{Address, Digester};
 pub use answers::Answer;
+pub use boxed::Boxed;
 pub use bytes::Text;
+pub use copies::{copy_row, copy_value};
+pub use edits::{Change, Edit};
 pub use key_codec::{decode_key, encode_key, keys_are_one_spelling, keys_keep_order};
 pub use records::BranchRecord;
 pub use row_codec::{decode_row, encode_row, rows_are_one_spelling};

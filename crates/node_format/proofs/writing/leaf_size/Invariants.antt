@@ -1,5 +1,5 @@
 use Rattle.std.proofs.Common.{◌≡◌, ◌+◌, ◌*◌, ◌^◌, ◌≤◌, length, map, take}
-use Rattle.node_format.specs.Nodes.{items_bytes}
+use Rattle.tuple_codec.specs.Nodes.{items_bytes}
 use Rattle.node_format.specs.Views.{leaf_of}
 use Rattle.node_format.proofs.writing.leaf_size.Given as goal
 

@@ -1,5 +1,5 @@
 use Rattle.std.proofs.Common.{◌≡◌, ◌++◌, length, map, take}
-use Rattle.node_format.specs.Nodes.{header_bytes, items_bytes}
+use Rattle.tuple_codec.specs.Nodes.{header_bytes, items_bytes}
 use Rattle.node_format.specs.Views.{ref_of}
 use Rattle.node_format.proofs.writing.write_inner.Given as goal
 

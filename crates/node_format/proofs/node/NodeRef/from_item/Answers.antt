@@ -1,7 +1,7 @@
 use Rattle.std.proofs.Common.{◌≡◌, ◌/◌, ◌%◌, ◌<◌, ◌≤◌, ℕ, List, length, get_or, drop, sym, ap, subst, ◌∙◌, arith}
 use Rattle.std.specs.Option.{option_map}
 use Rattle.std.specs.List.{slice_get}
-use Rattle.node_format.specs.Nodes.{Node}
+use Rattle.tuple_codec.specs.Nodes.{Node}
 use Rattle.node_format.specs.Reading.{item_at, skip}
 use Rattle.node_format.proofs.FoundLemmas.{item_from_mark}
 use Rattle.node_format.proofs.MarkLemmas.{mark_before}

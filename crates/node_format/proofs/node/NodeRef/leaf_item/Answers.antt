@@ -1,5 +1,5 @@
 use Rattle.std.proofs.Common.{sym}
-use Rattle.node_format.specs.Nodes.{leaf_item}
+use Rattle.tuple_codec.specs.Nodes.{leaf_item}
 use Rattle.node_format.proofs.FoundLemmas.{leaf_found, leaf_missing}
 use Rattle.node_format.proofs.node.NodeRef.leaf_item.Goals as goal
 
