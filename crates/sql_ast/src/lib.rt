@@ -1,0 +1,26 @@
+//! The SQL text as tokens and as trees.
+//!
+//! A tree has one variant for each alternative of the grammar and one field for each of its parts, in the grammar's
+//! order. Parentheses leave no trace. Names are in lower case.
+#![tactic(auto)]
+
+mod expressions;
+mod faults;
+mod selects;
+mod statements;
+mod tables;
+mod tokens;
+
+pub use expressions::{Comparison, Expr, Literal};
+pub use faults::{ReadFault, Refusal};
+pub use selects::{
+    Clauses, ColumnName, Direction, FromClause, Item, Items, Join, Limit, NamedExpr, OrderKey,
+    Query, Select, Sorting, Source,
+};
+pub use statements::{
+    Alter, Assignment, Call, Delete, Entry, Insert, Setting, Statement, Tuple, Update, Write,
+};
+pub use tables::{
+    Attribute, ColumnElement, CreateTable, DropTable, Element, ForeignKeyElement, TypeName,
+};
+pub use tokens::{Token, TokenKind};

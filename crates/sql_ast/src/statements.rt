@@ -1,0 +1,94 @@
+use crate::expressions::Expr;
+use crate::selects::Select;
+use crate::tables::{CreateTable, DropTable};
+use tuple_codec::{Sequence, Text};
+
+/// A statement.
+#[derive(Debug, Drop)]
+pub enum Statement {
+    Write(Write),
+    Select(Select),
+    /// `BEGIN` or `BEGIN WORK`.
+    Begin,
+    /// `START TRANSACTION`, which means the same.
+    Start,
+    Commit,
+    Rollback,
+    Set(Setting),
+    Call(Call),
+}
+
+/// A statement that changes a database.
+#[derive(Debug, Drop)]
+pub enum Write {
+    Create(CreateTable),
+    Drop(DropTable),
+    Insert(Insert),
+    Update(Update),
+    Delete(Delete),
+    /// Not yet given by the reader.
+    Alter(Alter),
+}
+
+/// `INSERT`.
+#[derive(Debug, Drop)]
+pub struct Insert {
+    pub table: Text,
+    /// The columns that are named, where any are.
+    pub columns: Option<Sequence<Text>>,
+    /// At least one.
+    pub tuples: Sequence<Tuple>,
+}
+
+/// A row of an `INSERT`: at least one entry.
+pub type Tuple = Sequence<Entry>;
+
+/// A cell of an `INSERT`.
+#[derive(Debug, Drop)]
+pub enum Entry {
+    Value(Expr),
+    Default,
+}
+
+/// `UPDATE`.
+#[derive(Debug, Drop)]
+pub struct Update {
+    pub table: Text,
+    /// At least one.
+    pub assignments: Sequence<Assignment>,
+    pub filter: Option<Expr>,
+}
+
+/// A column of an `UPDATE`, and what it is set to.
+#[derive(Debug, Drop)]
+pub struct Assignment {
+    pub column: Text,
+    pub value: Expr,
+}
+
+/// `DELETE`.
+#[derive(Debug, Drop)]
+pub struct Delete {
+    pub table: Text,
+    pub filter: Option<Expr>,
+}
+
+/// `ALTER TABLE`, as far as it goes yet.
+#[derive(Debug, Drop)]
+pub struct Alter {
+    pub table: Text,
+}
+
+/// `SET`: a variable, and whether it is switched on.
+#[derive(Debug, Drop)]
+pub struct Setting {
+    pub variable: Text,
+    pub on: bool,
+}
+
+/// `CALL`: a procedure and its arguments, strings without quotes and escapes.
+#[derive(Debug, Drop)]
+pub struct Call {
+    pub name: Text,
+    pub arguments: Sequence<Text>,
+}
