@@ -2,12 +2,13 @@
 use Rattle.std.proofs.Common.{◌≡◌, ℕ, zero, suc, ◌+◌, ◌-◌, ◌<◌, ◌≤◌, ◌^◌, Bool, true, false, cond, List, [], ◌∷◌, ◌++◌, length, Some, None, ◌⊎◌, inl, inr, refl, sym, ap, subst, ◌∙◌, append_assoc, arith}
 use Rattle.std.specs.Prelude.{◌&&◌, ◌||◌, ◌==◌, nat_lt}
 use Rattle.std.specs.Int.{w16, to_be_bytes}
-use Rattle.std.proofs.lemmas.Bool.{ltb-true, lt-ltb, eqb-true}
+use Rattle.std.proofs.lemmas.Bool.{ltb-true, lt-ltb, eqb-true, eq-eqb}
 use Rattle.std.proofs.lemmas.List.{length-append}
 use Rattle.std.proofs.lemmas.Option.{none-some}
 use Rattle.tuple_codec.specs.Nodes.{Item, Node, IsHeader, IsNode, header_bytes, items_bytes, kind_of, node_bytes}
 use Rattle.node_format.specs.Reading.{number_at, is_header, header_at, stop_at, items_from}
 use Rattle.node_format.specs.Marks.{node_from}
+use Rattle.node_format.specs.Found.{FindsItems, items_in}
 use Rattle.node_format.specs.Faults.{HasNoHeader, HasOneSpelling, IsNoNode, StopsAt}
 use Rattle.node_format.proofs.FieldLemmas.{IsBytes, bind_some, some_is, wide16, number_takes, number_again}
 use Rattle.node_format.proofs.ItemLemmas.{both_true, chosen_some, all_read, read_again, stops_at}
@@ -147,3 +148,11 @@ one_spelling a b is_a is_b e =
     let items : a.items ≡ b.items = sym read_a ∙ ap (λ (y : ℕ × ℕ × List ℕ). items_from y.0 y.1 y.2) same ∙ read_b in
     let level : a.level ≡ b.level = ap (λ (y : ℕ × ℕ × List ℕ). y.0) same in
     ap (λ (l : ℕ). record { level = l; items = a.items }) level ∙ ap (λ (l : List Item). record { level = b.level; items = l }) items
+
+-- ---- a node's items are found
+
+pub items_found : FindsItems
+unfolding items_in
+items_found node is =
+    let read = (read_again node.level None node.items is.items is.keys).1 in
+    rw (node_header node is, eq-eqb node.level node.level refl) (ap (λ (items : List Item). Some items) read)

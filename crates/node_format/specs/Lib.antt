@@ -2,3 +2,4 @@ pub mod Views
 pub mod Reading
 pub mod Marks
 pub mod Faults
+pub mod Found

@@ -16,7 +16,7 @@ mod writing;
 
 pub use boundary::ends_here;
 pub use items::{LeafItem, RefItem};
-pub use laws::law_of_spelling;
+pub use laws::{law_of_items, law_of_spelling};
 pub use node::{Malformed, NodeRef};
 pub use writing::{write_inner, write_leaf};
 

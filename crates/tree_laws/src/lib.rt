@@ -1,0 +1,4 @@
+//! Laws of trees: how lists are cut into nodes, and that the nodes of a tree lead back to its rows.
+//!
+//! Each law stands on a function that does nothing; proofs above call it, or import its lemma.
+#![tactic(auto)]
