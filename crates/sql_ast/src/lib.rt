@@ -7,9 +7,11 @@
 mod expressions;
 mod faults;
 mod selects;
+mod signs;
 mod statements;
 mod tables;
 mod tokens;
+mod words;
 
 pub use expressions::{Comparison, Expr, Literal};
 pub use faults::{ReadFault, Refusal};
@@ -17,6 +19,7 @@ pub use selects::{
     Clauses, ColumnName, Direction, FromClause, Item, Items, Join, Limit, NamedExpr, OrderKey,
     Query, Select, Sorting, Source,
 };
+pub use signs::Sign;
 pub use statements::{
     Alter, Assignment, Call, Delete, Entry, Insert, Setting, Statement, Tuple, Update, Write,
 };
@@ -24,3 +27,4 @@ pub use tables::{
     Attribute, ColumnElement, CreateTable, DropTable, Element, ForeignKeyElement, TypeName,
 };
 pub use tokens::{Token, TokenKind};
+pub use words::Keyword;

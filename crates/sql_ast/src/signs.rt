@@ -1,0 +1,34 @@
+/// The signs.
+#[derive(Clone, Copy, Debug, PartialEq, Eq)]
+pub enum Sign {
+    /// `(`.
+    OpenParenthesis,
+    /// `)`.
+    CloseParenthesis,
+    /// `,`.
+    Comma,
+    /// `.`.
+    Point,
+    /// `;`.
+    Semicolon,
+    /// `*`.
+    Star,
+    /// `+`.
+    Plus,
+    /// `-`.
+    Minus,
+    /// `=`.
+    Equal,
+    /// `<>` or `!=`.
+    NotEqual,
+    /// `<`.
+    Less,
+    /// `<=`.
+    AtMost,
+    /// `>`.
+    Greater,
+    /// `>=`.
+    AtLeast,
+    /// `@@`.
+    AtAt,
+}
