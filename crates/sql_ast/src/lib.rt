@@ -4,21 +4,31 @@
 //! order. Parentheses leave no trace. Names are in lower case.
 #![tactic(auto)]
 
+mod bytes;
 mod expressions;
 mod faults;
+mod keywords;
+mod lexer;
+mod marks;
+mod places;
 mod selects;
+mod signing;
 mod signs;
 mod statements;
 mod tables;
 mod tokens;
 mod words;
 
+pub use bytes::{hex_value, lower_case, push_escape};
 pub use expressions::{Comparison, Expr, Literal};
 pub use faults::{ReadFault, Refusal};
+pub use keywords::keyword_of;
+pub use lexer::lex;
 pub use selects::{
     Clauses, ColumnName, Direction, FromClause, Item, Items, Join, Limit, NamedExpr, OrderKey,
     Query, Select, Sorting, Source,
 };
+pub use signing::sign_of;
 pub use signs::Sign;
 pub use statements::{
     Alter, Assignment, Call, Delete, Entry, Insert, Setting, Statement, Tuple, Update, Write,
