@@ -2,3 +2,4 @@ pub mod Bytes
 pub mod Words
 pub mod Tokens
 pub mod Lexing
+pub mod Slices

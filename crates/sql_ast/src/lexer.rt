@@ -1,5 +1,6 @@
-ghost use Rattle.std.specs.Prelude.{◌≡◌, ◌^◌, ◌<◌, length, OnOk};
+ghost use Rattle.std.specs.Prelude.{◌≡◌, ◌^◌, ◌<◌, length, IfOk, OnOk};
 ghost use Rattle.sql_ast.specs.Lexing.{Goes, ReadsAll};
+ghost use Rattle.sql_ast.specs.Slices.{AreSlices};
 ghost use Rattle.sql_ast.specs.Tokens.{begun, closed, closed_sign, closed_word, end_decimal, end_point, end_whole, ended, gone_on, noted, nothing_read, opened, step, taken, tokens, with_digit, with_point};
 ghost use Rattle.sql_ast.specs.declared.faults.ReadFault.TheVariants.{Refused};
 ghost use Rattle.sql_ast.specs.declared.places.Last.TheVariants.{Operand};
@@ -34,6 +35,17 @@ pub struct Reading {
 
 /// The tokens of a text, or why its first bad token is refused.
 pub fn lex(alloc: Global, text: &[u8]) -> Result<Vec<Token>, ReadFault>
+    requires { length text.now < 2 ^ 32 }
+    ensures read { ReadsAll (tokens text.now) result }
+    ensures slices { IfOk result (λ found. AreSlices text.now 0 found.items (length text.now)) }
+{
+    match read_to_end(alloc, text) {
+        Ok(found) => Ok(found),
+        Err(fault) => Err(fault),
+    }
+}
+
+fn read_to_end(alloc: Global, text: &[u8]) -> Result<Vec<Token>, ReadFault>
     requires { length text.now < 2 ^ 32 }
     ensures { ReadsAll (tokens text.now) result }
 {

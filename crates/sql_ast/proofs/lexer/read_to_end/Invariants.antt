@@ -1,6 +1,6 @@
 use Rattle.std.proofs.Common.{◌≡◌, drop}
 use Rattle.sql_ast.specs.Tokens.{tokens, tokens_from}
-use Rattle.sql_ast.proofs.lexer.lex.Given as goal
+use Rattle.sql_ast.proofs.lexer.read_to_end.Given as goal
 
 -- what was read, and what is left to read, give the text's tokens
 abbrev pub invariant-loop-byte : goal.invariant-loop-byte
