@@ -1,1 +1,2 @@
 mod SliceLemmas
+mod Vectors
