@@ -71,8 +71,8 @@ decimal_ends text at r before some = if_ok (Ends text at) (nat_le r.digits 18) (
 point_ends : (text : List ℕ) (at : ℕ) (r : Reading) → AreSlices text 0 r.done r.start → r.start + 1 < at → IfOk (end_point at r) (Ends text at)
 point_ends text at r before some =
     and_then_ok (Ends text (at - 1)) (Ends text at) (end_whole (at - 1) r) (λ next. Ok (with_point at next))
-        (whole_ends text (at - 1) r before (omega arith))
-        (λ next ends. closed_ends text kind.Sign at (after_sign sign.Point next.last) (record next { start = at - 1 }) ends.1 (omega arith))
+    (whole_ends text (at - 1) r before (omega arith))
+    (λ next ends. closed_ends text kind.Sign at (after_sign sign.Point next.last) (record next { start = at - 1 }) ends.1 (omega arith))
 
 ends : (place : Place) (text : List ℕ) (at : ℕ) (r : Reading) → r.place ≡ place → Standing place text at r → IfOk (ended place at r) (Ends text at)
 ends Between text at r is before = (is, before)
@@ -125,7 +125,7 @@ map_some f P (Some x) holds = holds x
 
 first_by : (text : List ℕ) (at : ℕ) (r : Reading) → AreSlices text 0 r.done r.start → r.start ≤ at → (x word digit quote back half : Bool) (byte : ℕ) (mark : Option Sign)
     → IfSome (if x then Some AfterX else (if word then Some InWord else (if digit then Some InWhole else (if quote then Some (InString byte) else (if back then Some NameStart else
-        (if half then Some (AfterHalf byte) else option_map (λ sign. AfterSign sign) mark)))))) (IsReady text at r)
+    (if half then Some (AfterHalf byte) else option_map (λ sign. AfterSign sign) mark)))))) (IsReady text at r)
 first_by text at r before some true word digit quote back half byte mark = (before, some)
 first_by text at r before some false true digit quote back half byte mark = (before, some)
 first_by text at r before some false false true quote back half byte mark = (before, some)
@@ -228,11 +228,11 @@ from_slices : (bytes text front : List ℕ) (at : ℕ) (r : Reading) → text �
 from_slices [] text front at r is behind stands =
     let all : at ≡ length text = omega (arith, ap length is, length-append front []) in
     and_then_ok (Ends text at) (λ ts. AreSlices text 0 ts (length text)) (ended r.place at r) (λ last. Ok last.done) (ends r.place text at r refl stands)
-        (λ last ended. subst (λ (n : ℕ). AreSlices text 0 last.done n) all ended.1)
+    (λ last ended. subst (λ (n : ℕ). AreSlices text 0 last.done n) all ended.1)
 from_slices (byte ∷ bytes) text front at r is behind stands =
     let here : slice_index text at ≡ byte = ap (λ t. slice_index t at) is ∙ ap (λ n. slice_index (front ++ byte ∷ bytes) n) behind ∙ get_or-append_seam front byte bytes 0 in
     and_then_ok (Stands text (at + 1)) (λ ts. AreSlices text 0 ts (length text)) (step at byte r) (tokens_from (at + 1) bytes) (step_stands text at byte r here stands)
-        (λ next after. from_slices bytes text (front ++ byte ∷ []) (at + 1) next (is ∙ sym (append_assoc front (byte ∷ []) bytes)) (omega (arith, length-append front (byte ∷ []))) after)
+    (λ next after. from_slices bytes text (front ++ byte ∷ []) (at + 1) next (is ∙ sym (append_assoc front (byte ∷ []) bytes)) (omega (arith, length-append front (byte ∷ []))) after)
 
 -- what is read of a text is slices of it
 pub tokens_slices : (text : List ℕ) → IfOk (tokens text) (λ ts. AreSlices text 0 ts (length text))

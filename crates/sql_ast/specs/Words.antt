@@ -17,7 +17,7 @@ statement_word word =
     if bytes_eq word (codes "insert") then Some key.Insert else (
     if bytes_eq word (codes "into") then Some key.Into else (
     if bytes_eq word (codes "values") then Some key.Values else (
-    if bytes_eq word (codes "update") then Some key.Update else 
+    if bytes_eq word (codes "update") then Some key.Update else
     None)))))))))
 
 abbrev pub table_word : List ℕ → Option Keyword
@@ -31,7 +31,7 @@ table_word word =
     if bytes_eq word (codes "inner") then Some key.Inner else (
     if bytes_eq word (codes "join") then Some key.Join else (
     if bytes_eq word (codes "on") then Some key.On else (
-    if bytes_eq word (codes "group") then Some key.Group else 
+    if bytes_eq word (codes "group") then Some key.Group else
     None)))))))))
 
 abbrev pub order_word : List ℕ → Option Keyword
@@ -45,7 +45,7 @@ order_word word =
     if bytes_eq word (codes "false") then Some key.False else (
     if bytes_eq word (codes "call") then Some key.Call else (
     if bytes_eq word (codes "null") then Some key.Null else (
-    if bytes_eq word (codes "default") then Some key.Default else 
+    if bytes_eq word (codes "default") then Some key.Default else
     None)))))))))
 
 abbrev pub constraint_word : List ℕ → Option Keyword
@@ -57,7 +57,7 @@ constraint_word word =
     if bytes_eq word (codes "constraint") then Some key.Constraint else (
     if bytes_eq word (codes "check") then Some key.Check else (
     if bytes_eq word (codes "foreign") then Some key.Foreign else (
-    if bytes_eq word (codes "references") then Some key.References else 
+    if bytes_eq word (codes "references") then Some key.References else
     None)))))))
 
 abbrev pub expression_word : List ℕ → Option Keyword
@@ -69,7 +69,7 @@ expression_word word =
     if bytes_eq word (codes "in") then Some key.In else (
     if bytes_eq word (codes "between") then Some key.Between else (
     if bytes_eq word (codes "asc") then Some key.Asc else (
-    if bytes_eq word (codes "desc") then Some key.Desc else 
+    if bytes_eq word (codes "desc") then Some key.Desc else
     None)))))))
 
 -- the reserved word that a word in lower case is

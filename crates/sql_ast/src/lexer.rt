@@ -16,6 +16,7 @@ use tuple_codec::{Sequence, Text};
 
 /// What each whole literal above 2^63 reads as.
 const TOO_LARGE: u64 = (1 << 63) + 1;
+
 const MOST_DECIMAL_DIGITS: u8 = 18;
 
 /// What was read of a text: the open token, and the closed ones.

@@ -16,6 +16,8 @@ mod signing;
 mod signs;
 mod statements;
 mod tables;
+#[cfg(test)]
+mod tests;
 mod tokens;
 mod words;
 
