@@ -1,7 +1,6 @@
 pub mod BlankLemmas
-pub mod CommaLemmas
 pub mod LineLemmas
-pub mod ScaleLemmas
+pub mod SessionLemmas
 mod Vectors
 mod ShownVectors
 mod TextParts

@@ -10,8 +10,9 @@ use Rattle.tuple_codec.specs.declared.values.SqlType.{SqlType}
 use Rattle.tuple_codec.specs.declared.values.Value.{Value}
 use Rattle.script_text.specs.declared.replies.Reply.{Reply}
 use Rattle.script_text.specs.declared.replies.Reply.TheVariants.{Done, Count, Rows, Refused}
-use Rattle.script_text.specs.Output.{answer_text, refusal_text, reply_text, row_lines, row_text, shortage, shortage_of}
+use Rattle.script_text.specs.Output.{answer_text, refusal_text, reply_text, row_lines, shortage, shortage_of}
 use Rattle.script_text.specs.Shown.{is_one_line, is_shown_reply}
+use Rattle.value_text.specs.Values.{row_text}
 use Rattle.script_text.proofs.TextParts.{Stops, until, is_digit, decimal_in_digits, decimal_in_line, line_append}
 use Rattle.script_text.proofs.LineParts.{joined_in_line, refusal_in_line, refusal_in_range, row_in_line}
 

@@ -10,7 +10,6 @@ mod faults;
 mod law;
 mod outputs;
 mod parts;
-mod printed_values;
 mod printing;
 mod reading;
 mod refusals;

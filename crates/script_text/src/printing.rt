@@ -7,12 +7,12 @@ ghost use Rattle.script_text.specs.Shown.{IsPrintable};
 ghost use Rattle.script_text.specs.declared.replies.Reply.TheVariants.{Refused};
 
 use crate::outputs::RunText;
-use crate::printed_values::{push_number, push_row};
 use crate::refusals::refusal_words;
 use crate::replies::Reply;
 use crate::scripts::Moment;
 use std::alloc::{AllocError, Global};
 use tuple_codec::{Answer, Blob, Row, Sequence, SqlType, Text};
+use value_text::{push_number, push_row};
 
 /// The text of a run: for each session its name and its replies, and then the order of the moments.
 pub fn print_output(alloc: Global, run: &RunText) -> Result<Blob, AllocError>

@@ -5,8 +5,7 @@ use Rattle.std.proofs.lemmas.Bool.{cases_lt}
 use Rattle.std.proofs.lemmas.List.{drop_all}
 use Rattle.tuple_codec.specs.declared.values.SqlType.{SqlType}
 use Rattle.tuple_codec.specs.declared.values.Value.{Value}
-use Rattle.script_text.specs.Output.{row_text, session_lines, value_text, value_texts}
-use Rattle.script_text.specs.declared.replies.Reply.{Reply}
+use Rattle.value_text.specs.Values.{row_text, value_text, value_texts}
 
 pub join_first : (text : List ℕ) (texts : List (List ℕ)) → join_with_byte 44 (text ∷ texts) ≡ text ++ flat_map (λ more. 44 ∷ more) texts
 join_first text [] = sym (append-nil text)
@@ -25,11 +24,7 @@ no_row [] [] none = refl
 no_row (kind ∷ kinds) [] none = refl
 no_row kinds (value ∷ values) none = absurd (omega (arith, none))
 
-no_sessions : (names : List (List ℕ)) → session_lines names [] ≡ []
-no_sessions [] = refl
-no_sessions (name ∷ names) = refl
-
-shorter : (a b count : ℕ) → count ≡ min a b → (a ≤ count) ⊎ (b ≤ count)
+pub shorter : (a b count : ℕ) → count ≡ min a b → (a ≤ count) ⊎ (b ≤ count)
 shorter a b count end = elim (cases_lt a b) [ inl less ↦ inl (omega arith) | inr more ↦ inr (omega arith) ]
 
 values_past : (kinds : List SqlType) (values : List Value) (count : ℕ) → (length kinds ≤ count) ⊎ (length values ≤ count)
@@ -41,12 +36,3 @@ values_past kinds values count (inr past) = rw (drop_all count values past) (no_
 pub values_end : (kinds : List SqlType) (values : List Value) (count : ℕ) → count ≡ min (length kinds) (length values)
     → value_texts (drop count kinds) (drop count values) ≡ []
 values_end kinds values count end = values_past kinds values count (shorter (length kinds) (length values) count end)
-
-sessions_past : (names : List (List ℕ)) (replies : List (List Reply)) (count : ℕ) → (length names ≤ count) ⊎ (length replies ≤ count)
-    → session_lines (drop count names) (drop count replies) ≡ []
-sessions_past names replies count (inl past) = rw (drop_all count names past)
-sessions_past names replies count (inr past) = rw (drop_all count replies past) (no_sessions (drop count names))
-
-pub sessions_end : (names : List (List ℕ)) (replies : List (List Reply)) (count : ℕ) → count ≡ min (length names) (length replies)
-    → session_lines (drop count names) (drop count replies) ≡ []
-sessions_end names replies count end = sessions_past names replies count (shorter (length names) (length replies) count end)

@@ -3,7 +3,7 @@
 ghost use Rattle.std.specs.Prelude.{◌≡◌, ◌++◌, ◌/◌, ◌%◌, ◌^◌, ◌∷◌, OnOk, codes, replicate};
 ghost use Rattle.std.specs.Fmt.{decimal, signed_decimal};
 ghost use Rattle.std.specs.List.{flat_map};
-ghost use Rattle.script_text.specs.Output.{byte_string, decimal_text, escaped_byte, padded, quoted, row_text, scale_of, scaled, truth, value_text, value_texts};
+ghost use Rattle.value_text.specs.Values.{byte_string, decimal_text, escaped_byte, padded, quoted, row_text, scale_of, scaled, truth, value_text, value_texts};
 
 use std::alloc::{AllocError, Global};
 use tuple_codec::{SqlType, Value};
@@ -81,7 +81,8 @@ fn push_truth(out: &mut Vec<u8>, bit: bool) -> Result<(), AllocError>
     out.extend_from_slice(if bit { b"1" } else { b"0" })
 }
 
-fn push_quoted(out: &mut Vec<u8>, text: &[u8]) -> Result<(), AllocError>
+/// Writes a text between quotes.
+pub fn push_quoted(out: &mut Vec<u8>, text: &[u8]) -> Result<(), AllocError>
     ensures { OnOk result (out.new.items ≡ out.old.items ++ quoted text.now) }
 {
     out.push(b'\'')?;
@@ -112,7 +113,8 @@ fn push_escaped_byte(out: &mut Vec<u8>, byte: u8) -> Result<(), AllocError>
     }
 }
 
-fn push_byte_string(alloc: Global, out: &mut Vec<u8>, bytes: &[u8]) -> Result<(), AllocError>
+/// Writes a byte string in hex.
+pub fn push_byte_string(alloc: Global, out: &mut Vec<u8>, bytes: &[u8]) -> Result<(), AllocError>
     ensures { OnOk result (out.new.items ≡ out.old.items ++ byte_string bytes.now) }
 {
     let digits = hex::encode(alloc, bytes)?;
@@ -140,7 +142,8 @@ fn push_decimal(alloc: Global, out: &mut Vec<u8>, scale: u8, number: i64) -> Res
     push_scaled(alloc, out, scale, number.unsigned_abs())
 }
 
-fn push_scaled(alloc: Global, out: &mut Vec<u8>, scale: u8, number: u64) -> Result<(), AllocError>
+/// Writes a number with so many of its digits behind the point, all of them.
+pub fn push_scaled(alloc: Global, out: &mut Vec<u8>, scale: u8, number: u64) -> Result<(), AllocError>
     ensures { OnOk result (out.new.items ≡ out.old.items ++ scaled scale number) }
 {
     if scale == 0 {

@@ -1,7 +1,7 @@
 use Rattle.std.proofs.Common.{◌≡◌, length, min, arith, rules}
 use Rattle.std.proofs.lemmas.Grind.{common_steps}
 use Rattle.std.proofs.lemmas.Slice.Zip.{zip_end}
-use Rattle.script_text.proofs.CommaLemmas.{sessions_end}
+use Rattle.script_text.proofs.SessionLemmas.{sessions_end}
 use Rattle.script_text.proofs.printing.push_sessions.Goals as goal
 
 pub returns : goal.returns

@@ -1,8 +1,8 @@
 use Rattle.std.proofs.Common.{◌≡◌, length, min, arith, rules}
 use Rattle.std.proofs.lemmas.Grind.{common_steps}
 use Rattle.std.proofs.lemmas.Slice.Zip.{zip_end}
-use Rattle.script_text.proofs.CommaLemmas.{values_end}
-use Rattle.script_text.proofs.printed_values.push_more_values.Goals as goal
+use Rattle.value_text.proofs.CommaLemmas.{values_end}
+use Rattle.value_text.proofs.printed_values.push_more_values.Goals as goal
 
 pub returns : goal.returns
 returns c =

@@ -1,7 +1,7 @@
 use Rattle.std.proofs.Common.{arith}
 use Rattle.std.proofs.lemmas.Grind.{common_steps}
-use Rattle.script_text.proofs.CommaLemmas.{no_row, row_first}
-use Rattle.script_text.proofs.printed_values.push_row.Goals as goal
+use Rattle.value_text.proofs.CommaLemmas.{no_row, row_first}
+use Rattle.value_text.proofs.printed_values.push_row.Goals as goal
 
 pub returns-in_ok-push_value-in-len1-up-len1-up : goal.returns-in_ok-push_value-in-len1-up-len1-up
 returns-in_ok-push_value-in-len1-up-len1-up c = grind (arith, common_steps, row_first)

@@ -1,0 +1,3 @@
+pub mod CommaLemmas
+pub mod ScaleLemmas
+mod Vectors
