@@ -1,0 +1,5 @@
+mod ItemLemmas
+mod PartLemmas
+mod SchemaLemmas
+mod ValueLemmas
+mod WrittenLemmas

@@ -1,0 +1,6 @@
+pub mod SchemaBytes
+pub mod Schemas
+pub mod Limits
+pub mod Written
+pub mod Reading
+pub mod Spellings

@@ -1,0 +1,28 @@
+//! Schemas of tables, and what stands for a schema as bytes.
+//!
+//! The crates above use the types, the definitions of `specs/` (what a schema is, which bytes it has, and the written
+//! forms of tables, databases, commits and branch records), the clauses that tie the calls to them, and the law that a
+//! schema has one spelling.
+#![tactic(auto)]
+
+mod fields;
+mod laws;
+mod lists;
+mod names;
+mod parts;
+mod reading;
+mod rules;
+mod schemas;
+mod sizes;
+#[cfg(test)]
+mod tests;
+mod types;
+mod unread;
+mod writing;
+
+pub use laws::law_of_schemas;
+pub use reading::read_schema;
+pub use rules::is_schema;
+pub use schemas::{CheckDef, Column, ForeignKey, IndexDef, Schema};
+pub use sizes::schema_size;
+pub use writing::write_schema;

@@ -1,0 +1,72 @@
+//! Lists of parts.
+
+ghost use Rattle.std.specs.Prelude.{◌≡◌, ◌<◌, ◌^◌, ◌++◌, true, length, OnOk};
+ghost use Rattle.std.specs.List.{flat_map, list_all};
+ghost use Rattle.schema_model.specs.SchemaBytes.{listed};
+ghost use Rattle.schema_model.specs.Reading.{Gives, items_at, list_at};
+
+use crate::parts::Part;
+use crate::unread::Unread;
+use std::alloc::{AllocError, Global};
+use tuple_codec::Sequence;
+
+/// A count in one byte, and that many parts.
+pub(crate) fn list_at<P: Part>(alloc: Global, bytes: &[u8]) -> Result<(Sequence<P>, &[u8]), Unread>
+    ensures { Gives (λ x. (x.0, x.1.now)) result (list_at P.front bytes.now) }
+{
+    match bytes {
+        [count, rest @ ..] => items_at(alloc, usize::from(*count), rest),
+        [] => Err(Unread::NoSchema),
+    }
+}
+
+/// So many parts.
+pub(crate) fn items_at<P: Part>(
+    alloc: Global,
+    count: usize,
+    bytes: &[u8],
+) -> Result<(Sequence<P>, &[u8]), Unread>
+    ensures { Gives (λ x. (x.0, x.1.now)) result (items_at P.front count bytes.now) }
+{
+    let mut items = Vec::new(alloc);
+    let mut rest = bytes;
+    for _ in 0..count {
+        let (item, after) = P::read(alloc, rest)?;
+        items.push(item)?;
+        rest = after;
+    }
+    Ok((Sequence::from_vec(items), rest))
+}
+
+/// Writes a count in one byte, and the parts.
+pub(crate) fn push_list<P: Part>(out: &mut Vec<u8>, items: &[P]) -> Result<(), AllocError>
+    requires few { length items.now < 256 }
+    requires allowed { list_all P.allowed items.now ≡ true }
+    ensures { OnOk result (out.new.items ≡ out.old.items ++ listed P.written items.now) }
+{
+    out.push(items.len() as u8)?;
+    push_items(out, items)
+}
+
+/// Writes parts one after another.
+pub(crate) fn push_items<P: Part>(out: &mut Vec<u8>, items: &[P]) -> Result<(), AllocError>
+    requires { list_all P.allowed items.now ≡ true }
+    ensures { OnOk result (out.new.items ≡ out.old.items ++ flat_map P.written items.now) }
+{
+    for item in items {
+        item.push(out)?;
+    }
+    Ok(())
+}
+
+/// How many bytes parts have one after another.
+pub(crate) fn items_size<P: Part>(items: &[P]) -> u64
+    requires { length (flat_map P.written items.now) < 2 ^ 64 }
+    ensures { result ≡ length (flat_map P.written items.now) }
+{
+    let mut size = 0;
+    for item in items {
+        size += item.size();
+    }
+    size
+}

@@ -1,0 +1,189 @@
+//! The parts that stand in lists: how each is read, written and measured.
+
+ghost use Rattle.std.specs.Prelude.{◌≡◌, ℕ, ◌<◌, ◌^◌, ◌++◌, ◌&&◌, Bool, true, List, length, nat_lt, Option, OnOk};
+ghost use Rattle.std.specs.List.{list_all};
+ghost use Rattle.schema_model.specs.SchemaBytes.{check_bytes, column_bytes, foreign_bytes, index_bytes, short};
+ghost use Rattle.schema_model.specs.Reading.{Gives, check_at, column_at, foreign_at, index_at, short_at};
+ghost use Rattle.schema_model.specs.Written.{is_written_check, is_written_column, is_written_foreign, is_written_index, is_written_name};
+
+use crate::fields::{bool_at, flags_at, long_at, push_long, push_short, short_at};
+use crate::lists::{items_at, items_size, push_items};
+use crate::schemas::{CheckDef, Column, ForeignKey, IndexDef};
+use crate::types::{default_at, default_size, push_default, push_type, type_at, type_size};
+use crate::unread::Unread;
+use std::alloc::{AllocError, Global};
+use tuple_codec::{Sequence, Text};
+
+/// A part of a schema that stands in a list.
+pub(crate) trait Part: Drop {
+    /// Its bytes.
+    ghost written: { Self → List ℕ };
+
+    /// The part at the front of bytes, and the bytes after it.
+    ghost front: { List ℕ → Option (Self × List ℕ) };
+
+    /// Whether the part can be written.
+    ghost allowed: { Self → Bool };
+
+    fn read(alloc: Global, bytes: &[u8]) -> Result<(Self, &[u8]), Unread>
+        ensures { Gives (λ x. (x.0, x.1.now)) result (front bytes.now) };
+
+    fn push(&self, out: &mut Vec<u8>) -> Result<(), AllocError>
+        requires { allowed self.now ≡ true }
+        ensures { OnOk result (out.new.items ≡ out.old.items ++ written self.now) };
+
+    fn size(&self) -> u64
+        requires { length (written self.now) < 2 ^ 64 }
+        ensures { result ≡ length (written self.now) };
+}
+
+impl Part for Text {
+    ghost written = { short };
+
+    ghost front = { short_at };
+
+    ghost allowed = { is_written_name };
+
+    fn read(alloc: Global, bytes: &[u8]) -> Result<(Text, &[u8]), Unread> {
+        let (name, rest) = short_at(bytes)?;
+        Ok((Text::from_slice(alloc, name)?, rest))
+    }
+
+    fn push(&self, out: &mut Vec<u8>) -> Result<(), AllocError> {
+        push_short(out, self.as_slice())
+    }
+
+    fn size(&self) -> u64 {
+        1 + self.as_slice().len() as u64
+    }
+}
+
+impl Part for Column {
+    ghost written = { column_bytes };
+
+    ghost front = { column_at };
+
+    ghost allowed = { is_written_column };
+
+    #[tactic(auto, unfolding(crate::specs::Reading::column_at))]
+    fn read(alloc: Global, bytes: &[u8]) -> Result<(Column, &[u8]), Unread> {
+        let (name, rest) = Text::read(alloc, bytes)?;
+        let (kind, rest) = type_at(rest)?;
+        let ((not_null, has_default), rest) = flags_at(rest)?;
+        let (default, rest) = default_at(alloc, has_default, kind, rest)?;
+        let column = Column {
+            name,
+            kind,
+            not_null,
+            default,
+        };
+        Ok((column, rest))
+    }
+
+    fn push(&self, out: &mut Vec<u8>) -> Result<(), AllocError> {
+        self.name.push(out)?;
+        push_type(out, &self.kind)?;
+        out.push(u8::from(self.not_null) + 2 * u8::from(self.default.is_some()))?;
+        push_default(out, self.kind, &self.default)
+    }
+
+    fn size(&self) -> u64 {
+        self.name.size() + type_size(&self.kind) + 1 + default_size(&self.default)
+    }
+}
+
+impl Part for IndexDef {
+    ghost written = { index_bytes };
+
+    ghost front = { index_at };
+
+    ghost allowed = { is_written_index };
+
+    #[tactic(auto, unfolding(crate::specs::Reading::index_at))]
+    fn read(alloc: Global, bytes: &[u8]) -> Result<(IndexDef, &[u8]), Unread> {
+        let (name, rest) = Text::read(alloc, bytes)?;
+        let (unique, rest) = bool_at(rest)?;
+        let (columns, rest) = short_at(rest)?;
+        let columns = Sequence::from_vec(Vec::from_slice(alloc, columns)?);
+        let index = IndexDef {
+            name,
+            unique,
+            columns,
+        };
+        Ok((index, rest))
+    }
+
+    fn push(&self, out: &mut Vec<u8>) -> Result<(), AllocError> {
+        self.name.push(out)?;
+        out.push(u8::from(self.unique))?;
+        push_short(out, self.columns.as_slice())
+    }
+
+    fn size(&self) -> u64 {
+        self.name.size() + 2 + self.columns.as_slice().len() as u64
+    }
+}
+
+impl Part for CheckDef {
+    ghost written = { check_bytes };
+
+    ghost front = { check_at };
+
+    ghost allowed = { is_written_check };
+
+    #[tactic(auto, unfolding(crate::specs::Reading::check_at))]
+    fn read(alloc: Global, bytes: &[u8]) -> Result<(CheckDef, &[u8]), Unread> {
+        let (name, rest) = Text::read(alloc, bytes)?;
+        let (text, rest) = long_at(rest)?;
+        let text = Text::from_slice(alloc, text)?;
+        Ok((CheckDef { name, text }, rest))
+    }
+
+    fn push(&self, out: &mut Vec<u8>) -> Result<(), AllocError> {
+        self.name.push(out)?;
+        push_long(out, self.text.as_slice())
+    }
+
+    fn size(&self) -> u64 {
+        self.name.size() + 2 + self.text.as_slice().len() as u64
+    }
+}
+
+impl Part for ForeignKey {
+    ghost written = { foreign_bytes };
+
+    ghost front = { foreign_at };
+
+    ghost allowed = { is_written_foreign };
+
+    #[tactic(auto, unfolding(crate::specs::Reading::foreign_at))]
+    fn read(alloc: Global, bytes: &[u8]) -> Result<(ForeignKey, &[u8]), Unread> {
+        let (name, rest) = Text::read(alloc, bytes)?;
+        let (columns, rest) = short_at(rest)?;
+        let (parent, rest) = Text::read(alloc, rest)?;
+        let (parent_columns, rest) = items_at(alloc, columns.len(), rest)?;
+        let columns = Sequence::from_vec(Vec::from_slice(alloc, columns)?);
+        let foreign = ForeignKey {
+            name,
+            columns,
+            parent,
+            parent_columns,
+        };
+        Ok((foreign, rest))
+    }
+
+    fn push(&self, out: &mut Vec<u8>) -> Result<(), AllocError> {
+        self.name.push(out)?;
+        push_short(out, self.columns.as_slice())?;
+        self.parent.push(out)?;
+        push_items(out, self.parent_columns.as_slice())
+    }
+
+    fn size(&self) -> u64 {
+        self.name.size()
+            + 1
+            + self.columns.as_slice().len() as u64
+            + self.parent.size()
+            + items_size(self.parent_columns.as_slice())
+    }
+}
