@@ -94,6 +94,10 @@ one view = λ ts. taken (seen view ts) ts
 unfoldable pub name : Reader (List ℕ)
 name = one name_of
 
+-- a name, if one comes next
+unfoldable pub optional_name : Reader (Option (List ℕ))
+optional_name = λ ts. if sees_name ts then (Some <$> name) ts else Ok (None, ts)
+
 unfoldable pub whole : Reader ℕ
 whole = one whole_of
 

@@ -171,7 +171,19 @@ impl<'a> Cursor<'a> {
             [first, ..] => name_of(alloc, first)?,
             [] => None,
         };
-        self.taken(name)
+        self.take(name)
+    }
+
+    /// Takes a name, if one comes next.
+    #[tactic(auto, unfolding(crate::specs::Reading::optional_name))]
+    pub fn optional_name(&mut self, alloc: Global) -> Result<Option<Text>, Stop>
+        ensures { Reads (spec.optional_name self.old) result self.new }
+    {
+        if self.sees_name() {
+            Ok(Some(self.name(alloc)?))
+        } else {
+            Ok(None)
+        }
     }
 
     #[tactic(auto, unfolding(crate::specs::Reading::whole))]
@@ -182,7 +194,7 @@ impl<'a> Cursor<'a> {
             [first, ..] => whole_of(first),
             [] => None,
         };
-        self.taken(whole)
+        self.take(whole)
     }
 
     #[tactic(auto, unfolding(crate::specs::Reading::string))]
@@ -193,7 +205,7 @@ impl<'a> Cursor<'a> {
             [first, ..] => string_of(alloc, first)?,
             [] => None,
         };
-        self.taken(string)
+        self.take(string)
     }
 
     /// The literal that comes next, if one does, without moving past it.
@@ -211,10 +223,11 @@ impl<'a> Cursor<'a> {
         ensures { Reads (spec.literal self.old) result self.new }
     {
         let literal = self.literal_ahead(alloc)?;
-        self.taken(literal)
+        self.take(literal)
     }
 
-    fn taken<T: Drop>(&mut self, found: Option<T>) -> Result<T, Stop>
+    /// Moves past the next piece, where it was taken for something.
+    pub fn take<T: Drop>(&mut self, found: Option<T>) -> Result<T, Stop>
         ensures { Reads (spec.taken found self.old) result self.new }
     {
         match found {

@@ -50,6 +50,7 @@ fn same_keyword(a: Keyword, b: Keyword) -> bool
     a == b
 }
 
+/// Whether a piece is this sign.
 pub fn is_sign(wanted: Sign, piece: &Piece) -> bool
     ensures { result ≡ spec.is_sign wanted piece.now }
 {
@@ -68,6 +69,7 @@ pub fn is_keyword(wanted: Keyword, piece: &Piece) -> bool
     }
 }
 
+/// Whether a piece is this word, which isn't reserved.
 pub fn is_word(wanted: &[u8], piece: &Piece) -> bool
     ensures { result ≡ spec.is_word wanted.now piece.now }
 {
@@ -77,6 +79,7 @@ pub fn is_word(wanted: &[u8], piece: &Piece) -> bool
     }
 }
 
+/// Whether a piece can be a name.
 pub fn is_named(piece: &Piece) -> bool
     ensures { result ≡ spec.is_named piece.now }
 {
@@ -131,10 +134,7 @@ pub fn literal_of(alloc: Global, piece: &Piece) -> Result<Option<Literal>, Alloc
     match piece {
         Piece::Whole(value) => Ok(Some(Literal::Whole(*value))),
         Piece::Decimal(value, places) => Ok(Some(Literal::Decimal(*value, *places))),
-        Piece::Text(value) => Ok(Some(Literal::Text(Text::from_slice(
-            alloc,
-            value.as_slice(),
-        )?))),
+        Piece::Text(value) => Ok(Some(Literal::Text(Text::from_slice(alloc, value.as_slice())?))),
         Piece::Bytes(value) => Ok(Some(Literal::Bytes(Sequence::from_vec(Vec::from_slice(
             alloc,
             value.as_slice(),

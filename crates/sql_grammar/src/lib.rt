@@ -5,11 +5,17 @@
 //! on. Each has one function here, on a cursor.
 #![tactic(auto)]
 
+mod atoms;
 mod cursors;
+mod grammars;
 mod heads;
+mod nodes;
 mod pieces;
+mod rules;
 mod stops;
 
 pub use cursors::Cursor;
+pub use grammars::{read_any, read_expression};
+pub use heads::{is_named, is_sign, is_word};
 pub use pieces::Piece;
 pub use stops::Stop;
