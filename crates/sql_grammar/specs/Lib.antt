@@ -1,0 +1,4 @@
+pub mod Pieces
+pub mod Reading
+pub mod Expressions
+pub mod Nests

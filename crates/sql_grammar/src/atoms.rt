@@ -1,0 +1,141 @@
+//! Atoms: what operations stand between.
+
+ghost use Rattle.std.specs.Prelude.{◌≡◌, IfOk};
+ghost use Rattle.sql_grammar.specs.Reading.{Reads};
+ghost use Rattle.sql_grammar.specs.Expressions as spec;
+ghost use Rattle.sql_grammar.specs.Nests.{Nests};
+
+use crate::cursors::Cursor;
+use crate::grammars::Grammar;
+use crate::heads::{Function, function_of, is_sign};
+use crate::nodes::{count_of, max_of, min_of, sum_of};
+use crate::pieces::Piece;
+use crate::stops::Stop;
+use sql_ast::{Expr, Sign};
+use std::alloc::Global;
+
+/// The function that the pieces call, if they begin with a call.
+#[tactic(auto, unfolding(crate::specs::Expressions::called))]
+fn called(cursor: &Cursor<'_>) -> Option<Function>
+    ensures { result ≡ spec.called cursor.now }
+{
+    match cursor.rest() {
+        [first, rest @ ..] => called_by(first, rest),
+        [] => None,
+    }
+}
+
+fn called_by(first: &Piece, rest: &[Piece]) -> Option<Function>
+    ensures { result ≡ spec.called_by first.now rest.now }
+{
+    match rest {
+        [second, ..] => {
+            if is_sign(Sign::OpenParenthesis, second) {
+                function_of(first)
+            } else {
+                None
+            }
+        }
+        [] => None,
+    }
+}
+
+/// A column's name, perhaps with its source.
+#[tactic(auto, unfolding(crate::specs::Expressions::column))]
+fn column(alloc: Global, cursor: &mut Cursor<'_>) -> Result<Expr, Stop>
+    ensures { Reads (spec.column cursor.old) result cursor.new }
+{
+    let first = cursor.name(alloc)?;
+    if cursor.eat(Sign::Point) {
+        Ok(Expr::Qualified(first, cursor.name(alloc)?))
+    } else {
+        Ok(Expr::Name(first))
+    }
+}
+
+#[tactic(auto, unfolding(crate::specs::Expressions::branch))]
+fn branch(cursor: &mut Cursor<'_>) -> Result<Expr, Stop>
+    ensures { Reads (spec.branch cursor.old) result cursor.new }
+{
+    cursor.expect(Sign::CloseParenthesis)?;
+    Ok(Expr::ActiveBranch)
+}
+
+impl<F: Fn(Global, &mut Cursor<'_>, usize) -> Result<Expr, Stop>> Grammar<F> {
+    #[tactic(auto, unfolding(crate::specs::Expressions::enclosed))]
+    fn enclosed(&self, cursor: &mut Cursor<'_>) -> Result<Expr, Stop>
+        requires { Nests self.now.depth (F.pre self.now.expression) (F.post self.now.expression) }
+        ensures { Reads (spec.enclosed (spec.expression self.now.depth) cursor.old) result cursor.new }
+    {
+        let inner = self.inner(cursor)?;
+        cursor.expect(Sign::CloseParenthesis)?;
+        Ok(inner)
+    }
+
+    #[tactic(auto, unfolding(crate::specs::Expressions::count))]
+    fn count(&self, cursor: &mut Cursor<'_>) -> Result<Expr, Stop>
+        requires { Nests self.now.depth (F.pre self.now.expression) (F.post self.now.expression) }
+        ensures { Reads (spec.count (spec.expression self.now.depth) cursor.old) result cursor.new }
+    {
+        if cursor.eat(Sign::Star) {
+            cursor.expect(Sign::CloseParenthesis)?;
+            return Ok(Expr::CountAll);
+        }
+        Ok(count_of(self.alloc, self.enclosed(cursor)?)?)
+    }
+
+    #[tactic(auto, unfolding(crate::specs::Expressions::call))]
+    fn call(&self, cursor: &mut Cursor<'_>, function: Function) -> Result<Expr, Stop>
+        requires { Nests self.now.depth (F.pre self.now.expression) (F.post self.now.expression) }
+        ensures { Reads (spec.call (spec.expression self.now.depth) function cursor.old) result cursor.new }
+    {
+        cursor.skip();
+        cursor.skip();
+        match function {
+            Function::Count => self.count(cursor),
+            Function::Sum => Ok(sum_of(self.alloc, self.enclosed(cursor)?)?),
+            Function::Min => Ok(min_of(self.alloc, self.enclosed(cursor)?)?),
+            Function::Max => Ok(max_of(self.alloc, self.enclosed(cursor)?)?),
+            Function::ActiveBranch => branch(cursor),
+        }
+    }
+
+    #[tactic(auto, unfolding(crate::specs::Expressions::other_atom))]
+    fn other_atom(&self, cursor: &mut Cursor<'_>) -> Result<Expr, Stop>
+        requires { Nests self.now.depth (F.pre self.now.expression) (F.post self.now.expression) }
+        ensures { Reads (spec.other_atom (spec.expression self.now.depth) cursor.old) result cursor.new }
+    {
+        if cursor.eat(Sign::OpenParenthesis) {
+            return self.enclosed(cursor);
+        }
+        if cursor.eat(Sign::AtAt) {
+            return Ok(Expr::Variable(cursor.name(self.alloc)?));
+        }
+        column(self.alloc, cursor)
+    }
+
+    #[tactic(auto, unfolding(crate::specs::Expressions::plain_atom, crate::specs::Expressions::literal_ahead))]
+    fn plain_atom(&self, cursor: &mut Cursor<'_>) -> Result<Expr, Stop>
+        requires { Nests self.now.depth (F.pre self.now.expression) (F.post self.now.expression) }
+        ensures { Reads (spec.plain_atom (spec.expression self.now.depth) cursor.old) result cursor.new }
+    {
+        match cursor.literal_ahead(self.alloc)? {
+            Some(literal) => {
+                cursor.skip();
+                Ok(Expr::Literal(literal))
+            }
+            None => self.other_atom(cursor),
+        }
+    }
+
+    #[tactic(auto, unfolding(crate::specs::Expressions::atom))]
+    pub fn atom(&self, cursor: &mut Cursor<'_>) -> Result<Expr, Stop>
+        requires { Nests self.now.depth (F.pre self.now.expression) (F.post self.now.expression) }
+        ensures { Reads (spec.atom (spec.expression self.now.depth) cursor.old) result cursor.new }
+    {
+        match called(cursor) {
+            Some(function) => self.call(cursor, function),
+            None => self.plain_atom(cursor),
+        }
+    }
+}

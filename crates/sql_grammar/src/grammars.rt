@@ -1,0 +1,52 @@
+//! The rules that hold expressions take the reader of those as a parameter, so that each is proved by itself.
+
+ghost use Rattle.sql_grammar.specs.Reading.{Reads};
+ghost use Rattle.sql_grammar.specs.Expressions as spec;
+ghost use Rattle.sql_grammar.specs.Nests.{Nests};
+
+use crate::cursors::Cursor;
+use crate::stops::Stop;
+use sql_ast::Expr;
+use std::alloc::Global;
+
+const MOST_DEPTH: usize = 65;
+
+#[derive(Clone, Copy)]
+pub struct Grammar<F> {
+    pub alloc: Global,
+    /// How deep expressions may still stand in one another.
+    pub depth: usize,
+    pub expression: F,
+}
+
+impl<F: Fn(Global, &mut Cursor<'_>, usize) -> Result<Expr, Stop>> Grammar<F> {
+    pub fn inner(&self, cursor: &mut Cursor<'_>) -> Result<Expr, Stop>
+        requires { Nests self.now.depth (F.pre self.now.expression) (F.post self.now.expression) }
+        ensures { Reads (spec.expression self.now.depth cursor.old) result cursor.new }
+    {
+        (self.expression)(self.alloc, cursor, self.depth)
+    }
+}
+
+/// The expression that the pieces begin with, in which fewer than `depth` parentheses are open at any place.
+pub fn read_expression(alloc: Global, cursor: &mut Cursor<'_>, depth: usize) -> Result<Expr, Stop>
+    ensures { Reads (spec.expression depth cursor.old) result cursor.new }
+{
+    if depth == 0 {
+        return Err(Stop::At(cursor.left()));
+    }
+    Grammar {
+        alloc,
+        depth: depth - 1,
+        expression: read_expression,
+    }
+    .disjunction(cursor)
+}
+
+/// The expression that the pieces begin with, with at most 64 open parentheses.
+#[tactic(auto, unfolding(crate::specs::Expressions::any))]
+pub fn read_any(alloc: Global, cursor: &mut Cursor<'_>) -> Result<Expr, Stop>
+    ensures { Reads (spec.any cursor.old) result cursor.new }
+{
+    read_expression(alloc, cursor, MOST_DEPTH)
+}

@@ -1,0 +1,20 @@
+use sql_ast::{Keyword, Sign};
+use tuple_codec::{Blob, Text};
+
+/// A token with its value.
+#[derive(Debug, Drop)]
+pub enum Piece {
+    /// A reserved word.
+    Keyword(Keyword),
+    /// A word that isn't reserved, in lower case.
+    Word(Text),
+    /// A word in backquotes, in lower case.
+    Quoted(Text),
+    /// A string, without its quotes and escapes.
+    Text(Text),
+    Bytes(Blob),
+    Whole(u64),
+    /// A number below 10^18, and how many of its digits stand behind the point.
+    Decimal(u64, u8),
+    Sign(Sign),
+}
