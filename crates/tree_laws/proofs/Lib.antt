@@ -1,0 +1,2 @@
+pub mod StandingReads
+pub mod StandingOrder
