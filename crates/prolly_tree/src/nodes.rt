@@ -1,13 +1,13 @@
 //! Nodes that are found at addresses, and what is looked up in them.
 
-ghost use Rattle.std.specs.Prelude.{◌≡◌, ◌<◌, ◌≤◌, ℕ, List, Some, length, option_map, slice_get};
+ghost use Rattle.std.specs.Prelude.{◌≡◌, ◌<◌, ◌≤◌, ◌^◌, ℕ, List, Some, length, option_map, slice_get};
 ghost use Rattle.std.specs.Ordering.{nat_cmp, is_lt};
 ghost use Rattle.std.specs.Cmp.Lexicographic.{slice_cmp};
 ghost use Rattle.tuple_codec.specs.Nodes.{Item, Node, IsNode};
 ghost use Rattle.tuple_codec.specs.Trees.{rows_in};
 ghost use Rattle.chunk_store.specs.Drafts.{chunks_of};
 ghost use Rattle.chunk_store.specs.Standing.{IsTree};
-ghost use Rattle.tree_laws.specs.Standing.{HasTwentyBytes, IsStored, Leads, rows_below};
+ghost use Rattle.tree_laws.specs.Standing.{HasTwentyBytes, IsOpen, IsStored, rows_below};
 ghost use Rattle.prolly_tree.specs.Lists.{StandsForRows, first_of, from_key, place_of, value_at};
 
 use chunk_store::Draft;
@@ -21,7 +21,7 @@ pub fn get<'a, D: Digester>(draft: &'a Draft<D>, root: &Address, key: &[u8]) -> 
     ensures { (rows : List Item) → IsTree D.address (chunks_of draft.now.chunks) root.now.0 rows
         → option_map (λ value. value.now) result ≡ value_at key.now rows }
 {
-    get_below(draft, node_at(draft, root), key)
+    get_below(draft, root, key)
 }
 
 /// How many rows the tree has. The root alone is read.
@@ -47,16 +47,17 @@ pub(crate) fn node_at<'a, D: Digester>(draft: &'a Draft<D>, address: &Address) -
     }
 }
 
-/// The value at a key among the rows below a node.
+/// The value at a key among the rows below the node at an address.
 fn get_below<'a, D: Digester>(
     draft: &'a Draft<D>,
-    top: NodeRef<'a>,
+    address: &Address,
     key: &[u8],
 ) -> Option<&'a [u8]>
-    requires { Leads (chunks_of draft.now.chunks) top }
-    ensures { option_map (λ value. value.now) result ≡ value_at key.now (rows_below (chunks_of draft.now.chunks) top) }
+    requires { (node : Node) × IsOpen (chunks_of draft.now.chunks) address.now.0 node }
+    ensures { (node : Node) → IsOpen (chunks_of draft.now.chunks) address.now.0 node
+        → option_map (λ value. value.now) result ≡ value_at key.now (rows_below (chunks_of draft.now.chunks) node) }
 {
-    let mut node = top;
+    let mut node = node_at(draft, address);
     'levels: while node.level() > 0 {
         let at = place_of(&node, key);
         if at == node.count() {
@@ -102,7 +103,7 @@ pub(crate) fn place_of(node: &NodeRef<'_>, key: &[u8]) -> u16
 fn is_below(some: &[u8], other: &[u8]) -> bool
     ensures { result ≡ is_lt (slice_cmp nat_cmp some.now other.now) }
 {
-    some < other
+    some.cmp(other).is_lt()
 }
 
 /// The key of a node's item.

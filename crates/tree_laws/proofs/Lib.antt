@@ -1,2 +1,3 @@
 pub mod StandingReads
 pub mod StandingOrder
+pub mod StandingCuts

@@ -32,10 +32,14 @@ pub record Leads (chunks : Chunks) (node : Node) : Type 0 where
   pub each : AllByRecursion (IsFound chunks node.level) node.items
   pub rise : Rise (rows_below chunks node)
 
--- the node at an address leads to these rows
-pub record LeadsTo (chunks : Chunks) (k : List ℕ) (node : Node) (rows : List Item) : Type 0 where
+-- the node at an address leads to the rows below
+pub record IsOpen (chunks : Chunks) (k : List ℕ) (node : Node) : Type 0 where
   pub stored : IsStored chunks k node
   pub leads : Leads chunks node
+
+-- the node at an address leads to these rows
+pub record LeadsTo (chunks : Chunks) (k : List ℕ) (node : Node) (rows : List Item) : Type 0 where
+  pub opens : IsOpen chunks k node
   pub rows_are : rows_below chunks node ≡ rows
 
 -- the item that names the root of a tree of these rows, at its height
