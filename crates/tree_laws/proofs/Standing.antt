@@ -3,6 +3,7 @@ use Rattle.std.proofs.Common.{◌≡◌, ◌<◌, ◌≤◌, ◌+◌, ◌*◌, �
 use Rattle.std.specs.List.{AllByRecursion}
 use Rattle.std.proofs.Math.Nat.{pow-succ'}
 use Rattle.std.proofs.Math.Pow.{pow_mono}
+use Rattle.std.proofs.lemmas.Bool.Decides.{leb_tells}
 use Rattle.tuple_codec.specs.Nodes.{Item, Node, IsItem, IsNode, IsHeader, Rise, RiseAfter, items_bytes, node_bytes}
 use Rattle.tuple_codec.specs.Trees.{AreRows, IsRow, bytes_of, closes, cut, cut_from, inner_chunks, last_key, leaves, name, names, root, rows_in, top, tower, tree_chunks}
 use Rattle.chunk_store.specs.Standing.{AreHeld, IsTree}
@@ -165,3 +166,169 @@ module _ (address : List ℕ → List ℕ) (twenty : HasTwentyBytes address) (ch
         | false ↦ λ t there.
           subst (IsLevel level (cut_from address level node items)) (sym e)
             (levels level low node items (no_end_more address level held item no_end t) (small_open address level node t) each' rise' few' there) ]) refl there
+
+  record IsStanding (level : ℕ) (items rows : List Item) : Type 0 where
+    each : ButLast (IsLow address chunks level) (IsHigh address chunks level) items
+    rise : Rise items
+    rows_are : each_of (rows_at (nodes_in chunks) level) items ≡ rows
+
+  standing_count : (level : ℕ) (items rows : List Item) → IsStanding level items rows → rows_in items ≡ length rows
+  standing_count level items rows is =
+      let all = but_all (IsLow address chunks level) (IsHigh address chunks level) items is.each in
+      sym (many_rows (rows_at (nodes_in chunks) level) items (all_map (λ i a. reached chunks level i a.found) items all)) ∙ ap (λ (l : List Item). length l) is.rows_are
+
+  -- the names of the nodes into which items are cut
+  above : (level : ℕ) (items rows : List Item) → level < 256 → length rows < 2 ^ 63 → IsStanding level items rows
+      → AreHeld address chunks (map (bytes_of level) (cut address level items)) → IsStanding (suc level) (names address level (cut address level items)) rows
+  above level items rows low few is there =
+      let count = standing_count level items rows is in
+      let next = levels level low [] items (no_end_yet address level) (inl (omega arith)) is.each is.rise (omega (arith, count, few)) there in
+      record { each = next.each; rise = names_rise address level None [] items is.rise; rows_are = next.rows ∙ is.rows_are }
+
+  -- an item of a tree's top: what it is, and that its rows are all
+  record IsAbove (height : ℕ) (item : Item) (rows : List Item) : Type 0 where
+    low : IsLow address chunks (suc height) item
+    rows_are : rows_at (nodes_in chunks) (suc height) item ≡ rows
+
+  -- levels are few: an item whose node ended has at least two rows to the power of its level
+  few_levels : (level : ℕ) (items rows : List Item) → length rows < 2 ^ 63 → IsStanding level items rows → 2 ≤ length items → level < 256
+  few_levels level [] rows few is two = absurd (omega (arith, two))
+  few_levels level (item ∷ []) rows few is two = absurd (omega (arith, two))
+  few_levels level (item ∷ other ∷ items) rows few is two =
+      let count = standing_count level (item ∷ other ∷ items) rows is in
+      let many = is.each.1.many in
+      elim (decide level) [
+        | inl below ↦ omega (arith, below)
+        | inr over ↦ (let p : 2 ^ 63 ≤ 2 ^ level = pow_mono over in absurd (omega (arith, p, many, count, few))) ] where
+    decide : (level : ℕ) → (level < 63) ⊎ (63 ≤ level)
+    decide level = elim (leb_tells 63 level) [ | inl most ↦ inr most.1 | inr least ↦ inl least.1 ]
+
+  topped : (turns level : ℕ) (items rows : List Item) → length rows < 2 ^ 63 → IsStanding (suc level) items rows → 0 < length items → length items ≤ suc turns
+      → AreHeld address chunks (inner_chunks address turns (suc level) items) → (height : ℕ) × IsAbove height (top address turns (suc level) items) rows
+  topped turns level [] rows few is some short there = absurd (omega arith)
+  topped turns level (item ∷ []) rows few is some short there =
+      (level, record { low = is.each; rows_are = sym (append-nil (rows_at (nodes_in chunks) (suc level) item)) ∙ is.rows_are })
+  topped zero level (item ∷ other ∷ items) rows few is some short there = absurd (omega (arith, short))
+  topped (suc turns) level (item ∷ other ∷ items) rows few is some short there =
+      let all = item ∷ other ∷ items in
+      let low = few_levels (suc level) all rows few is (omega arith) in
+      let held = all_left (λ bytes. chunks (address bytes) ≡ Some bytes) (map (bytes_of (suc level)) (cut address (suc level) all)) _ there in
+      let rest = all_right (λ bytes. chunks (address bytes) ≡ Some bytes) (map (bytes_of (suc level)) (cut address (suc level) all)) _ there in
+      let half = cut_short address (suc level) [] all (two_closed address (suc level)) in
+      let same = names_length address (suc level) (cut address (suc level) all) in
+      let one = cut_some address (suc level) [] all (omega arith) in
+      topped turns (suc level) (names address (suc level) (cut address (suc level) all)) rows few (above (suc level) all rows low few is held)
+        (omega (arith, one, same)) (omega (arith, half, same, short)) rest
+
+  -- ---- the rows themselves
+
+  row_low : (row : Item) → IsRow row → IsLow address chunks 0 row
+  row_low row is = record { fit = is; found = is.one; canonical = tt }
+
+  row_high : (row : Item) → IsRow row → IsHigh address chunks 0 row
+  row_high row is = record { ended = tt; many = (let one = is.one in omega (arith, one)) }
+
+  each_itself : (items : List Item) → each_of (rows_at (nodes_in chunks) 0) items ≡ items
+  each_itself [] = refl
+  each_itself (item ∷ items) = ap (λ (l : List Item). item ∷ l) (each_itself items)
+
+  rows_stand : (rows : List Item) → AreRows rows → IsStanding 0 rows rows
+  rows_stand rows are = record {
+    each = but_both (IsLow address chunks 0) (IsHigh address chunks 0) rows (all_map row_low rows are.each) (all_map row_high rows are.each);
+    rise = are.rise;
+    rows_are = each_itself rows;
+  }
+
+  -- ---- order and counts, from the rows
+
+  all_ordered : (level : ℕ) → ((item : Item) → IsFound chunks level item → Rise (rows_at (nodes_in chunks) level item) → IsOrdered (nodes_in chunks) level item)
+      → (items : List Item) → AllByRecursion (IsFound chunks level) items → Rise (each_of (rows_at (nodes_in chunks) level) items)
+      → AllByRecursion (IsOrdered (nodes_in chunks) level) items
+  all_ordered level go [] all rise = tt
+  all_ordered level go (item ∷ items) all rise = (
+    go item all.0 (rise_left None (rows_at (nodes_in chunks) level item) (each_of (rows_at (nodes_in chunks) level) items) rise),
+    all_ordered level go items all.1 (rise_right None (rows_at (nodes_in chunks) level item) (each_of (rows_at (nodes_in chunks) level) items) rise),
+  )
+
+  ordered : (level : ℕ) (item : Item) → IsFound chunks level item → Rise (rows_at (nodes_in chunks) level item) → IsOrdered (nodes_in chunks) level item
+  ordered zero item found rise = tt
+  ordered (suc level) item found rise = (
+    found.0,
+    items_there chunks item.body level found.0 found.1,
+    all_ordered level (ordered level) found.0 found.2 (subst Rise (rows_there chunks level item found.0 found.1) rise),
+    subst (λ (k : List ℕ). UpTo k (rows_at (nodes_in chunks) (suc level) item)) (reached chunks (suc level) item found).last (upto_last (rows_at (nodes_in chunks) (suc level) item) rise),
+  )
+
+  counted : (level : ℕ) (item : Item) → IsFound chunks level item → IsCounted (nodes_in chunks) level item
+  counted zero item found = found
+  counted (suc level) item found = (
+    found.0,
+    items_there chunks item.body level found.0 found.1,
+    all_map (counted level) found.0 found.2,
+    sym (reached chunks (suc level) item found).many,
+  )
+
+  -- ---- the laws
+
+  has_root : (k : List ℕ) (first : Item) (rows : List Item) → IsTree address chunks k (first ∷ rows)
+      → (height : ℕ) × (item : Item) × IsTop address chunks k height item (first ∷ rows)
+  has_root k first rows tree =
+      let all = first ∷ rows in
+      let few = tree.are_rows.few in
+      let held = all_left (λ bytes. chunks (address bytes) ≡ Some bytes) (map (bytes_of 0) (cut address 0 all)) _ tree.held in
+      let rest = all_right (λ bytes. chunks (address bytes) ≡ Some bytes) (map (bytes_of 0) (cut address 0 all)) _ tree.held in
+      let half = cut_short address 0 [] all (two_closed address 0) in
+      let same = names_length address 0 (cut address 0 all) in
+      let one = cut_some address 0 [] all (omega arith) in
+      let t = topped (length all) 0 (names address 0 (cut address 0 all)) all few (above 0 all all (omega arith) few (rows_stand all tree.are_rows) held)
+        (omega (arith, one, same)) (omega (arith, half, same)) rest in
+      let rise : Rise (rows_at (nodes_in chunks) (suc t.0) (tower address all)) = subst Rise (sym t.1.rows_are) tree.are_rows.rise in (
+        t.0,
+        tower address all,
+        record {
+          named = tree.named;
+          root = record {
+            canonical = t.1.low.canonical;
+            ordered = ordered (suc t.0) (tower address all) t.1.low.found rise;
+            counted = counted (suc t.0) (tower address all) t.1.low.found;
+            rows_are = t.1.rows_are;
+          };
+          found = t.1.low.found;
+        },
+      )
+
+  empty_stored : (k : List ℕ) → IsTree address chunks k [] → IsStored chunks k (record { level = 0; items = [] })
+  unfolding name
+  empty_stored k tree =
+      let length_is = bytes_length 0 [] in
+      record {
+        found = ap chunks (sym tree.named) ∙ tree.held.0;
+        is_node = record { header = record { level_fits = omega arith; count_fits = omega arith; has_item = λ above. absurd (omega arith) }; items = tt; keys = tt };
+        size = omega (arith, length_is);
+      }
+
+  leads : (k : List ℕ) (rows : List Item) → IsTree address chunks k rows → (node : Node) × LeadsTo chunks k node rows
+  leads k [] tree = (
+    record { level = 0; items = [] },
+    record { opens = record { stored = empty_stored k tree; leads = record { each = tt; rise = tt } }; rows_are = refl },
+  )
+  leads k (first ∷ rows) tree =
+      let t = has_root k first rows tree in
+      let found = t.2.found in
+      let node : Node = record { level = t.0; items = found.0 } in
+      let e : rows_below chunks node ≡ first ∷ rows = sym (rows_there chunks t.0 t.1 found.0 found.1) ∙ t.2.root.rows_are in (
+        node,
+        record {
+          opens = record {
+            stored = subst (λ (a : List ℕ). IsStored chunks a node) t.2.named found.1;
+            leads = record { each = found.2; rise = subst Rise (sym e) tree.are_rows.rise };
+          };
+          rows_are = e;
+        },
+      )
+
+pub trees_have_roots : TreesHaveRoots
+trees_have_roots address chunks k first rows twenty tree = has_root address twenty chunks k first rows tree
+
+pub trees_lead : TreesLead
+trees_lead address chunks k rows twenty tree = leads address twenty chunks k rows tree
