@@ -1,0 +1,6 @@
+pub mod StandingReads
+pub mod StandingOrder
+pub mod StandingCuts
+pub mod StandingNodes
+pub mod StandingLists
+pub mod Standing
