@@ -2,3 +2,7 @@
 //!
 //! Each law stands on a function that does nothing; proofs above call it, or import its lemma.
 #![tactic(auto)]
+
+mod laws;
+
+pub use laws::law_of_cutting;
