@@ -1,0 +1,2 @@
+pub mod TowerLemmas
+pub mod GrowthLemmas

@@ -1,0 +1,3 @@
+pub mod Towers
+pub mod Growth
+pub mod Faults

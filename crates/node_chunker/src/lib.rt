@@ -1,0 +1,2 @@
+//! Trees built from rows.
+#![tactic(auto)]
