@@ -1,2 +1,3 @@
 pub mod TowerLemmas
 pub mod GrowthLemmas
+pub mod NodeLemmas

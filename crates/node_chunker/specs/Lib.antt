@@ -1,3 +1,4 @@
 pub mod Towers
 pub mod Growth
 pub mod Faults
+pub mod Steps
