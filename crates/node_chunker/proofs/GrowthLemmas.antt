@@ -105,7 +105,7 @@ open_small a level (x ∷ y ∷ held) each over =
 
 -- ---- order
 
-after_less : (k : Option (List ℕ)) (x y : List ℕ) → is_after k x ≡ true → is_after (Some x) y ≡ true → is_after k y ≡ true
+pub after_less : (k : Option (List ℕ)) (x y : List ℕ) → is_after k x ≡ true → is_after (Some x) y ≡ true → is_after k y ≡ true
 after_less None x y one two = refl
 after_less (Some k) x y one two = ap is_lt (nat_list_cmp_total.trans k x y (is_less (slice_cmp nat_cmp k x) one) (is_less (slice_cmp nat_cmp x y) two))
   where
@@ -122,7 +122,7 @@ pub rise_join : (before : Option (List ℕ)) (xs ys : List Item) → RiseAfter b
 rise_join before [] ys left right = right
 rise_join before (x ∷ xs) ys left right = (left.0, rise_join (Some x.key) xs ys left.1 right)
 
-rise_alone : (before : Option (List ℕ)) (xs : List Item) → RiseAfter before xs → Rise xs
+pub rise_alone : (before : Option (List ℕ)) (xs : List Item) → RiseAfter before xs → Rise xs
 rise_alone before [] rise = tt
 rise_alone before (x ∷ xs) rise = (refl, rise.1)
 
@@ -167,7 +167,7 @@ writable level items each small rise few low some =
     last_short (x ∷ []) all = entry_key level x all.0
     last_short (x ∷ y ∷ list) all = last_short (y ∷ list) all.1
 
-entries : (level : ℕ) (items : List Item) → AllByRecursion (IsGrown level) items → AllByRecursion (IsEntry level) items
+pub entries : (level : ℕ) (items : List Item) → AllByRecursion (IsGrown level) items → AllByRecursion (IsEntry level) items
 entries level [] each = tt
 entries level (x ∷ items) each = (each.0.0, entries level items each.1)
 

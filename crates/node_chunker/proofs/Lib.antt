@@ -1,3 +1,4 @@
 pub mod TowerLemmas
 pub mod GrowthLemmas
 pub mod NodeLemmas
+pub mod ClosingLemmas

@@ -100,14 +100,13 @@ pub inner_ends : (a : List ℕ → List ℕ) (level : ℕ) (held : List Item) (x
 inner_ends a zero held x size more count key above size_is more_is count_is key_is = absurd (omega arith)
 inner_ends a (suc level) held x size more count key above size_is more_is count_is key_is = ends_is a (suc level) held x size more count key size_is more_is count_is key_is
 
-pub rows_step : (items : List RefItem) (i : ℕ) (d : RefItem) → i < length items
-    → rows_in (map ref_of (take (i + 1) items)) ≡ rows_in (map ref_of (take i items)) + (get_or items i d).rows
-rows_step items i d within =
-    ap (λ l. rows_in (map ref_of l)) (take_more items i d within) ∙ ap rows_in (map-append ref_of (take i items) (get_or items i d ∷ []))
-    ∙ rows_join (map ref_of (take i items)) (ref_of (get_or items i d) ∷ []) ∙ plus_none (rows_in (map ref_of (take i items))) (get_or items i d).rows
-  where
-    plus_none : (m n : ℕ) → m + (n + 0) ≡ m + n
-    plus_none m n = omega arith
+pub rows_more : (items : List RefItem) (i : ℕ) (x : RefItem) → i < length items → x ≡ get_or items i x
+    → rows_in (map ref_of (take (i + 1) items)) ≡ rows_in (map ref_of (take i items)) + x.rows
+rows_more items i x within here =
+    let e = ap (λ l. rows_in (map ref_of l)) (take_more items i x within) ∙ ap rows_in (map-append ref_of (take i items) (get_or items i x ∷ []))
+        ∙ rows_join (map ref_of (take i items)) (ref_of (get_or items i x) ∷ []) in
+    let same : x.rows ≡ (get_or items i x).rows = ap (λ (r : RefItem). r.rows) here in
+    omega arith
 
 pub rows_within : (items : List RefItem) (i : ℕ) → rows_in (map ref_of (take i items)) ≤ rows_in (map ref_of items)
 rows_within items i =

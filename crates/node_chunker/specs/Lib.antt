@@ -2,3 +2,4 @@ pub mod Towers
 pub mod Growth
 pub mod Faults
 pub mod Steps
+pub mod Closing

@@ -1,3 +1,4 @@
+use Rattle.std.proofs.Common.{arith}
 use Rattle.node_format.specs.Views.{ref_of}
 use Rattle.node_chunker.proofs.NodeLemmas.{inner_item, inner_room, size_now, size_pushed}
 use Rattle.node_chunker.proofs.inners.OpenInner.add.Goals as goal

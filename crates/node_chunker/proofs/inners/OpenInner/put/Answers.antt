@@ -1,7 +1,7 @@
-use Rattle.std.proofs.Common.{ℕ, List, [], ◌∷◌, ap, subst, ◌∙◌}
+use Rattle.std.proofs.Common.{ℕ, List, [], ◌∷◌, ap, subst, ◌∙◌, map}
 use Rattle.tuple_codec.specs.Nodes.{node_bytes}
 use Rattle.tuple_codec.specs.Trees.{bytes_of, rows_in}
-use Rattle.node_format.specs.Views.{inner_node}
+use Rattle.node_format.specs.Views.{inner_node, ref_of}
 use Rattle.chunk_store.specs.Drafts.{chunks_of}
 use Rattle.node_chunker.specs.Faults.{ArePut}
 use Rattle.node_chunker.proofs.NodeLemmas.{name_is}
@@ -17,6 +17,7 @@ returns-clause-ok g c =
     record {
       emptied = c.empty-key.ensures.emptied;
       named_is = name_is a level held c.empty-key.result c.in_ok-address.address.0 c.rows_of-rows.result c.empty-key.ensures.key
-          (c.in_ok-address.ensures.address ∙ ap a bytes_are) ?;
+          (c.in_ok-address.ensures.address ∙ ap a bytes_are)
+          (c.rows_of-rows.ensures ∙ ap (λ l. rows_in (map ref_of l)) c.deref-2.ensures.value ∙ ap rows_in c.self.view_is);
       put = subst P bytes_are c.in_ok-address.ensures.put;
     }
