@@ -4,3 +4,4 @@ pub mod StandingCuts
 pub mod StandingNodes
 pub mod StandingLists
 pub mod Standing
+pub mod Cuts

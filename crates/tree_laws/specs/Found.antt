@@ -5,7 +5,7 @@ use Rattle.std.specs.List.{AllByRecursion}
 use Rattle.std.specs.Ordering.{nat_cmp, is_le}
 use Rattle.std.specs.Cmp.Lexicographic.{slice_cmp}
 use Rattle.tuple_codec.specs.Nodes.{Item}
-use Rattle.tuple_codec.specs.Trees.{cut, cut_from, closes, names}
+use Rattle.tuple_codec.specs.Trees.{cut, closes, names}
 use Rattle.node_format.specs.Found.{items_in}
 
 -- the items of the node of a level that is found at an address

@@ -1,14 +1,19 @@
-//! Laws about trees that stand, for the crates above.
+//! Laws about trees, for the crates above: call one where a proof needs it. None does anything.
 
+ghost use Rattle.tree_laws.specs.Laws.{CutsApart};
 ghost use Rattle.tree_laws.specs.Standing.{TreesHaveRoots, TreesLead};
 
-/// A tree that stands leads to its rows: call it where a proof needs this. It does nothing.
+/// A list is cut apart wherever an item ends its node.
+pub fn law_of_cutting()
+    ensures { CutsApart }
+{}
+
+/// A tree that stands leads to its rows.
 pub fn law_of_rows()
     ensures { TreesLead }
 {}
 
-/// A tree that stands and has a row has a root, whose every node is cut as the boundary rule says: call it where a proof
-/// needs this. It does nothing.
+/// A tree that stands and has a row has a root, whose every node is cut as the boundary rule says.
 pub fn law_of_roots()
     ensures { TreesHaveRoots }
 {}

@@ -1,0 +1,374 @@
+-- Open nodes stay small, in order and counted as items are pushed, and what is written of them is a node.
+use Rattle.std.proofs.Common.{◌≡◌, ◌≤◌, ◌<◌, ◌+◌, ◌*◌, ◌^◌, ℕ, zero, suc, Bool, true, false, cond, List, [], ◌∷◌, ◌++◌, length, Option, None, Some, ◌⊎◌, inl, inr, sym, refl, ap, subst, ◌∙◌, arith}
+use Rattle.std.specs.List.{AllByRecursion}
+use Rattle.std.specs.Ordering.{nat_cmp, is_lt}
+use Rattle.std.specs.Int.{w16, w64, to_be_bytes}
+use Rattle.std.specs.Cmp.Lexicographic.{slice_cmp}
+use Rattle.std.specs.declared.cmp.Ordering.{Ordering}
+use Rattle.std.specs.declared.cmp.Ordering.TheVariants.{Less, Equal, Greater}
+use Rattle.std.proofs.lemmas.Bool.{cases_lt}
+use Rattle.std.proofs.lemmas.Cmp.{nat_list_cmp_total}
+use Rattle.std.proofs.lemmas.List.{append-nil, append_assoc, length-append}
+use Rattle.std.proofs.lemmas.Grind.{flat_map-append, pow_more}
+use Rattle.std.proofs.lemmas.List.Concat.{flat_map-cons}
+use Rattle.std.proofs.Math.Nat.{pow-le-pow_right}
+use Rattle.tuple_codec.specs.Nodes.{Item, IsItem, IsHeader, IsNode, Rise, RiseAfter, is_after, sized, item_bytes, items_bytes, header_bytes}
+use Rattle.tuple_codec.specs.Trees.{AreRows, IsRow, bytes_of, closes, last_key, name, rows_in}
+use Rattle.node_format.proofs.FieldLemmas.{wide16, wide64}
+use Rattle.node_format.proofs.EndLemmas as rule
+use Rattle.tree_laws.proofs.Cuts.{closes_none, closes_one, some_before}
+use Rattle.node_chunker.specs.Towers.{is_empty, pushes, ended_chunks}
+use Rattle.chunk_store.specs.Chunks.{Chunks, Extends}
+use Rattle.chunk_store.specs.Standing.{AreHeld}
+use Rattle.node_chunker.specs.Growth.{IsEntry, IsGrown, AreOpen, IsTopped, above_of, spread, last_after, IsWritable, Fits, IsTower}
+use Rattle.node_chunker.specs.Faults.{ArePut}
+use Rattle.node_chunker.proofs.TowerLemmas.{all_join, all_split, never_empty, continues_push, kept_push}
+
+-- ---- names
+
+pub name_key : (a : List ℕ → List ℕ) (level : ℕ) (items : List Item) → (name a level items).key ≡ last_key items
+unfolding name
+name_key a level items = refl
+
+pub name_body : (a : List ℕ → List ℕ) (level : ℕ) (items : List Item) → (name a level items).body ≡ a (bytes_of level items)
+unfolding name
+name_body a level items = refl
+
+pub name_rows : (a : List ℕ → List ℕ) (level : ℕ) (items : List Item) → (name a level items).rows ≡ rows_in items
+unfolding name
+name_rows a level items = refl
+
+pub last_is : (items : List Item) (x : Item) → last_key (items ++ x ∷ []) ≡ x.key
+last_is [] x = refl
+last_is (item ∷ []) x = refl
+last_is (item ∷ other ∷ items) x = last_is (other ∷ items) x
+
+pub rows_join : (xs ys : List Item) → rows_in (xs ++ ys) ≡ rows_in xs + rows_in ys
+rows_join [] ys = omega arith
+rows_join (x ∷ xs) ys = omega (arith, rows_join xs ys)
+
+-- ---- sizes
+
+sized_length : (bytes : List ℕ) → length (sized bytes) ≡ 2 + length bytes
+sized_length bytes = omega (arith, length-append (to_be_bytes w16 (length bytes)) bytes, wide16.len (length bytes))
+
+pub entry_key : (level : ℕ) (item : Item) → IsEntry level item → length item.key ≤ 4096
+entry_key zero item entry = entry.key
+entry_key (suc level) item entry = entry.0
+
+pub entry_rows : (level : ℕ) (item : Item) → IsEntry level item → 0 < item.rows
+entry_rows zero item entry = omega (arith, entry.one)
+entry_rows (suc level) item entry = entry.2
+
+entry_size : (level : ℕ) (item : Item) → IsEntry level item → (4 ≤ length (item_bytes level item)) × (length (item_bytes level item) ≤ 32766)
+entry_size zero item entry =
+    let whole = length-append (sized item.key) (sized item.body) in
+    let key = sized_length item.key in
+    let body = sized_length item.body in
+    let few = entry.size in
+    (omega arith, omega arith)
+entry_size (suc level) item entry =
+    let whole = length-append (sized item.key ++ item.body) (to_be_bytes w64 item.rows) in
+    let front = length-append (sized item.key) item.body in
+    let key = sized_length item.key in
+    let rows = wide64.len item.rows in
+    let few = entry.0 in
+    let body = entry.1 in
+    (omega arith, omega arith)
+
+pub items_more : (level : ℕ) (items : List Item) (x : Item) → length (items_bytes level (items ++ x ∷ [])) ≡ length (items_bytes level items) + length (item_bytes level x)
+items_more level items x =
+    ap length (flat_map-append (item_bytes level) items (x ∷ [])) ∙ length-append (items_bytes level items) (items_bytes level (x ∷ []))
+    ∙ ap (λ l. length (items_bytes level items) + length l) (append-nil (item_bytes level x))
+
+items_first : (level : ℕ) (x : Item) (items : List Item) → length (items_bytes level (x ∷ items)) ≡ length (item_bytes level x) + length (items_bytes level items)
+items_first level x items = length-append (item_bytes level x) (items_bytes level items)
+
+four_each : (level : ℕ) (items : List Item) → AllByRecursion (IsEntry level) items → 4 * length items ≤ length (items_bytes level items)
+four_each level [] each = omega arith
+four_each level (x ∷ items) each = omega (arith, items_first level x items, (entry_size level x each.0).0, four_each level items each.1)
+
+large_ends : (a : List ℕ → List ℕ) (level : ℕ) (items : List Item) → 2 ≤ length items → 16384 ≤ 4 + length (items_bytes level items) → closes a level items ≡ true
+unfolding closes
+large_ends a level items many large = rule.full a level (4 + length (items_bytes level items)) (length items) (last_key items) many large
+
+-- a node that didn't end is small
+pub open_small : (a : List ℕ → List ℕ) (level : ℕ) (held : List Item) → AllByRecursion (IsEntry level) held → closes a level held ≡ false
+    → 4 + length (items_bytes level held) ≤ 32770
+open_small a level [] each over = omega arith
+open_small a level (x ∷ []) each over = omega (arith, items_first level x [], (entry_size level x each.0).1)
+open_small a level (x ∷ y ∷ held) each over =
+    elim (cases_lt (4 + length (items_bytes level (x ∷ y ∷ held))) 16384) [
+      | inl small ↦ omega arith
+      | inr large ↦ absurd (cc (large_ends a level (x ∷ y ∷ held) (omega arith) large))
+    ]
+
+-- ---- order
+
+pub after_less : (k : Option (List ℕ)) (x y : List ℕ) → is_after k x ≡ true → is_after (Some x) y ≡ true → is_after k y ≡ true
+after_less None x y one two = refl
+after_less (Some k) x y one two = ap is_lt (nat_list_cmp_total.trans k x y (is_less (slice_cmp nat_cmp k x) one) (is_less (slice_cmp nat_cmp x y) two))
+  where
+    is_less : (o : Ordering) → is_lt o ≡ true → o ≡ Less
+    is_less Less e = refl
+    is_less Equal e = absurd cc
+    is_less Greater e = absurd cc
+
+pub rise_split : (before : Option (List ℕ)) (xs ys : List Item) → RiseAfter before (xs ++ ys) → RiseAfter before xs × RiseAfter (last_after before xs) ys
+rise_split before [] ys rise = (tt, rise)
+rise_split before (x ∷ xs) ys rise = let rest = rise_split (Some x.key) xs ys rise.1 in ((rise.0, rest.0), rest.1)
+
+pub rise_join : (before : Option (List ℕ)) (xs ys : List Item) → RiseAfter before xs → RiseAfter (last_after before xs) ys → RiseAfter before (xs ++ ys)
+rise_join before [] ys left right = right
+rise_join before (x ∷ xs) ys left right = (left.0, rise_join (Some x.key) xs ys left.1 right)
+
+pub rise_alone : (before : Option (List ℕ)) (xs : List Item) → RiseAfter before xs → Rise xs
+rise_alone before [] rise = tt
+rise_alone before (x ∷ xs) rise = (refl, rise.1)
+
+-- the last key is after what is before the first
+reaches : (before : Option (List ℕ)) (xs : List Item) (x : Item) → RiseAfter before (xs ++ x ∷ []) → is_after before x.key ≡ true
+reaches before [] x rise = rise.0
+reaches before (y ∷ xs) x rise = after_less before y.key x.key rise.0 (reaches (Some y.key) xs x rise.1)
+
+pub last_join : (before : Option (List ℕ)) (xs ys : List Item) → last_after before (xs ++ ys) ≡ last_after (last_after before xs) ys
+last_join before [] ys = refl
+last_join before (x ∷ xs) ys = last_join (Some x.key) xs ys
+
+-- ---- what is written
+
+items_are : (level : ℕ) (items : List Item) → AllByRecursion (IsEntry level) items → rows_in items < 2 ^ 63 → AllByRecursion (IsItem level) items
+items_are level [] each few = tt
+items_are zero (x ∷ items) each few =
+    let key = each.0.key in
+    let size = each.0.size in
+    ((omega arith, omega arith, each.0.one), items_are zero items each.1 (omega arith))
+items_are (suc level) (x ∷ items) each few =
+    let key = each.0.0 in
+    ((omega arith, each.0.1, each.0.2, omega arith), items_are (suc level) items each.1 (omega arith))
+
+pub writable : (level : ℕ) (items : List Item) → AllByRecursion (IsEntry level) items → 4 + length (items_bytes level items) ≤ 65536 → Rise items
+    → rows_in items < 2 ^ 63 → level < 256 → (0 < level → 0 < length items) → IsWritable level items
+writable level items each small rise few low some =
+    let many = four_each level items each in
+    record {
+      node = record {
+        header = record { level_fits = low; count_fits = omega arith; has_item = some };
+        items = items_are level items each few;
+        keys = rise;
+      };
+      small = omega (arith, length-append (header_bytes level (length items)) (items_bytes level items), wide16.len (length items));
+      last = last_short items each;
+      few = few;
+    }
+  where
+    last_short : (list : List Item) → AllByRecursion (IsEntry level) list → length (last_key list) ≤ 4096
+    last_short [] all = omega arith
+    last_short (x ∷ []) all = entry_key level x all.0
+    last_short (x ∷ y ∷ list) all = last_short (y ∷ list) all.1
+
+pub entries : (level : ℕ) (items : List Item) → AllByRecursion (IsGrown level) items → AllByRecursion (IsEntry level) items
+entries level [] each = tt
+entries level (x ∷ items) each = (each.0.0, entries level items each.1)
+
+pub low_level : (level rows : ℕ) → 2 ^ level ≤ rows → rows < 2 ^ 63 → level < 63
+low_level level rows grown few =
+    elim (cases_lt level 63) [
+      | inl low ↦ low
+      | inr high ↦ absurd (omega (arith, pow-le-pow_right {n = 2} (omega arith) {i = 63} {j = level} high))
+    ]
+
+-- an item is pushed onto an open node, and what is then in it can be written
+pub more_writable : (a : List ℕ → List ℕ) (level : ℕ) (held : List Item) (x : Item) → AllByRecursion (IsEntry level) held → IsEntry level x
+    → closes a level held ≡ false → Rise (held ++ x ∷ []) → rows_in (held ++ x ∷ []) < 2 ^ 63 → level < 256 → IsWritable level (held ++ x ∷ [])
+more_writable a level held x each entry over rise few low =
+    writable level (held ++ x ∷ []) (all_join (IsEntry level) held (x ∷ []) each (entry, tt))
+      (omega (arith, items_more level held x, open_small a level held each over, (entry_size level x entry).1)) rise few low
+      (λ above. omega (arith, length-append held (x ∷ [])))
+
+-- ---- a push
+
+module _ (a : List ℕ → List ℕ) where
+  -- the rows of the open nodes from here on, one level up
+  rows_up : (level : ℕ) (held : List Item) (above : List (List Item)) (x : Item)
+      → rows_in (spread above ++ name a level (held ++ x ∷ []) ∷ []) ≡ rows_in (spread (held ∷ above) ++ x ∷ [])
+  rows_up level held above x =
+      let here = name_rows a level (held ++ x ∷ []) in
+      omega (arith, rows_join (spread above) (name a level (held ++ x ∷ []) ∷ []), rows_join held (x ∷ []), rows_join (spread above ++ held) (x ∷ []), rows_join (spread above) held)
+
+  rise_up : (level : ℕ) (held : List Item) (above : List (List Item)) (x : Item)
+      → Rise (spread (held ∷ above) ++ x ∷ []) → Rise (spread above ++ name a level (held ++ x ∷ []) ∷ [])
+  rise_up level held above x rise =
+      let parts = rise_split None (spread above) (held ++ x ∷ []) (subst Rise (append_assoc (spread above) held (x ∷ [])) rise) in
+      let P : List ℕ → Type 0 = λ k. is_after (last_after None (spread above)) k ≡ true in
+      rise_join None (spread above) (name a level (held ++ x ∷ []) ∷ []) parts.0
+        (subst P (sym (name_key a level (held ++ x ∷ []) ∙ last_is held x)) (reaches (last_after None (spread above)) held x parts.1), tt)
+
+  -- the last level's node has the rows of two for each level
+  grown_up : (level : ℕ) (held : List Item) (x : Item) → AllByRecursion (IsGrown level) held → IsGrown level x → 0 < length held
+      → 2 ^ suc level ≤ rows_in (held ++ x ∷ [])
+  grown_up level [] x each grown some = absurd (omega arith)
+  grown_up level (first ∷ held) x each grown some =
+      let one = each.0.1 in
+      let two = grown.1 in
+      omega (arith, rows_join held (x ∷ []), pow_more 2 level)
+
+  pub writable_here : (level : ℕ) (held : List Item) (above : List (List Item)) (x : Item) → Fits a level (held ∷ above) x → IsWritable level (held ++ x ∷ [])
+  writable_here level held above x fits =
+      let parts = rise_split None (spread above) (held ++ x ∷ []) (subst Rise (append_assoc (spread above) held (x ∷ [])) fits.rises) in
+      let few = fits.few in
+      let rows : rows_in (held ++ x ∷ []) < 2 ^ 63 =
+          omega (arith, rows_join held (x ∷ []), rows_join (spread above ++ held) (x ∷ []), rows_join (spread above) held) in
+      let low = low_level level x.rows fits.grown.1 (omega (arith, rows_join held (x ∷ []))) in
+      more_writable a level held x (entries level held fits.are_open.0) fits.grown.0 fits.are_open.1
+        (rise_alone (last_after None (spread above)) (held ++ x ∷ []) parts.1) rows (omega arith)
+
+  pub fits_up : (level : ℕ) (held : List Item) (above : List (List Item)) (x : Item) → Fits a level (held ∷ above) x
+      → closes a level (held ++ x ∷ []) ≡ true → length (a (bytes_of level (held ++ x ∷ []))) ≡ 20
+      → Fits a (suc level) above (name a level (held ++ x ∷ []))
+  fits_up level held above x fits over named =
+      let node = held ++ x ∷ [] in
+      let grown = grown_up level held x fits.are_open.0 fits.grown (some_before a level held x over) in
+      let rows = name_rows a level node in
+      let many : 0 < rows_in node = omega (arith, rows_join held (x ∷ []), entry_rows level x fits.grown.0) in
+      let P : ℕ → Type 0 = λ n. n < 2 ^ 63 in
+      let Q : List ℕ → Type 0 = λ k. length k ≤ 4096 in
+      record {
+        are_open = fits.are_open.2;
+        grown = ((subst Q (sym (name_key a level node ∙ last_is held x)) (entry_key level x fits.grown.0), ap length (name_body a level node) ∙ named, omega arith), omega arith);
+        rises = rise_up level held above x fits.rises;
+        few = subst P (sym (rows_up level held above x)) fits.few;
+      }
+
+  -- the addresses of the nodes that end have 20 bytes
+  abbrev pub AreNamed : List (List ℕ) → Type 0
+  AreNamed list = AllByRecursion (λ bytes. length (a bytes) ≡ 20) list
+
+  pub open_push : (level : ℕ) (nodes : List (List Item)) (x : Item) → Fits a level nodes x → AreNamed (ended_chunks a level nodes x)
+      → AreOpen a level (pushes a level nodes x)
+  open_push level [] x fits named = ((fits.grown, tt), closes_one a level x, tt)
+  open_push level (held ∷ above) x fits named =
+      let n = name a level (held ++ x ∷ []) in
+      elim (closes a level (held ++ x ∷ [])) as (λ b. closes a level (held ++ x ∷ []) ≡ b
+        → AreNamed (cond b (bytes_of level (held ++ x ∷ []) ∷ ended_chunks a (suc level) above n) [])
+        → AreOpen a level (cond b ([] ∷ pushes a (suc level) above n) ((held ++ x ∷ []) ∷ above))) [
+        | true ↦ λ e each. (tt, closes_none a level, open_push (suc level) above n (fits_up level held above x fits e each.0) each.1)
+        | false ↦ λ e each. (all_join (IsGrown level) held (x ∷ []) fits.are_open.0 (fits.grown, tt), e, fits.are_open.2) ] refl named
+
+  pub rises_push : (level : ℕ) (nodes : List (List Item)) (x : Item) → Rise (spread nodes ++ x ∷ []) → Rise (spread (pushes a level nodes x))
+  rises_push level [] x rise = rise
+  rises_push level (held ∷ above) x rise =
+      let n = name a level (held ++ x ∷ []) in
+      elim (closes a level (held ++ x ∷ [])) as (λ b. Rise (spread (cond b ([] ∷ pushes a (suc level) above n) ((held ++ x ∷ []) ∷ above)))) [
+        | true ↦ subst Rise (sym (append-nil (spread (pushes a (suc level) above n)))) (rises_push (suc level) above n (rise_up level held above x rise))
+        | false ↦ subst Rise (append_assoc (spread above) held (x ∷ [])) rise ]
+
+  pub last_push : (level : ℕ) (nodes : List (List Item)) (x : Item) → last_after None (spread (pushes a level nodes x)) ≡ Some x.key
+  last_push level [] x = refl
+  last_push level (held ∷ above) x =
+      let n = name a level (held ++ x ∷ []) in
+      elim (closes a level (held ++ x ∷ [])) as (λ b. last_after None (spread (cond b ([] ∷ pushes a (suc level) above n) ((held ++ x ∷ []) ∷ above))) ≡ Some x.key) [
+        | true ↦ ap (last_after None) (append-nil (spread (pushes a (suc level) above n))) ∙ last_push (suc level) above n
+            ∙ ap (λ k. Some k) (name_key a level (held ++ x ∷ []) ∙ last_is held x)
+        | false ↦ last_join None (spread above) (held ++ x ∷ []) ∙ last_join (last_after None (spread above)) held (x ∷ []) ]
+
+  pub counted_push : (level : ℕ) (nodes : List (List Item)) (x : Item) → rows_in (spread (pushes a level nodes x)) ≡ rows_in (spread nodes ++ x ∷ [])
+  counted_push level [] x = refl
+  counted_push level (held ∷ above) x =
+      let n = name a level (held ++ x ∷ []) in
+      elim (closes a level (held ++ x ∷ [])) as (λ b. rows_in (spread (cond b ([] ∷ pushes a (suc level) above n) ((held ++ x ∷ []) ∷ above))) ≡ rows_in (spread (held ∷ above) ++ x ∷ [])) [
+        | true ↦ ap rows_in (append-nil (spread (pushes a (suc level) above n))) ∙ counted_push (suc level) above n ∙ rows_up level held above x
+        | false ↦ ap rows_in (sym (append_assoc (spread above) held (x ∷ []))) ]
+
+  not_empty : (held : List Item) (x : Item) → is_empty (held ++ x ∷ []) ≡ false
+  not_empty [] x = refl
+  not_empty (first ∷ held) x = refl
+
+  one_lower : (nodes : List (List Item)) → IsTopped nodes → is_empty nodes ≡ false → IsTopped ([] ∷ nodes)
+  one_lower [] topped some = absurd cc
+  one_lower (held ∷ above) topped some = topped
+
+  pub topped_push : (level : ℕ) (nodes : List (List Item)) (x : Item) → IsTopped nodes → IsTopped (pushes a level nodes x)
+  topped_push level [] x topped = refl
+  topped_push level (held ∷ []) x topped =
+      elim (closes a level (held ++ x ∷ [])) as (λ b. IsTopped (cond b ([] ∷ (name a level (held ++ x ∷ []) ∷ []) ∷ []) ((held ++ x ∷ []) ∷ []))) [
+        | true ↦ refl
+        | false ↦ not_empty held x ]
+  topped_push level (held ∷ next ∷ above) x topped =
+      let n = name a level (held ++ x ∷ []) in
+      elim (closes a level (held ++ x ∷ [])) as (λ b. IsTopped (cond b ([] ∷ pushes a (suc level) (next ∷ above) n) ((held ++ x ∷ []) ∷ next ∷ above))) [
+        | true ↦ one_lower (pushes a (suc level) (next ∷ above) n) (topped_push (suc level) (next ∷ above) n topped) (never_empty a (suc level) (next ∷ above) n)
+        | false ↦ topped ]
+
+-- ---- a tower
+
+  pub fits_row : (chunks : Chunks) (held : List Item) (above : List (List Item)) (rows : List Item) (x : Item) → IsTower a chunks (held ∷ above) rows
+      → AreRows (rows ++ x ∷ []) → Fits a 0 (held ∷ above) x
+  fits_row chunks held above rows x tower are =
+      let row = (all_split IsRow rows (x ∷ []) are.each).1.0 in
+      let after = rise_split None rows (x ∷ []) are.rise in
+      let P : Option (List ℕ) → Type 0 = λ k. is_after k x.key ≡ true in
+      let counted = tower.counted in
+      let few = are.few in
+      let one = row.one in
+      record {
+        are_open = tower.are_open;
+        grown = (row, omega arith);
+        rises = rise_join None (spread (held ∷ above)) (x ∷ []) tower.rises (subst P (sym tower.last) after.1.0, tt);
+        few = omega (arith, rows_join (spread (held ∷ above)) (x ∷ []), length-append rows (x ∷ []));
+      }
+
+  rows_follow : (chunks : Chunks) (held : List Item) (above : List (List Item)) (rows : List Item) (x : Item) → IsTower a chunks (held ∷ above) rows
+      → Fits a 0 (held ∷ above) x → AreRows (rows ++ x ∷ [])
+  rows_follow chunks held above rows x tower fits =
+      let after = rise_split None (spread (held ∷ above)) (x ∷ []) fits.rises in
+      let P : Option (List ℕ) → Type 0 = λ k. is_after k x.key ≡ true in
+      let counted = tower.counted in
+      let few = fits.few in
+      let one = fits.grown.0.one in
+      record {
+        each = all_join IsRow rows (x ∷ []) tower.are_rows.each (fits.grown.0, tt);
+        rise = rise_join None rows (x ∷ []) tower.are_rows.rise (subst P tower.last after.1.0, tt);
+        few = omega (arith, rows_join (spread (held ∷ above)) (x ∷ []), length-append rows (x ∷ []));
+      }
+
+  topped_above : (held : List Item) (above : List (List Item)) (x : Item) → IsTopped above → IsTopped (above_of (pushes a 0 (held ∷ above) x))
+  topped_above held above x topped =
+      let n = name a 0 (held ++ x ∷ []) in
+      elim (closes a 0 (held ++ x ∷ [])) as (λ b. IsTopped (above_of (cond b ([] ∷ pushes a 1 above n) ((held ++ x ∷ []) ∷ above)))) [
+        | true ↦ topped_push 1 above n topped
+        | false ↦ topped ]
+
+  found_named : (chunks : Chunks) (list : List (List ℕ)) → ArePut a chunks list → AreHeld a chunks list × AreNamed list
+  found_named chunks [] put = (tt, tt)
+  found_named chunks (bytes ∷ list) put = let rest = found_named chunks list put.1 in ((put.0.0, rest.0), (put.0.1, rest.1))
+
+  pub tower_push : (old new : Chunks) (held : List Item) (above : List (List Item)) (rows : List Item) (x : Item) → IsTower a old (held ∷ above) rows
+      → Fits a 0 (held ∷ above) x → Extends old new → ArePut a new (ended_chunks a 0 (held ∷ above) x)
+      → IsTower a new (pushes a 0 (held ∷ above) x) (rows ++ x ∷ [])
+  tower_push old new held above rows x tower fits grows put =
+      let found = found_named new (ended_chunks a 0 (held ∷ above) x) put in
+      let counted = tower.counted in
+      let one = fits.grown.0.one in
+      record {
+        are_rows = rows_follow old held above rows x tower fits;
+        continues = continues_push a held above rows x tower.continues;
+        kept = kept_push a old new held above rows x grows found.0 tower.kept;
+        are_open = open_push 0 (held ∷ above) x fits found.1;
+        topped = topped_above held above x tower.topped;
+        rises = rises_push 0 (held ∷ above) x fits.rises;
+        last = last_push 0 (held ∷ above) x ∙ sym (last_join None rows (x ∷ []));
+        counted = omega (arith, counted_push 0 (held ∷ above) x, rows_join (spread (held ∷ above)) (x ∷ []), length-append rows (x ∷ []));
+      }
+
+  pub tower_begins : (chunks : Chunks) → IsTower a chunks ([] ∷ []) []
+  tower_begins chunks = record {
+    are_rows = record { each = tt; rise = tt; few = omega arith };
+    continues = λ turns more. refl;
+    kept = λ later extends turns more held. held;
+    are_open = (tt, closes_none a 0, tt);
+    topped = tt;
+    rises = tt;
+    last = refl;
+    counted = refl;
+  }

@@ -1,0 +1,4 @@
+pub mod TowerLemmas
+pub mod GrowthLemmas
+pub mod NodeLemmas
+pub mod ClosingLemmas

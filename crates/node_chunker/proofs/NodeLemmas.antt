@@ -1,0 +1,116 @@
+-- Open nodes as the code keeps them: their items, and their sizes.
+use Rattle.std.proofs.Common.{◌≡◌, ◌≤◌, ◌<◌, ◌+◌, ◌*◌, ◌^◌, ℕ, zero, suc, Bool, true, false, cond, List, [], ◌∷◌, ◌++◌, length, map, take, drop, get_or, Option, None, Some, sym, refl, ap, subst, ◌∙◌, arith}
+use Rattle.std.specs.Int.{w16}
+use Rattle.std.specs.List.{AllByRecursion}
+use Rattle.std.proofs.lemmas.List.{length-append, map-append, length-map, take-append-drop, take_more}
+use Rattle.tuple_codec.specs.Nodes.{Item, IsItem, ends, item_bytes, items_bytes, header_bytes}
+use Rattle.tuple_codec.specs.Trees.{bytes_of, closes, last_key, name, rows_in}
+use Rattle.node_format.proofs.FieldLemmas.{wide16}
+use Rattle.node_format.specs.declared.items.LeafItem.{LeafItem}
+use Rattle.node_format.specs.declared.items.RefItem.{RefItem}
+use Rattle.node_format.specs.Views.{leaf_of, ref_of}
+use Rattle.node_chunker.specs.Growth.{IsWritable}
+use Rattle.node_chunker.proofs.GrowthLemmas.{items_more, last_is, rows_join}
+use Rattle.node_chunker.proofs.TowerLemmas.{all_split}
+
+-- what is written has room for its last item
+pub has_room : (level : ℕ) (items : List Item) (x : Item) → IsWritable level (items ++ x ∷ [])
+    → 4 + length (items_bytes level items) + length (item_bytes level x) ≤ 65536
+has_room level items x fits =
+    let small = fits.small in
+    omega (arith, items_more level items x, length-append (header_bytes level (length (items ++ x ∷ []))) (items_bytes level (items ++ x ∷ [])), wide16.len (length (items ++ x ∷ [])))
+
+-- the boundary rule as it is asked before an item is added
+pub closes_after : (a : List ℕ → List ℕ) (level : ℕ) (items : List Item) (x : Item) (size count : ℕ) → size ≡ 4 + length (items_bytes level items) + length (item_bytes level x)
+    → count ≡ length items + 1 → ends a level size count x.key ≡ closes a level (items ++ x ∷ [])
+unfolding closes
+closes_after a level items x size count size_is count_is =
+    let e : size ≡ 4 + length (items_bytes level (items ++ x ∷ [])) = omega (arith, items_more level items x) in
+    let n : count ≡ length (items ++ x ∷ []) = omega (arith, length-append items (x ∷ [])) in
+    ap (λ s. ends a level s count x.key) e ∙ ap (λ m. ends a level (4 + length (items_bytes level (items ++ x ∷ []))) m x.key) n
+    ∙ ap (ends a level (4 + length (items_bytes level (items ++ x ∷ []))) (length (items ++ x ∷ []))) (sym (last_is items x))
+
+pub leaves_count : (items : List LeafItem) → rows_in (map leaf_of items) ≡ length items
+leaves_count [] = refl
+leaves_count (item ∷ items) = omega (arith, leaves_count items)
+
+pub item_room : (level : ℕ) (items : List Item) (x : Item) → IsWritable level (items ++ x ∷ []) → length (item_bytes level x) ≤ 65536
+item_room level items x fits = omega (arith, has_room level items x fits)
+
+pub last_room : (level : ℕ) (items : List Item) (x : Item) (key : List ℕ) → IsWritable level (items ++ x ∷ []) → key ≡ x.key → length key ≤ 4096
+last_room level items x key fits e =
+    let P : List ℕ → Type 0 = λ k. length k ≤ 4096 in
+    subst P (last_is items x ∙ sym e) fits.last
+
+-- the items in hand, seen one by one
+module _ {X : Type 0} (f : X → Item) (level : ℕ) where
+  pub size_now : (mine : List X) (held : List Item) (size : ℕ) → size ≡ 4 + length (items_bytes level (map f mine)) → map f mine ≡ held
+      → size ≡ 4 + length (items_bytes level held)
+  size_now mine held size size_is seen = size_is ∙ ap (λ l. 4 + length (items_bytes level l)) seen
+
+  pub count_now : (mine : List X) (held : List Item) (count : ℕ) → count ≡ length mine → map f mine ≡ held → count ≡ length held
+  count_now mine held count count_is seen = count_is ∙ sym (length-map mine f) ∙ ap length seen
+
+  pub size_pushed : (old new : List X) (x : X) (size more : ℕ) → new ≡ old ++ x ∷ [] → size ≡ 4 + length (items_bytes level (map f old))
+      → more ≡ length (item_bytes level (f x)) → size + more ≡ 4 + length (items_bytes level (map f new))
+  size_pushed old new x size more new_is size_is more_is =
+      let e : length (items_bytes level (map f new)) ≡ length (items_bytes level (map f old ++ f x ∷ [])) =
+          ap (λ l. length (items_bytes level l)) (ap (map f) new_is ∙ map-append f old (x ∷ [])) in
+      omega (arith, items_more level (map f old) (f x))
+
+  pub last_popped : (all rest : List X) (x : X) → all ≡ rest ++ x ∷ [] → last_key (map f all) ≡ (f x).key
+  last_popped all rest x e = ap last_key (ap (map f) e ∙ map-append f rest (x ∷ [])) ∙ last_is (map f rest) (f x)
+
+pub ends_is : (a : List ℕ → List ℕ) (level : ℕ) (held : List Item) (x : Item) (size more count : ℕ) (key : List ℕ) → size ≡ 4 + length (items_bytes level held)
+    → more ≡ length (item_bytes level x) → count ≡ length held → key ≡ x.key → ends a level (size + more) (count + 1) key ≡ closes a level (held ++ x ∷ [])
+ends_is a level held x size more count key size_is more_is count_is key_is =
+    ap (ends a level (size + more) (count + 1)) key_is ∙ closes_after a level held x (size + more) (count + 1) (omega arith) (omega arith)
+
+pub name_is : (a : List ℕ → List ℕ) (level : ℕ) (held : List Item) (key body : List ℕ) (rows : ℕ) → key ≡ last_key held → body ≡ a (bytes_of level held)
+    → rows ≡ rows_in held → ◌≡◌ {A = Item} (record { key = key; body = body; rows = rows }) (name a level held)
+unfolding name
+name_is a level held key body rows key_is body_is rows_is =
+    let by_key : List ℕ → Item = λ k. record { key = k; body = body; rows = rows } in
+    let by_body : List ℕ → Item = λ b. record { key = last_key held; body = b; rows = rows } in
+    let by_rows : ℕ → Item = λ n. record { key = last_key held; body = a (bytes_of level held); rows = n } in
+    ap by_key key_is ∙ ap by_body body_is ∙ ap by_rows rows_is
+
+-- ---- above the leaves, all levels have the same items
+
+pub item_same : (level : ℕ) (x : Item) → 0 < level → item_bytes level x ≡ item_bytes 1 x
+item_same zero x above = absurd (omega arith)
+item_same (suc level) x above = refl
+
+pub items_same : (level : ℕ) (items : List Item) → 0 < level → items_bytes level items ≡ items_bytes 1 items
+items_same zero items above = absurd (omega arith)
+items_same (suc level) items above = refl
+
+pub inner_room : (level : ℕ) (items : List Item) (x : Item) (size more : ℕ) → 0 < level → IsWritable level (items ++ x ∷ [])
+    → size ≡ 4 + length (items_bytes 1 items) → more ≡ length (item_bytes 1 x) → size + more ≤ 65536
+inner_room zero items x size more above fits size_is more_is = absurd (omega arith)
+inner_room (suc level) items x size more above fits size_is more_is = omega (arith, has_room (suc level) items x fits)
+
+pub inner_item : (level : ℕ) (items : List Item) (x : Item) → 0 < level → IsWritable level (items ++ x ∷ []) → IsItem 1 x
+inner_item zero items x above fits = absurd (omega arith)
+inner_item (suc level) items x above fits = (all_split (IsItem (suc level)) items (x ∷ []) fits.node.items).1.0
+
+pub inner_ends : (a : List ℕ → List ℕ) (level : ℕ) (held : List Item) (x : Item) (size more count : ℕ) (key : List ℕ) → 0 < level
+    → size ≡ 4 + length (items_bytes 1 held) → more ≡ length (item_bytes 1 x) → count ≡ length held → key ≡ x.key
+    → ends a level (size + more) (count + 1) key ≡ closes a level (held ++ x ∷ [])
+inner_ends a zero held x size more count key above size_is more_is count_is key_is = absurd (omega arith)
+inner_ends a (suc level) held x size more count key above size_is more_is count_is key_is = ends_is a (suc level) held x size more count key size_is more_is count_is key_is
+
+pub rows_more : (items : List RefItem) (i : ℕ) (x : RefItem) → i < length items → x ≡ get_or items i x
+    → rows_in (map ref_of (take (i + 1) items)) ≡ rows_in (map ref_of (take i items)) + x.rows
+rows_more items i x within here =
+    let e = ap (λ l. rows_in (map ref_of l)) (take_more items i x within) ∙ ap rows_in (map-append ref_of (take i items) (get_or items i x ∷ []))
+        ∙ rows_join (map ref_of (take i items)) (ref_of (get_or items i x) ∷ []) in
+    let same : x.rows ≡ (get_or items i x).rows = ap (λ (r : RefItem). r.rows) here in
+    omega arith
+
+pub rows_within : (items : List RefItem) (i : ℕ) → rows_in (map ref_of (take i items)) ≤ rows_in (map ref_of items)
+rows_within items i =
+    let e : rows_in (map ref_of items) ≡ rows_in (map ref_of (take i items)) + rows_in (map ref_of (drop i items)) =
+        ap (λ l. rows_in (map ref_of l)) (sym (take-append-drop i items)) ∙ ap rows_in (map-append ref_of (take i items) (drop i items))
+        ∙ rows_join (map ref_of (take i items)) (map ref_of (drop i items)) in
+    omega arith

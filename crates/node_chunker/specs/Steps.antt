@@ -1,0 +1,25 @@
+-- What happens to one open node.
+use Rattle.std.specs.Prelude.{◌≡◌, ℕ, true, false, List, [], ◌∷◌, ◌++◌, Option, None, Some}
+use Rattle.tuple_codec.specs.Nodes.{Item}
+use Rattle.tuple_codec.specs.Trees.{bytes_of, closes, name}
+use Rattle.chunk_store.specs.Chunks.{Chunks}
+use Rattle.node_chunker.specs.Faults.{ArePut}
+use Rattle.node_chunker.specs.Towers.{is_empty}
+
+-- a node was put and emptied, and has this name
+pub record IsNamed (address : List ℕ → List ℕ) (chunks : Chunks) (level : ℕ) (held now : List Item) (named : Item) : Type 0 where
+  pub emptied : now ≡ []
+  pub named_is : named ≡ name address level held
+  pub put : ArePut address chunks (bytes_of level held ∷ [])
+
+-- an item was pushed onto a node: it stays open, or it ended and has a name
+abbrev pub IsPushed : (List ℕ → List ℕ) → Chunks → ℕ → List Item → Item → List Item → Option Item → Type 0
+IsPushed address chunks level held item now None = (closes address level (held ++ item ∷ []) ≡ false) × (now ≡ held ++ item ∷ [])
+IsPushed address chunks level held item now (Some named) =
+    (closes address level (held ++ item ∷ []) ≡ true) × IsNamed address chunks level (held ++ item ∷ []) now named
+
+-- a node was closed after these items: it has a name unless it has no item
+abbrev pub IsClosed : (List ℕ → List ℕ) → Chunks → ℕ → List Item → Option Item → Type 0
+IsClosed address chunks level held None = held ≡ []
+IsClosed address chunks level held (Some named) =
+    (is_empty held ≡ false) × (named ≡ name address level held) × ArePut address chunks (bytes_of level held ∷ [])

@@ -1,0 +1,2 @@
+//! A tower.
+pub struct Tower;
