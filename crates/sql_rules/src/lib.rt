@@ -4,4 +4,6 @@
 //! language is called with arguments that are none of its own.
 #![tactic(auto)]
 
+mod depths;
 mod features;
+mod nesting;
