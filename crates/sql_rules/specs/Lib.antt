@@ -1,3 +1,5 @@
 pub mod Features
 pub mod Nesting
 pub mod Depths
+pub mod Names
+pub mod Writes

@@ -6,4 +6,6 @@
 
 mod depths;
 mod features;
+mod names;
 mod nesting;
+mod writes;
