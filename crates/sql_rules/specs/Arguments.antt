@@ -119,10 +119,16 @@ takes_commit arguments = is_commit (commit_from (Some no_commit) arguments)
 abbrev pub merge_name : Merge → List ℕ → Option Merge
 merge_name seen argument = if seen.name || not (is_point argument) then None else Some (record seen { name = true })
 
+abbrev pub with_no_ff : Merge → Option Merge
+with_no_ff seen = if seen.no_ff then None else Some (record seen { no_ff = true })
+
+abbrev pub with_merge_message : Merge → Option Merge
+with_merge_message seen = if seen.message then None else Some (record seen { awaits_message = true; message = true })
+
 abbrev pub merge_option : Merge → List ℕ → Option Merge
 merge_option seen argument =
-    if is_word (codes "--no-ff") argument then (if seen.no_ff then None else Some (record seen { no_ff = true })) else (
-    if is_word (codes "-m") argument then (if seen.message then None else Some (record seen { awaits_message = true; message = true })) else
+    if is_word (codes "--no-ff") argument then with_no_ff seen else (
+    if is_word (codes "-m") argument then with_merge_message seen else
     merge_name seen argument)
 
 abbrev pub merge_message : Merge → List ℕ → Option Merge

@@ -3,3 +3,4 @@ pub mod Nesting
 pub mod Depths
 pub mod Names
 pub mod Writes
+pub mod Arguments

@@ -4,8 +4,14 @@
 //! language is called with arguments that are none of its own.
 #![tactic(auto)]
 
+mod arguments;
+mod commits;
 mod depths;
 mod features;
+mod merges;
 mod names;
 mod nesting;
+mod procedures;
 mod writes;
+
+pub use procedures::is_misused;
