@@ -1,0 +1,17 @@
+//! What a statement is refused for by its text alone, once the grammar has read it as a tree.
+//!
+//! `is_outside` says whether the statement is outside the language, and `is_misused` whether a procedure of the
+//! language is called with arguments that are none of its own.
+#![tactic(auto)]
+
+mod arguments;
+mod commits;
+mod depths;
+mod features;
+mod merges;
+mod names;
+mod nesting;
+mod procedures;
+mod writes;
+
+pub use procedures::is_misused;
