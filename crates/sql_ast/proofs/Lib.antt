@@ -1,2 +1,3 @@
+pub mod ListNodes
 mod SliceLemmas
 mod Vectors
