@@ -6,12 +6,16 @@
 
 mod arguments;
 mod commits;
+mod constraints;
 mod depths;
 mod features;
 mod merges;
 mod names;
 mod nesting;
+mod order_keys;
 mod procedures;
+mod selects;
+mod tables;
 mod writes;
 
 pub use procedures::is_misused;
