@@ -1,0 +1,39 @@
+use sql_ast::Comparison;
+use sql_values::Kind;
+use tuple_codec::{Boxed, Sequence, Value};
+
+/// An expression whose names are places in a scope, and its kind.
+#[derive(Debug, Drop)]
+pub struct BoundExpr {
+    pub kind: Kind,
+    pub node: Node,
+}
+
+/// An operation with its operands, whose kinds fit it. Columns and literals carry their kinds; every value that is made
+/// of theirs knows its own.
+#[derive(Debug, Drop)]
+pub enum Node {
+    Or(Boxed<Node>, Boxed<Node>),
+    And(Boxed<Node>, Boxed<Node>),
+    Not(Boxed<Node>),
+    Compare(Boxed<Node>, Comparison, Boxed<Node>),
+    IsNull(Boxed<Node>),
+    IsNotNull(Boxed<Node>),
+    /// The value and the list's elements.
+    In(Boxed<Node>, Sequence<Node>),
+    /// The value, the low end and the high end.
+    Between(Boxed<Node>, Boxed<Node>, Boxed<Node>),
+    Add(Boxed<Node>, Boxed<Node>),
+    Subtract(Boxed<Node>, Boxed<Node>),
+    Multiply(Boxed<Node>, Boxed<Node>),
+    /// A unary minus.
+    Negate(Boxed<Node>),
+    /// A literal.
+    Constant(Kind, Value),
+    /// The literal 2^63, which is in range only under a unary minus.
+    MinusOnly,
+    /// A literal that is out of range wherever it is evaluated.
+    OutOfRange,
+    /// A column, by its place in the scope.
+    Column(Kind, usize),
+}

@@ -1,0 +1,14 @@
+//! Expressions: their kinds, found before any row is seen, and their values on rows.
+#![tactic(auto)]
+
+
+mod bound;
+mod faults;
+mod scopes;
+mod valuing;
+
+
+pub use bound::{BoundExpr, Node};
+pub use faults::{BindFault, EvalFault};
+pub use scopes::ScopeColumn;
+pub use valuing::eval;

@@ -1,0 +1,192 @@
+ghost use Rattle.std.specs.Prelude.{◌≡◌, map, false, not, Some, Option};
+ghost use Rattle.std.specs.Option.{option_map};
+ghost use Rattle.sql_values.specs.Views.{seen};
+ghost use Rattle.sql_values.specs.Worths.{of_truth};
+ghost use Rattle.expr_eval.specs.Valuing.{Evaluates, among, compared, comparison, conjunction, disjunction, holds, negation, within, worth, value};
+
+use crate::bound::{BoundExpr, Node};
+use crate::faults::EvalFault;
+use sql_ast::Comparison;
+use sql_values::{Worth, add, and, compare, multiply, negate, not, or, subtract};
+use std::alloc::Global;
+use std::cmp::Ordering;
+use tuple_codec::{Row, Value};
+
+/// The value of an expression on a row, which has a fitting value for each column of the scope that it was bound in.
+/// Texts and byte strings are copied once, at the end.
+pub fn eval(alloc: Global, expr: &BoundExpr, row: &Row) -> Result<Value, EvalFault>
+    ensures { Evaluates result (value row.now expr.now.node) }
+{
+    match worth(&expr.node, row.as_slice()) {
+        Some(worth) => Ok(worth.to_value(alloc)?),
+        None => Err(EvalFault::OutOfRange),
+    }
+}
+
+/// What a node is worth on a row, or None where it is out of range.
+fn worth<'a>(node: &'a Node, row: &'a [Value]) -> Option<Worth<'a>>
+    ensures { option_map seen result ≡ worth row.now node.now }
+{
+    match node {
+        Node::Or(a, b) => {
+            let Some(a) = worth(a.get(), row) else {
+                return None;
+            };
+            let Some(b) = worth(b.get(), row) else {
+                return None;
+            };
+            Some(disjunction(&a, &b))
+        }
+        Node::And(a, b) => {
+            let Some(a) = worth(a.get(), row) else {
+                return None;
+            };
+            let Some(b) = worth(b.get(), row) else {
+                return None;
+            };
+            Some(conjunction(&a, &b))
+        }
+        Node::Not(a) => {
+            let Some(a) = worth(a.get(), row) else {
+                return None;
+            };
+            Some(negation(&a))
+        }
+        Node::Compare(a, comparison, b) => {
+            let Some(a) = worth(a.get(), row) else {
+                return None;
+            };
+            let Some(b) = worth(b.get(), row) else {
+                return None;
+            };
+            Some(Worth::of_truth(compared(*comparison, &a, &b)))
+        }
+        Node::IsNull(a) => {
+            let Some(a) = worth(a.get(), row) else {
+                return None;
+            };
+            Some(Worth::Bool(a.is_null()))
+        }
+        Node::IsNotNull(a) => {
+            let Some(a) = worth(a.get(), row) else {
+                return None;
+            };
+            Some(Worth::Bool(!a.is_null()))
+        }
+        Node::In(a, elements) => {
+            let Some(a) = worth(a.get(), row) else {
+                return None;
+            };
+            let mut found = Some(false);
+            for element in elements.as_slice() {
+                let Some(element) = worth(element, row) else {
+                return None;
+            };
+                found = or(found, compared(Comparison::Equal, &a, &element));
+            }
+            Some(Worth::of_truth(found))
+        }
+        Node::Between(a, low, high) => {
+            let Some(a) = worth(a.get(), row) else {
+                return None;
+            };
+            let Some(low) = worth(low.get(), row) else {
+                return None;
+            };
+            let Some(high) = worth(high.get(), row) else {
+                return None;
+            };
+            Some(within(&a, &low, &high))
+        }
+        Node::Add(a, b) => {
+            let Some(a) = worth(a.get(), row) else {
+                return None;
+            };
+            let Some(b) = worth(b.get(), row) else {
+                return None;
+            };
+            add(&a, &b)
+        }
+        Node::Subtract(a, b) => {
+            let Some(a) = worth(a.get(), row) else {
+                return None;
+            };
+            let Some(b) = worth(b.get(), row) else {
+                return None;
+            };
+            subtract(&a, &b)
+        }
+        Node::Multiply(a, b) => {
+            let Some(a) = worth(a.get(), row) else {
+                return None;
+            };
+            let Some(b) = worth(b.get(), row) else {
+                return None;
+            };
+            multiply(&a, &b)
+        }
+        Node::Negate(a) => {
+            let Some(a) = worth(a.get(), row) else {
+                return None;
+            };
+            negate(&a)
+        }
+        Node::Constant(kind, value) => Some(Worth::of(kind, value)),
+        Node::MinusOnly | Node::OutOfRange => None,
+        Node::Column(kind, place) => match row.get(*place) {
+            Some(value) => Some(Worth::of(kind, value)),
+            None => Some(Worth::Null),
+        },
+    }
+}
+
+fn conjunction<'a>(a: &Worth<'_>, b: &Worth<'_>) -> Worth<'a>
+    ensures { Some (seen result) ≡ conjunction (seen a.now) (seen b.now) }
+{
+    Worth::of_truth(and(a.truth(), b.truth()))
+}
+
+fn disjunction<'a>(a: &Worth<'_>, b: &Worth<'_>) -> Worth<'a>
+    ensures { Some (seen result) ≡ disjunction (seen a.now) (seen b.now) }
+{
+    Worth::of_truth(or(a.truth(), b.truth()))
+}
+
+fn negation<'a>(a: &Worth<'_>) -> Worth<'a>
+    ensures { Some (seen result) ≡ negation (seen a.now) }
+{
+    Worth::of_truth(not(a.truth()))
+}
+
+/// Whether the comparison holds, None where one side is NULL.
+fn compared(comparison: Comparison, a: &Worth<'_>, b: &Worth<'_>) -> Option<bool>
+    ensures { result ≡ compared comparison (seen a.now) (seen b.now) }
+{
+    match compare(a, b) {
+        Some(order) => Some(holds(comparison, order)),
+        None => None,
+    }
+}
+
+/// Whether a value is at least the low end and at most the high end.
+fn within<'a>(value: &Worth<'_>, low: &Worth<'_>, high: &Worth<'_>) -> Worth<'a>
+    ensures { Some (seen result) ≡ within (seen low.now) (seen high.now) (seen value.now) }
+{
+    let above = compared(Comparison::AtLeast, value, low);
+    let below = compared(Comparison::AtMost, value, high);
+    Worth::of_truth(and(above, below))
+}
+
+fn holds(comparison: Comparison, order: Ordering) -> bool
+    ensures { result ≡ holds comparison order }
+{
+    match (comparison, order) {
+        (Comparison::Equal, Ordering::Equal) => true,
+        (Comparison::NotEqual, Ordering::Less | Ordering::Greater) => true,
+        (Comparison::Less, Ordering::Less) => true,
+        (Comparison::AtMost, Ordering::Less | Ordering::Equal) => true,
+        (Comparison::Greater, Ordering::Greater) => true,
+        (Comparison::AtLeast, Ordering::Equal | Ordering::Greater) => true,
+        _ => false,
+    }
+}

@@ -1,0 +1,7 @@
+pub mod Logic
+pub mod Worths
+pub mod Numbers
+pub mod Kinds
+pub mod Order
+pub mod Assigning
+pub mod Views
