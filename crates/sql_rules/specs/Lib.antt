@@ -7,3 +7,5 @@ pub mod Arguments
 pub mod Selects
 pub mod Tables
 pub mod Constraints
+pub mod Defaults
+pub mod Outside

@@ -36,12 +36,13 @@ pub fn makes_long_name(
             return Ok(false);
         }
         let name = make_name(alloc, table, sort, turn + 1)?;
-        if is_unused(elements, &name) {
-            if is_long_name(&name) {
-                return Ok(true);
-            }
-            left -= 1;
+        if !is_unused(elements, &name) {
+            continue;
         }
+        if is_long_name(&name) {
+            return Ok(true);
+        }
+        left -= 1;
     }
     Ok(false)
 }
