@@ -1,1 +1,2 @@
 pub mod ListNodes
+pub mod MadeNames

@@ -105,15 +105,15 @@ abbrev pub is_commit : Option Commit → Bool
 is_commit (Some seen) = seen.message && not seen.awaits_message
 is_commit None = false
 
-abbrev pub commit_from : Option Commit → Arguments → Option Commit
-commit_from seen [] = seen
-commit_from seen (argument ∷ arguments) = commit_from (option_and_then (λ so_far. commit_argument so_far argument) seen) arguments
+abbrev pub commit_from : Commit → Arguments → Option Commit
+commit_from seen [] = Some seen
+commit_from seen (argument ∷ arguments) = option_and_then (λ next. commit_from next arguments) (commit_argument seen argument)
 
 abbrev pub no_commit : Commit
 no_commit = record { awaits_message = false; message = false; named = false; all = false; empty = false }
 
 abbrev pub takes_commit : Arguments → Bool
-takes_commit arguments = is_commit (commit_from (Some no_commit) arguments)
+takes_commit arguments = is_commit (commit_from no_commit arguments)
 
 -- `--abort` alone; or a name, and perhaps `--no-ff` and a message behind `-m`, each once, in any order
 abbrev pub merge_name : Merge → List ℕ → Option Merge
@@ -141,9 +141,9 @@ abbrev pub is_merge : Option Merge → Bool
 is_merge (Some seen) = seen.name && not seen.awaits_message
 is_merge None = false
 
-abbrev pub merge_from : Option Merge → Arguments → Option Merge
-merge_from seen [] = seen
-merge_from seen (argument ∷ arguments) = merge_from (option_and_then (λ so_far. merge_argument so_far argument) seen) arguments
+abbrev pub merge_from : Merge → Arguments → Option Merge
+merge_from seen [] = Some seen
+merge_from seen (argument ∷ arguments) = option_and_then (λ next. merge_from next arguments) (merge_argument seen argument)
 
 abbrev pub no_merge : Merge
 no_merge = record { awaits_message = false; message = false; name = false; no_ff = false }
@@ -153,7 +153,7 @@ is_abort (only ∷ []) = is_word (codes "--abort") only
 is_abort arguments = false
 
 abbrev pub takes_merge : Arguments → Bool
-takes_merge arguments = is_abort arguments || is_merge (merge_from (Some no_merge) arguments)
+takes_merge arguments = is_abort arguments || is_merge (merge_from no_merge arguments)
 
 -- `.` alone, or tables
 abbrev pub are_all_or_tables : Arguments → Bool

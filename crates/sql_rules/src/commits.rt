@@ -1,4 +1,4 @@
-ghost use Rattle.std.specs.Prelude.{◌≡◌, Some};
+ghost use Rattle.std.specs.Prelude.{◌≡◌};
 ghost use Rattle.sql_rules.specs.Arguments.{no_commit, commit_argument, commit_from, commit_message, commit_option, is_commit, takes_commit, with_all, with_empty, with_message, with_named};
 
 use crate::arguments::{is_message_text, is_option};
@@ -29,7 +29,7 @@ pub fn commit_takes(arguments: &[Text]) -> bool
 }
 
 fn read_commit(arguments: &[Text]) -> Option<Commit>
-    ensures { result ≡ commit_from (Some no_commit) arguments.now }
+    ensures { result ≡ commit_from no_commit arguments.now }
 {
     let mut seen = Commit {
         awaits_message: false,

@@ -47,7 +47,7 @@ fn node_shows(expr: &Expr, feature: Feature) -> bool
     }
 }
 
-fn is_aggregate_node(expr: &Expr) -> bool
+pub fn is_aggregate_node(expr: &Expr) -> bool
     ensures { result ≡ is_aggregate (out-Expr expr.now) }
 {
     match expr {

@@ -6,12 +6,21 @@
 
 mod arguments;
 mod commits;
+mod constraints;
+mod defaults;
 mod depths;
 mod features;
 mod merges;
 mod names;
 mod nesting;
+mod order_keys;
+mod outside;
 mod procedures;
+mod selects;
+mod tables;
+#[cfg(test)]
+mod tests;
 mod writes;
 
+pub use outside::is_outside;
 pub use procedures::is_misused;

@@ -1,4 +1,4 @@
-ghost use Rattle.std.specs.Prelude.{◌≡◌, Some};
+ghost use Rattle.std.specs.Prelude.{◌≡◌};
 ghost use Rattle.sql_rules.specs.Arguments.{is_abort, is_merge, merge_argument, merge_from, merge_message, merge_name, merge_option, no_merge, takes_merge, with_merge_message, with_no_ff};
 
 use crate::arguments::{is_message_text, is_option, is_point_name};
@@ -33,7 +33,7 @@ fn aborts(arguments: &[Text]) -> bool
 }
 
 fn merges(arguments: &[Text]) -> bool
-    ensures { result ≡ is_merge (merge_from (Some no_merge) arguments.now) }
+    ensures { result ≡ is_merge (merge_from no_merge arguments.now) }
 {
     match read_merge(arguments) {
         Some(seen) => seen.name && !seen.awaits_message,
@@ -42,7 +42,7 @@ fn merges(arguments: &[Text]) -> bool
 }
 
 fn read_merge(arguments: &[Text]) -> Option<Merge>
-    ensures { result ≡ merge_from (Some no_merge) arguments.now }
+    ensures { result ≡ merge_from no_merge arguments.now }
 {
     let mut seen = Merge {
         awaits_message: false,

@@ -1,0 +1,89 @@
+-- The defaults of columns: which can be assigned.
+use Rattle.std.specs.Prelude.{ℕ, ℤ, pos, neg_ℤ, Bool, true, false, ◌||◌, ◌-◌, ◌^◌, List, [], ◌∷◌, Option, Some, None, Result, Ok, Err, nat_le, not, if◌then◌else◌}
+use Rattle.std.specs.List.{list_any}
+use Rattle.std.specs.Option.{option_map}
+use Rattle.sql_ast.specs.declared.expressions.Literal.{Literal}
+use Rattle.sql_ast.specs.declared.expressions.Literal.TheVariants as literal
+use Rattle.sql_ast.specs.declared.tables.Attribute.{Attribute}
+use Rattle.sql_ast.specs.declared.tables.Attribute.TheVariants as attribute
+use Rattle.sql_ast.specs.declared.tables.ColumnElement.{ColumnElement}
+use Rattle.sql_ast.specs.declared.tables.Element.{Element}
+use Rattle.sql_ast.specs.declared.tables.Element.TheVariants as element
+use Rattle.tuple_codec.specs.declared.values.SqlType.{SqlType}
+use Rattle.tuple_codec.specs.declared.values.Value.{Value}
+use Rattle.tuple_codec.specs.declared.values.Value.TheVariants as cell
+use Rattle.sql_values.specs.Assigning.{stored}
+use Rattle.sql_values.specs.Kinds.{decimal}
+use Rattle.sql_values.specs.declared.assigning.Misfit.{Misfit}
+use Rattle.sql_values.specs.declared.kinds.Kind.{Kind}
+use Rattle.sql_values.specs.declared.kinds.Kind.TheVariants as kind
+use Rattle.sql_rules.specs.Tables.{keys_column, type_of}
+use Rattle.sql_rules.specs.declared.defaults.Given.{Given}
+
+abbrev pub given : Kind → Value → Given
+given kind value = record { kind = kind; value = value }
+
+-- numbers that eight bytes hold; the grammar gives no others
+abbrev pub whole : ℕ → Option Given
+whole n = if nat_le n (2 ^ 63 - 1) then Some (given kind.Int (cell.Int (pos n))) else None
+
+abbrev pub negative_whole : ℕ → Option Given
+negative_whole n = if nat_le n (2 ^ 63) then Some (given kind.Int (cell.Int (neg_ℤ (pos n)))) else None
+
+abbrev pub fraction : ℤ → ℕ → Option Given
+fraction units scale = option_map (λ kind. given kind (cell.Decimal units)) (decimal scale)
+
+abbrev pub positive_fraction : ℕ → ℕ → Option Given
+positive_fraction n scale = if nat_le n (2 ^ 63 - 1) then fraction (pos n) scale else None
+
+abbrev pub negative_fraction : ℕ → ℕ → Option Given
+negative_fraction n scale = if nat_le n (2 ^ 63) then fraction (neg_ℤ (pos n)) scale else None
+
+abbrev pub plain_default : Literal → Option Given
+plain_default (literal.Whole n) = whole n
+plain_default (literal.Decimal n scale) = positive_fraction n scale
+plain_default (literal.Text text) = Some (given kind.Text (cell.Text text))
+plain_default (literal.Bytes bytes) = Some (given kind.Bytes (cell.Bytes bytes))
+plain_default (literal.Bool bit) = Some (given kind.Bool (cell.Bool bit))
+plain_default literal.Null = Some (given kind.Null cell.Null)
+
+-- a minus stands before numbers alone
+abbrev pub negative_default : Literal → Option Given
+negative_default (literal.Whole n) = negative_whole n
+negative_default (literal.Decimal n scale) = negative_fraction n scale
+negative_default value = None
+
+abbrev pub default_of : Bool → Literal → Option Given
+default_of minus value = if minus then negative_default value else plain_default value
+
+abbrev pub is_kept : Result Value Misfit → Bool
+is_kept (Ok value) = true
+is_kept (Err misfit) = false
+
+-- the column keeps this default
+abbrev pub is_assignable : SqlType → Bool → Option Given → Bool
+is_assignable type not_null (Some default) = is_kept (stored default.kind type not_null default.value)
+is_assignable type not_null None = false
+
+abbrev pub default_outside : SqlType → Bool → Attribute → Bool
+default_outside type not_null (attribute.Default minus value) = not (is_assignable type not_null (default_of minus value))
+default_outside type not_null other = false
+
+-- the last NOT NULL or NULL counts
+abbrev pub refuses_null_after : Bool → List Attribute → Bool
+refuses_null_after so_far [] = so_far
+refuses_null_after so_far (attribute.NotNull ∷ attributes) = refuses_null_after true attributes
+refuses_null_after so_far (attribute.Null ∷ attributes) = refuses_null_after false attributes
+refuses_null_after so_far (other ∷ attributes) = refuses_null_after so_far attributes
+
+-- a column of the primary key is NOT NULL, whatever it says
+abbrev pub is_not_null : List Element → ColumnElement → Bool
+is_not_null elements column = list_any (keys_column column.name) elements || refuses_null_after false column.attributes
+
+abbrev pub defaults_outside : Option SqlType → Bool → List Attribute → Bool
+defaults_outside (Some type) not_null attributes = list_any (default_outside type not_null) attributes
+defaults_outside None not_null attributes = false
+
+abbrev pub has_outside_default : List Element → Element → Bool
+has_outside_default elements (element.Column column) = defaults_outside (type_of column.kind) (is_not_null elements column) column.attributes
+has_outside_default elements other = false

@@ -1,0 +1,162 @@
+-- What a SELECT may not say.
+use Rattle.std.specs.Prelude.{ℕ, Bool, true, false, ◌||◌, ◌&&◌, ◌-◌, List, [], ◌∷◌, Option, Some, None, nat_le, not, length, slice_get}
+use Rattle.std.specs.Str.{bytes_eq}
+use Rattle.std.specs.List.{list_any, list_all}
+use Rattle.sql_ast.specs.declared.expressions.Expr.{Expr, out-Expr}
+use Rattle.sql_ast.specs.declared.expressions.Expr.TheOpen.{Expr-F}
+use Rattle.sql_ast.specs.declared.expressions.Literal.{Literal}
+use Rattle.sql_ast.specs.declared.expressions.Literal.TheVariants as literal
+use Rattle.sql_ast.specs.declared.selects.Select.{Select}
+use Rattle.sql_ast.specs.declared.selects.Select.TheVariants as select
+use Rattle.sql_ast.specs.declared.selects.NamedExpr.{NamedExpr}
+use Rattle.sql_ast.specs.declared.selects.Query.{Query}
+use Rattle.sql_ast.specs.declared.selects.Items.{Items}
+use Rattle.sql_ast.specs.declared.selects.Items.TheVariants as items
+use Rattle.sql_ast.specs.declared.selects.Item.{Item}
+use Rattle.sql_ast.specs.declared.selects.Item.TheVariants as item
+use Rattle.sql_ast.specs.declared.selects.FromClause.{FromClause}
+use Rattle.sql_ast.specs.declared.selects.Source.{Source}
+use Rattle.sql_ast.specs.declared.selects.Join.{Join}
+use Rattle.sql_ast.specs.declared.selects.ColumnName.{ColumnName}
+use Rattle.sql_ast.specs.declared.selects.ColumnName.TheVariants as column
+use Rattle.sql_ast.specs.declared.selects.OrderKey.{OrderKey}
+use Rattle.sql_rules.specs.Features.{has, is_aggregate}
+use Rattle.sql_rules.specs.Names.{in_given, repeats_by}
+use Rattle.sql_rules.specs.Nesting.{nests}
+use Rattle.sql_rules.specs.Writes.{is_misplaced, is_misplaced_if}
+use Rattle.sql_rules.specs.declared.features.Feature.{Feature}
+use Rattle.sql_rules.specs.declared.features.Feature.TheVariants as feature
+
+-- The sources.
+
+abbrev pub name_or : List ℕ → Option (List ℕ) → List ℕ
+name_or table (Some alias) = alias
+name_or table None = table
+
+abbrev pub source_name : Source → List ℕ
+source_name source = name_or source.table source.alias
+
+abbrev pub joined_name : Join → List ℕ
+joined_name join = source_name join.source
+
+-- two sources have one name
+abbrev pub repeats_source : FromClause → Bool
+repeats_source from =
+    list_any (λ join. bytes_eq (source_name from.first) (joined_name join)) from.joins || repeats_by joined_name from.joins
+
+-- The items.
+
+abbrev pub in_item : (Expr → Bool) → Item → Bool
+in_item test (item.AllOf source) = false
+in_item test (item.One named) = test named.expr
+
+abbrev pub in_items : (Expr → Bool) → Items → Bool
+in_items test items.All = false
+in_items test (items.Listed list) = list_any (in_item test) list
+
+-- the expression is an aggregate's call as a whole
+abbrev pub is_call : Expr → Bool
+is_call expr = is_aggregate (out-Expr expr)
+
+-- the expression is this column, written alike
+abbrev pub is_written_as : Expr-F Expr → ColumnName → Bool
+is_written_as (Expr-F.Name name) (column.Name other) = bytes_eq name other
+is_written_as (Expr-F.Qualified source name) (column.Qualified other_source other) = bytes_eq source other_source && bytes_eq name other
+is_written_as node other = false
+
+abbrev pub is_group : List ColumnName → Expr → Bool
+is_group groups expr = list_any (is_written_as (out-Expr expr)) groups
+
+-- what a grouped SELECT may show
+abbrev pub is_of_groups : List ColumnName → Item → Bool
+is_of_groups groups (item.AllOf source) = false
+is_of_groups groups (item.One named) = is_call named.expr || is_group groups named.expr
+
+abbrev pub are_of_groups : List ColumnName → Items → Bool
+are_of_groups groups items.All = false
+are_of_groups groups (items.Listed list) = list_all (is_of_groups groups) list
+
+abbrev pub is_some : {A : Type 0} → List A → Bool
+is_some [] = false
+is_some (x ∷ xs) = true
+
+abbrev pub is_grouped : Query → Bool
+is_grouped query = is_some query.clauses.groups || in_items (has feature.Aggregate) query.items
+
+abbrev pub is_ungrouped_item_shown : Query → Bool
+is_ungrouped_item_shown query = is_grouped query && not (are_of_groups query.clauses.groups query.items)
+
+-- The keys of ORDER BY.
+
+abbrev pub is_one : Item → Bool
+is_one (item.AllOf source) = false
+is_one (item.One named) = true
+
+-- this many items, counted from one, reach one that is no `*`
+abbrev pub numbers : Items → ℕ → Bool
+numbers items.All n = false
+numbers (items.Listed list) n = nat_le 1 n && in_given is_one (slice_get list (n - 1))
+
+-- a column's own name
+abbrev pub is_column_named : List ℕ → Expr-F Expr → Bool
+is_column_named name (Expr-F.Name own) = bytes_eq name own
+is_column_named name (Expr-F.Qualified source own) = bytes_eq name own
+is_column_named name node = false
+
+-- by AS, else by its column's name; the canonical text of any other expression is no word, so no name
+abbrev pub is_named_by : List ℕ → Option (List ℕ) → Expr → Bool
+is_named_by name (Some alias) expr = bytes_eq name alias
+is_named_by name None expr = is_column_named name (out-Expr expr)
+
+abbrev pub is_item_named : List ℕ → Item → Bool
+is_item_named name (item.AllOf source) = false
+is_item_named name (item.One named) = is_named_by name named.name named.expr
+
+abbrev pub names_item : Items → List ℕ → Bool
+names_item items.All name = false
+names_item (items.Listed list) name = list_any (is_item_named name) list
+
+abbrev pub is_literal_key : Items → Bool → Literal → Bool
+is_literal_key shown open_to_sources (literal.Whole n) = numbers shown n
+is_literal_key shown open_to_sources value = open_to_sources
+
+-- a whole literal is an item's number; a name that an item has is that item; else the key is an expression over the
+-- sources, where there may be such keys
+abbrev pub is_key : Items → Bool → Expr-F Expr → Bool
+is_key shown open_to_sources (Expr-F.Literal value) = is_literal_key shown open_to_sources value
+is_key shown open_to_sources (Expr-F.Name name) = names_item shown name || open_to_sources
+is_key shown open_to_sources node = open_to_sources
+
+abbrev pub key_outside : Items → Bool → OrderKey → Bool
+key_outside shown open_to_sources key = is_misplaced key.expr || not (is_key shown open_to_sources (out-Expr key.expr))
+
+-- the rows that are shown stand for one combination of the sources' rows each
+abbrev pub is_open_to_sources : Query → Bool
+is_open_to_sources query = not (is_grouped query || query.distinct)
+
+-- The whole.
+
+abbrev pub from_outside : FromClause → Bool
+from_outside from = repeats_source from || list_any (λ join. is_misplaced join.on) from.joins
+
+abbrev pub items_outside : Items → Bool
+items_outside shown = in_items (has feature.SessionWord) shown || in_items nests shown
+
+abbrev pub keys_outside : Query → Bool
+keys_outside query = list_any (key_outside query.items (is_open_to_sources query)) query.clauses.sorting.keys
+
+abbrev pub query_outside : Query → Bool
+query_outside query =
+    from_outside query.from || is_misplaced_if query.clauses.filter || items_outside query.items || is_ungrouped_item_shown query || keys_outside query
+
+-- without sources there is one row, and nothing to group by
+abbrev pub mixes_aggregates : List NamedExpr → Bool
+mixes_aggregates list = list_any (λ named. has feature.Aggregate named.expr) list && not (list_all (λ named. is_call named.expr) list)
+
+abbrev pub alone_outside : List NamedExpr → Bool
+alone_outside list =
+    list_any (λ named. has feature.OtherVariable named.expr) list || list_any (λ named. nests named.expr) list || mixes_aggregates list
+
+abbrev pub select_outside : Select → Bool
+select_outside (select.From query) = query_outside query
+select_outside (select.Alone list) = alone_outside list

@@ -1,0 +1,258 @@
+ghost use Rattle.std.specs.Prelude.{◌≡◌};
+ghost use Rattle.std.specs.List.{list_all, list_any};
+ghost use Rattle.std.specs.Str.{bytes_eq};
+ghost use Rattle.sql_ast.specs.declared.expressions.Expr.{out-Expr};
+ghost use Rattle.sql_rules.specs.Features.{has};
+ghost use Rattle.sql_rules.specs.Names.{repeats_by};
+ghost use Rattle.sql_rules.specs.Nesting.{nests};
+ghost use Rattle.sql_rules.specs.Selects.{alone_outside, are_of_groups, from_outside, in_item, in_items, is_call, is_group, is_grouped, is_of_groups, is_open_to_sources, is_some, is_ungrouped_item_shown, is_written_as, items_outside, joined_name, key_outside, keys_outside, mixes_aggregates, name_or, query_outside, repeats_source, select_outside, source_name};
+ghost use Rattle.sql_rules.specs.Writes.{is_misplaced};
+
+use crate::features::{Feature, has_feature, is_aggregate_node};
+use crate::nesting::nests_aggregates;
+use crate::order_keys::is_outside_key;
+use crate::writes::{is_given_out_of_place, is_out_of_place};
+use sql_ast::{ColumnName, Expr, FromClause, Item, Items, Join, NamedExpr, OrderKey, Query, Select, Source};
+use tuple_codec::Text;
+
+pub fn is_outside_select(select: &Select) -> bool
+    ensures { result ≡ select_outside select.now }
+{
+    match select {
+        Select::From(query) => is_outside_query(query),
+        Select::Alone(list) => is_outside_alone(list.as_slice()),
+    }
+}
+
+fn is_outside_query(query: &Query) -> bool
+    ensures { result ≡ query_outside query.now }
+{
+    is_outside_from(&query.from)
+        || is_given_out_of_place(&query.clauses.filter)
+        || are_outside_items(&query.items)
+        || shows_ungrouped_item(query)
+        || has_outside_key(query)
+}
+
+fn is_outside_from(from: &FromClause) -> bool
+    ensures { result ≡ from_outside from.now }
+{
+    has_repeated_source(from) || some_condition_is_out_of_place(from.joins.as_slice())
+}
+
+fn some_condition_is_out_of_place(joins: &[Join]) -> bool
+    ensures { result ≡ list_any (λ join. is_misplaced join.on) joins.now }
+{
+    joins.iter().any(|join| is_out_of_place(&join.on))
+}
+
+/// Whether two sources have one name.
+fn has_repeated_source(from: &FromClause) -> bool
+    ensures { result ≡ repeats_source from.now }
+{
+    let joins = from.joins.as_slice();
+    joins_named(joins, name_of(&from.first)) || repeats_joined(joins)
+}
+
+fn repeats_joined(joins: &[Join]) -> bool
+    ensures { result ≡ repeats_by joined_name joins.now }
+{
+    for (at, join) in joins.iter().enumerate() {
+        if joins_named(&joins[at + 1..], name_of(&join.source)) {
+            return true;
+        }
+    }
+    false
+}
+
+fn joins_named(joins: &[Join], name: &Text) -> bool
+    ensures { result ≡ list_any (λ join. bytes_eq name.now (joined_name join)) joins.now }
+{
+    joins.iter().any(|join| name.is(name_of(&join.source).as_slice()))
+}
+
+/// The name that a source goes by.
+fn name_of(source: &Source) -> &Text
+    ensures { result.now ≡ source_name source.now }
+{
+    match &source.alias {
+        Some(alias) => alias,
+        None => &source.table,
+    }
+}
+
+fn are_outside_items(items: &Items) -> bool
+    ensures { result ≡ items_outside items.now }
+{
+    some_item_has(items, Feature::SessionWord) || some_item_nests(items)
+}
+
+fn some_item_has(items: &Items, feature: Feature) -> bool
+    ensures { result ≡ in_items (has feature) items.now }
+{
+    match items {
+        Items::All => false,
+        Items::Listed(list) => some_listed_has(list.as_slice(), feature),
+    }
+}
+
+fn some_listed_has(list: &[Item], feature: Feature) -> bool
+    ensures { result ≡ list_any (in_item (has feature)) list.now }
+{
+    list.iter().any(|item| item_has(item, feature))
+}
+
+fn item_has(item: &Item, feature: Feature) -> bool
+    ensures { result ≡ in_item (has feature) item.now }
+{
+    match item {
+        Item::AllOf(_) => false,
+        Item::One(named) => has_feature(&named.expr, feature),
+    }
+}
+
+fn some_item_nests(items: &Items) -> bool
+    ensures { result ≡ in_items nests items.now }
+{
+    match items {
+        Items::All => false,
+        Items::Listed(list) => some_listed_nests(list.as_slice()),
+    }
+}
+
+fn some_listed_nests(list: &[Item]) -> bool
+    ensures { result ≡ list_any (in_item nests) list.now }
+{
+    list.iter().any(|item| item_nests(item))
+}
+
+fn item_nests(item: &Item) -> bool
+    ensures { result ≡ in_item nests item.now }
+{
+    match item {
+        Item::AllOf(_) => false,
+        Item::One(named) => nests_aggregates(&named.expr),
+    }
+}
+
+fn is_grouped_query(query: &Query) -> bool
+    ensures { result ≡ is_grouped query.now }
+{
+    has_some(query.clauses.groups.as_slice()) || some_item_has(&query.items, Feature::Aggregate)
+}
+
+fn has_some(groups: &[ColumnName]) -> bool
+    ensures { result ≡ is_some groups.now }
+{
+    match groups {
+        [] => false,
+        [_, ..] => true,
+    }
+}
+
+/// Whether a grouped SELECT shows anything but its groups' columns and calls of aggregates.
+fn shows_ungrouped_item(query: &Query) -> bool
+    ensures { result ≡ is_ungrouped_item_shown query.now }
+{
+    is_grouped_query(query) && !are_items_of_groups(&query.items, query.clauses.groups.as_slice())
+}
+
+fn are_items_of_groups(items: &Items, groups: &[ColumnName]) -> bool
+    ensures { result ≡ are_of_groups groups.now items.now }
+{
+    match items {
+        Items::All => false,
+        Items::Listed(list) => all_are_of_groups(list.as_slice(), groups),
+    }
+}
+
+fn all_are_of_groups(list: &[Item], groups: &[ColumnName]) -> bool
+    ensures { result ≡ list_all (is_of_groups groups.now) list.now }
+{
+    list.iter().all(|item| is_item_of_groups(item, groups))
+}
+
+fn is_item_of_groups(item: &Item, groups: &[ColumnName]) -> bool
+    ensures { result ≡ is_of_groups groups.now item.now }
+{
+    match item {
+        Item::AllOf(_) => false,
+        Item::One(named) => is_aggregate_call(&named.expr) || is_grouped_by(groups, &named.expr),
+    }
+}
+
+fn is_aggregate_call(expr: &Expr) -> bool
+    ensures { result ≡ is_call expr.now }
+{
+    is_aggregate_node(expr)
+}
+
+fn is_grouped_by(groups: &[ColumnName], expr: &Expr) -> bool
+    ensures { result ≡ is_group groups.now expr.now }
+{
+    groups.iter().any(|column| is_column(expr, column))
+}
+
+/// Whether an expression is a column, written alike.
+fn is_column(expr: &Expr, column: &ColumnName) -> bool
+    ensures { result ≡ is_written_as (out-Expr expr.now) column.now }
+{
+    match (expr, column) {
+        (Expr::Name(name), ColumnName::Name(other)) => name.is(other.as_slice()),
+        (Expr::Qualified(source, name), ColumnName::Qualified(other_source, other)) => {
+            source.is(other_source.as_slice()) && name.is(other.as_slice())
+        }
+        _ => false,
+    }
+}
+
+fn has_outside_key(query: &Query) -> bool
+    ensures { result ≡ keys_outside query.now }
+{
+    let keys = query.clauses.sorting.keys.as_slice();
+    some_key_is_outside(&query.items, orders_combinations(query), keys)
+}
+
+/// Whether the rows that a SELECT orders stand for one combination of its sources' rows each.
+fn orders_combinations(query: &Query) -> bool
+    ensures { result ≡ is_open_to_sources query.now }
+{
+    !(is_grouped_query(query) || query.distinct)
+}
+
+fn some_key_is_outside(items: &Items, open_to_sources: bool, keys: &[OrderKey]) -> bool
+    ensures { result ≡ list_any (key_outside items.now open_to_sources) keys.now }
+{
+    keys.iter().any(|key| is_outside_key(items, open_to_sources, key))
+}
+
+fn is_outside_alone(list: &[NamedExpr]) -> bool
+    ensures { result ≡ alone_outside list.now }
+{
+    some_named_has(list, Feature::OtherVariable) || some_named_nests(list) || has_mixed_aggregates(list)
+}
+
+fn some_named_has(list: &[NamedExpr], feature: Feature) -> bool
+    ensures { result ≡ list_any (λ named. has feature named.expr) list.now }
+{
+    list.iter().any(|named| has_feature(&named.expr, feature))
+}
+
+fn some_named_nests(list: &[NamedExpr]) -> bool
+    ensures { result ≡ list_any (λ named. nests named.expr) list.now }
+{
+    list.iter().any(|named| nests_aggregates(&named.expr))
+}
+
+/// Whether some of the expressions have aggregates, and not all are calls of one.
+fn has_mixed_aggregates(list: &[NamedExpr]) -> bool
+    ensures { result ≡ mixes_aggregates list.now }
+{
+    some_named_has(list, Feature::Aggregate) && !all_are_calls(list)
+}
+
+fn all_are_calls(list: &[NamedExpr]) -> bool
+    ensures { result ≡ list_all (λ named. is_call named.expr) list.now }
+{
+    list.iter().all(|named| is_aggregate_call(&named.expr))
+}
