@@ -1,5 +1,6 @@
-mod ItemLemmas
-mod PartLemmas
+pub mod ItemLemmas
+pub mod PartLemmas
 mod SchemaLemmas
 mod ValueLemmas
+mod Vectors
 mod WrittenLemmas

@@ -1,8 +1,8 @@
 -- Columns, indexes, checks, foreign keys and whole schemas: read as they are written.
-use Rattle.std.proofs.Common.{◌≡◌, ℕ, zero, suc, ◌+◌, ◌*◌, ◌<◌, ◌≤◌, Bool, true, false, cond, eqb, ltb, List, [], ◌∷◌, ◌++◌, length, Option, Some, None, refl, sym, ap, subst, ◌∙◌, append_assoc, append-nil, arith, inl, inr}
+use Rattle.std.proofs.Common.{◌≡◌, ℕ, Bool, true, false, cond, eqb, ltb, List, [], ◌∷◌, ◌++◌, length, Option, Some, None, refl, sym, ap, subst, ◌∙◌, append_assoc, append-nil}
 use Rattle.std.specs.Prelude.{is_some, ◌&&◌}
 use Rattle.std.specs.List.{flat_map, list_all}
-use Rattle.std.proofs.lemmas.Bool.{and_parts, and_from, cases_Bool, eqb-true}
+use Rattle.std.proofs.lemmas.Bool.{and_parts, eqb-true}
 use Rattle.std.proofs.lemmas.List.{nil_from_length}
 use Rattle.tuple_codec.specs.KeyBytes.{bit}
 use Rattle.tuple_codec.specs.Limits.{is_type}
@@ -255,8 +255,15 @@ parts_of s h =
     let key2 = and_parts _ _ key.0 in
     let key3 = front_two _ _ _ key2.0 in
     record {
-      columns = columns.1; indexes = indexes.1; checks = checks.1; foreign = foreign.1;
-      few_columns = columns.0; few_positions = key3.0; few_indexes = indexes.0; few_checks = checks.0; few_foreign = foreign.0;
+      columns = columns.1;
+      indexes = indexes.1;
+      checks = checks.1;
+      foreign = foreign.1;
+      few_columns = columns.0;
+      few_positions = key3.0;
+      few_indexes = indexes.0;
+      few_checks = checks.0;
+      few_foreign = foreign.0;
     }
 
 schema_again : (s : Schema) → is_schema s ≡ true → schema_at (schema_bytes s) ≡ Some (s, [])

@@ -1,12 +1,11 @@
 -- A default's cell: what is decoded, and how many bytes it has.
-use Rattle.std.proofs.Common.{◌≡◌, ℕ, zero, suc, ◌+◌, ◌*◌, ◌/◌, ◌%◌, ◌<◌, ◌≤◌, Bool, true, false, cond, ltb, List, [], ◌∷◌, ◌++◌, length, take, drop, get_or, Option, Some, None, refl, sym, ap, subst, ◌∙◌, append-nil, append_assoc, arith}
+use Rattle.std.proofs.Common.{◌≡◌, ℕ, suc, ◌+◌, ◌*◌, ◌/◌, ◌%◌, Bool, true, false, List, [], ◌∷◌, ◌++◌, length, Option, Some, None, refl, sym, ap, subst, ◌∙◌, append-nil, arith}
 use Rattle.std.specs.Prelude.{is_some}
 use Rattle.std.specs.Option.{option_map, option_and_then}
-use Rattle.std.proofs.lemmas.Bool.{and_from, ltb-false, le-ltb}
-use Rattle.std.proofs.lemmas.List.{take_at, drop_at, take-append-drop, length-append, length-take}
-use Rattle.tuple_codec.specs.Rows.{Cells, fits, fits_all}
+use Rattle.std.proofs.lemmas.Bool.{and_from}
+use Rattle.tuple_codec.specs.Rows.{Cells, fits}
 use Rattle.tuple_codec.specs.Limits.{is_type}
-use Rattle.tuple_codec.specs.RowBytes.{row_bytes, row_cell, counted}
+use Rattle.tuple_codec.specs.RowBytes.{row_bytes, row_cell}
 use Rattle.tuple_codec.specs.Spellings.{Decodes}
 use Rattle.tuple_codec.specs.Cells.{spelling}
 use Rattle.tuple_codec.specs.Fronts.{cells_front, whole}
@@ -20,7 +19,7 @@ use Rattle.tuple_codec.proofs.NumberLemmas.{AreBytes}
 use Rattle.schema_model.specs.SchemaBytes.{default_bytes}
 use Rattle.schema_model.specs.Schemas.{default_fits}
 use Rattle.schema_model.proofs.PartLemmas.{AreBytes-front, Takes, bind_some, bytes_again, bytes_takes, map_some, some_is, takes}
-use Rattle.schema_model.specs.Reading.{◌>>=◌, bytes_at, cell_size, default_at, only, text_size, two_at, value_at, value_of}
+use Rattle.schema_model.specs.Reading.{◌>>=◌, bytes_at, cell_size, default_at, only, text_size, value_at, value_of}
 
 -- what decoding answers is what is in front, since a type within its limits reads each cell in one way
 pub decoded : (type : SqlType) (bytes : List ℕ) (o : Option Cells) → is_type type ≡ true → AreBytes bytes → Decodes row_bytes (type ∷ []) bytes o → whole (cells_front form.Row (type ∷ []) bytes) ≡ o

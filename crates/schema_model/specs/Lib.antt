@@ -4,3 +4,5 @@ pub mod Limits
 pub mod Written
 pub mod Reading
 pub mod Spellings
+pub mod PlainTables
+pub mod WrittenForms

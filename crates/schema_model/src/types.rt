@@ -127,11 +127,7 @@ pub(crate) fn default_at<'a>(
 
 /// The value of this type at the front.
 #[tactic(auto, unfolding(crate::specs::Reading::value_at))]
-fn value_at<'a>(
-    alloc: Global,
-    kind: SqlType,
-    bytes: &'a [u8],
-) -> Result<(Value, &'a [u8]), Unread>
+fn value_at<'a>(alloc: Global, kind: SqlType, bytes: &'a [u8]) -> Result<(Value, &'a [u8]), Unread>
     requires { is_type kind ≡ true }
     ensures { Gives (λ x. (x.0, x.1.now)) result (value_at kind bytes.now) }
 {

@@ -1,4 +1,4 @@
-use Rattle.std.proofs.Common.{◌≡◌, ◌++◌, ◌-◌, ◌+◌, List, [], ◌∷◌, ℕ, Option, Some, sym, ap, ◌∙◌, Bor}
+use Rattle.std.proofs.Common.{◌-◌, ◌+◌, List, ℕ, Some, sym, ap, ◌∙◌, Bor}
 use Rattle.std.proofs.lemmas.Result.{err_from_is_err_and}
 use Rattle.schema_model.specs.Reading.{after_items, items_at}
 use Rattle.schema_model.proofs.ItemLemmas.{all_read, fails, one_more}

@@ -1,5 +1,4 @@
-use Rattle.std.proofs.Common.{◌≡◌, None, Some, arith}
-use Rattle.schema_model.specs.Reading.{schema_of}
+use Rattle.std.proofs.Common.{arith}
 use Rattle.schema_model.proofs.SchemaLemmas.{is_none, is_read}
 use Rattle.schema_model.proofs.reading.read_schema.Goals as goal
 

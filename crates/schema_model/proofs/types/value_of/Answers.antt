@@ -1,8 +1,6 @@
-use Rattle.std.proofs.Common.{◌≡◌, Option, None, Some, sym, ap, subst, ◌∙◌, arith}
+use Rattle.std.proofs.Common.{Option, sym, ap, subst, ◌∙◌, arith}
 use Rattle.std.specs.Option.{option_and_then}
 use Rattle.tuple_codec.specs.Rows.{Cells}
-use Rattle.tuple_codec.specs.RowBytes.{row_bytes}
-use Rattle.tuple_codec.specs.Spellings.{Decodes}
 use Rattle.tuple_codec.specs.declared.values.Value.{Value}
 use Rattle.schema_model.specs.Reading.{Gives, only}
 use Rattle.schema_model.proofs.ValueLemmas.{value_decoded}
