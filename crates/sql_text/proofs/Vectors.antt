@@ -1,12 +1,12 @@
 -- Nodes whose canonical texts are known, given the texts of their parts.
 use Rattle.std.proofs.Common.{◌≡◌, refl, codes, ℕ, List, [], ◌∷◌, true}
 use Rattle.std.specs.Fmt.{digits}
-use Rattle.hex.specs.Hex.{encode_with}
 use Rattle.sql_ast.specs.declared.expressions.Comparison.TheVariants.{NotEqual, AtMost, Less}
 use Rattle.sql_ast.specs.declared.expressions.Expr.TheOpen.{Expr-F}
 use Rattle.sql_ast.specs.declared.expressions.Literal.{Literal}
 use Rattle.sql_ast.specs.declared.expressions.Literal.TheVariants as literal
 use Rattle.sql_text.specs.Canon.{step}
+use Rattle.value_text.specs.Values.{byte_string}
 
 abbrev says : Expr-F (List ℕ) → List ℕ
 says node = step node
@@ -46,6 +46,6 @@ calls = (refl, refl, refl, refl, refl, refl, refl)
 
 literals : (constant (literal.Whole 9223372036854775808) ≡ codes "9223372036854775808") × (constant (literal.Decimal 8340 2) ≡ codes "83.40") × (constant (literal.Decimal 5 1) ≡ codes "0.5")
     × (constant (literal.Bool true) ≡ codes "TRUE") × (constant literal.Null ≡ codes "NULL") × (constant (literal.Text (codes "back\\'")) ≡ codes "'back\\\\\\''")
-    × (constant (literal.Bytes (128 ∷ 92 ∷ [])) ≡ codes "X'805c'")
-unfolding digits encode_with
+    × (constant (literal.Bytes (128 ∷ 92 ∷ [])) ≡ byte_string (128 ∷ 92 ∷ []))
+unfolding digits
 literals = (refl, refl, refl, refl, refl, refl, refl)
