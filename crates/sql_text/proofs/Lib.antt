@@ -1,0 +1,2 @@
+mod NodeLemmas
+mod Vectors

@@ -37,10 +37,6 @@ pair a word b = codes "(" ++ a ++ word ++ b ++ codes ")"
 abbrev pub wrapped : List ℕ → List ℕ → List ℕ
 wrapped word a = word ++ a ++ codes ")"
 
--- a part before a word
-abbrev pub tested : List ℕ → List ℕ → List ℕ
-tested a word = codes "(" ++ a ++ word ++ codes ")"
-
 -- elements with a comma between them; `front` stands before the first
 abbrev pub listed : List ℕ → List (List ℕ) → List ℕ
 listed front [] = []
@@ -57,8 +53,8 @@ step (Expr-F.Or a b) = pair a (codes " OR ") b
 step (Expr-F.And a b) = pair a (codes " AND ") b
 step (Expr-F.Not a) = wrapped (codes "(NOT ") a
 step (Expr-F.Compare a op b) = pair a (comparison_word op) b
-step (Expr-F.IsNull a) = tested a (codes " IS NULL")
-step (Expr-F.IsNotNull a) = tested a (codes " IS NOT NULL")
+step (Expr-F.IsNull a) = codes "(" ++ a ++ codes " IS NULL" ++ codes ")"
+step (Expr-F.IsNotNull a) = codes "(" ++ a ++ codes " IS NOT" ++ codes " NULL)"
 step (Expr-F.In a texts) = contained (codes "(") a texts (codes "))")
 step (Expr-F.NotIn a texts) = contained (codes "(NOT (") a texts (codes ")))")
 step (Expr-F.Between a low high) = limited (codes "((") a low high (codes "))")

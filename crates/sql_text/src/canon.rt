@@ -57,8 +57,8 @@ fn push_expr(alloc: Global, out: &mut Vec<u8>, expr: &Expr) -> Result<(), AllocE
         Expr::IsNotNull(a) => {
             write(out, b"(")?;
             push_expr(alloc, out, a.get())?;
-            write(out, b" IS NOT NULL")?;
-            write(out, b")")
+            write(out, b" IS NOT")?;
+            write(out, b" NULL)")
         }
         Expr::In(a, list) => {
             write(out, b"(")?;

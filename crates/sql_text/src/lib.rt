@@ -5,5 +5,7 @@
 
 mod canon;
 mod pieces;
+#[cfg(test)]
+mod tests;
 
 pub use canon::canonical_text;
