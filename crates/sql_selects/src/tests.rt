@@ -1,0 +1,103 @@
+use crate::{read_filter, read_select};
+use sql_ast::{Direction, Expr, Item, Items, Keyword, Query, Select, Sign};
+use sql_grammar::{Cursor, Piece, Stop};
+use std::alloc::{AllocError, Global};
+use std::test::Fail;
+use tuple_codec::Text;
+
+fn word(alloc: Global, name: &[u8]) -> Result<Piece, AllocError> {
+    Ok(Piece::Word(Text::from_slice(alloc, name)?))
+}
+
+fn is_name(expr: &Expr, wanted: &[u8]) -> bool {
+    match expr {
+        Expr::Name(name) => name.is(wanted),
+        _ => false,
+    }
+}
+
+/// Whether the items are all columns of `left`.
+fn shows_all_of_left(items: &Items) -> bool {
+    match items {
+        Items::Listed(items) => match items.as_slice() {
+            [Item::AllOf(source)] => source.is(b"left"),
+            _ => false,
+        },
+        Items::All => false,
+    }
+}
+
+/// Whether the sources are `a`, called `left`, and `b`.
+fn joins_left(query: &Query) -> bool {
+    let is_called = match &query.from.first.alias {
+        Some(alias) => alias.is(b"left"),
+        None => false,
+    };
+    match query.from.joins.as_slice() {
+        [join] => is_called && join.source.table.is(b"b") && is_name(&join.on, b"x"),
+        _ => false,
+    }
+}
+
+fn falls_by_x(query: &Query) -> bool {
+    match query.clauses.sorting.keys.as_slice() {
+        [key] => is_name(&key.expr, b"x") && key.direction == Direction::Descending,
+        _ => false,
+    }
+}
+
+#[test]
+fn reads_a_query(rt: HostRuntime) -> Result<(), Fail> {
+    let alloc = rt.alloc();
+    let pieces = vec![in alloc;
+        word(alloc, b"left")?,
+        Piece::Sign(Sign::Point),
+        Piece::Sign(Sign::Star),
+        Piece::Keyword(Keyword::From),
+        word(alloc, b"a")?,
+        word(alloc, b"left")?,
+        Piece::Keyword(Keyword::Join),
+        word(alloc, b"b")?,
+        Piece::Keyword(Keyword::On),
+        word(alloc, b"x")?,
+        Piece::Keyword(Keyword::Order),
+        Piece::Keyword(Keyword::By),
+        word(alloc, b"x")?,
+        Piece::Keyword(Keyword::Desc),
+    ]?;
+    let mut cursor = Cursor::new(pieces.as_slice());
+    match read_select(alloc, &mut cursor) {
+        Ok(Select::From(query)) => {
+            assert!(rt; shows_all_of_left(&query.items));
+            assert!(rt; joins_left(&query));
+            assert!(rt; falls_by_x(&query));
+        }
+        _ => assert!(rt; false),
+    }
+    assert!(rt; cursor.left() == 0);
+    Ok(())
+}
+
+#[test]
+fn wants_from_or_as(rt: HostRuntime) -> Result<(), Fail> {
+    let alloc = rt.alloc();
+    let pieces = vec![in alloc; Piece::Whole(1), word(alloc, b"x")?]?;
+    let mut cursor = Cursor::new(pieces.as_slice());
+    match read_select(alloc, &mut cursor) {
+        Ok(_) => assert!(rt; false),
+        Err(stop) => assert!(rt; stop == Stop::At(0)),
+    }
+    Ok(())
+}
+
+#[test]
+fn reads_a_filter(rt: HostRuntime) -> Result<(), Fail> {
+    let alloc = rt.alloc();
+    let pieces = vec![in alloc; Piece::Keyword(Keyword::Where), word(alloc, b"x")?]?;
+    let mut cursor = Cursor::new(pieces.as_slice());
+    match read_filter(alloc, &mut cursor) {
+        Ok(Some(expr)) => assert!(rt; is_name(&expr, b"x")),
+        _ => assert!(rt; false),
+    }
+    Ok(())
+}
