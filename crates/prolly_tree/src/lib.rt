@@ -2,5 +2,7 @@
 #![tactic(auto)]
 
 mod nodes;
+mod steps;
 
 pub use nodes::{count, get};
+pub use steps::Head;
