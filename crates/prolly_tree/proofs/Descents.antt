@@ -187,3 +187,21 @@ rows_step items at total rows is e =
     let next : at + 1 ≡ suc at = omega arith in
     let more : rows_in (drop (at + 1) items) ≡ rows_in (drop (suc at) items) = ap (λ (n : ℕ). rows_in (drop n items)) next in
     (omega (arith, d, e, more), omega (arith, d, e))
+
+-- what is left from an item on: that, and what is left after it
+pub head_drop : (items : List Item) (at : ℕ) (item : Item) → slice_get items at ≡ Some item → drop at items ≡ item ∷ drop 1 (drop at items)
+head_drop [] at item is = absurd (none_some item is)
+head_drop (first ∷ items) zero item is = ap (λ (x : Item). x ∷ items) (item_same first item is)
+head_drop (first ∷ items) (suc at) item is = head_drop items at item is
+
+pub drop_next : (items : List Item) (at : ℕ) → drop (suc at) items ≡ drop 1 (drop at items)
+drop_next [] zero = refl
+drop_next [] (suc at) = refl
+drop_next (item ∷ items) zero = refl
+drop_next (item ∷ items) (suc at) = drop_next items at
+
+pub drop_past : (items : List Item) (at : ℕ) → length items ≤ at → drop at items ≡ drop 1 (drop at items)
+drop_past [] zero past = refl
+drop_past [] (suc at) past = refl
+drop_past (item ∷ items) zero past = absurd (omega (arith, past))
+drop_past (item ∷ items) (suc at) past = drop_past items at (omega (arith, past))

@@ -3,6 +3,7 @@
 
 mod nodes;
 mod steps;
+mod walks;
 
 pub use nodes::{count, get};
 pub use steps::Head;

@@ -2,7 +2,7 @@
 
 ghost use Rattle.std.specs.Prelude.{◌≡◌, ◌<◌, ◌∷◌, [], ℕ, IsTrue, MatchOption, Some, length, drop, slice_get, nat_lt};
 ghost use Rattle.tuple_codec.specs.Nodes.{Node, IsNode};
-ghost use Rattle.prolly_tree.specs.Walks.{left_in};
+ghost use Rattle.prolly_tree.specs.Walks.{left_in, step_left};
 ghost use Rattle.prolly_tree.specs.Heads.{item_of, level_of};
 
 use node_format::NodeRef;
@@ -73,8 +73,24 @@ impl<'a> Step<'a> {
     pub(crate) fn skip(&mut self)
         ensures { self.new ≡ left_in self.old 1 }
     {
-        self.at = self.at.saturating_add(1);
+        self.at = next_place(&self.node, self.at);
     }
+}
+
+/// The number of the item after this one, if there is this one.
+fn next_place(node: &Option<NodeRef<'_>>, at: u16) -> u16
+    ensures { step_left node.now result ≡ left_in (step_left node.now at) 1 }
+{
+    match node {
+        None => at,
+        Some(node) => next_in(node, at),
+    }
+}
+
+fn next_in(node: &NodeRef<'_>, at: u16) -> u16
+    ensures { drop result node.now.items ≡ drop 1 (drop at node.now.items) }
+{
+    if at < node.count() { at + 1 } else { at }
 }
 
 /// A node's item of this number, if there is one.
