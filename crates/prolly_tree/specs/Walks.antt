@@ -1,9 +1,11 @@
 -- What a walk through a tree has left: items of nodes, in the order of their keys.
-use Rattle.std.specs.Prelude.{◌≡◌, ◌<◌, ◌≤◌, ◌+◌, ℕ, zero, suc, List, [], ◌∷◌, ◌++◌, length, map, drop, Option, None, Some}
+use Rattle.std.specs.Prelude.{◌≡◌, ◌<◌, ◌≤◌, ◌+◌, ℕ, zero, suc, List, [], ◌∷◌, ◌++◌, ◌⊎◌, length, map, drop, Option, None, Some}
 use Rattle.std.specs.List.{AllByRecursion}
 use Rattle.tuple_codec.specs.Nodes.{Item, Node}
 use Rattle.chunk_store.specs.Chunks.{Chunks}
+use Rattle.chunk_store.specs.Drafts.{DraftParts, chunks_of}
 use Rattle.tree_laws.specs.Standing.{IsFound, rows_below}
+use Rattle.prolly_tree.specs.Lists.{pair_of}
 
 -- the items of a node from one on
 abbrev pub left_in : Node → ℕ → Node
@@ -48,3 +50,27 @@ pub record CanWalk (chunks : Chunks) (left : Left) : Type 0 where
 -- nothing is left above a node in which nothing is left
 abbrev pub IsSettled : Left → Type 0
 IsSettled left = left.here.items ≡ [] → left.above ≡ []
+
+-- the walk is at a row, or nothing is left where it is
+abbrev pub IsAtRow : Left → Type 0
+IsAtRow left = (left.here.items ≡ []) ⊎ (left.here.level ≡ 0)
+
+-- the first item that is left names the node at this address
+pub record IsAtNode (left : Left) (address : List ℕ) : Type 0 where
+  pub level : ℕ
+  pub item : Item
+  pub first : left.here.items ≡ item ∷ drop 1 left.here.items
+  pub inner : left.here.level ≡ suc level
+  pub named : item.body ≡ address
+
+-- a walk, and the draft in which the nodes below are found
+pub record Scanning : Type 0 where
+  pub parts : DraftParts
+  pub left : Left
+
+-- the rows that are left, as their keys and values
+abbrev pub scan_rest : Scanning → List (List ℕ × List ℕ)
+scan_rest scan = map pair_of (rows_left (chunks_of scan.parts) scan.left)
+
+abbrev pub CanScan : Scanning → Type 0
+CanScan scan = CanWalk (chunks_of scan.parts) scan.left

@@ -2,8 +2,9 @@
 #![tactic(auto)]
 
 mod nodes;
+mod scans;
 mod steps;
 mod walks;
 
 pub use nodes::{count, get};
-pub use steps::Head;
+pub use scans::{Scan, scan_from};

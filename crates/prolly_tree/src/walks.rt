@@ -1,12 +1,12 @@
 //! Walks through trees: what is left is looked at item by item, skipped, or opened.
 
 ghost use Rattle.std.specs.Prelude.{◌≡◌, ◌<◌, ◌≤◌, ◌∷◌, ◌++◌, [], ℕ, List, MatchOption, length, drop};
-ghost use Rattle.tuple_codec.specs.Nodes.{Item, Node};
+ghost use Rattle.tuple_codec.specs.Nodes.{Item, Node, Rise};
 ghost use Rattle.chunk_store.specs.Chunks.{Chunks};
 ghost use Rattle.chunk_store.specs.Drafts.{chunks_of};
 ghost use Rattle.tree_laws.specs.Standing.{IsStored, Leads, rows_below};
 ghost use Rattle.prolly_tree.specs.Lists.{from_key};
-ghost use Rattle.prolly_tree.specs.Walks.{CanWalk, IsSettled, Left, left_in, rows_left};
+ghost use Rattle.prolly_tree.specs.Walks.{CanWalk, IsAtNode, IsAtRow, IsSettled, Left, left_in, rows_above, rows_left};
 ghost use Rattle.prolly_tree.specs.Heads.{item_of, level_of};
 
 use crate::nodes::{node_at, place_of};
@@ -16,7 +16,7 @@ use node_format::NodeRef;
 use smallvec::SmallVec;
 use std::marker::Model;
 use std::mem;
-use tuple_codec::Digester;
+use tuple_codec::{Address, Digester};
 
 /// A walk through a tree: the node where it is, and those above it. A contract sees what each of these has left.
 #[derive(Drop)]
@@ -77,6 +77,47 @@ impl<'a> Walk<'a> {
                 Some(step) => self.here = step,
                 None => return,
             }
+        }
+    }
+
+    /// The address of the node that is first, where it isn't a row.
+    fn ahead(&self) -> Option<Address>
+        ensures { MatchOption result (IsAtRow self.now) (λ address. IsAtNode self.now address.0) }
+    {
+        match self.head() {
+            None => None,
+            Some(Head::Row { .. }) => None,
+            Some(Head::Below { address, .. }) => Some(address),
+        }
+    }
+
+    /// Goes to the next row, if one is left.
+    pub(crate) fn to_row<D: Digester>(&mut self, draft: &'a Draft<D>)
+        requires { CanWalk (chunks_of draft.now.chunks) self.old }
+        ensures can { CanWalk (chunks_of draft.now.chunks) self.new }
+        ensures kept { rows_left (chunks_of draft.now.chunks) self.new ≡ rows_left (chunks_of draft.now.chunks) self.old }
+        ensures settled { IsSettled self.new }
+        ensures at_row { IsAtRow self.new }
+    {
+        self.settle();
+        'levels: while let Some(address) = self.ahead() {
+            self.down(node_at(draft, &address), 0);
+        }
+    }
+
+    /// Goes down to the first row whose key isn't below this one, where the items that are left begin with such.
+    pub(crate) fn seek<D: Digester>(&mut self, draft: &'a Draft<D>, key: &[u8])
+        requires can { CanWalk (chunks_of draft.now.chunks) self.old }
+        requires rise { Rise (rows_below (chunks_of draft.now.chunks) self.old.here) }
+        requires begun { from_key key.now self.old.here.items ≡ self.old.here.items }
+        ensures can { CanWalk (chunks_of draft.now.chunks) self.new }
+        ensures rest { rows_left (chunks_of draft.now.chunks) self.new
+            ≡ from_key key.now (rows_below (chunks_of draft.now.chunks) self.old.here) ++ rows_above (chunks_of draft.now.chunks) self.old.above }
+    {
+        'levels: while let Some(address) = self.ahead() {
+            let node = node_at(draft, &address);
+            let at = place_of(&node, key);
+            self.down(node, at);
         }
     }
 }
