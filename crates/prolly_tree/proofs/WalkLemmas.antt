@@ -2,15 +2,17 @@
 use Rattle.std.proofs.Common.{◌≡◌, ◌<◌, ◌≤◌, ◌+◌, ℕ, zero, suc, Bool, true, false, cond, ◌⊎◌, inl, inr, List, [], ◌∷◌, ◌++◌, length, drop, Option, None, Some, refl, sym, ap, ◌∙◌, subst, append_assoc, append-nil, arith}
 use Rattle.std.specs.List.{AllByRecursion}
 use Rattle.std.specs.Ordering.{is_lt}
+use Rattle.std.specs.Option.{MatchOption, is_some}
 use Rattle.tuple_codec.specs.Nodes.{Item, Node, Rise}
+use Rattle.tuple_codec.specs.Trees.{last_key}
 use Rattle.tree_laws.specs.Found.{each_of, nodes_in, rows_at}
 use Rattle.tree_laws.specs.Standing.{Chunks, IsFound, IsOpen, IsStored, Leads, rows_below}
-use Rattle.tree_laws.proofs.StandingReads.{rows_there}
+use Rattle.tree_laws.proofs.StandingReads.{IsReached, all_map, last_row, reached, rows_there, some_rows}
 use Rattle.tree_laws.proofs.StandingOrder.{order, rise_left, rise_right}
 use Rattle.tree_laws.proofs.StandingLists.{length_one}
 use Rattle.prolly_tree.specs.Lists.{from_key, place_of}
 use Rattle.prolly_tree.specs.Walks.{CanWalk, HaveRoom, IsAtNode, IsAtRow, IsSettled, Left, LeadsOn, left_in, rows_above, rows_left}
-use Rattle.prolly_tree.proofs.Lookups.{drop_place}
+use Rattle.prolly_tree.proofs.Lookups.{drop_place, reach}
 use Rattle.prolly_tree.proofs.Descents.{child_opens, from_here, from_items, head_above, leaf_below}
 
 length_is_one : (nodes : List Node) (node : Node) → length (nodes ++ node ∷ []) ≡ length nodes + 1
@@ -73,6 +75,9 @@ rise_drop f zero items rise = rise
 rise_drop f (suc at) [] rise = tt
 rise_drop f (suc at) (item ∷ items) rise = rise_drop f at items (rise_right None (f item) (each_of f items) rise)
 
+same_first : (a b : Item) (more : List Item) → (a ∷ more) ≡ (b ∷ more) → a ≡ b
+same_first a b more e = cc
+
 -- the node that is first: it is found, and a walk goes down into it
 pub record IsBelow (chunks : Chunks) (old : Left) (address : List ℕ) (node : Node) : Type 0 where
   pub stored : IsStored chunks address node
@@ -80,6 +85,7 @@ pub record IsBelow (chunks : Chunks) (old : Left) (address : List ℕ) (node : N
   pub lower : suc node.level ≡ old.here.level
   pub some : 0 < length node.items
   pub rows : rows_below chunks old.here ≡ rows_below chunks node ++ rows_below chunks (left_in old.here 1)
+  pub last : (at : IsAtNode old address) → at.item.key ≡ last_key node.items
 
 pub below : (chunks : Chunks) (old : Left) (address : List ℕ) → CanWalk chunks old → IsAtNode old address → (node : Node) × IsBelow chunks old address node
 below chunks old address can at =
@@ -96,6 +102,7 @@ below chunks old address can at =
         each = found.2;
         lower = sym at.inner;
         some = found.3;
+        last = λ (other : IsAtNode old address). ap (λ (x : Item). x.key) (same_first other.item at.item (drop 1 old.here.items) (sym other.first ∙ at.first)) ∙ found.4;
         rows = first ∙ ap (λ (l : List Item). l ++ each_of (f old.here.level) (drop 1 old.here.items)) item;
       },
     )
@@ -123,3 +130,90 @@ down_settled chunks old address node is over = let some = is.some in absurd (non
   none_some : (items : List Item) → items ≡ [] → 0 < length items → ⊥
   none_some [] e s = absurd (omega (arith, s))
   none_some (item ∷ items) e s = cc
+
+pub none_first : {X : Type 0} (P : Type 0) (Q : X → Type 0) (o : Option X) → MatchOption o P Q → is_some o ≡ false → P
+none_first P Q None m e = m
+none_first P Q (Some x) m e = absurd (cc)
+
+-- ---- down to a key
+
+pub from_again : (key : List ℕ) (items : List Item) → from_key key (from_key key items) ≡ from_key key items
+from_again key [] = refl
+from_again key (item ∷ items) =
+    elim (is_lt (order item.key key)) as (λ b. is_lt (order item.key key) ≡ b → from_key key (cond b (from_key key items) (item ∷ items)) ≡ cond b (from_key key items) (item ∷ items)) [
+      | true ↦ λ e. from_again key items
+      | false ↦ λ e. ap (λ (b : Bool). cond b (from_key key items) (item ∷ items)) e ] refl
+
+-- the rows of the node that is first reach a key that its item reaches
+below_reaches : (chunks : Chunks) (key : List ℕ) (old : Left) (address : List ℕ) (node : Node) → CanWalk chunks old → (is_at : IsAtNode old address) → IsBelow chunks old address node
+    → is_lt (order is_at.item.key key) ≡ false → (more : List Item) → from_key key (rows_below chunks node ++ more) ≡ from_key key (rows_below chunks node) ++ more
+below_reaches chunks key old address node can is_at is above more =
+    (reach key (rows_below chunks node) more (some_rows f node.items all is.some)
+      (subst (λ (k : List ℕ). is_lt (order k key) ≡ false) (sym (last_row f node.items all is.some ∙ sym (is.last is_at))) above)).0 where
+  f : Item → List Item
+  f = rows_at (nodes_in chunks) node.level
+  all : AllByRecursion (IsReached f) node.items
+  all = all_map (λ i there. reached chunks node.level i there) node.items is.each
+
+-- the rows from a key on, where a walk goes down into the node that is first
+pub seek_down : (chunks : Chunks) (key : List ℕ) (old : Left) (address : List ℕ) (node : Node) (at : ℕ) → CanWalk chunks old → IsAtNode old address → IsBelow chunks old address node
+    → Rise (rows_below chunks old.here) → from_key key old.here.items ≡ old.here.items → at ≡ place_of key node.items
+    → Rise (rows_below chunks (left_in node at)) × (from_key key (left_in node at).items ≡ (left_in node at).items)
+    × (from_key key (rows_below chunks (left_in node at)) ++ rows_above chunks (down_to old node at).above ≡ from_key key (rows_below chunks old.here) ++ rows_above chunks old.above)
+seek_down chunks key old address node at can is_at is rise begun place =
+    let f = rows_at (nodes_in chunks) node.level in
+    let rest = rows_below chunks (left_in old.here 1) in
+    let parts : Rise (rows_below chunks node ++ rest) = subst Rise is.rows rise in
+    let below_rise : Rise (rows_below chunks node) = rise_left None (rows_below chunks node) rest parts in
+    let leads : Leads chunks node = record { each = is.each; rise = below_rise } in
+    let here : drop at node.items ≡ from_key key node.items = ap (λ (n : ℕ). drop n node.items) place ∙ drop_place key node.items in
+    let above : is_lt (order is_at.item.key key) ≡ false = head_above key old.here.items is_at.item (drop 1 old.here.items) (begun ∙ is_at.first) in
+    let reaches = below_reaches chunks key old address node can is_at is above rest in
+    let first : from_key key (rows_below chunks old.here) ≡ from_key key (rows_below chunks node) ++ rest = ap (from_key key) is.rows ∙ reaches in
+    let moved : from_key key (rows_below chunks node) ≡ from_key key (each_of f (drop at node.items)) =
+      from_items chunks node key leads ∙ ap (λ (l : List Item). from_key key (each_of f l)) (sym here) in (
+      rise_drop f at node.items below_rise,
+      ap (from_key key) here ∙ from_again key node.items ∙ sym here,
+      ap (λ (l : List Item). from_key key (each_of f (drop at node.items)) ++ l) (above_one chunks old.above (left_in old.here 1))
+      ∙ sym (append_assoc (from_key key (each_of f (drop at node.items))) rest (rows_above chunks old.above))
+      ∙ ap (λ (l : List Item). (l ++ rest) ++ rows_above chunks old.above) (sym moved)
+      ∙ ap (λ (l : List Item). l ++ rows_above chunks old.above) (sym first),
+    )
+
+-- where a walk is at a row, what is left is what is left from the key on
+pub seek_over : (chunks : Chunks) (key : List ℕ) (left : Left) → IsAtRow left → from_key key left.here.items ≡ left.here.items
+    → rows_left chunks left ≡ from_key key (rows_below chunks left.here) ++ rows_above chunks left.above
+seek_over chunks key left (inl over) begun =
+    let none : rows_below chunks left.here ≡ [] = ap (each_of (rows_at (nodes_in chunks) left.here.level)) over in
+    ap (λ (l : List Item). l ++ rows_above chunks left.above) (none ∙ sym (ap (from_key key) none))
+seek_over chunks key left (inr leaf) begun =
+    let same = leaf_below chunks left.here leaf in
+    ap (λ (l : List Item). l ++ rows_above chunks left.above) (same ∙ sym begun ∙ ap (from_key key) (sym same))
+
+-- ---- the beginning
+
+-- a walk at a node's items from a key's place on, with nothing above
+abbrev pub begin : Node → ℕ → ℕ → Left
+begin node at room = record { here = left_in node at; above = []; room = room }
+
+pub begin_can : (chunks : Chunks) (node : Node) (at room : ℕ) → Leads chunks node → node.level ≤ room → CanWalk chunks (begin node at room)
+begin_can chunks node at room leads has = record {
+  here = all_drop (IsFound chunks node.level) at node.items leads.each;
+  above = tt;
+  room_here = omega (arith, has);
+  room_above = tt;
+}
+
+pub begin_rise : (chunks : Chunks) (node : Node) (at : ℕ) → Leads chunks node → Rise (rows_below chunks (left_in node at))
+begin_rise chunks node at leads = rise_drop (rows_at (nodes_in chunks) node.level) at node.items leads.rise
+
+pub begin_from : (key : List ℕ) (node : Node) (at : ℕ) → at ≡ place_of key node.items → from_key key (left_in node at).items ≡ (left_in node at).items
+begin_from key node at place =
+    let here : drop at node.items ≡ from_key key node.items = ap (λ (n : ℕ). drop n node.items) place ∙ drop_place key node.items in
+    ap (from_key key) here ∙ from_again key node.items ∙ sym here
+
+pub begin_rest : (chunks : Chunks) (key : List ℕ) (node : Node) (at : ℕ) → Leads chunks node → at ≡ place_of key node.items
+    → from_key key (rows_below chunks (left_in node at)) ≡ from_key key (rows_below chunks node)
+begin_rest chunks key node at leads place =
+    let here : drop at node.items ≡ from_key key node.items = ap (λ (n : ℕ). drop n node.items) place ∙ drop_place key node.items in
+    ap (λ (l : List Item). from_key key (each_of (rows_at (nodes_in chunks) node.level) l)) here ∙ sym (from_items chunks node key leads)
