@@ -217,3 +217,11 @@ pub begin_rest : (chunks : Chunks) (key : List ℕ) (node : Node) (at : ℕ) →
 begin_rest chunks key node at leads place =
     let here : drop at node.items ≡ from_key key node.items = ap (λ (n : ℕ). drop n node.items) place ∙ drop_place key node.items in
     ap (λ (l : List Item). from_key key (each_of (rows_at (nodes_in chunks) node.level) l)) here ∙ sym (from_items chunks node key leads)
+
+pub skip_can : (chunks : Chunks) (old : Left) → CanWalk chunks old → CanWalk chunks (record { here = left_in old.here 1; above = old.above; room = old.room })
+skip_can chunks old can = record {
+  here = all_drop (IsFound chunks old.here.level) 1 old.here.items can.here;
+  above = can.above;
+  room_here = can.room_here;
+  room_above = can.room_above;
+}

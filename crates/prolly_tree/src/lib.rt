@@ -8,3 +8,6 @@ mod walks;
 
 pub use nodes::{count, get};
 pub use scans::{Scan, scan_from};
+
+#[cfg(test)]
+mod tests;

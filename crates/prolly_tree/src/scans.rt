@@ -1,6 +1,7 @@
 //! The rows of a tree, one after another.
 
 ghost use Rattle.std.specs.Prelude.{◌≡◌, List, IfOk, map};
+ghost use Rattle.std.specs.Iterator.{YieldsFirstBy};
 ghost use Rattle.tuple_codec.specs.Nodes.{Item};
 ghost use Rattle.chunk_store.specs.Drafts.{chunks_of};
 ghost use Rattle.chunk_store.specs.Standing.{IsTree};
@@ -53,27 +54,22 @@ pub fn scan_from<'a, D: Digester>(
     Ok(Scan { draft, walk })
 }
 
-impl<'a, D: Digester> Iterator for Scan<'a, D> {
-    ghost use Rattle.std.specs.Iterator.{YieldsFirstBy, item_count};
-    ghost use Rattle.prolly_tree.specs.Walks.{CanScan, scan_rest};
-
-    type Item = (&'a [u8], &'a [u8]);
-
-    ghost can_next = { CanScan };
-
-    ghost next_gives = { YieldsFirstBy (λ pair. (pair.0.now, pair.1.now)) scan_rest };
-
-    ghost remaining = { item_count scan_rest };
-
-    fn next(&mut self) -> Option<(&'a [u8], &'a [u8])> {
+impl<'a, D: Digester> Scan<'a, D> {
+    /// The next row, as its key and its value; none at the end, and from then on. It takes no memory.
+    pub fn next(&mut self) -> Option<(&'a [u8], &'a [u8])>
+        requires { CanScan self.old }
+        ensures gives { YieldsFirstBy (λ pair. (pair.0.now, pair.1.now)) scan_rest self.old result self.new }
+        ensures can { CanScan self.new }
+        ensures parts { self.new.parts ≡ self.old.parts }
+    {
         self.walk.to_row(self.draft);
         match self.walk.head() {
+            None => None,
             Some(Head::Row { key, value }) => {
                 self.walk.skip();
                 Some((key, value))
             }
             Some(Head::Below { .. }) => unreachable!(),
-            None => None,
         }
     }
 }
