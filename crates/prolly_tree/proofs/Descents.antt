@@ -1,5 +1,6 @@
 -- From a node down to the one below in which a key is looked up.
 use Rattle.std.proofs.Common.{◌≡◌, ◌<◌, ◌≤◌, ◌+◌, ℕ, zero, suc, Bool, true, false, cond, List, [], ◌∷◌, ◌++◌, length, drop, Option, None, Some, refl, sym, ap, ◌∙◌, subst, arith}
+use Rattle.std.specs.Option.{option_map}
 use Rattle.std.specs.List.{AllByRecursion, slice_get}
 use Rattle.std.specs.Ordering.{is_lt}
 use Rattle.tuple_codec.specs.Nodes.{Item, Node, Rise}
@@ -159,10 +160,48 @@ leaf_value chunks key node leads leaf =
 pub one_node : (chunks : Chunks) (k : List ℕ) (a b : Node) → IsStored chunks k a → IsStored chunks k b → a ≡ b
 one_node chunks k a b is_a is_b = one_spelling a b is_a.is_node is_b.is_node (some_is _ _ (sym is_a.found ∙ is_b.found))
 
-pub rows_step : (items : List Item) (at rows : ℕ) (item : Item) → slice_get items at ≡ Some item → rows + rows_in (drop at items) ≡ rows_in items
-    → (rows + item.rows) + rows_in (drop (at + 1) items) ≡ rows_in items
-rows_step items at rows item is e =
-    let d = ap rows_in (drop_get items at item is) in
+abbrev pub rows_is : List Item → ℕ → ℕ → Type 0
+rows_is items at rows = option_map (λ (item : Item). item.rows) (slice_get items at) ≡ Some rows
+
+none_number : (n : ℕ) → None ≡ Some n → ⊥
+none_number n e = cc
+
+number_same : (m n : ℕ) → Some m ≡ Some n → m ≡ n
+number_same m n e = cc
+
+-- an item's rows, and those of the items after it
+pub rows_from : (items : List Item) (at rows : ℕ) → rows_is items at rows → rows_in (drop at items) ≡ rows + rows_in (drop (suc at) items)
+rows_from [] at rows is = absurd (none_number rows is)
+rows_from (item ∷ items) zero rows is = ap (λ (n : ℕ). n + rows_in items) (number_same item.rows rows is)
+rows_from (item ∷ items) (suc at) rows is = rows_from items at rows is
+
+rows_left_of : (items : List Item) (at : ℕ) → rows_in (drop at items) ≤ rows_in items
+rows_left_of items zero = omega arith
+rows_left_of [] (suc at) = omega arith
+rows_left_of (item ∷ items) (suc at) = let more = rows_left_of items at in omega (arith, more)
+
+pub rows_step : (items : List Item) (at total rows : ℕ) → rows_is items at rows → total + rows_in (drop at items) ≡ rows_in items
+    → ((total + rows) + rows_in (drop (at + 1) items) ≡ rows_in items) × (total + rows ≤ rows_in items)
+rows_step items at total rows is e =
+    let d = rows_from items at rows is in
     let next : at + 1 ≡ suc at = omega arith in
     let more : rows_in (drop (at + 1) items) ≡ rows_in (drop (suc at) items) = ap (λ (n : ℕ). rows_in (drop n items)) next in
-    omega (arith, d, e, more)
+    (omega (arith, d, e, more), omega (arith, d, e))
+
+-- what is left from an item on: that, and what is left after it
+pub head_drop : (items : List Item) (at : ℕ) (item : Item) → slice_get items at ≡ Some item → drop at items ≡ item ∷ drop 1 (drop at items)
+head_drop [] at item is = absurd (none_some item is)
+head_drop (first ∷ items) zero item is = ap (λ (x : Item). x ∷ items) (item_same first item is)
+head_drop (first ∷ items) (suc at) item is = head_drop items at item is
+
+pub drop_next : (items : List Item) (at : ℕ) → drop (suc at) items ≡ drop 1 (drop at items)
+drop_next [] zero = refl
+drop_next [] (suc at) = refl
+drop_next (item ∷ items) zero = refl
+drop_next (item ∷ items) (suc at) = drop_next items at
+
+pub drop_past : (items : List Item) (at : ℕ) → length items ≤ at → drop at items ≡ drop 1 (drop at items)
+drop_past [] zero past = refl
+drop_past [] (suc at) past = refl
+drop_past (item ∷ items) zero past = absurd (omega (arith, past))
+drop_past (item ∷ items) (suc at) past = drop_past items at (omega (arith, past))

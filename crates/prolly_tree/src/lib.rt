@@ -2,5 +2,12 @@
 #![tactic(auto)]
 
 mod nodes;
+mod scans;
+mod steps;
+mod walks;
 
 pub use nodes::{count, get};
+pub use scans::{Scan, scan_from};
+
+#[cfg(test)]
+mod tests;

@@ -1,0 +1,10 @@
+use Rattle.std.proofs.Common.{sym, subst}
+use Rattle.chunk_store.specs.Drafts.{chunks_of}
+use Rattle.prolly_tree.specs.Walks.{CanWalk}
+use Rattle.prolly_tree.proofs.WalkLemmas.{skip_can}
+use Rattle.prolly_tree.proofs.scans.Scan.next.Goals as goal
+
+pub returns-in-Some-Row-clause-can : goal.returns-in-Some-Row-clause-can
+returns-in-Some-Row-clause-can g c =
+    let chunks = chunks_of c.self.inside.draft.now.chunks in
+    subst (CanWalk chunks) (sym c.skip.ensures) (skip_can chunks c.to_row.new.self c.to_row.ensures.can)

@@ -1,0 +1,75 @@
+//! The rows of a tree, one after another.
+
+ghost use Rattle.std.specs.Prelude.{◌≡◌, List, IfOk, map};
+ghost use Rattle.std.specs.Iterator.{YieldsFirstBy};
+ghost use Rattle.tuple_codec.specs.Nodes.{Item};
+ghost use Rattle.chunk_store.specs.Drafts.{chunks_of};
+ghost use Rattle.chunk_store.specs.Standing.{IsTree};
+ghost use Rattle.tree_laws.specs.Standing.{HasTwentyBytes};
+ghost use Rattle.prolly_tree.specs.Lists.{StandsForRows, from_key, pair_of};
+ghost use Rattle.prolly_tree.specs.Walks.{CanScan, scan_rest};
+
+use crate::nodes::{node_at, place_of};
+use crate::steps::{Head, Step};
+use crate::walks::Walk;
+use chunk_store::Draft;
+use smallvec::SmallVec;
+use std::alloc::{AllocError, Global};
+use std::marker::Model;
+use tuple_codec::{Address, Digester};
+
+/// The rows of a tree from some key on, as keys and values. Each leaf is read once, and `next` takes no memory.
+#[derive(Drop)]
+pub struct Scan<'a, D: Digester> {
+    draft: &'a Draft<D>,
+    walk: Walk<'a>,
+}
+
+impl<'a, D: Digester> Model for Scan<'a, D> {
+    ghost use Rattle.prolly_tree.specs.Walks.{Scanning};
+
+    ghost Value = { Scanning };
+
+    ghost view = { λ s. record { parts = s.draft.now.chunks; left = s.walk } };
+}
+
+/// The rows whose key isn't below this one, by rising key.
+pub fn scan_from<'a, D: Digester>(
+    alloc: Global,
+    draft: &'a Draft<D>,
+    root: &Address,
+    key: &[u8],
+) -> Result<Scan<'a, D>, AllocError>
+    requires tree { StandsForRows D.address (chunks_of draft.now.chunks) root.now.0 }
+    requires addresses { HasTwentyBytes D.address }
+    ensures rows { (rows : List Item) → IsTree D.address (chunks_of draft.now.chunks) root.now.0 rows
+        → IfOk result (λ scan. scan_rest scan ≡ map pair_of (from_key key.now rows)) }
+    ensures can { IfOk result CanScan }
+{
+    let node = node_at(draft, root);
+    let at = place_of(&node, key);
+    let above = SmallVec::with_capacity(alloc, usize::from(node.level()))?;
+    let mut walk = Walk::new(Step::from(node, at), above);
+    walk.seek(draft, key);
+    Ok(Scan { draft, walk })
+}
+
+impl<'a, D: Digester> Scan<'a, D> {
+    /// The next row, as its key and its value; none at the end, and from then on. It takes no memory.
+    pub fn next(&mut self) -> Option<(&'a [u8], &'a [u8])>
+        requires { CanScan self.old }
+        ensures gives { YieldsFirstBy (λ pair. (pair.0.now, pair.1.now)) scan_rest self.old result self.new }
+        ensures can { CanScan self.new }
+        ensures parts { self.new.parts ≡ self.old.parts }
+    {
+        self.walk.to_row(self.draft);
+        match self.walk.head() {
+            None => None,
+            Some(Head::Row { key, value }) => {
+                self.walk.skip();
+                Some((key, value))
+            }
+            Some(Head::Below { .. }) => unreachable!(),
+        }
+    }
+}
