@@ -1,10 +1,17 @@
 -- Finishing a tower: level by level what is left comes to the root of the rows that were pushed.
-use Rattle.std.proofs.Common.{◌≡◌, ◌≤◌, ◌<◌, ◌+◌, ◌*◌, ◌^◌, ℕ, zero, suc, Bool, true, false, cond, List, [], ◌∷◌, ◌++◌, length, map, Option, None, Some, sym, refl, ap, subst, ◌∙◌, arith}
+use Rattle.std.proofs.Common.{◌≡◌, ◌≤◌, ◌<◌, ◌+◌, ◌*◌, ◌^◌, ℕ, zero, suc, Bool, true, false, cond, List, [], ◌∷◌, ◌++◌, length, map, take, drop, get_or, Option, None, Some, inl, inr, sym, refl, ap, subst, ◌∙◌, arith}
 use Rattle.std.specs.List.{AllByRecursion}
 use Rattle.std.specs.Option.{option_to_list}
-use Rattle.std.proofs.lemmas.List.{append-nil, append_assoc, length-append, length-map}
+use Rattle.std.proofs.lemmas.List.{append-nil, append_assoc, length-append, length-drop, length-map}
 use Rattle.std.proofs.lemmas.Grind.{pow_more}
 use Rattle.std.proofs.lemmas.Nat.{pow_pos}
+use Rattle.std.specs.Prelude.{nat_eq, ◌&&◌}
+use Rattle.std.proofs.lemmas.Bool.{and_parts, cases_lt}
+use Rattle.std.proofs.Common.{eq-eqb, ne_eqb}
+use Rattle.std.proofs.lemmas.Bool.{eqb-true}
+use Rattle.std.proofs.Math.ListN.{set, drop_of_length-le}
+use Rattle.std.proofs.Math.Seq.{drop-cons}
+use Rattle.node_chunker.proofs.ClimbLemmas.{drop_set}
 use Rattle.tuple_codec.specs.Nodes.{Item, Rise, RiseAfter, is_after, items_bytes}
 use Rattle.tuple_codec.specs.Trees.{AreRows, bytes_of, closes, cut, cut_from, inner_chunks, last_key, name, names, root, rows_in, top, tower, tree_chunks}
 use Rattle.tree_laws.proofs.Cuts.{names_short, top_enough, chunks_enough}
@@ -353,3 +360,86 @@ module _ (a : List ℕ → List ℕ) where
         (rise_join None (spread (next ∷ above)) (x ∷ []) parts.0
           (subst R (sym key) (reaches_last (last_after None (spread (next ∷ above))) leaf closed.0 parts.1), tt))
         (omega arith)
+
+  -- ---- the level at a place among the inner levels
+
+  tree_later : (old new : Chunks) (k : List ℕ) (rows : List Item) → Extends old new → IsTree a old k rows → IsTree a new k rows
+  tree_later old new k rows grows tree = record { are_rows = tree.are_rows; named = tree.named; held = held_later a old new (tree_chunks a rows) grows tree.held }
+
+  opened : (nodes : List (List Item)) (at : ℕ) (held : List Item) → at < length nodes → held ≡ get_or nodes at held → drop at nodes ≡ held ∷ drop (suc at) nodes
+  opened nodes at held within is = drop-cons nodes at held within ∙ ap (λ h. h ∷ drop (suc at) nodes) (sym is)
+
+  closing_here : (chunks : Chunks) (nodes : List (List Item)) (at : ℕ) (held carry rows : List Item) → at < length nodes → held ≡ get_or nodes at held
+      → IsClosing a chunks (suc at) (drop at nodes) carry rows → IsClosing a chunks (suc at) (held ∷ drop (suc at) nodes) carry rows
+  closing_here chunks nodes at held carry rows within is closing =
+      let P : List (List Item) → Type 0 = λ l. IsClosing a chunks (suc at) l carry rows in
+      subst P (opened nodes at held within is) closing
+
+  pub level_low : (chunks : Chunks) (nodes : List (List Item)) (at : ℕ) (carry rows : List Item) → at < length nodes
+      → IsClosing a chunks (suc at) (drop at nodes) carry rows → at < 62
+  level_low chunks nodes at carry rows within closing =
+      let low = closing_low chunks (suc at) (get_or nodes at []) (drop (suc at) nodes) carry rows
+          (subst (λ l. IsClosing a chunks (suc at) l carry rows) (drop-cons nodes at [] within) closing) in
+      omega arith
+
+  pub level_ready : (chunks : Chunks) (nodes : List (List Item)) (at : ℕ) (held carry rows : List Item) → at < length nodes → held ≡ get_or nodes at held
+      → IsClosing a chunks (suc at) (drop at nodes) carry rows → is_empty (held ++ carry) ≡ false → IsWritable (at + 1) (held ++ carry)
+  level_ready chunks nodes at held carry rows within is closing some =
+      let P : ℕ → Type 0 = λ n. IsWritable n (held ++ carry) in
+      let e : suc at ≡ at + 1 = omega arith in
+      subst P e (closing_ready chunks (suc at) held (drop (suc at) nodes) carry rows (closing_here chunks nodes at held carry rows within is closing) some)
+
+  pub last_level : (nodes : List (List Item)) (at : ℕ) → at < length nodes → is_empty (drop (suc at) nodes) ≡ nat_eq (at + 1) (length nodes)
+  last_level nodes at within =
+      elim (cases_lt (at + 1) (length nodes)) [
+        | inl more ↦ go (drop (suc at) nodes) (omega (arith, length-drop (suc at) nodes)) ∙ sym (ne_eqb (at + 1) (length nodes) (omega arith))
+        | inr done ↦ ap is_empty (drop_of_length-le nodes {i = suc at} (omega arith)) ∙ sym (eq-eqb (at + 1) (length nodes) (omega arith))
+      ]
+    where
+      go : (l : List (List Item)) → 0 < length l → is_empty l ≡ false
+      go [] some = absurd (omega arith)
+      go (x ∷ l) some = refl
+
+  pub level_root : (old new : Chunks) (nodes : List (List Item)) (at : ℕ) (held carry rows : List Item) (k : List ℕ) (count : ℕ) → count ≡ length nodes → at < length nodes
+      → held ≡ get_or nodes at held → IsClosing a old (suc at) (drop at nodes) carry rows → (nat_eq (at + 1) count && is_single (held ++ carry)) ≡ true
+      → k ≡ (first_of (held ++ carry)).body → Extends old new → IsTree a new k rows
+  level_root old new nodes at held carry rows k count count_is within is closing both k_is grows =
+      let parts = and_parts (nat_eq (at + 1) count) (is_single (held ++ carry)) both in
+      let none : drop (suc at) nodes ≡ [] = drop_of_length-le nodes {i = suc at} (omega (arith, eqb-true (at + 1) count parts.0)) in
+      let P : List (List Item) → Type 0 = λ l. IsClosing a old (suc at) (held ∷ l) carry rows in
+      let Q : List ℕ → Type 0 = λ j. IsTree a new j rows in
+      subst Q (sym k_is) (tree_later old new (first_of (held ++ carry)).body rows grows
+        (closing_root old (suc at) held carry rows (subst P none (closing_here old nodes at held carry rows within is closing)) parts.1))
+
+  pub level_up : (old new : Chunks) (nodes after : List (List Item)) (at : ℕ) (held now carry rows : List Item) (named : Option Item) (count : ℕ) → count ≡ length nodes
+      → at < length nodes → held ≡ get_or nodes at held → IsClosing a old (suc at) (drop at nodes) carry rows
+      → (nat_eq (at + 1) count && is_single (held ++ carry)) ≡ false → Extends old new → IsClosed a new (at + 1) (held ++ carry) named
+      → after ≡ set nodes at now → IsClosing a new (suc (at + 1)) (drop (at + 1) after) (option_to_list named) rows
+  level_up old new nodes after at held now carry rows named count count_is within is closing below grows closed after_is =
+      let e : at + 1 ≡ suc at = omega arith in
+      let P : ℕ → Type 0 = λ n. IsClosed a new n (held ++ carry) named in
+      let Q : List (List Item) → Type 0 = λ l. IsClosing a new (suc (suc at)) l (option_to_list named) rows in
+      let R : ℕ → Type 0 = λ n. IsClosing a new (suc n) (drop n after) (option_to_list named) rows in
+      subst R (sym e) (subst Q (sym (ap (drop (suc at)) after_is ∙ drop_set nodes at now within))
+        (closing_up old new (suc at) held (drop (suc at) nodes) carry rows named (closing_here old nodes at held carry rows within is closing)
+          (ap (λ b. b && is_single (held ++ carry)) (last_level nodes at within ∙ ap (nat_eq (at + 1)) (sym count_is)) ∙ below) grows (subst P e closed)))
+
+  pub levels_done : (chunks : Chunks) (nodes : List (List Item)) (at : ℕ) (carry rows : List Item) → length nodes ≤ at
+      → IsClosing a chunks (suc at) (drop at nodes) carry rows → IsClosing a chunks (suc at) [] carry rows
+  levels_done chunks nodes at carry rows past closing =
+      let P : List (List Item) → Type 0 = λ l. IsClosing a chunks (suc at) l carry rows in
+      subst P (drop_of_length-le nodes {i = at} past) closing
+
+  pub begins_above : (old new : Chunks) (leaf : List Item) (above : List (List Item)) (rows : List Item) (named : Option Item) → 0 < length above
+      → IsTower a old (leaf ∷ above) rows → Extends old new → IsClosed a new 0 leaf named → IsClosing a new 1 above (option_to_list named) rows
+  begins_above old new leaf [] rows named some grown grows closed = absurd (omega arith)
+  begins_above old new leaf (next ∷ above) rows named some grown grows closed = closing_begins old new leaf next above rows named grown grows closed
+
+  pub leaf_ready : (chunks : Chunks) (leaf : List Item) (above : List (List Item)) (rows : List Item) → IsTower a chunks (leaf ∷ above) rows → IsWritable 0 leaf
+  leaf_ready chunks leaf above rows grown =
+      let few = grown.are_rows.few in
+      let counted = grown.counted in
+      let each = entries 0 leaf grown.are_open.0 in
+      writable 0 leaf each (omega (arith, open_small a 0 leaf each grown.are_open.1))
+        (rise_alone (last_after None (spread above)) leaf (rise_split None (spread above) leaf grown.rises).1)
+        (omega (arith, rows_join (spread above) leaf)) (omega arith) (λ above_it. absurd (omega arith))

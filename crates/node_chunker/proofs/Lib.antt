@@ -2,3 +2,4 @@ pub mod TowerLemmas
 pub mod GrowthLemmas
 pub mod NodeLemmas
 pub mod ClosingLemmas
+pub mod ClimbLemmas

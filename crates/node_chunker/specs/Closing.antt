@@ -1,11 +1,16 @@
 -- Towers that are being finished, level by level.
-use Rattle.std.specs.Prelude.{◌≡◌, ◌≤◌, ◌<◌, ℕ, ◌^◌, List, [], ◌∷◌, ◌++◌, length}
+use Rattle.std.specs.Prelude.{◌≡◌, ◌≤◌, ◌<◌, ℕ, Bool, true, false, ◌&&◌, List, ◌++◌, length}
+use Rattle.std.specs.Option.{option_map}
 use Rattle.std.specs.List.{AllByRecursion}
 use Rattle.tuple_codec.specs.Nodes.{Item, Rise}
 use Rattle.tuple_codec.specs.Trees.{AreRows, rows_in, tower, tree_chunks}
 use Rattle.chunk_store.specs.Chunks.{Chunks, Extends}
 use Rattle.chunk_store.specs.Standing.{AreHeld}
-use Rattle.node_chunker.specs.Towers.{after, chunks_after}
+use Rattle.node_format.specs.Views.{ref_of}
+use Rattle.node_chunker.specs.declared.closings.Closed.{Closed}
+use Rattle.node_chunker.specs.declared.closings.Closed.TheVariants.{Root, Below}
+use Rattle.node_chunker.specs.Steps.{IsClosed}
+use Rattle.node_chunker.specs.Towers.{after, chunks_after, first_of, is_single}
 use Rattle.node_chunker.specs.Growth.{AreOpen, IsEntry, IsTopped, spread}
 
 -- these nodes are left open, from this level on, of the tree of these rows, and the level below has left one name or none
@@ -23,3 +28,13 @@ pub record IsClosing (address : List ℕ → List ℕ) (chunks : Chunks) (level 
   pub counted : rows_in (spread open_nodes ++ carry) ≡ length rows
   pub some : 0 < length rows
   pub are_rows : AreRows rows
+
+-- the nodes that are left can be closed
+abbrev pub CanClose : (List ℕ → List ℕ) → Chunks → ℕ → List (List Item) → List Item → Type 0
+CanClose address chunks level open_nodes carry = (rows : List Item) × IsClosing address chunks level open_nodes carry rows
+
+-- a level was closed after these items, as the last one or not
+abbrev pub IsLevelClosed : (List ℕ → List ℕ) → Chunks → ℕ → List Item → Bool → Closed → Type 0
+IsLevelClosed address chunks level items is_last (Root root) = ((is_last && is_single items) ≡ true) × (root.0 ≡ (first_of items).body)
+IsLevelClosed address chunks level items is_last (Below named) =
+    ((is_last && is_single items) ≡ false) × IsClosed address chunks level items (option_map ref_of named)

@@ -1,10 +1,11 @@
 -- What happens to one open node.
-use Rattle.std.specs.Prelude.{◌≡◌, ℕ, true, false, List, [], ◌∷◌, ◌++◌, Option, None, Some}
+use Rattle.std.specs.Prelude.{◌≡◌, ℕ, suc, true, false, List, [], ◌∷◌, ◌++◌, take, drop, Option, None, Some}
 use Rattle.tuple_codec.specs.Nodes.{Item}
 use Rattle.tuple_codec.specs.Trees.{bytes_of, closes, name}
-use Rattle.chunk_store.specs.Chunks.{Chunks}
+use Rattle.chunk_store.specs.Chunks.{Chunks, Extends}
 use Rattle.node_chunker.specs.Faults.{ArePut}
-use Rattle.node_chunker.specs.Towers.{is_empty}
+use Rattle.node_chunker.specs.Growth.{Fits}
+use Rattle.node_chunker.specs.Towers.{ended_chunks, is_empty, pushes}
 
 -- a node was put and emptied, and has this name
 pub record IsNamed (address : List ℕ → List ℕ) (chunks : Chunks) (level : ℕ) (held now : List Item) (named : Item) : Type 0 where
@@ -23,3 +24,10 @@ abbrev pub IsClosed : (List ℕ → List ℕ) → Chunks → ℕ → List Item �
 IsClosed address chunks level held None = held ≡ []
 IsClosed address chunks level held (Some named) =
     (is_empty held ≡ false) × (named ≡ name address level held) × ArePut address chunks (bytes_of level held ∷ [])
+
+-- a name that was pushed at level 1 has climbed to the node at this place among the inner levels
+pub record IsClimbing (address : List ℕ → List ℕ) (chunks : Chunks) (begun : List (List Item)) (named : Item) (nodes : List (List Item)) (at : ℕ) (item : Item) : Type 0 where
+  pub fits : Fits address (suc at) (drop at nodes) item
+  pub comes : take at nodes ++ pushes address (suc at) (drop at nodes) item ≡ pushes address 1 begun named
+  pub kept : (later : Chunks) → Extends chunks later → ArePut address later (ended_chunks address (suc at) (drop at nodes) item)
+      → ArePut address later (ended_chunks address 1 begun named)

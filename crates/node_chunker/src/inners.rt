@@ -1,6 +1,6 @@
 //! The open node of a tower at a level above the leaves.
 
-ghost use Rattle.std.specs.Prelude.{◌≡◌, ◌≤◌, ◌<◌, ◌++◌, ◌^◌, [], ◌∷◌, Some, None, false, if◌then◌else◌, length, map, IfOk, IfErr, OnOk, option_map, option_to_list};
+ghost use Rattle.std.specs.Prelude.{◌≡◌, ◌≤◌, ◌<◌, ◌++◌, ◌^◌, [], ◌∷◌, Some, None, false, ◌&&◌, if◌then◌else◌, length, map, IfOk, IfErr, OnOk, option_map, option_to_list};
 ghost use Rattle.tuple_codec.specs.Nodes.{IsItem, item_bytes};
 ghost use Rattle.tuple_codec.specs.Trees.{closes, last_key, rows_in};
 ghost use Rattle.node_format.specs.Views.{ref_of};
@@ -54,8 +54,15 @@ impl OpenInner {
         self.items.is_empty()
     }
 
+    /// The root's address, where this is the last level and the one name in the node is the root's.
+    pub(crate) fn root(&self, is_last: bool) -> Option<Address>
+        ensures { option_map (λ address. address.0) result ≡ (if is_last && is_single self.now then Some (first_of self.now).body else None) }
+    {
+        if is_last { self.only() } else { None }
+    }
+
     /// The address in the one name that the node has, if it has one.
-    pub(crate) fn only(&self) -> Option<Address>
+    fn only(&self) -> Option<Address>
         ensures { option_map (λ address. address.0) result ≡ (if is_single self.now then Some (first_of self.now).body else None) }
     {
         match self.items.as_slice() {
@@ -108,7 +115,7 @@ impl OpenInner {
     /// Adds the name that the level below has left, if it has left one.
     pub(crate) fn take(&mut self, level: u8, carry: Option<RefItem>) -> Result<(), AllocError>
         requires level { 0 < level }
-        requires fits { is_empty (option_to_list (option_map ref_of carry)) ≡ false → IsWritable level (self.old ++ option_to_list (option_map ref_of carry)) }
+        requires fits { is_empty (self.old ++ option_to_list (option_map ref_of carry)) ≡ false → IsWritable level (self.old ++ option_to_list (option_map ref_of carry)) }
         ensures { OnOk result (self.new ≡ self.old ++ option_to_list (option_map ref_of carry)) }
     {
         match carry {

@@ -1,2 +1,136 @@
-//! A tower.
-pub struct Tower;
+//! A tower: a tree that grows row by row.
+
+ghost use Rattle.std.specs.Prelude.{◌≡◌, ◌++◌, ℕ, List, [], ◌∷◌, IfOk, IfErr, OnOk};
+ghost use Rattle.tuple_codec.specs.Nodes.{IsItem, Item, leaf_item};
+ghost use Rattle.tuple_codec.specs.Trees.{AreRows};
+ghost use Rattle.node_format.specs.Views.{leaf_of, ref_of};
+ghost use Rattle.chunk_store.specs.Chunks.{Chunks};
+ghost use Rattle.chunk_store.specs.Drafts.{Longer, chunks_of};
+ghost use Rattle.chunk_store.specs.Standing.{IsTree};
+ghost use Rattle.node_chunker.specs.Faults.{ArePut, IsReason};
+ghost use Rattle.node_chunker.specs.Growth.{CanPush, Fits, IsTower, WasPushed};
+ghost use Rattle.node_chunker.specs.Towers.{ended_chunks, pushes};
+
+use crate::closings::close_levels;
+use crate::inners::OpenInner;
+use crate::leaves::OpenLeaf;
+use chunk_store::{Draft, PutFault};
+use node_format::{LeafItem, RefItem};
+use std::alloc::{AllocError, Global};
+use std::marker::Model;
+use tuple_codec::{Address, Blob, Digester};
+
+/// The levels above the leaves for which a new tower has room.
+const LEVELS: usize = 8;
+
+/// The nodes of a tree that are still open, one a level, while its rows come in rising order.
+///
+/// After a refused call a tower is spent: it can only be dropped.
+#[derive(Debug, Drop)]
+pub struct Tower {
+    leaf: OpenLeaf,
+    inner: Vec<OpenInner>,
+}
+
+impl Model for Tower {
+    ghost use Rattle.std.specs.Prelude.{List, ◌∷◌};
+    ghost use Rattle.tuple_codec.specs.Nodes.{Item};
+
+    ghost Value = { List (List Item) };
+
+    ghost view = { λ t. t.leaf ∷ t.inner.items };
+}
+
+impl Tower {
+    /// The tower to which nothing was pushed.
+    pub fn new(alloc: Global) -> Result<Tower, AllocError>
+        ensures { (address : List ℕ → List ℕ) (chunks : Chunks) → IfOk result (λ tower. IsTower address chunks tower []) }
+    {
+        Ok(Tower {
+            leaf: OpenLeaf::new(alloc),
+            inner: Vec::with_capacity(alloc, LEVELS)?,
+        })
+    }
+
+    /// Pushes a row, whose key is after those that were pushed. The nodes that it ends are put into the draft.
+    pub fn push_row<D: Digester>(
+        &mut self,
+        draft: &mut Draft<D>,
+        key: &[u8],
+        value: &[u8],
+    ) -> Result<(), PutFault>
+        requires { CanPush D.address (chunks_of draft.old.chunks) self.old (leaf_item key.now value.now) }
+        ensures ok { (rows : List Item) → IsTower D.address (chunks_of draft.old.chunks) self.old rows
+            → OnOk result (IsTower D.address (chunks_of draft.new.chunks) self.new (rows ++ leaf_item key.now value.now ∷ [])) }
+        ensures longer { Longer draft.old.chunks draft.new.chunks }
+        ensures cause { IfErr result (IsReason D.address (chunks_of draft.new.chunks)) }
+    {
+        let row = copy_of(*self.inner.allocator(), key, value)?;
+        match self.leaf.push(draft, row)? {
+            None => Ok(()),
+            Some(named) => push_name(&mut self.inner, draft, named),
+        }
+    }
+
+    /// Puts what is left into the draft: the root's address.
+    pub fn finish<D: Digester>(self, draft: &mut Draft<D>) -> Result<Address, PutFault>
+        requires { WasPushed D.address (chunks_of draft.old.chunks) self }
+        ensures ok { (rows : List Item) → IsTower D.address (chunks_of draft.old.chunks) self rows
+            → IfOk result (λ root. IsTree D.address (chunks_of draft.new.chunks) root.0 rows) }
+        ensures longer { Longer draft.old.chunks draft.new.chunks }
+        ensures cause { IfErr result (IsReason D.address (chunks_of draft.new.chunks)) }
+    {
+        let Tower { mut leaf, inner } = self;
+        if inner.is_empty() {
+            let named = leaf.put(draft)?;
+            return Ok(named.address);
+        }
+        let carry = leaf.close(draft)?;
+        close_levels(inner, draft, carry)
+    }
+}
+
+fn copy_of(alloc: Global, key: &[u8], value: &[u8]) -> Result<LeafItem, AllocError>
+    ensures { IfOk result (λ row. leaf_of row ≡ leaf_item key.now value.now) }
+{
+    Ok(LeafItem {
+        key: Blob::from_vec(Vec::from_slice(alloc, key)?),
+        value: Blob::from_vec(Vec::from_slice(alloc, value)?),
+    })
+}
+
+/// Pushes the name of a leaf onto the levels above: each node that ends names itself one level up.
+fn push_name<D: Digester>(
+    inner: &mut Vec<OpenInner>,
+    draft: &mut Draft<D>,
+    named: RefItem,
+) -> Result<(), PutFault>
+    requires { Fits D.address 1 inner.old.items (ref_of named) }
+    ensures ok { OnOk result ((inner.new.items ≡ pushes D.address 1 inner.old.items (ref_of named))
+        × ArePut D.address (chunks_of draft.new.chunks) (ended_chunks D.address 1 inner.old.items (ref_of named))) }
+    ensures longer { Longer draft.old.chunks draft.new.chunks }
+    ensures cause { IfErr result (IsReason D.address (chunks_of draft.new.chunks)) }
+{
+    let mut item = named;
+    let mut at = 0;
+    'levels: while at < inner.len() {
+        let level = at as u8 + 1;
+        match inner[at].push(draft, level, item)? {
+            None => return Ok(()),
+            Some(named) => item = named,
+        }
+        at += 1;
+    }
+    begin_level(inner, item)?;
+    Ok(())
+}
+
+/// Opens a level above the last, with one name.
+fn begin_level(inner: &mut Vec<OpenInner>, item: RefItem) -> Result<(), AllocError>
+    requires { IsItem 1 (ref_of item) }
+    ensures { OnOk result (inner.new.items ≡ inner.old.items ++ (ref_of item ∷ []) ∷ []) }
+{
+    let node = OpenInner::begun(*inner.allocator(), item)?;
+    inner.push(node)?;
+    Ok(())
+}

@@ -1,0 +1,203 @@
+-- A name climbs from level to level, as far as it ends nodes.
+use Rattle.std.proofs.Common.{◌≡◌, ◌≤◌, ◌<◌, ◌+◌, ◌^◌, ℕ, zero, suc, Bool, true, false, cond, List, [], ◌∷◌, ◌++◌, length, take, drop, get_or, sym, refl, ap, subst, ◌∙◌, arith}
+use Rattle.std.specs.Prelude.{◌==◌}
+use Rattle.std.proofs.lemmas.List.{append-nil, append_assoc, take_all}
+use Rattle.std.proofs.Math.ListN.{set, drop_of_length-le}
+use Rattle.std.proofs.Math.Seq.{drop-cons}
+use Rattle.tuple_codec.specs.Nodes.{Item, IsItem}
+use Rattle.tuple_codec.specs.Trees.{AreRows, bytes_of, closes, name, rows_in}
+use Rattle.chunk_store.specs.Chunks.{Chunks, Extends}
+use Rattle.chunk_store.specs.Drafts.{DraftParts, Longer, chunks_of}
+use Rattle.chunk_store.proofs.FollowLemmas.{drafts_follow}
+use Rattle.node_chunker.specs.Towers.{pushes, ended_chunks}
+use Rattle.node_chunker.specs.Growth.{CanPush, Fits, IsTower, IsWritable, spread}
+use Rattle.node_chunker.specs.Faults.{ArePut}
+use Rattle.node_chunker.specs.Steps.{IsClimbing, IsNamed}
+use Rattle.node_chunker.proofs.TowerLemmas.{extends_both}
+use Rattle.node_chunker.proofs.GrowthLemmas.{rows_join, low_level, fits_row, fits_up, writable_here, tower_push}
+
+-- ---- lists with one place changed
+
+set_split : {X : Type 0} (xs : List X) (i : ℕ) (v : X) → i < length xs → set xs i v ≡ take i xs ++ v ∷ drop (suc i) xs
+set_split [] i v within = absurd (omega arith)
+set_split (x ∷ xs) zero v within = refl
+set_split (x ∷ xs) (suc i) v within = ap (λ l. x ∷ l) (set_split xs i v (omega arith))
+
+pub drop_set : {X : Type 0} (xs : List X) (i : ℕ) (v : X) → i < length xs → drop (suc i) (set xs i v) ≡ drop (suc i) xs
+drop_set [] i v within = absurd (omega arith)
+drop_set (x ∷ xs) zero v within = refl
+drop_set (x ∷ xs) (suc i) v within = drop_set xs i v (omega arith)
+
+take_set : {X : Type 0} (xs : List X) (i : ℕ) (v : X) → i < length xs → take (suc i) (set xs i v) ≡ take i xs ++ v ∷ []
+take_set [] i v within = absurd (omega arith)
+take_set (x ∷ xs) zero v within = refl
+take_set (x ∷ xs) (suc i) v within = ap (λ l. x ∷ l) (take_set xs i v (omega arith))
+
+pub put_later : (a : List ℕ → List ℕ) (now later : Chunks) (list : List (List ℕ)) → Extends now later → ArePut a now list → ArePut a later list
+put_later a now later [] extends put = tt
+put_later a now later (bytes ∷ list) extends put = ((extends (a bytes) bytes put.0.0, put.0.1), put_later a now later list extends put.1)
+
+module _ (a : List ℕ → List ℕ) (begun : List (List Item)) (named : Item) where
+  pub climb_begins : (chunks : Chunks) → Fits a 1 begun named → IsClimbing a chunks begun named begun 0 named
+  climb_begins chunks fits = record { fits = fits; comes = refl; kept = λ later extends put. put }
+
+  pub climb_low : (chunks : Chunks) (nodes : List (List Item)) (at : ℕ) (item : Item) → IsClimbing a chunks begun named nodes at item → at < 62
+  climb_low chunks nodes at item climbing =
+      let few = climbing.fits.few in
+      let low = low_level (suc at) item.rows climbing.fits.grown.1 (omega (arith, rows_join (spread (drop at nodes)) (item ∷ []))) in
+      omega arith
+
+  here : (nodes : List (List Item)) (at : ℕ) (item : Item) (held : List Item) → at < length nodes → held ≡ get_or nodes at held
+      → drop at nodes ≡ held ∷ drop (suc at) nodes
+  here nodes at item held within is = drop-cons nodes at held within ∙ ap (λ h. h ∷ drop (suc at) nodes) (sym is)
+
+  fits_here : (chunks : Chunks) (nodes : List (List Item)) (at : ℕ) (item : Item) (held : List Item) → IsClimbing a chunks begun named nodes at item
+      → at < length nodes → held ≡ get_or nodes at held → Fits a (suc at) (held ∷ drop (suc at) nodes) item
+  fits_here chunks nodes at item held climbing within is =
+      let P : List (List Item) → Type 0 = λ l. Fits a (suc at) l item in
+      subst P (here nodes at item held within is) climbing.fits
+
+  pub climb_ready : (chunks : Chunks) (nodes : List (List Item)) (at : ℕ) (item : Item) (held : List Item) → IsClimbing a chunks begun named nodes at item
+      → at < length nodes → held ≡ get_or nodes at held → IsWritable (at + 1) (held ++ item ∷ [])
+  climb_ready chunks nodes at item held climbing within is =
+      let P : ℕ → Type 0 = λ n. IsWritable n (held ++ item ∷ []) in
+      let e : suc at ≡ at + 1 = omega arith in
+      subst P e (writable_here a (suc at) held (drop (suc at) nodes) item (fits_here chunks nodes at item held climbing within is))
+
+  -- the node stays open
+  pub climb_stays : (old new : Chunks) (nodes after : List (List Item)) (at : ℕ) (item : Item) (held now : List Item) → IsClimbing a old begun named nodes at item
+      → at < length nodes → held ≡ get_or nodes at held → Extends old new
+      → (closes a (at + 1) (held ++ item ∷ []) ≡ false) × (now ≡ held ++ item ∷ []) → after ≡ set nodes at now
+      → (after ≡ pushes a 1 begun named) × ArePut a new (ended_chunks a 1 begun named)
+  climb_stays old new nodes after at item held now climbing within is grows stays after_is =
+      let e : at + 1 ≡ suc at = omega arith in
+      let above = drop (suc at) nodes in
+      let over : closes a (suc at) (held ++ item ∷ []) ≡ false = ap (λ n. closes a n (held ++ item ∷ [])) (sym e) ∙ stays.0 in
+      let opened = here nodes at item held within is in
+      let pushed : pushes a (suc at) (drop at nodes) item ≡ now ∷ above =
+          ap (λ l. pushes a (suc at) l item) opened
+          ∙ ap (λ b. cond b ([] ∷ pushes a (suc (suc at)) above (name a (suc at) (held ++ item ∷ []))) ((held ++ item ∷ []) ∷ above)) over
+          ∙ ap (λ h. h ∷ above) (sym stays.1) in
+      let ended : ended_chunks a (suc at) (drop at nodes) item ≡ [] =
+          ap (λ l. ended_chunks a (suc at) l item) opened
+          ∙ ap (λ b. cond b (bytes_of (suc at) (held ++ item ∷ []) ∷ ended_chunks a (suc (suc at)) above (name a (suc at) (held ++ item ∷ []))) []) over in
+      let P : List (List ℕ) → Type 0 = ArePut a new in
+      (after_is ∙ set_split nodes at now within ∙ ap (λ l. take at nodes ++ l) (sym pushed) ∙ climbing.comes,
+       climbing.kept new grows (subst P (sym ended) tt))
+
+  -- the node ends, and its name climbs on
+  pub climb_up : (old new : Chunks) (nodes after : List (List Item)) (at : ℕ) (item next : Item) (held now : List Item) → IsClimbing a old begun named nodes at item
+      → at < length nodes → held ≡ get_or nodes at held → Extends old new
+      → (closes a (at + 1) (held ++ item ∷ []) ≡ true) × IsNamed a new (at + 1) (held ++ item ∷ []) now next → after ≡ set nodes at now
+      → IsClimbing a new begun named after (at + 1) next
+  climb_up old new nodes after at item next held now climbing within is grows ended after_is = go (at + 1) (omega arith) ended
+    where
+      go : (level : ℕ) → level ≡ suc at → (closes a level (held ++ item ∷ []) ≡ true) × IsNamed a new level (held ++ item ∷ []) now next
+          → IsClimbing a new begun named after level next
+      go level e closed =
+          let above = drop (suc at) nodes in
+          let node = held ++ item ∷ [] in
+          let over : closes a (suc at) node ≡ true = ap (λ n. closes a n node) (sym e) ∙ closed.0 in
+          let Q : ℕ → Type 0 = λ n. IsNamed a new n node now next in
+          let mine = subst Q e closed.1 in
+          let opened = here nodes at item held within is in
+          let after_now : after ≡ set nodes at [] = after_is ∙ ap (set nodes at) mine.emptied in
+          let dropped : drop (suc at) after ≡ above = ap (drop (suc at)) after_now ∙ drop_set nodes at [] within in
+          let taken : take (suc at) after ≡ take at nodes ++ [] ∷ [] = ap (take (suc at)) after_now ∙ take_set nodes at [] within in
+          let pushed : pushes a (suc at) (drop at nodes) item ≡ [] ∷ pushes a (suc (suc at)) above next =
+              ap (λ l. pushes a (suc at) l item) opened
+              ∙ ap (λ b. cond b ([] ∷ pushes a (suc (suc at)) above (name a (suc at) node)) (node ∷ above)) over
+              ∙ ap (λ n. [] ∷ pushes a (suc (suc at)) above n) (sym mine.named_is) in
+          let chunks : ended_chunks a (suc at) (drop at nodes) item ≡ bytes_of (suc at) node ∷ ended_chunks a (suc (suc at)) above next =
+              ap (λ l. ended_chunks a (suc at) l item) opened
+              ∙ ap (λ b. cond b (bytes_of (suc at) node ∷ ended_chunks a (suc (suc at)) above (name a (suc at) node)) []) over
+              ∙ ap (λ n. bytes_of (suc at) node ∷ ended_chunks a (suc (suc at)) above n) (sym mine.named_is) in
+          let up = fits_up a (suc at) held above item (fits_here old nodes at item held climbing within is) over mine.put.0.1 in
+          let F : Item → Type 0 = λ n. Fits a (suc (suc at)) above n in
+          let G : List (List Item) → Type 0 = λ l. Fits a (suc (suc at)) l next in
+          let P : ℕ → Type 0 = λ n. IsClimbing a new begun named after n next in
+          subst P (sym e) (record {
+            fits = subst G (sym dropped) (subst F (sym mine.named_is) up);
+            comes = ap (λ l. take (suc at) after ++ pushes a (suc (suc at)) l next) dropped
+                ∙ ap (λ l. l ++ pushes a (suc (suc at)) above next) taken
+                ∙ append_assoc (take at nodes) ([] ∷ []) (pushes a (suc (suc at)) above next)
+                ∙ ap (λ l. take at nodes ++ l) (sym pushed) ∙ climbing.comes;
+            kept = λ later extends put.
+                let R : List (List ℕ) → Type 0 = ArePut a later in
+                climbing.kept later (extends_both old new later grows extends)
+                  (subst R (ap (λ l. bytes_of (suc at) node ∷ ended_chunks a (suc (suc at)) l next) dropped ∙ sym chunks)
+                    ((extends (a (bytes_of (suc at) node)) (bytes_of (suc at) node) mine.put.0.0, mine.put.0.1), put));
+          })
+
+  -- past the last level the name begins one
+  pub climb_item : (chunks : Chunks) (nodes : List (List Item)) (at : ℕ) (item : Item) → IsClimbing a chunks begun named nodes at item → IsItem 1 item
+  climb_item chunks nodes at item climbing =
+      let few = climbing.fits.few in
+      let entry = climbing.fits.grown.0 in
+      let key = entry.0 in
+      (omega arith, entry.1, entry.2, omega (arith, rows_join (spread (drop at nodes)) (item ∷ [])))
+
+  pub climb_ends : (old : Chunks) (nodes after : List (List Item)) (at : ℕ) (item : Item) (node : List Item) → IsClimbing a old begun named nodes at item
+      → length nodes ≤ at → node ≡ item ∷ [] → after ≡ nodes ++ node ∷ []
+      → (after ≡ pushes a 1 begun named) × ArePut a old (ended_chunks a 1 begun named)
+  climb_ends old nodes after at item node climbing past node_is after_is =
+      let none : drop at nodes ≡ [] = drop_of_length-le nodes {i = at} past in
+      let P : List (List ℕ) → Type 0 = ArePut a old in
+      (after_is ∙ ap (λ n. nodes ++ n ∷ []) node_is ∙ ap (λ l. l ++ (item ∷ []) ∷ []) (sym (take_all at nodes past))
+        ∙ ap (λ l. take at nodes ++ pushes a (suc at) l item) (sym none) ∙ climbing.comes,
+       climbing.kept old (λ k bytes found. found) (subst P (ap (λ l. ended_chunks a (suc at) l item) (sym none)) tt))
+
+-- ---- a row
+
+pub grows : (d e : DraftParts) → Longer d e → Extends (chunks_of d) (chunks_of e)
+grows d e longer = drafts_follow.longer_extends d e longer
+
+module _ (a : List ℕ → List ℕ) where
+  -- the row stays in the leaf
+  pub row_stays : (old new : Chunks) (leaf now : List Item) (above : List (List Item)) (rows : List Item) (x : Item) → IsTower a old (leaf ∷ above) rows
+      → Fits a 0 (leaf ∷ above) x → Extends old new → (closes a 0 (leaf ++ x ∷ []) ≡ false) × (now ≡ leaf ++ x ∷ []) → IsTower a new (now ∷ above) (rows ++ x ∷ [])
+  row_stays old new leaf now above rows x tower fits grow stays =
+      let n = name a 0 (leaf ++ x ∷ []) in
+      let pushed : pushes a 0 (leaf ∷ above) x ≡ now ∷ above =
+          ap (λ b. cond b ([] ∷ pushes a 1 above n) ((leaf ++ x ∷ []) ∷ above)) stays.0 ∙ ap (λ l. l ∷ above) (sym stays.1) in
+      let ended : ended_chunks a 0 (leaf ∷ above) x ≡ [] = ap (λ b. cond b (bytes_of 0 (leaf ++ x ∷ []) ∷ ended_chunks a 1 above n) []) stays.0 in
+      let P : List (List Item) → Type 0 = λ l. IsTower a new l (rows ++ x ∷ []) in
+      let Q : List (List ℕ) → Type 0 = ArePut a new in
+      subst P pushed (tower_push a old new leaf above rows x tower fits grow (subst Q (sym ended) tt))
+
+  -- the row ends the leaf, whose name climbs
+  pub row_climbs : (old mid new : Chunks) (leaf now : List Item) (above after : List (List Item)) (rows : List Item) (x named : Item) → IsTower a old (leaf ∷ above) rows
+      → Fits a 0 (leaf ∷ above) x → Extends old mid → Extends mid new
+      → (closes a 0 (leaf ++ x ∷ []) ≡ true) × IsNamed a mid 0 (leaf ++ x ∷ []) now named
+      → after ≡ pushes a 1 above named → ArePut a new (ended_chunks a 1 above named) → IsTower a new (now ∷ after) (rows ++ x ∷ [])
+  row_climbs old mid new leaf now above after rows x named tower fits grow more ended after_is put =
+      let n = name a 0 (leaf ++ x ∷ []) in
+      let mine = ended.1 in
+      let pushed : pushes a 0 (leaf ∷ above) x ≡ now ∷ after =
+          ap (λ b. cond b ([] ∷ pushes a 1 above n) ((leaf ++ x ∷ []) ∷ above)) ended.0 ∙ ap (λ i. [] ∷ pushes a 1 above i) (sym mine.named_is)
+          ∙ ap (λ l. [] ∷ l) (sym after_is) ∙ ap (λ l. l ∷ after) (sym mine.emptied) in
+      let chunks : ended_chunks a 0 (leaf ∷ above) x ≡ bytes_of 0 (leaf ++ x ∷ []) ∷ ended_chunks a 1 above named =
+          ap (λ b. cond b (bytes_of 0 (leaf ++ x ∷ []) ∷ ended_chunks a 1 above n) []) ended.0
+          ∙ ap (λ i. bytes_of 0 (leaf ++ x ∷ []) ∷ ended_chunks a 1 above i) (sym mine.named_is) in
+      let P : List (List Item) → Type 0 = λ l. IsTower a new l (rows ++ x ∷ []) in
+      let Q : List (List ℕ) → Type 0 = ArePut a new in
+      let here = bytes_of 0 (leaf ++ x ∷ []) in
+      subst P pushed (tower_push a old new leaf above rows x tower fits (extends_both old mid new grow more)
+        (subst Q (sym chunks) ((more (a here) here mine.put.0.0, mine.put.0.1), put)))
+
+  pub name_fits : (old mid : Chunks) (leaf now : List Item) (above : List (List Item)) (x named : Item) → Fits a 0 (leaf ∷ above) x
+      → (closes a 0 (leaf ++ x ∷ []) ≡ true) × IsNamed a mid 0 (leaf ++ x ∷ []) now named → Fits a 1 above named
+  name_fits old mid leaf now above x named fits ended =
+      let P : Item → Type 0 = λ i. Fits a 1 above i in
+      subst P (sym ended.1.named_is) (fits_up a 0 leaf above x fits ended.0 ended.1.put.0.1)
+
+  pub row_fits : (chunks : Chunks) (nodes : List (List Item)) (leaf : List Item) (above : List (List Item)) (row x : Item) → leaf ∷ above ≡ nodes → x ≡ row
+      → CanPush a chunks nodes row → Fits a 0 (leaf ∷ above) x
+  row_fits chunks nodes leaf above row x nodes_are x_is can =
+      let P : List (List Item) → Type 0 = λ l. IsTower a chunks l can.0 in
+      let Q : Item → Type 0 = λ i. AreRows (can.0 ++ i ∷ []) in
+      fits_row a chunks leaf above can.0 x (subst P (sym nodes_are) can.1) (subst Q (sym x_is) can.2)
+
+pub not_none : (n : ℕ) → (n == 0) ≡ false → 0 < n
+not_none zero e = absurd cc
+not_none (suc n) e = omega arith

@@ -1,0 +1,64 @@
+use Rattle.std.proofs.Common.{◌≡◌, ◌<◌, ◌∷◌, [], List, length, sym, ap, subst, ◌∙◌, arith}
+use Rattle.std.specs.Prelude.{vec_len}
+use Rattle.std.specs.Option.{option_map}
+use Rattle.std.proofs.lemmas.Bool.{eqb-true}
+use Rattle.std.proofs.lemmas.List.{nil_from_length}
+use Rattle.tuple_codec.specs.Nodes.{Item}
+use Rattle.node_format.specs.Views.{ref_of}
+use Rattle.chunk_store.specs.Drafts.{chunks_of}
+use Rattle.node_chunker.specs.Growth.{IsTower}
+use Rattle.node_chunker.proofs.ClimbLemmas.{grows, not_none}
+use Rattle.node_chunker.proofs.ClosingLemmas.{begins_above, leaf_ready, leaf_root}
+use Rattle.node_chunker.proofs.towers.Tower.finish.Goals as goal
+
+pub put-requires-after_bounds : goal.put-requires-after_bounds
+put-requires-after_bounds g c κs live =
+    let a = g.D.Digester.address in
+    let old = chunks_of c.args.draft.now.chunks in
+    let P : List (List Item) → Type 0 = λ l. IsTower a old l c.requires.0 in
+    leaf_ready a old c.self.inside.leaf c.self.inside.inner.items c.requires.0 (subst P (sym c.self.view_is) c.requires.1)
+
+pub close-requires-after_bounds : goal.close-requires-after_bounds
+close-requires-after_bounds g c κs live =
+    let a = g.D.Digester.address in
+    let old = chunks_of c.args.draft.now.chunks in
+    let P : List (List Item) → Type 0 = λ l. IsTower a old l c.requires.0 in
+    leaf_ready a old c.self.inside.leaf c.self.inside.inner.items c.requires.0 (subst P (sym c.self.view_is) c.requires.1)
+
+pub returns-then-is_empty-clause-ok : goal.returns-then-is_empty-clause-ok
+returns-then-is_empty-clause-ok g c rows tower =
+    let a = g.D.Digester.address in
+    let old = chunks_of c.args.draft.now.chunks in
+    let new = chunks_of c.put.new.draft.chunks in
+    let leaf = c.self.inside.leaf in
+    let inner = c.self.inside.inner.items in
+    let zero_len = eqb-true (vec_len c.self.inside.inner) 0 (sym c.is_empty.ensures ∙ c.if-is_empty.true) in
+    let none : inner ≡ [] = nil_from_length inner (omega arith) in
+    let P : List (List Item) → Type 0 = λ l. IsTower a old l rows in
+    leaf_root a old new leaf c.put.new.self rows (ref_of c.in_ok-named.named) (subst P (sym c.self.view_is ∙ ap (λ l. leaf ∷ l) none) tower)
+      (grows c.args.draft.now.chunks c.put.new.draft.chunks c.in_ok-named.ensures.longer) c.in_ok-named.ensures.ok
+
+pub close_levels-requires-after_bounds : goal.close_levels-requires-after_bounds
+close_levels-requires-after_bounds g c κs live =
+    let a = g.D.Digester.address in
+    let old = chunks_of c.args.draft.now.chunks in
+    let new = chunks_of c.close.new.draft.chunks in
+    let inner = c.self.inside.inner.items in
+    let many = not_none (vec_len c.self.inside.inner) (sym c.is_empty.ensures ∙ c.if-is_empty.false) in
+    let some : 0 < length inner = omega arith in
+    let P : List (List Item) → Type 0 = λ l. IsTower a old l c.requires.0 in
+    (c.requires.0, begins_above a old new c.self.inside.leaf inner c.requires.0 (option_map ref_of c.in_ok-carry.carry) some (subst P (sym c.self.view_is) c.requires.1)
+      (grows c.args.draft.now.chunks c.close.new.draft.chunks c.in_ok-carry.ensures.longer) c.in_ok-carry.ensures.ok)
+
+pub returns-clause-ok : goal.returns-clause-ok
+returns-clause-ok g c rows tower =
+    let a = g.D.Digester.address in
+    let old = chunks_of c.args.draft.now.chunks in
+    let new = chunks_of c.close.new.draft.chunks in
+    let inner = c.self.inside.inner.items in
+    let many = not_none (vec_len c.self.inside.inner) (sym c.is_empty.ensures ∙ c.if-is_empty.false) in
+    let some : 0 < length inner = omega arith in
+    let P : List (List Item) → Type 0 = λ l. IsTower a old l rows in
+    c.close_levels.ensures.ok rows
+      (begins_above a old new c.self.inside.leaf inner rows (option_map ref_of c.in_ok-carry.carry) some (subst P (sym c.self.view_is) tower)
+        (grows c.args.draft.now.chunks c.close.new.draft.chunks c.in_ok-carry.ensures.longer) c.in_ok-carry.ensures.ok)
