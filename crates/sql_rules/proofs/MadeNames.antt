@@ -18,7 +18,9 @@ taken_first test name names left taken = rw taken refl
 free_first : (test : List ℕ → Bool) (name : List ℕ) (names : List (List ℕ)) (left : ℕ) → 0 < left → test name ≡ true
     → are_long (take left (filter test (name ∷ names))) ≡ (is_long name || are_long (take (left - 1) (filter test names)))
 free_first test name names zero some free = absurd (omega arith)
-free_first test name names (suc left) some free = rw free refl
+free_first test name names (suc left) some free =
+    let less : suc left - 1 ≡ left = omega arith in
+    rw free (ap (λ n. is_long name || are_long (take n (filter test names))) (sym less))
 
 false_or : (a b : Bool) → a ≡ false → (a || b) ≡ b
 false_or true b e = cc

@@ -67,10 +67,16 @@ fn is_outside_create(alloc: Global, create: &CreateTable) -> Result<bool, AllocE
     ensures { IfOk result (λ answer. answer ≡ create_outside create.now) }
 {
     let elements = create.elements.as_slice();
-    Ok(is_kept_by_system(&create.table)
-        || are_outside_elements(elements)?
-        || some_default_is_outside(alloc, elements)?
-        || makes_some_long_name(alloc, &create.table, elements)?)
+    if is_kept_by_system(&create.table) {
+        return Ok(true);
+    }
+    if are_outside_elements(elements)? {
+        return Ok(true);
+    }
+    if some_default_is_outside(alloc, elements)? {
+        return Ok(true);
+    }
+    makes_some_long_name(alloc, &create.table, elements)
 }
 
 fn are_outside_elements(elements: &[Element]) -> Result<bool, AllocError>
