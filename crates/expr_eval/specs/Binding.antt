@@ -15,6 +15,7 @@ use Rattle.expr_eval.specs.declared.bound.Node.{Node, out-Node}
 use Rattle.expr_eval.specs.declared.bound.Node.TheOpen.{Node-F}
 use Rattle.expr_eval.specs.declared.bound.Node.TheVariants as node
 use Rattle.expr_eval.specs.declared.bound.BoundExpr.{BoundExpr}
+use Rattle.expr_eval.specs.declared.bound.Ends.{Ends}
 use Rattle.expr_eval.specs.declared.faults.BindFault.{BindFault}
 use Rattle.expr_eval.specs.declared.faults.BindFault.TheVariants.{Memory, Refused}
 use Rattle.expr_eval.specs.declared.scopes.ScopeColumn.{ScopeColumn}
@@ -48,6 +49,12 @@ bound_or a b = truth_if (is_bool a.kind && is_bool b.kind) (node.Or a.node b.nod
 abbrev pub bound_not : BoundExpr → Outcome BoundExpr
 bound_not a = truth_if (is_bool a.kind) (node.Not a.node)
 
+abbrev pub bound_is_null : BoundExpr → Outcome BoundExpr
+bound_is_null a = Ok (record { kind = kind.Bool; node = node.IsNull a.node })
+
+abbrev pub bound_is_not_null : BoundExpr → Outcome BoundExpr
+bound_is_not_null a = Ok (record { kind = kind.Bool; node = node.IsNotNull a.node })
+
 abbrev pub bound_compare : Comparison → BoundExpr → BoundExpr → Outcome BoundExpr
 bound_compare op a b = truth_if (are_comparable a.kind b.kind) (node.Compare a.node op b.node)
 
@@ -74,18 +81,26 @@ members value found [] = Ok found
 members value found (element ∷ elements) = and_then element (λ x.
     if are_comparable value x.kind then members value (found ++ x.node ∷ []) elements else mismatch)
 
+abbrev pub in_node : BoundExpr → List Node → Outcome BoundExpr
+in_node value found = Ok (record { kind = kind.Bool; node = node.In value.node found })
+
 abbrev pub bound_in : List (Outcome BoundExpr) → BoundExpr → Outcome BoundExpr
-bound_in elements value = and_then (members value.kind [] elements) (λ found. Ok (record { kind = kind.Bool; node = node.In value.node found }))
+bound_in elements value = and_then (members value.kind [] elements) (in_node value)
 
--- the value and its low end
-abbrev pub low_end : BoundExpr → BoundExpr → Outcome (BoundExpr × Node)
-low_end value low = if are_comparable value.kind low.kind then Ok (value, low.node) else mismatch
+abbrev pub low_end : BoundExpr → BoundExpr → Outcome Ends
+low_end value low = if are_comparable value.kind low.kind then Ok (record { kind = value.kind; value = value.node; low = low.node }) else mismatch
 
-abbrev pub high_end : BoundExpr × Node → BoundExpr → Outcome BoundExpr
-high_end ends high = truth_if (are_comparable ends.0.kind high.kind) (node.Between ends.0.node ends.1 high.node)
+abbrev pub high_end : Ends → BoundExpr → Outcome BoundExpr
+high_end ends high = truth_if (are_comparable ends.kind high.kind) (node.Between ends.value ends.low high.node)
 
 abbrev pub bound_between : Outcome BoundExpr → Outcome BoundExpr → BoundExpr → Outcome BoundExpr
 bound_between low high value = and_then (and_then low (low_end value)) (λ ends. and_then high (high_end ends))
+
+abbrev pub not_in_node : BoundExpr → List Node → Outcome BoundExpr
+not_in_node value found = and_then (in_node value found) bound_not
+
+abbrev pub not_high_end : Ends → BoundExpr → Outcome BoundExpr
+not_high_end ends high = and_then (high_end ends high) bound_not
 
 -- an operation right after its last operand
 abbrev pub two : (BoundExpr → BoundExpr → Outcome BoundExpr) → Outcome BoundExpr → Outcome BoundExpr → Outcome BoundExpr
@@ -127,8 +142,8 @@ step scope (Expr-F.Or a b) = two bound_or a b
 step scope (Expr-F.And a b) = two bound_and a b
 step scope (Expr-F.Not a) = and_then a bound_not
 step scope (Expr-F.Compare a op b) = two (bound_compare op) a b
-step scope (Expr-F.IsNull a) = and_then a (λ x. truth_if true (node.IsNull x.node))
-step scope (Expr-F.IsNotNull a) = and_then a (λ x. truth_if true (node.IsNotNull x.node))
+step scope (Expr-F.IsNull a) = and_then a bound_is_null
+step scope (Expr-F.IsNotNull a) = and_then a bound_is_not_null
 step scope (Expr-F.In a elements) = and_then a (bound_in elements)
 step scope (Expr-F.NotIn a elements) = and_then (and_then a (bound_in elements)) bound_not
 step scope (Expr-F.Between a low high) = and_then a (bound_between low high)

@@ -37,3 +37,11 @@ pub enum Node {
     /// A column, by its place in the scope.
     Column(Kind, usize),
 }
+
+/// The value and the low end of a BETWEEN, and the value's kind.
+#[derive(Drop)]
+pub struct Ends {
+    pub kind: Kind,
+    pub value: Boxed<Node>,
+    pub low: Boxed<Node>,
+}

@@ -2,12 +2,14 @@
 #![tactic(auto)]
 
 
+mod binding;
 mod bound;
 mod faults;
 mod scopes;
 mod valuing;
 
 
+pub use binding::bind;
 pub use bound::{BoundExpr, Node};
 pub use faults::{BindFault, EvalFault};
 pub use scopes::ScopeColumn;
