@@ -7,7 +7,7 @@ ghost use Rattle.tuple_codec.specs.Nodes.{Item, Node, IsNode};
 ghost use Rattle.tuple_codec.specs.Trees.{rows_in};
 ghost use Rattle.chunk_store.specs.Drafts.{chunks_of};
 ghost use Rattle.chunk_store.specs.Standing.{IsTree};
-ghost use Rattle.tree_laws.specs.Standing.{HasTwentyBytes, IsOpen, IsStored, rows_below};
+ghost use Rattle.tree_laws.specs.Standing.{IsOpen, IsStored, rows_below};
 ghost use Rattle.prolly_tree.specs.Lists.{StandsForRows, first_of, from_key, place_of, value_at};
 
 use chunk_store::Draft;
@@ -17,7 +17,6 @@ use tuple_codec::{Address, Digester};
 /// The value of the row with this key. One node a level is read, and each is searched by halves.
 pub fn get<'a, D: Digester>(draft: &'a Draft<D>, root: &Address, key: &[u8]) -> Option<&'a [u8]>
     requires tree { StandsForRows D.address (chunks_of draft.now.chunks) root.now.0 }
-    requires addresses { HasTwentyBytes D.address }
     ensures { (rows : List Item) → IsTree D.address (chunks_of draft.now.chunks) root.now.0 rows
         → option_map (λ value. value.now) result ≡ value_at key.now rows }
 {
@@ -27,7 +26,6 @@ pub fn get<'a, D: Digester>(draft: &'a Draft<D>, root: &Address, key: &[u8]) -> 
 /// How many rows the tree has. The root alone is read.
 pub fn count<D: Digester>(draft: &Draft<D>, root: &Address) -> u64
     requires tree { StandsForRows D.address (chunks_of draft.now.chunks) root.now.0 }
-    requires addresses { HasTwentyBytes D.address }
     ensures { (rows : List Item) → IsTree D.address (chunks_of draft.now.chunks) root.now.0 rows → result ≡ length rows }
 {
     rows_in(&node_at(draft, root))

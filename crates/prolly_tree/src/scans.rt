@@ -5,7 +5,6 @@ ghost use Rattle.std.specs.Iterator.{YieldsFirstBy};
 ghost use Rattle.tuple_codec.specs.Nodes.{Item};
 ghost use Rattle.chunk_store.specs.Drafts.{chunks_of};
 ghost use Rattle.chunk_store.specs.Standing.{IsTree};
-ghost use Rattle.tree_laws.specs.Standing.{HasTwentyBytes};
 ghost use Rattle.prolly_tree.specs.Lists.{StandsForRows, from_key, pair_of};
 ghost use Rattle.prolly_tree.specs.Walks.{CanScan, scan_rest};
 
@@ -41,7 +40,6 @@ pub fn scan_from<'a, D: Digester>(
     key: &[u8],
 ) -> Result<Scan<'a, D>, AllocError>
     requires tree { StandsForRows D.address (chunks_of draft.now.chunks) root.now.0 }
-    requires addresses { HasTwentyBytes D.address }
     ensures rows { (rows : List Item) → IsTree D.address (chunks_of draft.now.chunks) root.now.0 rows
         → IfOk result (λ scan. scan_rest scan ≡ map pair_of (from_key key.now rows)) }
     ensures can { IfOk result CanScan }

@@ -6,9 +6,9 @@ use Rattle.std.proofs.Math.Pow.{pow_mono}
 use Rattle.std.proofs.lemmas.Bool.Decides.{leb_tells}
 use Rattle.tuple_codec.specs.Nodes.{Item, Node, IsItem, IsNode, IsHeader, Rise, RiseAfter, items_bytes, node_bytes}
 use Rattle.tuple_codec.specs.Trees.{AreRows, IsRow, bytes_of, closes, cut, cut_from, inner_chunks, last_key, leaves, name, names, root, rows_in, top, tower, tree_chunks}
-use Rattle.chunk_store.specs.Standing.{AreHeld, IsTree}
+use Rattle.chunk_store.specs.Standing.{AreHeld, IsThere, IsTree}
 use Rattle.tree_laws.specs.Found.{ButLast, IsCanonical, IsCounted, IsEnded, IsOrdered, IsRoot, UpTo, each_of, left, nodes_in, rows_at}
-use Rattle.tree_laws.specs.Standing.{Chunks, HasTwentyBytes, IsFound, IsOpen, IsStored, IsTop, Leads, LeadsTo, TreesHaveRoots, TreesLead, rows_below}
+use Rattle.tree_laws.specs.Standing.{Chunks, IsFound, IsOpen, IsStored, IsTop, Leads, LeadsTo, TreesHaveRoots, TreesLead, rows_below}
 use Rattle.tree_laws.proofs.StandingReads.{IsReached, all_map, items_there, many_rows, reached, rows_there}
 use Rattle.tree_laws.proofs.StandingOrder.{rise_left, rise_right, upto_last}
 use Rattle.tree_laws.proofs.StandingCuts.{HasNoEnd, IsSmall, cut_ended, cut_last, no_end_more, no_end_yet, small_open, two_closed}
@@ -38,7 +38,7 @@ some_rows_in : (level : ℕ) (items : List Item) → AllByRecursion (HasFit leve
 some_rows_in level [] fit some = some
 some_rows_in level (item ∷ items) fit some = let one = fit_rows level item fit.0 in omega (arith, one)
 
-module _ (address : List ℕ → List ℕ) (twenty : HasTwentyBytes address) (chunks : Chunks) where
+module _ (address : List ℕ → List ℕ) (chunks : Chunks) where
   f : ℕ → Item → List Item
   f level = rows_at (nodes_in chunks) level
 
@@ -50,13 +50,14 @@ module _ (address : List ℕ → List ℕ) (twenty : HasTwentyBytes address) (ch
 
   -- a node of fitting items that is held and not too long is found
   stored : (level : ℕ) (node : List Item) → level < 256 → 4 + length (items_bytes level node) ≤ 65536 → 0 < length node → AllByRecursion (HasFit level) node
-      → Rise node → rows_in node < 2 ^ 63 → chunks (address (bytes_of level node)) ≡ Some (bytes_of level node)
+      → Rise node → rows_in node < 2 ^ 63 → (chunks (address (bytes_of level node)) ≡ Some (bytes_of level node)) × (length (address (bytes_of level node)) ≡ 20)
       → IsStored chunks (address (bytes_of level node)) (record { level = level; items = node })
   stored level node low size some fit rise few there =
       let count = items_count level node fit in
       let length_is = bytes_length level node in
       record {
-        found = there;
+        address = there.1;
+        found = there.0;
         is_node = record {
           header = record { level_fits = low; count_fits = omega (arith, size, count); has_item = λ above. some };
           items = all_both (λ i p q. fit_item level i p q) node fit (few_each node (2 ^ 63) few);
@@ -75,7 +76,7 @@ module _ (address : List ℕ → List ℕ) (twenty : HasTwentyBytes address) (ch
       let e = named address level node in
       let made : Item = record { key = last_key node; body = address (bytes_of level node); rows = rows_in node } in
       let know : IsLow address chunks (suc level) made = record {
-        fit = (fit_last_key level node fit, twenty (bytes_of level node), some_rows_in level node fit some);
+        fit = (fit_last_key level node fit, is.address, some_rows_in level node fit some);
         found = (node, is, all_map (λ i a. a.found) node all, some, refl, refl);
         canonical = (
           node,
@@ -212,8 +213,8 @@ module _ (address : List ℕ → List ℕ) (twenty : HasTwentyBytes address) (ch
   topped (suc turns) level (item ∷ other ∷ items) rows few is some short there =
       let all = item ∷ other ∷ items in
       let low = few_levels (suc level) all rows few is (omega arith) in
-      let held = all_left (λ bytes. chunks (address bytes) ≡ Some bytes) (map (bytes_of (suc level)) (cut address (suc level) all)) _ there in
-      let rest = all_right (λ bytes. chunks (address bytes) ≡ Some bytes) (map (bytes_of (suc level)) (cut address (suc level) all)) _ there in
+      let held = all_left (IsThere address chunks) (map (bytes_of (suc level)) (cut address (suc level) all)) _ there in
+      let rest = all_right (IsThere address chunks) (map (bytes_of (suc level)) (cut address (suc level) all)) _ there in
       let half = cut_short address (suc level) [] all (two_closed address (suc level)) in
       let same = names_length address (suc level) (cut address (suc level) all) in
       let one = cut_some address (suc level) [] all (omega arith) in
@@ -275,8 +276,8 @@ module _ (address : List ℕ → List ℕ) (twenty : HasTwentyBytes address) (ch
   has_root k first rows tree =
       let all = first ∷ rows in
       let few = tree.are_rows.few in
-      let held = all_left (λ bytes. chunks (address bytes) ≡ Some bytes) (map (bytes_of 0) (cut address 0 all)) _ tree.held in
-      let rest = all_right (λ bytes. chunks (address bytes) ≡ Some bytes) (map (bytes_of 0) (cut address 0 all)) _ tree.held in
+      let held = all_left (IsThere address chunks) (map (bytes_of 0) (cut address 0 all)) _ tree.held in
+      let rest = all_right (IsThere address chunks) (map (bytes_of 0) (cut address 0 all)) _ tree.held in
       let half = cut_short address 0 [] all (two_closed address 0) in
       let same = names_length address 0 (cut address 0 all) in
       let one = cut_some address 0 [] all (omega arith) in
@@ -302,7 +303,8 @@ module _ (address : List ℕ → List ℕ) (twenty : HasTwentyBytes address) (ch
   empty_stored k tree =
       let length_is = bytes_length 0 [] in
       record {
-        found = ap chunks (sym tree.named) ∙ tree.held.0;
+        address = subst (λ (a : List ℕ). length a ≡ 20) tree.named tree.held.0.1;
+        found = ap chunks (sym tree.named) ∙ tree.held.0.0;
         is_node = record { header = record { level_fits = omega arith; count_fits = omega arith; has_item = λ above. absurd (omega arith) }; items = tt; keys = tt };
         size = omega (arith, length_is);
       }
@@ -328,7 +330,7 @@ module _ (address : List ℕ → List ℕ) (twenty : HasTwentyBytes address) (ch
       )
 
 pub trees_have_roots : TreesHaveRoots
-trees_have_roots address chunks k first rows twenty tree = has_root address twenty chunks k first rows tree
+trees_have_roots address chunks k first rows tree = has_root address chunks k first rows tree
 
 pub trees_lead : TreesLead
-trees_lead address chunks k rows twenty tree = leads address twenty chunks k rows tree
+trees_lead address chunks k rows tree = leads address chunks k rows tree

@@ -9,8 +9,9 @@ use Rattle.tree_laws.specs.Found.{IsRoot, each_of, nodes_in, rows_at}
 abbrev pub Chunks : Type 0
 Chunks = List ℕ → Option (List ℕ)
 
--- a node is found at this address
+-- a node is found at this address, which has 20 bytes
 pub record IsStored (chunks : Chunks) (k : List ℕ) (node : Node) : Type 0 where
+  pub address : length k ≡ 20
   pub found : chunks k ≡ Some (node_bytes node)
   pub is_node : IsNode node
   pub size : length (node_bytes node) ≤ 65536
@@ -48,16 +49,12 @@ pub record IsTop (address : List ℕ → List ℕ) (chunks : Chunks) (k : List �
   pub root : IsRoot address (nodes_in chunks) (suc height) item rows
   pub found : IsFound chunks (suc height) item
 
--- an address has 20 bytes
-abbrev pub HasTwentyBytes : (List ℕ → List ℕ) → Type 0
-HasTwentyBytes address = (bytes : List ℕ) → length (address bytes) ≡ 20
-
 -- a tree that stands, of no rows or of some, leads to its rows
 abbrev pub TreesLead : Type 0
-TreesLead = (address : List ℕ → List ℕ) (chunks : Chunks) (k : List ℕ) (rows : List Item) → HasTwentyBytes address
+TreesLead = (address : List ℕ → List ℕ) (chunks : Chunks) (k : List ℕ) (rows : List Item)
     → IsTree address chunks k rows → (node : Node) × LeadsTo chunks k node rows
 
 -- a tree that stands has a root, if it has a row
 abbrev pub TreesHaveRoots : Type 0
-TreesHaveRoots = (address : List ℕ → List ℕ) (chunks : Chunks) (k : List ℕ) (first : Item) (rows : List Item) → HasTwentyBytes address
+TreesHaveRoots = (address : List ℕ → List ℕ) (chunks : Chunks) (k : List ℕ) (first : Item) (rows : List Item)
     → IsTree address chunks k (first ∷ rows) → (height : ℕ) × (item : Item) × IsTop address chunks k height item (first ∷ rows)
