@@ -11,7 +11,7 @@ use Rattle.chunk_store.specs.Drafts.{DraftParts, Longer, chunks_of}
 use Rattle.chunk_store.proofs.FollowLemmas.{drafts_follow}
 use Rattle.node_chunker.specs.Towers.{pushes, ended_chunks}
 use Rattle.node_chunker.specs.Growth.{CanPush, Fits, IsTower, IsWritable, spread}
-use Rattle.node_chunker.specs.Faults.{ArePut}
+use Rattle.chunk_store.specs.Standing.{AreHeld}
 use Rattle.node_chunker.specs.Steps.{IsClimbing, IsNamed}
 use Rattle.node_chunker.proofs.TowerLemmas.{extends_both}
 use Rattle.node_chunker.proofs.GrowthLemmas.{rows_join, low_level, fits_row, fits_up, writable_here, tower_push}
@@ -33,7 +33,7 @@ take_set [] i v within = absurd (omega arith)
 take_set (x ∷ xs) zero v within = refl
 take_set (x ∷ xs) (suc i) v within = ap (λ l. x ∷ l) (take_set xs i v (omega arith))
 
-pub put_later : (a : List ℕ → List ℕ) (now later : Chunks) (list : List (List ℕ)) → Extends now later → ArePut a now list → ArePut a later list
+pub put_later : (a : List ℕ → List ℕ) (now later : Chunks) (list : List (List ℕ)) → Extends now later → AreHeld a now list → AreHeld a later list
 put_later a now later [] extends put = tt
 put_later a now later (bytes ∷ list) extends put = ((extends (a bytes) bytes put.0.0, put.0.1), put_later a now later list extends put.1)
 
@@ -68,7 +68,7 @@ module _ (a : List ℕ → List ℕ) (begun : List (List Item)) (named : Item) w
   pub climb_stays : (old new : Chunks) (nodes after : List (List Item)) (at : ℕ) (item : Item) (held now : List Item) → IsClimbing a old begun named nodes at item
       → at < length nodes → held ≡ get_or nodes at held → Extends old new
       → (closes a (at + 1) (held ++ item ∷ []) ≡ false) × (now ≡ held ++ item ∷ []) → after ≡ set nodes at now
-      → (after ≡ pushes a 1 begun named) × ArePut a new (ended_chunks a 1 begun named)
+      → (after ≡ pushes a 1 begun named) × AreHeld a new (ended_chunks a 1 begun named)
   climb_stays old new nodes after at item held now climbing within is grows stays after_is =
       let e : at + 1 ≡ suc at = omega arith in
       let above = drop (suc at) nodes in
@@ -81,7 +81,7 @@ module _ (a : List ℕ → List ℕ) (begun : List (List Item)) (named : Item) w
       let ended : ended_chunks a (suc at) (drop at nodes) item ≡ [] =
           ap (λ l. ended_chunks a (suc at) l item) opened
           ∙ ap (λ b. cond b (bytes_of (suc at) (held ++ item ∷ []) ∷ ended_chunks a (suc (suc at)) above (name a (suc at) (held ++ item ∷ []))) []) over in
-      let P : List (List ℕ) → Type 0 = ArePut a new in
+      let P : List (List ℕ) → Type 0 = AreHeld a new in
       (after_is ∙ set_split nodes at now within ∙ ap (λ l. take at nodes ++ l) (sym pushed) ∙ climbing.comes,
        climbing.kept new grows (subst P (sym ended) tt))
 
@@ -123,7 +123,7 @@ module _ (a : List ℕ → List ℕ) (begun : List (List Item)) (named : Item) w
                 ∙ append_assoc (take at nodes) ([] ∷ []) (pushes a (suc (suc at)) above next)
                 ∙ ap (λ l. take at nodes ++ l) (sym pushed) ∙ climbing.comes;
             kept = λ later extends put.
-                let R : List (List ℕ) → Type 0 = ArePut a later in
+                let R : List (List ℕ) → Type 0 = AreHeld a later in
                 climbing.kept later (extends_both old new later grows extends)
                   (subst R (ap (λ l. bytes_of (suc at) node ∷ ended_chunks a (suc (suc at)) l next) dropped ∙ sym chunks)
                     ((extends (a (bytes_of (suc at) node)) (bytes_of (suc at) node) mine.put.0.0, mine.put.0.1), put));
@@ -139,10 +139,10 @@ module _ (a : List ℕ → List ℕ) (begun : List (List Item)) (named : Item) w
 
   pub climb_ends : (old : Chunks) (nodes after : List (List Item)) (at : ℕ) (item : Item) (node : List Item) → IsClimbing a old begun named nodes at item
       → length nodes ≤ at → node ≡ item ∷ [] → after ≡ nodes ++ node ∷ []
-      → (after ≡ pushes a 1 begun named) × ArePut a old (ended_chunks a 1 begun named)
+      → (after ≡ pushes a 1 begun named) × AreHeld a old (ended_chunks a 1 begun named)
   climb_ends old nodes after at item node climbing past node_is after_is =
       let none : drop at nodes ≡ [] = drop_of_length-le nodes {i = at} past in
-      let P : List (List ℕ) → Type 0 = ArePut a old in
+      let P : List (List ℕ) → Type 0 = AreHeld a old in
       (after_is ∙ ap (λ n. nodes ++ n ∷ []) node_is ∙ ap (λ l. l ++ (item ∷ []) ∷ []) (sym (take_all at nodes past))
         ∙ ap (λ l. take at nodes ++ pushes a (suc at) l item) (sym none) ∙ climbing.comes,
        climbing.kept old (λ k bytes found. found) (subst P (ap (λ l. ended_chunks a (suc at) l item) (sym none)) tt))
@@ -162,14 +162,14 @@ module _ (a : List ℕ → List ℕ) where
           ap (λ b. cond b ([] ∷ pushes a 1 above n) ((leaf ++ x ∷ []) ∷ above)) stays.0 ∙ ap (λ l. l ∷ above) (sym stays.1) in
       let ended : ended_chunks a 0 (leaf ∷ above) x ≡ [] = ap (λ b. cond b (bytes_of 0 (leaf ++ x ∷ []) ∷ ended_chunks a 1 above n) []) stays.0 in
       let P : List (List Item) → Type 0 = λ l. IsTower a new l (rows ++ x ∷ []) in
-      let Q : List (List ℕ) → Type 0 = ArePut a new in
+      let Q : List (List ℕ) → Type 0 = AreHeld a new in
       subst P pushed (tower_push a old new leaf above rows x tower fits grow (subst Q (sym ended) tt))
 
   -- the row ends the leaf, whose name climbs
   pub row_climbs : (old mid new : Chunks) (leaf now : List Item) (above after : List (List Item)) (rows : List Item) (x named : Item) → IsTower a old (leaf ∷ above) rows
       → Fits a 0 (leaf ∷ above) x → Extends old mid → Extends mid new
       → (closes a 0 (leaf ++ x ∷ []) ≡ true) × IsNamed a mid 0 (leaf ++ x ∷ []) now named
-      → after ≡ pushes a 1 above named → ArePut a new (ended_chunks a 1 above named) → IsTower a new (now ∷ after) (rows ++ x ∷ [])
+      → after ≡ pushes a 1 above named → AreHeld a new (ended_chunks a 1 above named) → IsTower a new (now ∷ after) (rows ++ x ∷ [])
   row_climbs old mid new leaf now above after rows x named tower fits grow more ended after_is put =
       let n = name a 0 (leaf ++ x ∷ []) in
       let mine = ended.1 in
@@ -180,7 +180,7 @@ module _ (a : List ℕ → List ℕ) where
           ap (λ b. cond b (bytes_of 0 (leaf ++ x ∷ []) ∷ ended_chunks a 1 above n) []) ended.0
           ∙ ap (λ i. bytes_of 0 (leaf ++ x ∷ []) ∷ ended_chunks a 1 above i) (sym mine.named_is) in
       let P : List (List Item) → Type 0 = λ l. IsTower a new l (rows ++ x ∷ []) in
-      let Q : List (List ℕ) → Type 0 = ArePut a new in
+      let Q : List (List ℕ) → Type 0 = AreHeld a new in
       let here = bytes_of 0 (leaf ++ x ∷ []) in
       subst P pushed (tower_push a old new leaf above rows x tower fits (extends_both old mid new grow more)
         (subst Q (sym chunks) ((more (a here) here mine.put.0.0, mine.put.0.1), put)))

@@ -16,13 +16,12 @@ use Rattle.tuple_codec.specs.Nodes.{Item, Rise, RiseAfter, is_after, items_bytes
 use Rattle.tuple_codec.specs.Trees.{AreRows, bytes_of, closes, cut, cut_from, inner_chunks, last_key, name, names, root, rows_in, top, tower, tree_chunks}
 use Rattle.tree_laws.proofs.Cuts.{names_short, top_enough, chunks_enough}
 use Rattle.chunk_store.specs.Chunks.{Chunks, Extends}
-use Rattle.chunk_store.specs.Standing.{AreHeld, IsTree}
+use Rattle.chunk_store.specs.Standing.{AreHeld, IsThere, IsTree}
 use Rattle.node_chunker.specs.Towers.{is_empty, is_single, first_of, is_root, after, chunks_after, row_top, row_chunks, after_rows, chunks_after_rows}
 use Rattle.node_chunker.specs.Growth.{IsEntry, IsGrown, AreOpen, IsTopped, spread, last_after, IsWritable, IsTower}
-use Rattle.node_chunker.specs.Faults.{ArePut}
 use Rattle.node_chunker.specs.Steps.{IsClosed, IsNamed}
 use Rattle.node_chunker.specs.Closing.{IsClosing}
-use Rattle.node_chunker.proofs.TowerLemmas.{IsFound, all_join, all_split, extends_both, held_later}
+use Rattle.node_chunker.proofs.TowerLemmas.{all_join, all_split, extends_both, held_later}
 use Rattle.node_chunker.proofs.GrowthLemmas.{name_key, name_body, name_rows, rows_join, entry_key, entry_rows, entries, open_small, more_writable, writable, low_level, rise_split, rise_join, rise_alone, after_less}
 
 module _ (a : List ℕ → List ℕ) where
@@ -173,7 +172,7 @@ module _ (a : List ℕ → List ℕ) where
   has_rows level (x ∷ items) some each = omega (arith, entry_rows level x each.0)
 
   named_entry : (chunks : Chunks) (level : ℕ) (items : List Item) → is_empty items ≡ false → AllByRecursion (IsEntry level) items
-      → ArePut a chunks (bytes_of level items ∷ []) → IsEntry (suc level) (name a level items)
+      → AreHeld a chunks (bytes_of level items ∷ []) → IsEntry (suc level) (name a level items)
   named_entry chunks level items some each put =
       let P : List ℕ → Type 0 = λ k. length k ≤ 4096 in
       let Q : ℕ → Type 0 = λ n. 0 < n in
@@ -241,7 +240,7 @@ module _ (a : List ℕ → List ℕ) where
               (subst Q (ap (λ l. map (bytes_of level) l ++ chunks_after a turns (suc level) above (x ∷ [])) (sym one)
                   ∙ ap (λ l. map (bytes_of level) (cut_from a level held carry) ++ chunks_after a turns (suc level) above l) (sym up)
                   ∙ sym (chunks_up turns level held above carry below))
-                (extends (a (bytes_of level items)) (bytes_of level items) closed.2.0.0, rest));
+                ((extends (a (bytes_of level items)) (bytes_of level items) closed.2.0.0, closed.2.0.1), rest));
         are_open = closing.are_open.2;
         topped = lower held above closing.topped;
         entries = (subst P (sym closed.1) (named_entry new level items closed.0 each closed.2), tt);
@@ -276,11 +275,11 @@ module _ (a : List ℕ → List ℕ) where
   leaf_root old new leaf now [] named grown grows put =
       let counted = grown.counted in
       let none : leaf ≡ [] = no_rows 0 leaf (entries 0 leaf grown.are_open.0) counted in
-      let P : List Item → Type 0 = λ l. ArePut a new (bytes_of 0 l ∷ []) in
+      let P : List Item → Type 0 = λ l. AreHeld a new (bytes_of 0 l ∷ []) in
       record {
         are_rows = grown.are_rows;
         named = ap (λ (i : Item). i.body) (ap (name a 0) (sym none) ∙ sym put.named_is);
-        held = ((subst P none put.put).0.0, tt);
+        held = ((subst P none put.put).0, tt);
       }
   leaf_root old new [] now (x ∷ rows) named grown grows put =
       let counted = grown.counted in
@@ -293,7 +292,7 @@ module _ (a : List ℕ → List ℕ) where
       record {
         are_rows = grown.are_rows;
         named = ap (λ (i : Item). i.body) (sym comes ∙ sym put.named_is);
-        held = subst P e (grown.kept new grows turns [] (put.put.0.0, tt));
+        held = subst P e (grown.kept new grows turns [] (put.put.0, tt));
       }
 
   top_is : (rows : List Item) (turns : ℕ) → 0 < length rows → length rows ≤ turns → row_top a turns rows ≡ tower a rows
@@ -329,7 +328,7 @@ module _ (a : List ℕ → List ℕ) where
               (grown.kept later (extends_both old new later grows extends) turns []
                 (subst P (ap (λ l. l ++ chunks_after a turns 1 (next ∷ above) carry) (sym bytes)
                     ∙ ap (λ l. map (bytes_of 0) (cut_from a 0 leaf []) ++ chunks_after a turns 1 (next ∷ above) l) (sym up))
-                  (all_join (IsFound a later) here (chunks_after a turns 1 (next ∷ above) carry) (held_later a new later here extends held) rest)));
+                  (all_join (IsThere a later) here (chunks_after a turns 1 (next ∷ above) carry) (held_later a new later here extends held) rest)));
         are_open = grown.are_open.2;
         topped = grown.topped;
         entries = each;
@@ -355,7 +354,7 @@ module _ (a : List ℕ → List ℕ) where
       let key : x.key ≡ last_key leaf = ap (λ (i : Item). i.key) closed.1 ∙ name_key a 0 leaf in
       let many : x.rows ≡ rows_in leaf = ap (λ (i : Item). i.rows) closed.1 ∙ name_rows a 0 leaf in
       begins old new leaf next above rows (x ∷ []) (bytes_of 0 leaf ∷ []) grown grows
-        (ap (names a 0) one ∙ ap (λ i. i ∷ []) (sym closed.1)) (ap (map (bytes_of 0)) one) (closed.2.0.0, tt)
+        (ap (names a 0) one ∙ ap (λ i. i ∷ []) (sym closed.1)) (ap (map (bytes_of 0)) one) (closed.2.0, tt)
         (subst P (sym closed.1) (named_entry new 0 leaf closed.0 (entries 0 leaf grown.are_open.0) closed.2), tt) (omega arith)
         (rise_join None (spread (next ∷ above)) (x ∷ []) parts.0
           (subst R (sym key) (reaches_last (last_after None (spread (next ∷ above))) leaf closed.0 parts.1), tt))

@@ -19,9 +19,8 @@ use Rattle.node_format.proofs.EndLemmas as rule
 use Rattle.tree_laws.proofs.Cuts.{closes_none, closes_one, some_before}
 use Rattle.node_chunker.specs.Towers.{is_empty, pushes, ended_chunks}
 use Rattle.chunk_store.specs.Chunks.{Chunks, Extends}
-use Rattle.chunk_store.specs.Standing.{AreHeld}
 use Rattle.node_chunker.specs.Growth.{IsEntry, IsGrown, AreOpen, IsTopped, above_of, spread, last_after, IsWritable, Fits, IsTower}
-use Rattle.node_chunker.specs.Faults.{ArePut}
+use Rattle.chunk_store.specs.Standing.{AreHeld}
 use Rattle.node_chunker.proofs.TowerLemmas.{all_join, all_split, never_empty, continues_push, kept_push}
 
 -- ---- names
@@ -339,12 +338,12 @@ module _ (a : List ℕ → List ℕ) where
         | true ↦ topped_push 1 above n topped
         | false ↦ topped ]
 
-  found_named : (chunks : Chunks) (list : List (List ℕ)) → ArePut a chunks list → AreHeld a chunks list × AreNamed list
-  found_named chunks [] put = (tt, tt)
-  found_named chunks (bytes ∷ list) put = let rest = found_named chunks list put.1 in ((put.0.0, rest.0), (put.0.1, rest.1))
+  found_named : (chunks : Chunks) (list : List (List ℕ)) → AreHeld a chunks list → AreNamed list
+  found_named chunks [] put = tt
+  found_named chunks (bytes ∷ list) put = (put.0.1, found_named chunks list put.1)
 
   pub tower_push : (old new : Chunks) (held : List Item) (above : List (List Item)) (rows : List Item) (x : Item) → IsTower a old (held ∷ above) rows
-      → Fits a 0 (held ∷ above) x → Extends old new → ArePut a new (ended_chunks a 0 (held ∷ above) x)
+      → Fits a 0 (held ∷ above) x → Extends old new → AreHeld a new (ended_chunks a 0 (held ∷ above) x)
       → IsTower a new (pushes a 0 (held ∷ above) x) (rows ++ x ∷ [])
   tower_push old new held above rows x tower fits grows put =
       let found = found_named new (ended_chunks a 0 (held ∷ above) x) put in
@@ -353,8 +352,8 @@ module _ (a : List ℕ → List ℕ) where
       record {
         are_rows = rows_follow old held above rows x tower fits;
         continues = continues_push a held above rows x tower.continues;
-        kept = kept_push a old new held above rows x grows found.0 tower.kept;
-        are_open = open_push 0 (held ∷ above) x fits found.1;
+        kept = kept_push a old new held above rows x grows put tower.kept;
+        are_open = open_push 0 (held ∷ above) x fits found;
         topped = topped_above held above x tower.topped;
         rises = rises_push 0 (held ∷ above) x fits.rises;
         last = last_push 0 (held ∷ above) x ∙ sym (last_join None rows (x ∷ []));

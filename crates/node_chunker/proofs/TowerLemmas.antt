@@ -7,7 +7,7 @@ use Rattle.tuple_codec.specs.Nodes.{Item}
 use Rattle.tuple_codec.specs.Trees.{blank, bytes_of, closes, cut, cut_from, inner_chunks, name, names, top}
 use Rattle.tree_laws.proofs.Cuts.{closes_one, some_before}
 use Rattle.chunk_store.specs.Chunks.{Chunks, Extends}
-use Rattle.chunk_store.specs.Standing.{AreHeld}
+use Rattle.chunk_store.specs.Standing.{AreHeld, IsThere}
 use Rattle.node_chunker.specs.Towers.{is_empty, is_single, first_of, is_root, after, chunks_after, row_top, row_chunks, after_rows, chunks_after_rows, pushes, ended_chunks, Continues, IsKept}
 
 -- ---- choices
@@ -92,12 +92,9 @@ unless : {A : Type 0} (P : A → Type 0) (b : Bool) (xs : List A) → AllByRecur
 unless P true xs all = tt
 unless P false xs all = all
 
-abbrev pub IsFound : (List ℕ → List ℕ) → Chunks → List ℕ → Type 0
-IsFound a c bytes = c (a bytes) ≡ Some bytes
-
 pub held_later : (a : List ℕ → List ℕ) (now later : Chunks) (list : List (List ℕ)) → Extends now later → AreHeld a now list → AreHeld a later list
 held_later a now later [] extends held = tt
-held_later a now later (bytes ∷ list) extends held = (extends (a bytes) bytes held.0, held_later a now later list extends held.1)
+held_later a now later (bytes ∷ list) extends held = ((extends (a bytes) bytes held.0.0, held.0.1), held_later a now later list extends held.1)
 
 pub held_push : (a : List ℕ → List ℕ) (c : Chunks) (turns level : ℕ) (nodes : List (List Item)) (x : Item) (items : List Item)
     → AreHeld a c (ended_chunks a level nodes x) → AreHeld a c (chunks_after a turns level (pushes a level nodes x) items)
@@ -123,10 +120,10 @@ held_push a c (suc turns) level (held ∷ above) x items ended rest =
       → AreHeld a c (cond (is_root above (held ++ x ∷ items)) [] (whole b))) [
       | true ↦ λ e r.
           let P : List (List ℕ) → Type 0 = AreHeld a c in
-          let parts = all_split (IsFound a c) (map (bytes_of level) below) (chunks_after a turns (suc level) over (names a level below))
+          let parts = all_split (IsThere a c) (map (bytes_of level) below) (chunks_after a turns (suc level) over (names a level below))
               (subst P (skip_left (is_empty over) (is_single items) [] after_it (never_empty a (suc level) above n)) r) in
-          unless (IsFound a c) (is_root above (held ++ x ∷ items)) (whole true)
-            (e.0, all_join (IsFound a c) (map (bytes_of level) below) (chunks_after a turns (suc level) above (n ∷ names a level below)) parts.0
+          unless (IsThere a c) (is_root above (held ++ x ∷ items)) (whole true)
+            (e.0, all_join (IsThere a c) (map (bytes_of level) below) (chunks_after a turns (suc level) above (n ∷ names a level below)) parts.0
               (held_push a c turns (suc level) above n (names a level below) e.1 parts.1))
       | false ↦ λ e r.
           let P : List Item → Type 0 = λ l. AreHeld a c (cond (is_root above l) [] (whole false)) in
@@ -146,8 +143,8 @@ rows_held a c turns held above x more ended rest =
       → AreHeld a c (chunks_after_rows a turns (cond b ([] ∷ over) ((held ++ x ∷ []) ∷ above)) more)
       → AreHeld a c (whole b)) [
       | true ↦ λ e r.
-          let parts = all_split (IsFound a c) (map (bytes_of 0) below) (chunks_after a turns 1 over (names a 0 below)) r in
-          (e.0, all_join (IsFound a c) (map (bytes_of 0) below) (chunks_after a turns 1 above (n ∷ names a 0 below)) parts.0
+          let parts = all_split (IsThere a c) (map (bytes_of 0) below) (chunks_after a turns 1 over (names a 0 below)) r in
+          (e.0, all_join (IsThere a c) (map (bytes_of 0) below) (chunks_after a turns 1 above (n ∷ names a 0 below)) parts.0
               (held_push a c turns 1 above n (names a 0 below) e.1 parts.1))
       | false ↦ λ e r. r ] ended rest
 

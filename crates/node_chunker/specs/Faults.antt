@@ -16,7 +16,3 @@ pub record IsMet (address : List ℕ → List ℕ) (chunks : Chunks) (clash : Cl
 abbrev pub IsReason : (List ℕ → List ℕ) → Chunks → PutFault → Type 0
 IsReason address chunks Memory = Unit {0}
 IsReason address chunks (Collision clash) = IsMet address chunks clash
-
--- these byte strings were put: each is found under its address, of 20 bytes
-abbrev pub ArePut : (List ℕ → List ℕ) → Chunks → List (List ℕ) → Type 0
-ArePut address chunks list = AllByRecursion (λ bytes. (chunks (address bytes) ≡ Some bytes) × (length (address bytes) ≡ 20)) list

@@ -3,7 +3,7 @@ use Rattle.std.specs.Prelude.{◌≡◌, ℕ, suc, true, false, List, [], ◌∷
 use Rattle.tuple_codec.specs.Nodes.{Item}
 use Rattle.tuple_codec.specs.Trees.{bytes_of, closes, name}
 use Rattle.chunk_store.specs.Chunks.{Chunks, Extends}
-use Rattle.node_chunker.specs.Faults.{ArePut}
+use Rattle.chunk_store.specs.Standing.{AreHeld}
 use Rattle.node_chunker.specs.Growth.{Fits}
 use Rattle.node_chunker.specs.Towers.{ended_chunks, is_empty, pushes}
 
@@ -11,7 +11,7 @@ use Rattle.node_chunker.specs.Towers.{ended_chunks, is_empty, pushes}
 pub record IsNamed (address : List ℕ → List ℕ) (chunks : Chunks) (level : ℕ) (held now : List Item) (named : Item) : Type 0 where
   pub emptied : now ≡ []
   pub named_is : named ≡ name address level held
-  pub put : ArePut address chunks (bytes_of level held ∷ [])
+  pub put : AreHeld address chunks (bytes_of level held ∷ [])
 
 -- an item was pushed onto a node: it stays open, or it ended and has a name
 abbrev pub IsPushed : (List ℕ → List ℕ) → Chunks → ℕ → List Item → Item → List Item → Option Item → Type 0
@@ -23,11 +23,11 @@ IsPushed address chunks level held item now (Some named) =
 abbrev pub IsClosed : (List ℕ → List ℕ) → Chunks → ℕ → List Item → Option Item → Type 0
 IsClosed address chunks level held None = held ≡ []
 IsClosed address chunks level held (Some named) =
-    (is_empty held ≡ false) × (named ≡ name address level held) × ArePut address chunks (bytes_of level held ∷ [])
+    (is_empty held ≡ false) × (named ≡ name address level held) × AreHeld address chunks (bytes_of level held ∷ [])
 
 -- a name that was pushed at level 1 has climbed to the node at this place among the inner levels
 pub record IsClimbing (address : List ℕ → List ℕ) (chunks : Chunks) (begun : List (List Item)) (named : Item) (nodes : List (List Item)) (at : ℕ) (item : Item) : Type 0 where
   pub fits : Fits address (suc at) (drop at nodes) item
   pub comes : take at nodes ++ pushes address (suc at) (drop at nodes) item ≡ pushes address 1 begun named
-  pub kept : (later : Chunks) → Extends chunks later → ArePut address later (ended_chunks address (suc at) (drop at nodes) item)
-      → ArePut address later (ended_chunks address 1 begun named)
+  pub kept : (later : Chunks) → Extends chunks later → AreHeld address later (ended_chunks address (suc at) (drop at nodes) item)
+      → AreHeld address later (ended_chunks address 1 begun named)

@@ -2,7 +2,8 @@
 
 ghost use Rattle.std.specs.Prelude.{◌≡◌, ◌≤◌, [], ◌∷◌, length, IfOk, IfErr, OnOk};
 ghost use Rattle.chunk_store.specs.Drafts.{Longer, chunks_of};
-ghost use Rattle.node_chunker.specs.Faults.{ArePut, IsReason};
+ghost use Rattle.chunk_store.specs.Standing.{AreHeld};
+ghost use Rattle.node_chunker.specs.Faults.{IsReason};
 
 use chunk_store::{Draft, PutFault};
 use tuple_codec::{Address, Digester};
@@ -14,7 +15,7 @@ pub(crate) fn put_chunk<D: Digester>(
 ) -> Result<Address, PutFault>
     requires { length bytes.now ≤ 65536 }
     ensures address { IfOk result (λ address. address.0 ≡ D.address bytes.now) }
-    ensures put { OnOk result (ArePut D.address (chunks_of draft.new.chunks) (bytes.now ∷ [])) }
+    ensures put { OnOk result (AreHeld D.address (chunks_of draft.new.chunks) (bytes.now ∷ [])) }
     ensures longer { Longer draft.old.chunks draft.new.chunks }
     ensures cause { IfErr result (IsReason D.address (chunks_of draft.new.chunks)) }
 {

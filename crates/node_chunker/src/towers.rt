@@ -6,8 +6,8 @@ ghost use Rattle.tuple_codec.specs.Trees.{AreRows};
 ghost use Rattle.node_format.specs.Views.{leaf_of, ref_of};
 ghost use Rattle.chunk_store.specs.Chunks.{Chunks};
 ghost use Rattle.chunk_store.specs.Drafts.{Longer, chunks_of};
-ghost use Rattle.chunk_store.specs.Standing.{IsTree};
-ghost use Rattle.node_chunker.specs.Faults.{ArePut, IsReason};
+ghost use Rattle.chunk_store.specs.Standing.{AreHeld, IsTree};
+ghost use Rattle.node_chunker.specs.Faults.{IsReason};
 ghost use Rattle.node_chunker.specs.Growth.{CanPush, Fits, IsTower, WasPushed};
 ghost use Rattle.node_chunker.specs.Towers.{ended_chunks, pushes};
 
@@ -107,7 +107,7 @@ fn push_name<D: Digester>(
 ) -> Result<(), PutFault>
     requires { Fits D.address 1 inner.old.items (ref_of named) }
     ensures ok { OnOk result ((inner.new.items ≡ pushes D.address 1 inner.old.items (ref_of named))
-        × ArePut D.address (chunks_of draft.new.chunks) (ended_chunks D.address 1 inner.old.items (ref_of named))) }
+        × AreHeld D.address (chunks_of draft.new.chunks) (ended_chunks D.address 1 inner.old.items (ref_of named))) }
     ensures longer { Longer draft.old.chunks draft.new.chunks }
     ensures cause { IfErr result (IsReason D.address (chunks_of draft.new.chunks)) }
 {

@@ -3,7 +3,7 @@ use Rattle.tuple_codec.specs.Nodes.{node_bytes}
 use Rattle.tuple_codec.specs.Trees.{bytes_of, rows_in}
 use Rattle.node_format.specs.Views.{leaf_node, leaf_of}
 use Rattle.chunk_store.specs.Drafts.{chunks_of}
-use Rattle.node_chunker.specs.Faults.{ArePut}
+use Rattle.chunk_store.specs.Standing.{AreHeld}
 use Rattle.node_chunker.proofs.NodeLemmas.{leaves_count, name_is}
 use Rattle.node_chunker.proofs.leaves.OpenLeaf.put.Goals as goal
 
@@ -15,7 +15,7 @@ returns-clause-ok g c =
     let bytes_are = c.as_slice.ensures ∙ c.in_ok-bytes.ensures ∙ ap (λ l. node_bytes (leaf_node l)) c.deref.ensures.value ∙ ap (bytes_of 0) c.self.view_is in
     let count : c.len-rows.result ≡ length mine = omega arith in
     let rows_are = count ∙ sym (leaves_count mine) ∙ ap rows_in c.self.view_is in
-    let P : List ℕ → Type 0 = λ bytes. ArePut a (chunks_of c.put_chunk.new.draft.chunks) (bytes ∷ []) in
+    let P : List ℕ → Type 0 = λ bytes. AreHeld a (chunks_of c.put_chunk.new.draft.chunks) (bytes ∷ []) in
     record {
       emptied = c.empty-key.ensures.emptied;
       named_is = name_is a 0 held c.empty-key.result c.in_ok-address.address.0 c.len-rows.result c.empty-key.ensures.key

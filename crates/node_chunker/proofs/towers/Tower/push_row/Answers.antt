@@ -5,7 +5,7 @@ use Rattle.tuple_codec.specs.Nodes.{Item, leaf_item}
 use Rattle.node_format.specs.declared.items.RefItem.{RefItem}
 use Rattle.node_format.specs.Views.{leaf_of, ref_of}
 use Rattle.chunk_store.specs.Drafts.{chunks_of}
-use Rattle.node_chunker.specs.Faults.{ArePut}
+use Rattle.chunk_store.specs.Standing.{AreHeld}
 use Rattle.node_chunker.specs.Towers.{ended_chunks, pushes}
 use Rattle.node_chunker.specs.Growth.{CanPush, Fits, IsTower}
 use Rattle.node_chunker.specs.Steps.{IsPushed}
@@ -65,7 +65,7 @@ returns-in-Some-clause-ok g c rows tower =
     let Q : List (List Item) → Type 0 = λ l. IsTower a old l rows in
     let R : Item → Type 0 = λ i. IsTower a new (c.push.new.self ∷ after) (rows ++ i ∷ []) in
     IfOk-weaker c.push_name.result
-      (λ _. (after ≡ pushes a 1 inner named) × ArePut a new (ended_chunks a 1 inner named))
+      (λ _. (after ≡ pushes a 1 inner named) × AreHeld a new (ended_chunks a 1 inner named))
       (λ _. IsTower a new (c.push.new.self ∷ after) (rows ++ leaf_item c.args.key.now c.args.value.now ∷ []))
       (λ _ done. subst R c.in_ok-row.ensures (row_climbs a old mid new leaf c.push.new.self inner after rows x named (subst Q (sym c.self.view_is) tower) fits
         (grows c.args.draft.now.chunks c.push.new.draft.chunks c.in_ok-push.ensures.longer)
