@@ -1,11 +1,13 @@
 -- A name climbs from level to level, as far as it ends nodes.
-use Rattle.std.proofs.Common.{◌≡◌, ◌≤◌, ◌<◌, ◌+◌, ◌^◌, ℕ, zero, suc, Bool, true, false, cond, List, [], ◌∷◌, ◌++◌, length, take, drop, get_or, sym, refl, ap, subst, ◌∙◌, arith}
+use Rattle.std.proofs.Common.{◌≡◌, ◌≤◌, ◌<◌, ◌+◌, ◌^◌, ℕ, zero, suc, Bool, true, false, cond, List, [], ◌∷◌, ◌++◌, length, map, take, drop, None, get_or, sym, refl, ap, subst, ◌∙◌, arith}
 use Rattle.std.specs.Prelude.{◌==◌}
-use Rattle.std.proofs.lemmas.List.{append-nil, append_assoc, take_all}
+use Rattle.std.proofs.lemmas.List.{append-nil, append_assoc, length-append, map-append, take-append-drop, take_all, take_more}
 use Rattle.std.proofs.Math.ListN.{set, drop_of_length-le}
 use Rattle.std.proofs.Math.Seq.{drop-cons}
 use Rattle.tuple_codec.specs.Nodes.{Item, IsItem}
-use Rattle.tuple_codec.specs.Trees.{AreRows, bytes_of, closes, name, rows_in}
+use Rattle.tuple_codec.specs.Trees.{AreRows, IsRow, bytes_of, closes, name, rows_in}
+use Rattle.node_format.specs.declared.items.LeafItem.{LeafItem}
+use Rattle.node_format.specs.Views.{leaf_of}
 use Rattle.chunk_store.specs.Chunks.{Chunks, Extends}
 use Rattle.chunk_store.specs.Drafts.{DraftParts, Longer, chunks_of}
 use Rattle.chunk_store.proofs.FollowLemmas.{drafts_follow}
@@ -13,8 +15,8 @@ use Rattle.node_chunker.specs.Towers.{pushes, ended_chunks}
 use Rattle.node_chunker.specs.Growth.{CanPush, Fits, IsTower, IsWritable, spread}
 use Rattle.chunk_store.specs.Standing.{AreHeld}
 use Rattle.node_chunker.specs.Steps.{IsClimbing, IsNamed}
-use Rattle.node_chunker.proofs.TowerLemmas.{extends_both}
-use Rattle.node_chunker.proofs.GrowthLemmas.{rows_join, low_level, fits_row, fits_up, writable_here, tower_push}
+use Rattle.node_chunker.proofs.TowerLemmas.{all_split, extends_both}
+use Rattle.node_chunker.proofs.GrowthLemmas.{rise_split, rows_join, low_level, fits_row, fits_up, writable_here, tower_push}
 
 -- ---- lists with one place changed
 
@@ -201,3 +203,28 @@ module _ (a : List ℕ → List ℕ) where
 pub not_none : (n : ℕ) → (n == 0) ≡ false → 0 < n
 not_none zero e = absurd cc
 not_none (suc n) e = omega arith
+
+-- ---- rows in hand
+
+first_rows : (xs ys : List Item) → AreRows (xs ++ ys) → AreRows xs
+first_rows xs ys are =
+    let few = are.few in
+    record {
+      each = (all_split IsRow xs ys are.each).0;
+      rise = (rise_split None xs ys are.rise).0;
+      few = omega (arith, length-append xs ys);
+    }
+
+pub row_more : (rows : List LeafItem) (i : ℕ) (x : LeafItem) → i < length rows → x ≡ get_or rows i x
+    → map leaf_of (take (i + 1) rows) ≡ map leaf_of (take i rows) ++ leaf_of x ∷ []
+row_more rows i x within here =
+    ap (map leaf_of) (take_more rows i x within) ∙ map-append leaf_of (take i rows) (get_or rows i x ∷ [])
+    ∙ ap (λ (r : LeafItem). map leaf_of (take i rows) ++ leaf_of r ∷ []) (sym here)
+
+pub row_next : (rows : List LeafItem) (i : ℕ) (x : LeafItem) → i < length rows → x ≡ get_or rows i x → AreRows (map leaf_of rows)
+    → AreRows (map leaf_of (take i rows) ++ leaf_of x ∷ [])
+row_next rows i x within here are =
+    let whole : map leaf_of rows ≡ map leaf_of (take (i + 1) rows) ++ map leaf_of (drop (i + 1) rows) =
+        ap (map leaf_of) (sym (take-append-drop (i + 1) rows)) ∙ map-append leaf_of (take (i + 1) rows) (drop (i + 1) rows) in
+    subst AreRows (row_more rows i x within here)
+      (first_rows (map leaf_of (take (i + 1) rows)) (map leaf_of (drop (i + 1) rows)) (subst AreRows whole are))

@@ -3,3 +3,5 @@ pub mod GrowthLemmas
 pub mod NodeLemmas
 pub mod ClosingLemmas
 pub mod ClimbLemmas
+mod NumberedLemmas
+mod Vectors

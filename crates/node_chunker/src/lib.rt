@@ -13,3 +13,6 @@ mod towers;
 
 pub use builds::build;
 pub use towers::Tower;
+
+#[cfg(test)]
+mod tests;
