@@ -10,7 +10,7 @@ use Rattle.prolly_tree.proofs.scans.scan_from.Goals as goal
 
 pub node_at-node-requires-after_bounds : goal.node_at-node-requires-after_bounds
 node_at-node-requires-after_bounds g c κs within =
-    let t = trees_lead g.D.Digester.address (chunks_of c.args.draft.now.chunks) c.args.root.now.0 c.requires.tree.0 c.requires.addresses c.requires.tree.1 in
+    let t = trees_lead g.D.Digester.address (chunks_of c.args.draft.now.chunks) c.args.root.now.0 c.requires.tree.0 c.requires.tree.1 in
     (t.0, t.1.opens.stored)
 
 -- the walk begins at the root
@@ -23,7 +23,7 @@ begins g c =
 leads_at : (g : _) (c : goal.After-walk-1 g) → Leads (chunks_of c.args.draft.now.chunks) c.node_at-node.result
 leads_at g c =
     let chunks = chunks_of c.args.draft.now.chunks in
-    let t = trees_lead g.D.Digester.address chunks c.args.root.now.0 c.requires.tree.0 c.requires.addresses c.requires.tree.1 in
+    let t = trees_lead g.D.Digester.address chunks c.args.root.now.0 c.requires.tree.0 c.requires.tree.1 in
     subst (Leads chunks) (sym (c.node_at-node.ensures t.0 t.1.opens.stored)) t.1.opens.leads
 
 pub seek-requires-clause-can : goal.seek-requires-clause-can
@@ -47,7 +47,7 @@ pub returns-clause-rows : goal.returns-clause-rows
 returns-clause-rows g c = λ rows tree.
     let chunks = chunks_of c.args.draft.now.chunks in
     let key = c.args.key.now in
-    let t = trees_lead g.D.Digester.address chunks c.args.root.now.0 rows c.requires.addresses tree in
+    let t = trees_lead g.D.Digester.address chunks c.args.root.now.0 rows tree in
     let n : c.node_at-node.result ≡ t.0 = c.node_at-node.ensures t.0 t.1.opens.stored in
     let leads : Leads chunks c.node_at-node.result = subst (Leads chunks) (sym n) t.1.opens.leads in
     let e : c.new-walk.result ≡ begin c.node_at-node.result c.place_of-at.result c.in_ok-above.above.capacity =
