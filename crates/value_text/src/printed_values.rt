@@ -143,7 +143,12 @@ fn push_decimal(alloc: Global, out: &mut Vec<u8>, scale: u8, number: i64) -> Res
 }
 
 /// Writes a number with so many of its digits behind the point, all of them.
-pub fn push_scaled(alloc: Global, out: &mut Vec<u8>, scale: u8, number: u64) -> Result<(), AllocError>
+pub fn push_scaled(
+    alloc: Global,
+    out: &mut Vec<u8>,
+    scale: u8,
+    number: u64,
+) -> Result<(), AllocError>
     ensures { OnOk result (out.new.items ≡ out.old.items ++ scaled scale number) }
 {
     if scale == 0 {
