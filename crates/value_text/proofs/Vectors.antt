@@ -1,10 +1,10 @@
 -- Values whose texts are known.
-use Rattle.std.proofs.Common.{◌≡◌, refl, codes, ℕ, List, [], ◌∷◌, ◌++◌, ℤ, pos, negsuc, true, false}
-use Rattle.std.specs.Fmt.{decimal, digits}
+use Rattle.std.proofs.Common.{◌≡◌, refl, codes, [], ◌∷◌, ◌++◌, pos, negsuc, true, false}
+use Rattle.std.specs.Fmt.{digits}
 use Rattle.hex.specs.Hex.{encode_with}
 use Rattle.tuple_codec.specs.declared.values.SqlType.TheVariants as kind
 use Rattle.tuple_codec.specs.declared.values.Value.TheVariants as cell
-use Rattle.value_text.specs.Values.{byte_string, decimal_text, quoted, row_text, scaled, value_text}
+use Rattle.value_text.specs.Values.{byte_string, quoted, row_text, scaled, value_text}
 
 whole_numbers : (value_text kind.BigInt (cell.Int (negsuc 9223372036854775807)) ≡ codes "-9223372036854775808") × (value_text kind.Int (cell.Int (pos 0)) ≡ codes "0")
 unfolding digits

@@ -66,4 +66,3 @@ push_expr-returns-in_ok-push_list-in-NotIn t c =
     let node = ap (λ (x : Expr). text x) c.in-NotIn.is ∙ text_not_in c.in-NotIn.a c.in-NotIn.list in
     let lent = ap (λ (xs : List Expr). listed [] (map text xs)) c.as_slice-in-NotIn.ensures in
     grind (arith, common_steps, node, lent)
-
