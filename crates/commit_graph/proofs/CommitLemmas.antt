@@ -1,0 +1,164 @@
+-- A commit that was written is read again, and how many bytes it has at most.
+use Rattle.std.proofs.Common.{◌≡◌, ℕ, ℤ, zero, suc, ◌+◌, ◌*◌, ◌^◌, ◌<◌, ◌≤◌, Bool, true, false, cond, eqb, ltb, List, [], ◌∷◌, ◌++◌, length, map, take, drop, Option, Some, None, refl, sym, ap, subst, ◌∙◌, append_assoc, append-nil, arith, eq-eqb}
+use Rattle.std.specs.List.{flat_map, list_all, AllByRecursion}
+use Rattle.std.specs.Option.{option_map}
+use Rattle.std.specs.Int.{w64, cast_signed, cast_unsigned, from_be_bytes, to_be_bytes}
+use Rattle.std.proofs.lemmas.Bool.{and_from, eqb-true, le-ltb}
+use Rattle.std.proofs.lemmas.List.{take_at, drop_at, length-append}
+use Rattle.std.proofs.lemmas.Nat.{from_be_bytes-to_be_bytes_8}
+use Rattle.tuple_codec.specs.RowBytes.{counted}
+use Rattle.tuple_codec.specs.Fronts.{uncounted}
+use Rattle.tuple_codec.specs.declared.forms.Form.TheVariants as form
+use Rattle.tuple_codec.proofs.NumberLemmas.{bits_fit, number_back}
+use Rattle.tuple_codec.proofs.TextLemmas.{counted_again}
+use Rattle.schema_model.specs.Reading.{◌>>=◌, bytes_at, items_at}
+use Rattle.schema_model.specs.WrittenForms.{CommitParts, commit_bytes}
+use Rattle.schema_model.proofs.PartLemmas.{IsReader, bytes_again, bytes_takes, items_again, nothing, some_is, takes}
+use Rattle.commit_graph.specs.Commits.{HasOneSpelling, IsAddress, IsCommit, parts_of}
+use Rattle.commit_graph.specs.declared.commits.CommitRecord.{CommitRecord}
+use Rattle.tuple_codec.specs.declared.addresses.Address.{Address}
+use Rattle.commit_graph.specs.Reading.{address_at, after_kind, commit_of, number_at, parents_at}
+
+-- ---- addresses
+
+abbrev is_address : List ℕ → Bool
+is_address bytes = eqb (length bytes) 20
+
+address_reader : IsReader (λ bytes. bytes) is_address address_at
+address_reader = record {
+  takes = λ bytes x fit e. takes bytes x.0 x.1 fit (bytes_takes 20 bytes x e).0;
+  again = λ address rest h. bytes_again 20 address rest (eqb-true _ _ h);
+}
+
+are_addresses : (parents : List (List ℕ)) → AllByRecursion IsAddress parents → list_all is_address parents ≡ true
+are_addresses [] h = refl
+are_addresses (parent ∷ parents) h = and_from _ _ (eq-eqb (length parent) 20 h.0) (are_addresses parents h.1)
+
+addresses_length : (parents : List (List ℕ)) → AllByRecursion IsAddress parents → length (flat_map (λ parent. parent) parents) ≡ 20 * length parents
+addresses_length [] h = refl
+addresses_length (parent ∷ parents) h =
+    let more = addresses_length parents h.1 in
+    length-append parent (flat_map (λ parent. parent) parents) ∙ omega (arith, h.0, more)
+
+parents_again : (parents : List (List ℕ)) (rest : List ℕ) → AllByRecursion IsAddress parents
+    → parents_at (length parents ∷ (flat_map (λ parent. parent) parents ++ rest)) ≡ Some (parents, rest)
+parents_again parents rest h = items_again (λ parent. parent) is_address address_at address_reader parents rest (are_addresses parents h)
+
+mapped : {A B : Type 0} (f : A → B) (b : Bool) (y : A) → option_map f (cond b None (Some y)) ≡ cond b None (Some (f y))
+mapped f true y = refl
+mapped f false y = refl
+
+abbrev as_number : List ℕ × List ℕ → ℕ × List ℕ
+as_number x = (from_be_bytes w64 x.0, x.1)
+
+number_is : (bytes : List ℕ) → number_at bytes ≡ option_map as_number (bytes_at 8 bytes)
+number_is bytes = sym (mapped as_number (ltb (length bytes) 8) (take 8 bytes, drop 8 bytes))
+
+number_again : (n : ℕ) (rest : List ℕ) → n < 2 ^ 64 → number_at (to_be_bytes w64 n ++ rest) ≡ Some (n, rest)
+number_again n rest lt =
+    number_is (to_be_bytes w64 n ++ rest) ∙ ap (option_map as_number) (bytes_again 8 (to_be_bytes w64 n) rest refl) ∙ ap (λ (k : ℕ). Some (k, rest)) (from_be_bytes-to_be_bytes_8 n lt)
+
+-- ---- commits
+
+abbrev made : List ℕ → List (List ℕ) → ℕ → ℕ → List ℕ → List ℕ → CommitParts
+made root parents height date committer message = record {
+  root = root;
+  parents = parents;
+  height = height;
+  date = cast_signed w64 date;
+  committer = committer;
+  message = message;
+}
+
+abbrev after_committer : List ℕ → List (List ℕ) → ℕ → ℕ → List ℕ × List ℕ → Option CommitParts
+after_committer root parents height date committer = uncounted committer.1 >>= λ message. Some (made root parents height date committer.0 message.0)
+
+abbrev after_date : List ℕ → List (List ℕ) → ℕ → ℕ × List ℕ → Option CommitParts
+after_date root parents height date = uncounted date.1 >>= after_committer root parents height date.0
+
+abbrev after_height : List ℕ → List (List ℕ) → ℕ × List ℕ → Option CommitParts
+after_height root parents height = number_at height.1 >>= after_date root parents height.0
+
+abbrev after_parents : List ℕ → List (List ℕ) × List ℕ → Option CommitParts
+after_parents root parents = number_at parents.1 >>= after_height root parents.0
+
+abbrev after_root : List ℕ × List ℕ → Option CommitParts
+after_root root = parents_at root.1 >>= after_parents root.0
+
+pub commit_again : (c : CommitParts) → IsCommit c → commit_of (commit_bytes c) ≡ Some c
+unfolding commit_of
+commit_again c h =
+    let date = cast_unsigned w64 c.date in
+    let fifth = counted c.message in
+    let fourth = counted c.committer ++ fifth in
+    let third = to_be_bytes w64 date ++ fourth in
+    let second = to_be_bytes w64 c.height ++ third in
+    let first = length c.parents ∷ (flat_map (λ parent. parent) c.parents ++ second) in
+    ap (λ (o : Option (List ℕ × List ℕ)). o >>= after_root) (bytes_again 20 c.root first h.root)
+    ∙ ap (λ (o : Option (List (List ℕ) × List ℕ)). o >>= after_parents c.root) (parents_again c.parents second h.parents)
+    ∙ ap (λ (o : Option (ℕ × List ℕ)). o >>= after_height c.root c.parents) (number_again c.height third h.height)
+    ∙ ap (λ (o : Option (ℕ × List ℕ)). o >>= after_date c.root c.parents c.height) (number_again date fourth (bits_fit form.Row c.date h.date_fits))
+    ∙ ap (λ (o : Option (List ℕ × List ℕ)). o >>= after_committer c.root c.parents c.height date) (counted_again c.committer fifth)
+    ∙ ap (λ (o : Option (List ℕ × List ℕ)). o >>= λ message. Some (made c.root c.parents c.height date c.committer message.0))
+    (ap uncounted (sym (append-nil fifth)) ∙ counted_again c.message [])
+    ∙ ap (λ (n : ℤ). Some (record { root = c.root; parents = c.parents; height = c.height; date = n; committer = c.committer; message = c.message }))
+    (number_back form.Row c.date h.date_fits)
+
+pub one_spelling : HasOneSpelling
+one_spelling a b ha hb same = some_is a b (sym (commit_again a ha) ∙ ap commit_of same ∙ commit_again b hb)
+
+-- what is read where a commit stands is that commit
+pub read_is : (c found : CommitParts) (bytes : List ℕ) → IsCommit c → bytes ≡ commit_bytes c → commit_of bytes ≡ Some found → c ≡ found
+read_is c found bytes h e read = some_is c found (sym (commit_again c h) ∙ ap commit_of (sym e) ∙ read)
+
+pub is_found : (c : CommitParts) (bytes : List ℕ) → IsCommit c → bytes ≡ commit_bytes c → commit_of bytes ≡ None → ⊥
+is_found c bytes h e none = nothing c (sym none ∙ ap commit_of e ∙ commit_again c h)
+
+pub commit_size : (c : CommitParts) → IsAddress c.root → AllByRecursion IsAddress c.parents → length c.parents ≤ 2 → length c.committer ≤ 32 → length c.message ≤ 8192
+    → length (commit_bytes c) ≤ 65536
+commit_size c root parents few committer message =
+    let many = addresses_length c.parents parents in
+    let date = cast_unsigned w64 c.date in
+    let fifth = counted c.message in
+    let fourth = counted c.committer ++ fifth in
+    let third = to_be_bytes w64 date ++ fourth in
+    let second = to_be_bytes w64 c.height ++ third in
+    let a = length-append c.root (length c.parents ∷ (flat_map (λ parent. parent) c.parents ++ second)) in
+    let b = length-append (flat_map (λ parent. parent) c.parents) second in
+    let d = length-append (to_be_bytes w64 c.height) third in
+    let e = length-append (to_be_bytes w64 date) fourth in
+    let f = length-append (counted c.committer) fifth in
+    omega (arith, a, b, d, e, f, many, root)
+
+-- the parts in the order in which they are written
+pub in_order : (root parents height date committer message : List ℕ) (n : ℕ)
+    → (((5 ∷ []) ++ (root ++ n ∷ parents)) ++ (height ++ date)) ++ (committer ++ message) ≡ 5 ∷ (root ++ (n ∷ (parents ++ (height ++ (date ++ (committer ++ message))))))
+in_order root parents height date committer message n = simp append_assoc
+
+-- the bytes of a commit are found once
+pub bytes_are : (bytes : List ℕ) (c : CommitParts) (o : Option (List ℕ)) → Some bytes ≡ o → o ≡ Some (commit_bytes c) → bytes ≡ commit_bytes c
+bytes_are bytes c o e held = some_is bytes (commit_bytes c) (e ∙ held)
+
+-- height and date, written one after the other
+pub numbers_join : (a b c : List ℕ) (m n : ℕ) → b ≡ a ++ to_be_bytes w64 m → c ≡ b ++ to_be_bytes w64 n → c ≡ a ++ (to_be_bytes w64 m ++ to_be_bytes w64 n)
+numbers_join a b c m n e f = f ∙ ap (λ (l : List ℕ). l ++ to_be_bytes w64 n) e ∙ append_assoc a (to_be_bytes w64 m) (to_be_bytes w64 n)
+
+count_is : (addresses : List Address) → length (map (λ (address : Address). address.0) addresses) ≡ length addresses
+count_is [] = refl
+count_is (address ∷ addresses) = ap (λ (n : ℕ). suc n) (count_is addresses)
+
+-- the parts written one after another are the commit's bytes
+pub commit_join : (commit : CommitRecord) (a b d e f all : List ℕ) (bits : ℕ) → bits ≡ cast_unsigned w64 commit.date → a ≡ [] → b ≡ a ++ 5 ∷ []
+    → d ≡ b ++ (commit.root.0 ++ length commit.parents ∷ flat_map (λ parent. parent) (map (λ (parent : Address). parent.0) commit.parents))
+    → e ≡ d ++ (to_be_bytes w64 commit.height ++ to_be_bytes w64 bits)
+    → f ≡ e ++ (counted commit.committer ++ counted commit.message) → all ≡ f → all ≡ commit_bytes (parts_of commit)
+commit_join commit a b d e f all bits date_is at_first with_kind with_links with_numbers with_texts same =
+    let flat = flat_map (λ parent. parent) (map (λ (parent : Address). parent.0) commit.parents) in
+    let height = to_be_bytes w64 commit.height in
+    let date = to_be_bytes w64 (cast_unsigned w64 commit.date) in
+    let texts = counted commit.committer ++ counted commit.message in
+    let one = with_kind ∙ ap (λ (l : List ℕ). l ++ 5 ∷ []) at_first in
+    let two = with_links ∙ ap (λ (l : List ℕ). l ++ (commit.root.0 ++ length commit.parents ∷ flat)) one in
+    let three = with_numbers ∙ ap (λ (n : ℕ). d ++ (height ++ to_be_bytes w64 n)) date_is ∙ ap (λ (l : List ℕ). l ++ (height ++ date)) two in
+    same ∙ with_texts ∙ ap (λ (l : List ℕ). l ++ texts) three ∙ in_order commit.root.0 flat height date (counted commit.committer) (counted commit.message) (length commit.parents)
+    ∙ ap (λ (n : ℕ). 5 ∷ (commit.root.0 ++ (n ∷ (flat ++ (height ++ (date ++ texts)))))) (sym (count_is commit.parents))

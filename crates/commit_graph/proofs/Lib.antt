@@ -1,0 +1,2 @@
+mod AddressListLemmas
+mod CommitLemmas

@@ -1,0 +1,6 @@
+use Rattle.std.proofs.Common.{◌≡◌, ◌++◌, map, take}
+use Rattle.std.specs.List.{flat_map}
+use Rattle.commit_graph.proofs.writing.push_addresses.Given as goal
+
+abbrev pub invariant-loop-address : goal.invariant-loop-address
+invariant-loop-address l = l.out.items ≡ l.fn.out.items ++ flat_map (λ address. address) (map (λ address. address.0) (take l.address-index l.addresses))

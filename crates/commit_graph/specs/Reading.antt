@@ -1,0 +1,35 @@
+-- Reading a commit from left to right.
+use Rattle.std.specs.Prelude.{ℕ, ◌==◌, nat_lt, if◌then◌else◌, List, [], ◌∷◌, length, take, drop, Option, None, Some}
+use Rattle.std.specs.Int.{w64, cast_signed, from_be_bytes}
+use Rattle.tuple_codec.specs.Fronts.{uncounted}
+use Rattle.schema_model.specs.Reading.{◌>>=◌, bytes_at, items_at}
+use Rattle.schema_model.specs.WrittenForms.{CommitParts}
+
+-- a number in eight bytes
+abbrev pub number_at : List ℕ → Option (ℕ × List ℕ)
+number_at bytes = if nat_lt (length bytes) 8 then None else Some (from_be_bytes w64 (take 8 bytes), drop 8 bytes)
+
+-- an address
+abbrev pub address_at : List ℕ → Option (List ℕ × List ℕ)
+address_at bytes = bytes_at 20 bytes
+
+-- a count in one byte, and that many addresses
+abbrev pub parents_at : List ℕ → Option (List (List ℕ) × List ℕ)
+parents_at [] = None
+parents_at (count ∷ rest) = items_at address_at count rest
+
+-- the bytes after those that tell what kind of chunk it is
+abbrev pub after_kind : List ℕ → Option (List ℕ)
+after_kind [] = None
+after_kind (kind ∷ rest) = if kind == 5 then Some rest else None
+
+unfoldable pub commit_of : List ℕ → Option CommitParts
+commit_of bytes = do
+  rest ← after_kind bytes
+  root ← address_at rest
+  parents ← parents_at root.1
+  height ← number_at parents.1
+  date ← number_at height.1
+  committer ← uncounted date.1
+  message ← uncounted committer.1
+  Some (record { root = root.0; parents = parents.0; height = height.0; date = cast_signed w64 date.0; committer = committer.0; message = message.0 })

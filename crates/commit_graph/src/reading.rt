@@ -1,0 +1,96 @@
+//! Commits read from drafts.
+
+ghost use Rattle.std.specs.Prelude.{◌≡◌, map, Some, IfOk};
+ghost use Rattle.schema_model.specs.Reading.{items_at};
+ghost use Rattle.schema_model.specs.WrittenForms.{commit_bytes};
+ghost use Rattle.chunk_store.specs.Drafts.{chunks_of};
+ghost use Rattle.commit_graph.specs.Commits.{IsCommit, IsCommitAt, parts_of};
+ghost use Rattle.commit_graph.specs.Gives.{Gives};
+ghost use Rattle.commit_graph.specs.Reading.{address_at, after_kind, commit_of, parents_at};
+
+use crate::commits::CommitRecord;
+use crate::fields::{address_at, long_at, number_at};
+use crate::unread::Unread;
+use chunk_store::Draft;
+use std::alloc::{AllocError, Global};
+use tuple_codec::{Address, Digester, Sequence, Text};
+
+/// The commit whose written form stands at the address.
+pub fn read_commit<D: Digester>(
+    alloc: Global,
+    draft: &Draft<D>,
+    address: &Address,
+) -> Result<CommitRecord, AllocError>
+    requires { IsCommitAt (chunks_of draft.now.chunks) address.now.0 }
+    ensures commit { IfOk result (λ commit. IsCommit (parts_of commit)) }
+    ensures held { IfOk result (λ commit. chunks_of draft.now.chunks address.now.0 ≡ Some (commit_bytes (parts_of commit))) }
+{
+    let Some(bytes) = draft.get(address) else {
+        unreachable!()
+    };
+    match commit_of(alloc, bytes) {
+        Ok(commit) => Ok(commit),
+        Err(Unread::Memory) => Err(AllocError),
+        Err(Unread::NoCommit) => unreachable!(),
+    }
+}
+
+/// The commit at the front of bytes.
+#[tactic(auto, unfolding(crate::specs::Reading::commit_of))]
+fn commit_of(alloc: Global, bytes: &[u8]) -> Result<CommitRecord, Unread>
+    ensures { Gives parts_of result (commit_of bytes.now) }
+{
+    let rest = after_kind(bytes)?;
+    let (root, rest) = address_at(rest)?;
+    let (parents, rest) = parents_at(alloc, rest)?;
+    let (height, rest) = number_at(rest)?;
+    let (date, rest) = number_at(rest)?;
+    let (committer, rest) = long_at(rest)?;
+    let (message, _) = long_at(rest)?;
+    Ok(CommitRecord {
+        root,
+        parents,
+        height,
+        date: date.cast_signed(),
+        committer: Text::from_slice(alloc, committer)?,
+        message: Text::from_slice(alloc, message)?,
+    })
+}
+
+/// The bytes after the one that tells a commit from other chunks.
+fn after_kind(bytes: &[u8]) -> Result<&[u8], Unread>
+    ensures { Gives (λ rest. rest.now) result (after_kind bytes.now) }
+{
+    match bytes {
+        [5, rest @ ..] => Ok(rest),
+        _ => Err(Unread::NoCommit),
+    }
+}
+
+/// A count in one byte, and that many addresses.
+fn parents_at(alloc: Global, bytes: &[u8]) -> Result<(Sequence<Address>, &[u8]), Unread>
+    ensures { Gives (λ x. (map (λ parent. parent.0) x.0, x.1.now)) result (parents_at bytes.now) }
+{
+    match bytes {
+        [count, rest @ ..] => addresses_at(alloc, usize::from(*count), rest),
+        [] => Err(Unread::NoCommit),
+    }
+}
+
+/// So many addresses.
+fn addresses_at(
+    alloc: Global,
+    count: usize,
+    bytes: &[u8],
+) -> Result<(Sequence<Address>, &[u8]), Unread>
+    ensures { Gives (λ x. (map (λ parent. parent.0) x.0, x.1.now)) result (items_at address_at count bytes.now) }
+{
+    let mut addresses = Vec::new(alloc);
+    let mut rest = bytes;
+    for _ in 0..count {
+        let (address, after) = address_at(rest)?;
+        addresses.push(address)?;
+        rest = after;
+    }
+    Ok((Sequence::from_vec(addresses), rest))
+}
