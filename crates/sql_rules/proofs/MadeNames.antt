@@ -33,7 +33,6 @@ true_or false b e = cc
 module _ (table : List ℕ) (elements : List Element) (sort : Sort) (most turn left : ℕ) (name : List ℕ) (whole : Bool)
     (within : turn < most) (named : name ≡ made_name table sort (turn + 1))
     (so_far : are_long (take left (filter (is_free elements) (names_from table sort (turn + 1) (most - turn)))) ≡ whole) where
-
   abbrev rest : List (List ℕ)
   rest = names_from table sort (turn + 1 + 1) (most - (turn + 1))
 
