@@ -1,5 +1,5 @@
 -- The made names that are left, after the next number was tried.
-use Rattle.std.proofs.Common.{◌≡◌, ◌∙◌, sym, ap, refl, ℕ, zero, suc, ◌+◌, ◌-◌, ◌<◌, Bool, true, false, ◌||◌, List, [], ◌∷◌, take, arith}
+use Rattle.std.proofs.Common.{◌≡◌, ◌∙◌, sym, ap, refl, ℕ, zero, suc, ◌+◌, ◌-◌, ◌<◌, Bool, true, false, ◌||◌, List, ◌∷◌, take, arith}
 use Rattle.std.specs.List.{filter}
 use Rattle.sql_ast.specs.declared.tables.Element.{Element}
 use Rattle.sql_rules.specs.Constraints.{is_free, made_name, names_from}

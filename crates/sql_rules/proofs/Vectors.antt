@@ -2,6 +2,7 @@
 use Rattle.std.proofs.Common.{◌≡◌, refl, codes, List, [], ◌∷◌, Some, None, ℕ, true, false, map}
 use Rattle.std.specs.Fmt.{digits}
 use Rattle.sql_ast.specs.declared.expressions.Expr.{Expr}
+use Rattle.sql_ast.specs.declared.expressions.Expr.TheOpen.{Expr-F}
 use Rattle.sql_ast.specs.declared.expressions.Expr.TheVariants as e
 use Rattle.sql_ast.specs.declared.expressions.Literal.TheVariants as literal
 use Rattle.sql_ast.specs.declared.tables.Attribute.TheVariants as attribute
@@ -10,28 +11,20 @@ use Rattle.sql_ast.specs.declared.tables.Element.TheVariants as element
 use Rattle.sql_ast.specs.declared.tables.TypeName.TheVariants as type
 use Rattle.sql_rules.specs.Arguments.{takes_add, takes_branch, takes_checkout, takes_commit, takes_merge, takes_reset, takes_resolve, takes_verify}
 use Rattle.sql_rules.specs.Constraints.{made_names}
-use Rattle.sql_rules.specs.Depths.{depth}
-use Rattle.sql_rules.specs.Nesting.{nests}
+use Rattle.sql_rules.specs.Depths.{depth_at}
+use Rattle.sql_rules.specs.Nesting.{nested_at}
 use Rattle.sql_rules.specs.Tables.{elements_outside, has_one_key}
 use Rattle.sql_rules.specs.declared.constraints.Sort.TheVariants as sort
-
-abbrev a : Expr
-a = e.Name (codes "a")
 
 abbrev one : Expr
 one = e.Literal (literal.Whole 1)
 
--- `(NOT (a IN (1, 1)))`, `((a >= 1) AND (a <= 1))`, `(- a)`
-not_in_depth : depth (e.NotIn a (one ∷ one ∷ [])) ≡ 3
-not_in_depth = refl
+-- `(NOT (a IN (1, 1)))`, `((a >= 1) AND (a <= 1))`, `(- a)`: nodes whose parts have no parentheses
+forms : depth_at (Expr-F.NotIn 0 (0 ∷ 0 ∷ [])) ∷ depth_at (Expr-F.Between 0 0 0) ∷ depth_at (Expr-F.Negate 0) ∷ [] ≡ 3 ∷ 2 ∷ 1 ∷ []
+forms = refl
 
-between_depth : depth (e.Between a one one) ≡ 2
-between_depth = refl
-
-negative_depth : depth (e.Negate a) ≡ 1
-negative_depth = refl
-
-nested : map nests (e.Sum (e.Add e.CountAll one) ∷ e.Add e.CountAll e.CountAll ∷ []) ≡ true ∷ false ∷ []
+-- a SUM of what has an aggregate, and the sum of two
+nested : nested_at (Expr-F.Sum 1) ∷ nested_at (Expr-F.Add 1 1) ∷ [] ≡ 2 ∷ 1 ∷ []
 nested = refl
 
 -- `id INT PRIMARY KEY`

@@ -1,4 +1,4 @@
-use Rattle.std.proofs.Common.{◌≡◌, ◌∙◌, sym, ℕ, ◌<◌, arith}
+use Rattle.std.proofs.Common.{◌∙◌, sym, arith}
 use Rattle.sql_rules.proofs.MadeNames.{after_taken, after_free, at_long}
 use Rattle.sql_rules.proofs.constraints.makes_long_name.Goals as goal
 
