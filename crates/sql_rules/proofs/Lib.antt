@@ -1,2 +1,3 @@
+mod Vectors
 pub mod ListNodes
 pub mod MadeNames

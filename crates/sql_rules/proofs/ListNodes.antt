@@ -1,7 +1,7 @@
 -- The two nodes that hold a list: how deep they are, and what a fold gives there.
-use Rattle.std.proofs.Common.{◌≡◌, ◌∙◌, sym, ap, refl, ℕ, ◌+◌, ◌<◌, max, List, [], ◌∷◌, map, ◌||◌, arith, Bool}
+use Rattle.std.proofs.Common.{◌≡◌, ◌∙◌, sym, ap, refl, ◌+◌, ◌<◌, max, List, [], ◌∷◌, map, ◌||◌, arith, Bool}
 use Rattle.std.specs.List.{list_any}
-use Rattle.sql_ast.specs.declared.expressions.Expr.{Expr, size-Expr, size_is-Expr, fold-Expr, fold-roll-Expr}
+use Rattle.sql_ast.specs.declared.expressions.Expr.{Expr, size_is-Expr, fold-Expr, fold-roll-Expr}
 use Rattle.sql_ast.specs.declared.expressions.Expr.TheOpen.{Expr-F}
 use Rattle.sql_ast.specs.declared.expressions.Expr.TheVariants as e
 use Rattle.sql_ast.specs.declared.expressions.Expr.TheVariants.{outs-In, outs-NotIn, rolls-In, rolls-NotIn}

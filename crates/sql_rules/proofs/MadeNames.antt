@@ -1,5 +1,5 @@
 -- The made names that are left, after the next number was tried.
-use Rattle.std.proofs.Common.{◌≡◌, ◌∙◌, sym, ap, refl, ℕ, zero, suc, ◌+◌, ◌-◌, ◌<◌, Bool, true, false, ◌||◌, List, [], ◌∷◌, take, arith}
+use Rattle.std.proofs.Common.{◌≡◌, ◌∙◌, sym, ap, refl, ℕ, zero, suc, ◌+◌, ◌-◌, ◌<◌, Bool, true, false, ◌||◌, List, ◌∷◌, take, arith}
 use Rattle.std.specs.List.{filter}
 use Rattle.sql_ast.specs.declared.tables.Element.{Element}
 use Rattle.sql_rules.specs.Constraints.{is_free, made_name, names_from}
@@ -33,7 +33,6 @@ true_or false b e = cc
 module _ (table : List ℕ) (elements : List Element) (sort : Sort) (most turn left : ℕ) (name : List ℕ) (whole : Bool)
     (within : turn < most) (named : name ≡ made_name table sort (turn + 1))
     (so_far : are_long (take left (filter (is_free elements) (names_from table sort (turn + 1) (most - turn)))) ≡ whole) where
-
   abbrev rest : List (List ℕ)
   rest = names_from table sort (turn + 1 + 1) (most - (turn + 1))
 

@@ -2,7 +2,7 @@
 --
 -- That text has each operation in parentheses, and the list of an IN in parentheses of its own. NOT IN is the NOT of
 -- IN, BETWEEN is `((a >= low) AND (a <= high))`, and NOT BETWEEN the NOT of that. Parentheses in strings don't count.
-use Rattle.std.specs.Prelude.{ℕ, Bool, ◌+◌, List, [], ◌∷◌, max, min, nat_lt}
+use Rattle.std.specs.Prelude.{ℕ, Bool, ◌+◌, List, max, min, nat_lt}
 use Rattle.sql_ast.specs.declared.expressions.Expr.{Expr, fold-Expr}
 use Rattle.sql_ast.specs.declared.expressions.Expr.TheOpen.{Expr-F}
 use Rattle.sql_rules.specs.Nesting.{greatest}

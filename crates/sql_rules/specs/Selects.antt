@@ -1,5 +1,5 @@
 -- What a SELECT may not say.
-use Rattle.std.specs.Prelude.{ℕ, Bool, true, false, ◌||◌, ◌&&◌, ◌-◌, List, [], ◌∷◌, Option, Some, None, nat_le, not, length, slice_get}
+use Rattle.std.specs.Prelude.{ℕ, Bool, true, false, ◌||◌, ◌&&◌, ◌-◌, List, [], ◌∷◌, Option, Some, None, nat_le, not, slice_get}
 use Rattle.std.specs.Str.{bytes_eq}
 use Rattle.std.specs.List.{list_any, list_all}
 use Rattle.sql_ast.specs.declared.expressions.Expr.{Expr, out-Expr}
@@ -24,7 +24,6 @@ use Rattle.sql_rules.specs.Features.{has, is_aggregate}
 use Rattle.sql_rules.specs.Names.{in_given, repeats_by}
 use Rattle.sql_rules.specs.Nesting.{nests}
 use Rattle.sql_rules.specs.Writes.{is_misplaced, is_misplaced_if}
-use Rattle.sql_rules.specs.declared.features.Feature.{Feature}
 use Rattle.sql_rules.specs.declared.features.Feature.TheVariants as feature
 
 -- The sources.

@@ -5,10 +5,8 @@ use Rattle.std.specs.List.{list_any, count_by, sum_by}
 use Rattle.sql_ast.specs.declared.expressions.Expr.{Expr}
 use Rattle.sql_ast.specs.declared.tables.Attribute.{Attribute}
 use Rattle.sql_ast.specs.declared.tables.Attribute.TheVariants as attribute
-use Rattle.sql_ast.specs.declared.tables.ColumnElement.{ColumnElement}
 use Rattle.sql_ast.specs.declared.tables.Element.{Element}
 use Rattle.sql_ast.specs.declared.tables.Element.TheVariants as element
-use Rattle.sql_ast.specs.declared.tables.ForeignKeyElement.{ForeignKeyElement}
 use Rattle.sql_ast.specs.declared.tables.TypeName.{TypeName}
 use Rattle.sql_ast.specs.declared.tables.TypeName.TheVariants as type
 use Rattle.tuple_codec.specs.declared.values.SqlType.{SqlType}

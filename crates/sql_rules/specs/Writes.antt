@@ -1,5 +1,5 @@
 -- What DROP, INSERT, UPDATE and DELETE may not say.
-use Rattle.std.specs.Prelude.{ℕ, Bool, true, false, ◌||◌, ◌&&◌, List, [], ◌∷◌, Option, nat_eq, nat_lt, codes, length, map, not}
+use Rattle.std.specs.Prelude.{ℕ, Bool, false, ◌||◌, ◌&&◌, List, Option, nat_eq, nat_lt, codes, length, not}
 use Rattle.std.specs.List.{list_any, starts_with}
 use Rattle.sql_ast.specs.declared.expressions.Expr.{Expr}
 use Rattle.sql_ast.specs.declared.statements.Insert.{Insert}
@@ -7,7 +7,6 @@ use Rattle.sql_ast.specs.declared.statements.Entry.{Entry}
 use Rattle.sql_ast.specs.declared.statements.Entry.TheVariants as entry
 use Rattle.sql_ast.specs.declared.statements.Update.{Update}
 use Rattle.sql_ast.specs.declared.statements.Delete.{Delete}
-use Rattle.sql_ast.specs.declared.statements.Assignment.{Assignment}
 use Rattle.sql_rules.specs.Features.{has}
 use Rattle.sql_rules.specs.Names.{in_given, is_system_name, repeats, repeats_by}
 use Rattle.sql_rules.specs.declared.features.Feature.TheVariants as feature

@@ -106,7 +106,10 @@ fn stage_named(seen: Commit) -> Option<Commit>
     if seen.named {
         return None;
     }
-    Some(Commit { named: true, ..seen })
+    Some(Commit {
+        named: true,
+        ..seen
+    })
 }
 
 fn stage_all(seen: Commit) -> Option<Commit>
@@ -124,5 +127,8 @@ fn allow_empty(seen: Commit) -> Option<Commit>
     if seen.empty {
         return None;
     }
-    Some(Commit { empty: true, ..seen })
+    Some(Commit {
+        empty: true,
+        ..seen
+    })
 }

@@ -99,7 +99,10 @@ fn unnamed_of_element(element: &Element, sort: Sort) -> usize
 fn count_unique_marks(attributes: &[Attribute]) -> usize
     ensures { result ≡ count_by is_unique_mark attributes.now }
 {
-    attributes.iter().filter(|attribute| marks_unique(attribute)).count()
+    attributes
+        .iter()
+        .filter(|attribute| marks_unique(attribute))
+        .count()
 }
 
 fn marks_unique(attribute: &Attribute) -> bool

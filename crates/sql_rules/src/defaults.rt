@@ -21,10 +21,7 @@ pub struct Given {
 }
 
 /// Whether a column of these has a default that can't be assigned to it.
-pub fn some_default_is_outside(
-    alloc: Global,
-    elements: &[Element],
-) -> Result<bool, AllocError>
+pub fn some_default_is_outside(alloc: Global, elements: &[Element]) -> Result<bool, AllocError>
     ensures { IfOk result (λ outside. outside ≡ list_any (has_outside_default elements.now) elements.now) }
 {
     for element in elements {
@@ -73,7 +70,9 @@ fn takes_no_null(elements: &[Element], column: &ColumnElement) -> bool
 fn is_key_column(elements: &[Element], name: &Text) -> bool
     ensures { result ≡ list_any (keys_column name.now) elements.now }
 {
-    elements.iter().any(|element| names_key_column(element, name))
+    elements
+        .iter()
+        .any(|element| names_key_column(element, name))
 }
 
 fn names_key_column(element: &Element, name: &Text) -> bool

@@ -34,17 +34,23 @@ fn open_at_once(expr: &Expr) -> u8
         | Expr::Sum(a)
         | Expr::Min(a)
         | Expr::Max(a) => enclose(open_at_once(a.get())),
-        Expr::In(a, list) => {
-            pair(open_at_once(a.get()), enclose(most_open(list.as_slice())))
-        }
+        Expr::In(a, list) => { pair(open_at_once(a.get()), enclose(most_open(list.as_slice()))) }
         Expr::NotIn(a, list) => {
             enclose(pair(open_at_once(a.get()), enclose(most_open(list.as_slice()))))
         }
         Expr::Between(a, low, high) => {
-            range(open_at_once(a.get()), open_at_once(low.get()), open_at_once(high.get()))
+            range(
+                open_at_once(a.get()),
+                open_at_once(low.get()),
+                open_at_once(high.get()),
+            )
         }
         Expr::NotBetween(a, low, high) => {
-            enclose(range(open_at_once(a.get()), open_at_once(low.get()), open_at_once(high.get())))
+            enclose(range(
+                open_at_once(a.get()),
+                open_at_once(low.get()),
+                open_at_once(high.get()),
+            ))
         }
         Expr::CountAll | Expr::ActiveBranch => 1,
         Expr::Literal(_) | Expr::Name(_) | Expr::Qualified(_, _) | Expr::Variable(_) => 0,

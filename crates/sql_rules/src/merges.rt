@@ -97,7 +97,10 @@ fn forbid_fast_forward(seen: Merge) -> Option<Merge>
     if seen.no_ff {
         return None;
     }
-    Some(Merge { no_ff: true, ..seen })
+    Some(Merge {
+        no_ff: true,
+        ..seen
+    })
 }
 
 fn await_message(seen: Merge) -> Option<Merge>

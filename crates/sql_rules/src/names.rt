@@ -145,7 +145,9 @@ fn columns_have_long(columns: &Option<Sequence<Text>>) -> bool
 fn some_tuple_has_long(tuples: &[Tuple]) -> bool
     ensures { result ≡ list_any (λ tuple. list_any entry_long tuple) tuples.now }
 {
-    tuples.iter().any(|tuple| some_entry_has_long(tuple.as_slice()))
+    tuples
+        .iter()
+        .any(|tuple| some_entry_has_long(tuple.as_slice()))
 }
 
 fn some_entry_has_long(entries: &[Entry]) -> bool
@@ -174,7 +176,9 @@ fn update_has_long(update: &Update) -> bool
 fn some_assignment_has_long(assignments: &[Assignment]) -> bool
     ensures { result ≡ list_any assignment_long assignments.now }
 {
-    assignments.iter().any(|assignment| assignment_has_long(assignment))
+    assignments
+        .iter()
+        .any(|assignment| assignment_has_long(assignment))
 }
 
 fn assignment_has_long(assignment: &Assignment) -> bool
@@ -207,9 +211,7 @@ fn named_has_long(named: &NamedExpr) -> bool
 fn query_has_long(query: &Query) -> bool
     ensures { result ≡ query_long query.now }
 {
-    items_have_long(&query.items)
-        || from_has_long(&query.from)
-        || clauses_have_long(&query.clauses)
+    items_have_long(&query.items) || from_has_long(&query.from) || clauses_have_long(&query.clauses)
 }
 
 fn items_have_long(items: &Items) -> bool

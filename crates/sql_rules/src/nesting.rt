@@ -23,11 +23,15 @@ fn levels(expr: &Expr) -> u8
         | Expr::Subtract(a, b)
         | Expr::Multiply(a, b) => levels(a.get()).max(levels(b.get())),
         Expr::Not(a) | Expr::IsNull(a) | Expr::IsNotNull(a) | Expr::Negate(a) => levels(a.get()),
-        Expr::Count(a) | Expr::Sum(a) | Expr::Min(a) | Expr::Max(a) => one_level_more(levels(a.get())),
+        Expr::Count(a) | Expr::Sum(a) | Expr::Min(a) | Expr::Max(a) => one_level_more(levels(
+            a.get(),
+        )),
         Expr::In(a, list) => levels(a.get()).max(most_levels(list.as_slice())),
         Expr::NotIn(a, list) => levels(a.get()).max(most_levels(list.as_slice())),
         Expr::Between(a, low, high) | Expr::NotBetween(a, low, high) => {
-            levels(a.get()).max(levels(low.get())).max(levels(high.get()))
+            levels(a.get())
+                .max(levels(low.get()))
+                .max(levels(high.get()))
         }
         Expr::CountAll => 1,
         Expr::Literal(_)

@@ -82,10 +82,12 @@ fn is_outside_create(alloc: Global, create: &CreateTable) -> Result<bool, AllocE
 fn are_outside_elements(elements: &[Element]) -> Result<bool, AllocError>
     ensures { IfOk result (λ answer. answer ≡ elements_outside elements.now) }
 {
-    Ok(!is_keyed_once(elements)?
-        || repeats_column_name(elements)
-        || repeats_constraint_name(elements)
-        || some_element_is_outside(elements))
+    Ok(
+        !is_keyed_once(elements)?
+            || repeats_column_name(elements)
+            || repeats_constraint_name(elements)
+            || some_element_is_outside(elements),
+    )
 }
 
 fn makes_some_long_name(
@@ -95,7 +97,9 @@ fn makes_some_long_name(
 ) -> Result<bool, AllocError>
     ensures { IfOk result (λ answer. answer ≡ makes_some_long table.now elements.now) }
 {
-    Ok(makes_long_name(alloc, table, elements, Sort::Unique)?
-        || makes_long_name(alloc, table, elements, Sort::Check)?
-        || makes_long_name(alloc, table, elements, Sort::ForeignKey)?)
+    Ok(
+        makes_long_name(alloc, table, elements, Sort::Unique)?
+            || makes_long_name(alloc, table, elements, Sort::Check)?
+            || makes_long_name(alloc, table, elements, Sort::ForeignKey)?,
+    )
 }

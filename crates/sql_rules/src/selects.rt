@@ -12,7 +12,9 @@ use crate::features::{Feature, has_feature, is_aggregate_node};
 use crate::nesting::nests_aggregates;
 use crate::order_keys::is_outside_key;
 use crate::writes::{is_given_out_of_place, is_out_of_place};
-use sql_ast::{ColumnName, Expr, FromClause, Item, Items, Join, NamedExpr, OrderKey, Query, Select, Source};
+use sql_ast::{
+    ColumnName, Expr, FromClause, Item, Items, Join, NamedExpr, OrderKey, Query, Select, Source,
+};
 use tuple_codec::Text;
 
 pub fn is_outside_select(select: &Select) -> bool
@@ -68,7 +70,9 @@ fn repeats_joined(joins: &[Join]) -> bool
 fn joins_named(joins: &[Join], name: &Text) -> bool
     ensures { result ≡ list_any (λ join. bytes_eq name.now (joined_name join)) joins.now }
 {
-    joins.iter().any(|join| name.is(name_of(&join.source).as_slice()))
+    joins
+        .iter()
+        .any(|join| name.is(name_of(&join.source).as_slice()))
 }
 
 /// The name that a source goes by.
@@ -223,13 +227,16 @@ fn orders_combinations(query: &Query) -> bool
 fn some_key_is_outside(items: &Items, open_to_sources: bool, keys: &[OrderKey]) -> bool
     ensures { result ≡ list_any (key_outside items.now open_to_sources) keys.now }
 {
-    keys.iter().any(|key| is_outside_key(items, open_to_sources, key))
+    keys.iter()
+        .any(|key| is_outside_key(items, open_to_sources, key))
 }
 
 fn is_outside_alone(list: &[NamedExpr]) -> bool
     ensures { result ≡ alone_outside list.now }
 {
-    some_named_has(list, Feature::OtherVariable) || some_named_nests(list) || has_mixed_aggregates(list)
+    some_named_has(list, Feature::OtherVariable)
+        || some_named_nests(list)
+        || has_mixed_aggregates(list)
 }
 
 fn some_named_has(list: &[NamedExpr], feature: Feature) -> bool

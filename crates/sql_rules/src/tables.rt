@@ -50,7 +50,10 @@ fn keys_of_element(element: &Element) -> usize
 fn count_key_marks(attributes: &[Attribute]) -> usize
     ensures { result ≡ count_by is_key_mark attributes.now }
 {
-    attributes.iter().filter(|attribute| marks_key(attribute)).count()
+    attributes
+        .iter()
+        .filter(|attribute| marks_key(attribute))
+        .count()
 }
 
 pub fn marks_key(attribute: &Attribute) -> bool
@@ -86,7 +89,9 @@ fn is_column_again(element: &Element, later: &[Element]) -> bool
 pub fn has_column(elements: &[Element], name: &Text) -> bool
     ensures { result ≡ has_named column_name elements.now name.now }
 {
-    elements.iter().any(|element| is_column_named(element, name))
+    elements
+        .iter()
+        .any(|element| is_column_named(element, name))
 }
 
 fn is_column_named(element: &Element, name: &Text) -> bool
@@ -135,7 +140,9 @@ fn is_given_again(name: &Option<Text>, later: &[Element]) -> bool
 pub fn has_constraint(elements: &[Element], name: &[u8]) -> bool
     ensures { result ≡ has_named given_name elements.now name.now }
 {
-    elements.iter().any(|element| is_constraint_named(element, name))
+    elements
+        .iter()
+        .any(|element| is_constraint_named(element, name))
 }
 
 fn is_constraint_named(element: &Element, name: &[u8]) -> bool
@@ -230,7 +237,9 @@ fn is_outside_check(condition: &Expr) -> bool
 pub fn some_element_is_outside(elements: &[Element]) -> bool
     ensures { result ≡ list_any (element_outside elements.now) elements.now }
 {
-    elements.iter().any(|element| is_outside_element(elements, element))
+    elements
+        .iter()
+        .any(|element| is_outside_element(elements, element))
 }
 
 fn is_outside_element(elements: &[Element], element: &Element) -> bool

@@ -45,7 +45,9 @@ fn repeats_given(columns: &Option<Sequence<Text>>) -> bool
 fn some_tuple_is_outside(tuples: &[Tuple]) -> bool
     ensures { result ≡ list_any (λ tuple. list_any entry_outside tuple) tuples.now }
 {
-    tuples.iter().any(|tuple| some_entry_is_outside(tuple.as_slice()))
+    tuples
+        .iter()
+        .any(|tuple| some_entry_is_outside(tuple.as_slice()))
 }
 
 fn some_entry_is_outside(entries: &[Entry]) -> bool
@@ -86,13 +88,17 @@ fn repeats_column(assignments: &[Assignment]) -> bool
 fn assigns(assignments: &[Assignment], column: &Text) -> bool
     ensures { result ≡ list_any (λ assignment. bytes_eq column.now assignment.column) assignments.now }
 {
-    assignments.iter().any(|assignment| column.is(assignment.column.as_slice()))
+    assignments
+        .iter()
+        .any(|assignment| column.is(assignment.column.as_slice()))
 }
 
 fn some_value_is_out_of_place(assignments: &[Assignment]) -> bool
     ensures { result ≡ list_any (λ assignment. is_misplaced assignment.value) assignments.now }
 {
-    assignments.iter().any(|assignment| is_out_of_place(&assignment.value))
+    assignments
+        .iter()
+        .any(|assignment| is_out_of_place(&assignment.value))
 }
 
 pub fn is_outside_delete(delete: &Delete) -> bool

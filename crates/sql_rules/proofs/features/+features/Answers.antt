@@ -1,4 +1,4 @@
-use Rattle.std.proofs.Common.{rules, ◌≡◌, ◌∙◌, sym, ap, subst, ℕ, ◌+◌, ◌-◌, ◌*◌, ◌<◌, ◌≤◌, length, Bool, true, false, ◌||◌, List, [], ◌∷◌, map, refl, arith}
+use Rattle.std.proofs.Common.{◌≡◌, ◌∙◌, sym, ap, Bool, false, ◌||◌, List, ◌∷◌, map, refl, arith}
 use Rattle.std.specs.List.{list_any}
 use Rattle.sql_ast.specs.declared.expressions.Expr.{Expr}
 use Rattle.sql_ast.specs.declared.expressions.Expr.TheVariants as e
