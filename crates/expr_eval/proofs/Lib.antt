@@ -1,1 +1,3 @@
+pub mod BindLemmas
 pub mod InLemmas
+pub mod SizeLemmas

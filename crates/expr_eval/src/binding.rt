@@ -113,7 +113,10 @@ pub fn bind(alloc: Global, expr: &Expr, scope: &[ScopeColumn]) -> Result<BoundEx
         Expr::Literal(literal) => bound_literal(alloc, literal),
         Expr::Name(name) => bound_column(scope, place_named(scope, name.as_slice())),
         Expr::Qualified(source, name) => {
-            bound_column(scope, place_qualified(scope, source.as_slice(), name.as_slice()))
+            bound_column(
+                scope,
+                place_qualified(scope, source.as_slice(), name.as_slice()),
+            )
         }
         Expr::CountAll
         | Expr::Count(_)
@@ -226,7 +229,11 @@ fn bound_is_not_null(alloc: Global, a: BoundExpr) -> Result<BoundExpr, BindFault
     })
 }
 
-fn in_node(alloc: Global, value: BoundExpr, elements: Sequence<Node>) -> Result<BoundExpr, BindFault>
+fn in_node(
+    alloc: Global,
+    value: BoundExpr,
+    elements: Sequence<Node>,
+) -> Result<BoundExpr, BindFault>
     ensures { Gives result (in_node value elements) }
 {
     let value = Boxed::new(alloc, value.node)?;
@@ -362,10 +369,7 @@ fn bound_literal(alloc: Global, literal: &Literal) -> Result<BoundExpr, BindFaul
         }
         Literal::Bytes(bytes) => {
             let bytes = Vec::from_slice(alloc, bytes.as_slice())?;
-            Ok(constant(
-                Kind::Bytes,
-                Value::Bytes(Sequence::from_vec(bytes)),
-            ))
+            Ok(constant(Kind::Bytes, Value::Bytes(Sequence::from_vec(bytes))))
         }
         Literal::Bool(bit) => Ok(constant(Kind::Bool, Value::Bool(*bit))),
         Literal::Null => Ok(constant(Kind::Null, Value::Null)),

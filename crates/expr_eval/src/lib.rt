@@ -1,13 +1,11 @@
 //! Expressions: their kinds, found before any row is seen, and their values on rows.
 #![tactic(auto)]
 
-
 mod binding;
 mod bound;
 mod faults;
 mod scopes;
 mod valuing;
-
 
 pub use binding::bind;
 pub use bound::{BoundExpr, Node};

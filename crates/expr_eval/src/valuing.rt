@@ -80,8 +80,8 @@ fn worth<'a>(node: &'a Node, row: &'a [Value]) -> Option<Worth<'a>>
             let mut found = Some(false);
             for element in elements.as_slice() {
                 let Some(element) = worth(element, row) else {
-                return None;
-            };
+                    return None;
+                };
                 found = or(found, compared(Comparison::Equal, &a, &element));
             }
             Some(Worth::of_truth(found))

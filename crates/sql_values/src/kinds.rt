@@ -40,6 +40,20 @@ impl Kind {
         }
     }
 
+    /// The same kind once more.
+    pub fn copied(&self) -> Kind
+        ensures { result ≡ self.now }
+    {
+        match self {
+            Kind::Int => Kind::Int,
+            Kind::Bool => Kind::Bool,
+            Kind::Text => Kind::Text,
+            Kind::Bytes => Kind::Bytes,
+            Kind::Decimal(scale) => Kind::Decimal(*scale),
+            Kind::Null => Kind::Null,
+        }
+    }
+
     /// How many digits stand behind the point; none but in decimals.
     pub fn scale(&self) -> Scale
         ensures { result ≡ scale_of self.now }
@@ -131,9 +145,9 @@ pub fn product_kind(a: &Kind, b: &Kind) -> Option<Kind>
 pub fn negative_kind(kind: &Kind) -> Option<Kind>
     ensures { result ≡ negative_kind kind.now }
 {
-    match kind {
-        Kind::Int => Some(Kind::Int),
-        Kind::Decimal(scale) => Some(Kind::Decimal(*scale)),
-        _ => None,
+    if kind.is_counted() {
+        Some(kind.copied())
+    } else {
+        None
     }
 }

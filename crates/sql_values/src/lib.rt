@@ -7,6 +7,8 @@ mod kinds;
 mod logic;
 mod numbers;
 mod scales;
+#[cfg(test)]
+mod tests;
 mod worths;
 
 pub use assigning::{Misfit, assign, may_assign};

@@ -37,7 +37,7 @@ impl Number {
 }
 
 /// The sum, None where it is out of range; NULL where one side is NULL.
-pub fn add(a: &Worth<'_>, b: &Worth<'_>) -> Option<Worth<'static>>
+pub fn add<'a>(a: &Worth<'_>, b: &Worth<'_>) -> Option<Worth<'a>>
     ensures { option_map seen result ≡ plus (seen a.now) (seen b.now) }
 {
     match (a, b) {
@@ -50,7 +50,7 @@ pub fn add(a: &Worth<'_>, b: &Worth<'_>) -> Option<Worth<'static>>
 }
 
 /// The difference, None where it is out of range; NULL where one side is NULL.
-pub fn subtract(a: &Worth<'_>, b: &Worth<'_>) -> Option<Worth<'static>>
+pub fn subtract<'a>(a: &Worth<'_>, b: &Worth<'_>) -> Option<Worth<'a>>
     ensures { option_map seen result ≡ minus (seen a.now) (seen b.now) }
 {
     match (a, b) {
@@ -63,7 +63,7 @@ pub fn subtract(a: &Worth<'_>, b: &Worth<'_>) -> Option<Worth<'static>>
 }
 
 /// The product, None where it is out of range; NULL where one side is NULL.
-pub fn multiply(a: &Worth<'_>, b: &Worth<'_>) -> Option<Worth<'static>>
+pub fn multiply<'a>(a: &Worth<'_>, b: &Worth<'_>) -> Option<Worth<'a>>
     ensures { option_map seen result ≡ times (seen a.now) (seen b.now) }
 {
     match (a, b) {
@@ -76,7 +76,7 @@ pub fn multiply(a: &Worth<'_>, b: &Worth<'_>) -> Option<Worth<'static>>
 }
 
 /// The number with its sign turned, None where it is out of range; NULL for NULL.
-pub fn negate(a: &Worth<'_>) -> Option<Worth<'static>>
+pub fn negate<'a>(a: &Worth<'_>) -> Option<Worth<'a>>
     ensures { option_map seen result ≡ negated (seen a.now) }
 {
     match a {
@@ -86,14 +86,14 @@ pub fn negate(a: &Worth<'_>) -> Option<Worth<'static>>
     }
 }
 
-fn decimal_sum(a: Number, b: Number) -> Option<Worth<'static>>
+fn decimal_sum<'a>(a: Number, b: Number) -> Option<Worth<'a>>
     ensures { option_map seen result ≡ scaled (sum_of a b) }
 {
     let scale = greater_scale(&a, &b);
     scaled(sum_at(scale, &a, &b), scale)
 }
 
-fn decimal_difference(a: Number, b: Number) -> Option<Worth<'static>>
+fn decimal_difference<'a>(a: Number, b: Number) -> Option<Worth<'a>>
     ensures { option_map seen result ≡ scaled (difference_of a b) }
 {
     let scale = greater_scale(&a, &b);
@@ -138,14 +138,14 @@ fn at_scale(scale: u8, number: &Number) -> i128
     moved(scale - number.scale.get(), number.units)
 }
 
-fn decimal_product(a: Number, b: Number) -> Option<Worth<'static>>
+fn decimal_product<'a>(a: Number, b: Number) -> Option<Worth<'a>>
     ensures { option_map seen result ≡ scaled (product_of a b) }
 {
     scaled(product(a.units, b.units), a.scale.get() + b.scale.get())
 }
 
 /// A whole number, if it has 64 bits.
-fn whole(number: i128) -> Option<Worth<'static>>
+fn whole<'a>(number: i128) -> Option<Worth<'a>>
     ensures { option_map seen result ≡ whole number }
 {
     match i64::try_from(number) {
@@ -155,7 +155,7 @@ fn whole(number: i128) -> Option<Worth<'static>>
 }
 
 /// A decimal, if it has at most 18 digits, also behind its point.
-fn scaled(units: i128, scale: u8) -> Option<Worth<'static>>
+fn scaled<'a>(units: i128, scale: u8) -> Option<Worth<'a>>
     ensures { option_map seen result ≡ scaled (record { units = units; scale = scale }) }
 {
     match Scale::new(scale) {

@@ -62,7 +62,7 @@ impl<'a> Worth<'a> {
     }
 
     /// What a truth value is worth; None is NULL.
-    pub fn of_truth(truth: Option<bool>) -> Worth<'static>
+    pub fn of_truth(truth: Option<bool>) -> Worth<'a>
         ensures { seen result ≡ of_truth truth }
     {
         match truth {
