@@ -1,3 +1,3 @@
 mod Vectors
-pub mod ListNodes
+pub mod AnyOf
 pub mod MadeNames

@@ -7,7 +7,8 @@ use Rattle.sql_rules.specs.Features.{has, step, shows, any_of}
 use Rattle.sql_rules.specs.declared.features.Feature.{Feature}
 use Rattle.sql_rules.specs.declared.features.Feature.TheVariants as feature
 use Rattle.sql_ast.specs.declared.expressions.Expr.TheOpen.{Expr-F}
-use Rattle.sql_rules.proofs.ListNodes.{in_size, not_in_size, fold_in, fold_not_in, list_any-map}
+use Rattle.sql_ast.proofs.ListNodes.{in_size, not_in_size, fold_in, fold_not_in}
+use Rattle.sql_rules.proofs.AnyOf.{list_any-map}
 use Rattle.sql_rules.proofs.features.+features.Goals as goal
 use denote.Param.Weighed.{most}
 

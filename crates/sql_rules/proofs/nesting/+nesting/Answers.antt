@@ -4,7 +4,7 @@ use Rattle.sql_ast.specs.declared.expressions.Expr.TheVariants as e
 use Rattle.sql_ast.proofs.expressions.Expr.TheLaws.{the_size}
 use Rattle.sql_rules.specs.Nesting.{greatest}
 use Rattle.sql_rules.specs.Nesting.{nesting, nested_at}
-use Rattle.sql_rules.proofs.ListNodes.{in_size, not_in_size, fold_in, fold_not_in}
+use Rattle.sql_ast.proofs.ListNodes.{in_size, not_in_size, fold_in, fold_not_in}
 use Rattle.sql_rules.proofs.nesting.+nesting.Goals as goal
 use denote.Param.Weighed.{most}
 
