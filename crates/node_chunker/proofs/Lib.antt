@@ -5,3 +5,4 @@ pub mod ClosingLemmas
 pub mod ClimbLemmas
 mod NumberedLemmas
 mod Vectors
+pub mod RefLemmas

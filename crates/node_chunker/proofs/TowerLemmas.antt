@@ -16,7 +16,7 @@ skip_right : {A : Type 0} (p q : Bool) (u v : A) → q ≡ false → cond (p && 
 skip_right true q u v e = ap (λ b. cond b u v) e
 skip_right false q u v e = refl
 
-skip_left : {A : Type 0} (p q : Bool) (u v : A) → p ≡ false → cond (p && q) u v ≡ v
+pub skip_left : {A : Type 0} (p q : Bool) (u v : A) → p ≡ false → cond (p && q) u v ≡ v
 skip_left p q u v e = ap (λ b. cond (b && q) u v) e
 
 pub never_empty : (a : List ℕ → List ℕ) (level : ℕ) (nodes : List (List Item)) (item : Item) → is_empty (pushes a level nodes item) ≡ false

@@ -5,3 +5,4 @@ pub mod StandingNodes
 pub mod StandingLists
 pub mod Standing
 pub mod Cuts
+pub mod Lifts
