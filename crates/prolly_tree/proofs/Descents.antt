@@ -51,14 +51,15 @@ head_above key [] item more e = absurd (nothing_there item more e)
 head_above key (first ∷ items) item more e =
     (elim (is_lt (order first.key key)) as (λ b. is_lt (order first.key key) ≡ b → cond b (from_key key items) (first ∷ items) ≡ item ∷ more → is_lt (order item.key key) ≡ false) [
       | true ↦ λ t e. head_above key items item more e
-      | false ↦ λ t e. subst (λ (x : Item). is_lt (order x.key key) ≡ false) (one_more first item items more e) t ]) refl e
+      | false ↦ λ t e. subst (λ (x : Item). is_lt (order x.key key) ≡ false) (one_more first item items more e) t
+    ]) refl e
 
 upto_each : (f : Item → List Item) (items : List Item) → AllByRecursion (IsReached f) items → Rise (each_of f items) → AllByRecursion (λ item. UpTo item.key (f item)) items
 upto_each f [] all rise = tt
 upto_each f (item ∷ items) all rise = (
-    subst (λ (k : List ℕ). UpTo k (f item)) all.0.last (upto_last (f item) (rise_left None (f item) (each_of f items) rise)),
-    upto_each f items all.1 (rise_right None (f item) (each_of f items) rise),
-  )
+  subst (λ (k : List ℕ). UpTo k (f item)) all.0.last (upto_last (f item) (rise_left None (f item) (each_of f items) rise)),
+  upto_each f items all.1 (rise_right None (f item) (each_of f items) rise),
+)
 
 all_at : (P : Item → Type 0) (items : List Item) (at : ℕ) (item : Item) → AllByRecursion P items → slice_get items at ≡ Some item → P item
 all_at P [] at item all is = absurd (none_some item is)
@@ -97,7 +98,6 @@ from_here chunks level item key more found above =
     let r = reached chunks level item found in
     reach key (rows_at (nodes_in chunks) level item) more r.some (subst (λ (k : List ℕ). is_lt (order k key) ≡ false) (sym r.last) above)
 
-
 pub child_opens : (chunks : Chunks) (level : ℕ) (item : Item) (found : IsFound chunks (suc level) item) → Rise (rows_at (nodes_in chunks) (suc level) item)
     → IsOpen chunks item.body (record { level = level; items = found.0 })
 child_opens chunks level item found rise = record {
@@ -123,7 +123,7 @@ next_by chunks key (suc level) items at item leads inner place is =
     let here = from_here chunks (suc level) item key (each_of f more) found (head_above key items item more front) in
     let rise : Rise (f item) = rise_at f items at item leads.rise is in
     let rows : from_key key (rows_below chunks node) ≡ from_key key (f item) ++ each_of f more =
-      from_items chunks node key leads ∙ ap (λ (l : List Item). from_key key (each_of f l)) front ∙ here.0 in
+    from_items chunks node key leads ∙ ap (λ (l : List Item). from_key key (each_of f l)) front ∙ here.0 in
     let child : Node = record { level = level; items = found.0 } in (
       child,
       record {

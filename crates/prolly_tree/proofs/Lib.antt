@@ -1,3 +1,4 @@
 pub mod Lookups
 pub mod Descents
 pub mod WalkLemmas
+pub mod SampleLemmas

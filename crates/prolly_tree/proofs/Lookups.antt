@@ -29,7 +29,8 @@ drop_place key [] = refl
 drop_place key (item ∷ items) =
     elim (is_lt (order item.key key)) as (λ b. drop (cond b (suc (place_of key items)) 0) (item ∷ items) ≡ cond b (from_key key items) (item ∷ items)) [
       | true ↦ drop_place key items
-      | false ↦ refl ]
+      | false ↦ refl
+    ]
 
 pub place_within : (key : List ℕ) (items : List Item) → place_of key items ≤ length items
 place_within key [] = omega arith
@@ -37,7 +38,8 @@ place_within key (item ∷ items) =
     let more = place_within key items in
     elim (is_lt (order item.key key)) as (λ b. cond b (suc (place_of key items)) 0 ≤ suc (length items)) [
       | true ↦ omega arith
-      | false ↦ omega arith ]
+      | false ↦ omega arith
+    ]
 
 -- a key after another is greater
 later : (before k : List ℕ) (items : List Item) (at : ℕ) → RiseAfter (Some before) items → key_is items at k → is_lt (order before k) ≡ true
@@ -64,7 +66,8 @@ place_before key k (item ∷ items) (suc at) is above =
     let more = place_before key k items at is above in
     elim (is_lt (order item.key key)) as (λ b. cond b (suc (place_of key items)) 0 ≤ suc at) [
       | true ↦ omega arith
-      | false ↦ omega arith ]
+      | false ↦ omega arith
+    ]
 
 -- rows up to a key that is below
 pub below_all : (key k : List ℕ) (rows more : List Item) → UpTo k rows → is_lt (order k key) ≡ true → from_key key (rows ++ more) ≡ from_key key more
@@ -78,25 +81,27 @@ pub skip_items : (key : List ℕ) (f : Item → List Item) (items : List Item) �
 skip_items key f [] upto = refl
 skip_items key f (item ∷ items) upto =
     elim (is_lt (order item.key key)) as (λ b. is_lt (order item.key key) ≡ b
-      → from_key key (f item ++ each_of f items) ≡ from_key key (each_of f (cond b (from_key key items) (item ∷ items)))) [
+    → from_key key (f item ++ each_of f items) ≡ from_key key (each_of f (cond b (from_key key items) (item ∷ items)))) [
       | true ↦ λ e. below_all key item.key (f item) (each_of f items) upto.0 e ∙ skip_items key f items upto.1
-      | false ↦ λ e. refl ] refl
+      | false ↦ λ e. refl
+    ] refl
 
 -- rows whose last key isn't below
 pub reach : (key : List ℕ) (rows more : List Item) → 0 < length rows → is_lt (order (last_key rows) key) ≡ false
     → (from_key key (rows ++ more) ≡ from_key key rows ++ more) × (0 < length (from_key key rows))
 reach key [] more some above = absurd (omega arith)
 reach key (row ∷ []) more some above = (
-    rw above refl,
-    rw above (omega arith),
-  )
+  rw above refl,
+  rw above (omega arith),
+)
 reach key (row ∷ other ∷ rows) more some above =
     let rest = reach key (other ∷ rows) more (omega arith) above in
     elim (is_lt (order row.key key)) as (λ b.
-      (cond b (from_key key ((other ∷ rows) ++ more)) (row ∷ ((other ∷ rows) ++ more)) ≡ cond b (from_key key (other ∷ rows)) (row ∷ other ∷ rows) ++ more)
-      × (0 < length (cond b (from_key key (other ∷ rows)) (row ∷ other ∷ rows)))) [
+    (cond b (from_key key ((other ∷ rows) ++ more)) (row ∷ ((other ∷ rows) ++ more)) ≡ cond b (from_key key (other ∷ rows)) (row ∷ other ∷ rows) ++ more)
+    × (0 < length (cond b (from_key key (other ∷ rows)) (row ∷ other ∷ rows)))) [
       | true ↦ rest
-      | false ↦ (refl, omega arith) ]
+      | false ↦ (refl, omega arith)
+    ]
 
 -- the first of a list that goes on
 pub first_before : (key : List ℕ) (rows more : List Item) → 0 < length rows → first_of key (rows ++ more) ≡ first_of key rows
@@ -133,7 +138,8 @@ pub value_front : (key : List ℕ) (rows : List Item) → Rise rows → value_at
 value_front key [] rise = refl
 value_front key (row ∷ rows) rise =
     elim (is_lt (order row.key key)) as (λ b. is_lt (order row.key key) ≡ b
-      → cond (bytes_eq row.key key) (Some row.body) (value_at key rows) ≡ first_of key (cond b (from_key key rows) (row ∷ rows))) [
+    → cond (bytes_eq row.key key) (Some row.body) (value_at key rows) ≡ first_of key (cond b (from_key key rows) (row ∷ rows))) [
       | true ↦ λ e. ap (λ (b : Bool). cond b (Some row.body) (value_at key rows)) (less_unequal row.key key (order row.key key) refl e)
           ∙ value_front key rows (rise_any (Some row.key) rows rise.1)
-      | false ↦ λ e. ap (λ (o : Option (List ℕ)). cond (bytes_eq row.key key) (Some row.body) o) (none_above key row.key rows rise.1 e) ] refl
+      | false ↦ λ e. ap (λ (o : Option (List ℕ)). cond (bytes_eq row.key key) (Some row.body) o) (none_above key row.key rows rise.1 e)
+    ] refl

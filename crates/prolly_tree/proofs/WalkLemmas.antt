@@ -90,7 +90,7 @@ pub record IsBelow (chunks : Chunks) (old : Left) (address : List ℕ) (node : N
 pub below : (chunks : Chunks) (old : Left) (address : List ℕ) → CanWalk chunks old → IsAtNode old address → (node : Node) × IsBelow chunks old address node
 below chunks old address can at =
     let here : AllByRecursion (IsFound chunks (suc at.level)) (at.item ∷ drop 1 old.here.items) =
-      subst (λ (l : ℕ). AllByRecursion (IsFound chunks l) (at.item ∷ drop 1 old.here.items)) at.inner (subst (AllByRecursion (IsFound chunks old.here.level)) at.first can.here) in
+    subst (λ (l : ℕ). AllByRecursion (IsFound chunks l) (at.item ∷ drop 1 old.here.items)) at.inner (subst (AllByRecursion (IsFound chunks old.here.level)) at.first can.here) in
     let found : IsFound chunks (suc at.level) at.item = here.0 in
     let node : Node = record { level = at.level; items = found.0 } in
     let f = λ (l : ℕ). rows_at (nodes_in chunks) l in
@@ -142,18 +142,20 @@ from_again key [] = refl
 from_again key (item ∷ items) =
     elim (is_lt (order item.key key)) as (λ b. is_lt (order item.key key) ≡ b → from_key key (cond b (from_key key items) (item ∷ items)) ≡ cond b (from_key key items) (item ∷ items)) [
       | true ↦ λ e. from_again key items
-      | false ↦ λ e. ap (λ (b : Bool). cond b (from_key key items) (item ∷ items)) e ] refl
+      | false ↦ λ e. ap (λ (b : Bool). cond b (from_key key items) (item ∷ items)) e
+    ] refl
 
 -- the rows of the node that is first reach a key that its item reaches
 below_reaches : (chunks : Chunks) (key : List ℕ) (old : Left) (address : List ℕ) (node : Node) → CanWalk chunks old → (is_at : IsAtNode old address) → IsBelow chunks old address node
     → is_lt (order is_at.item.key key) ≡ false → (more : List Item) → from_key key (rows_below chunks node ++ more) ≡ from_key key (rows_below chunks node) ++ more
 below_reaches chunks key old address node can is_at is above more =
     (reach key (rows_below chunks node) more (some_rows f node.items all is.some)
-      (subst (λ (k : List ℕ). is_lt (order k key) ≡ false) (sym (last_row f node.items all is.some ∙ sym (is.last is_at))) above)).0 where
-  f : Item → List Item
-  f = rows_at (nodes_in chunks) node.level
-  all : AllByRecursion (IsReached f) node.items
-  all = all_map (λ i there. reached chunks node.level i there) node.items is.each
+    (subst (λ (k : List ℕ). is_lt (order k key) ≡ false) (sym (last_row f node.items all is.some ∙ sym (is.last is_at))) above)).0 where
+      f : Item → List Item
+      f = rows_at (nodes_in chunks) node.level
+
+      all : AllByRecursion (IsReached f) node.items
+      all = all_map (λ i there. reached chunks node.level i there) node.items is.each
 
 -- the rows from a key on, where a walk goes down into the node that is first
 pub seek_down : (chunks : Chunks) (key : List ℕ) (old : Left) (address : List ℕ) (node : Node) (at : ℕ) → CanWalk chunks old → IsAtNode old address → IsBelow chunks old address node
@@ -171,13 +173,13 @@ seek_down chunks key old address node at can is_at is rise begun place =
     let reaches = below_reaches chunks key old address node can is_at is above rest in
     let first : from_key key (rows_below chunks old.here) ≡ from_key key (rows_below chunks node) ++ rest = ap (from_key key) is.rows ∙ reaches in
     let moved : from_key key (rows_below chunks node) ≡ from_key key (each_of f (drop at node.items)) =
-      from_items chunks node key leads ∙ ap (λ (l : List Item). from_key key (each_of f l)) (sym here) in (
+    from_items chunks node key leads ∙ ap (λ (l : List Item). from_key key (each_of f l)) (sym here) in (
       rise_drop f at node.items below_rise,
       ap (from_key key) here ∙ from_again key node.items ∙ sym here,
       ap (λ (l : List Item). from_key key (each_of f (drop at node.items)) ++ l) (above_one chunks old.above (left_in old.here 1))
-      ∙ sym (append_assoc (from_key key (each_of f (drop at node.items))) rest (rows_above chunks old.above))
-      ∙ ap (λ (l : List Item). (l ++ rest) ++ rows_above chunks old.above) (sym moved)
-      ∙ ap (λ (l : List Item). l ++ rows_above chunks old.above) (sym first),
+          ∙ sym (append_assoc (from_key key (each_of f (drop at node.items))) rest (rows_above chunks old.above))
+          ∙ ap (λ (l : List Item). (l ++ rest) ++ rows_above chunks old.above) (sym moved)
+          ∙ ap (λ (l : List Item). l ++ rows_above chunks old.above) (sym first),
     )
 
 -- where a walk is at a row, what is left is what is left from the key on

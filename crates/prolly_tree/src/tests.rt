@@ -1,11 +1,9 @@
-ghost use Rattle.std.specs.Prelude.{ℕ, List, length};
-
 use super::*;
 use chunk_region::PagePool;
 use chunk_store::{Draft, Store};
-use node_format::{LeafItem, write_leaf};
+use node_format::write_leaf;
 use std::test::Fail;
-use tuple_codec::{Address, Blob, Digester};
+use tuple_codec::{Address, Digester};
 
 /// Names bytes by how many they are, so that the trees of a test can be computed.
 struct ByLength;

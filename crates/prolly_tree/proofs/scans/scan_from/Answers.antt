@@ -51,13 +51,13 @@ returns-clause-rows g c = λ rows tree.
     let n : c.node_at-node.result ≡ t.0 = c.node_at-node.ensures t.0 t.1.opens.stored in
     let leads : Leads chunks c.node_at-node.result = subst (Leads chunks) (sym n) t.1.opens.leads in
     let e : c.new-walk.result ≡ begin c.node_at-node.result c.place_of-at.result c.in_ok-above.above.capacity =
-      c.new-walk.ensures
-      ∙ ap (λ (n : Node). record { here = n; above = c.in_ok-above.above.items; room = c.in_ok-above.above.capacity }) c.from-2.ensures
-      ∙ ap (λ (l : List Node). record { here = left_in c.node_at-node.result c.place_of-at.result; above = l; room = c.in_ok-above.above.capacity }) c.in_ok-above.ensures.items in
+    c.new-walk.ensures
+    ∙ ap (λ (n : Node). record { here = n; above = c.in_ok-above.above.items; room = c.in_ok-above.above.capacity }) c.from-2.ensures
+    ∙ ap (λ (l : List Node). record { here = left_in c.node_at-node.result c.place_of-at.result; above = l; room = c.in_ok-above.above.capacity }) c.in_ok-above.ensures.items in
     ap (λ (l : List Item). map pair_of l)
-      (c.seek.ensures.rest
-      ∙ ap (λ (l : Left). from_key key (rows_below chunks l.here) ++ rows_above chunks l.above) e
-      ∙ append-nil (from_key key (rows_below chunks (left_in c.node_at-node.result c.place_of-at.result)))
-      ∙ begin_rest chunks key c.node_at-node.result c.place_of-at.result leads c.place_of-at.ensures.place
-      ∙ ap (λ (n : Node). from_key key (rows_below chunks n)) n
-      ∙ ap (from_key key) t.1.rows_are)
+    (c.seek.ensures.rest
+    ∙ ap (λ (l : Left). from_key key (rows_below chunks l.here) ++ rows_above chunks l.above) e
+    ∙ append-nil (from_key key (rows_below chunks (left_in c.node_at-node.result c.place_of-at.result)))
+    ∙ begin_rest chunks key c.node_at-node.result c.place_of-at.result leads c.place_of-at.ensures.place
+    ∙ ap (λ (n : Node). from_key key (rows_below chunks n)) n
+    ∙ ap (from_key key) t.1.rows_are)

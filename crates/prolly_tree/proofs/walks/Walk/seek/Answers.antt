@@ -16,7 +16,7 @@ pub levels-smaller : goal.levels-smaller
 levels-smaller g c =
     let b = below (chunks_of c.args.draft.now.chunks) c.levels.self c.in-Some.address.0 c.levels.invariant.can c.in-Some.ensures in
     let e : c.down.new.self ≡ down_to c.levels.self b.0 c.place_of-at.result =
-      c.down.ensures ∙ ap (λ (n : Node). down_to c.levels.self n c.place_of-at.result) (c.node_at-node.ensures b.0 b.1.stored) in
+    c.down.ensures ∙ ap (λ (n : Node). down_to c.levels.self n c.place_of-at.result) (c.node_at-node.ensures b.0 b.1.stored) in
     let same : c.down.new.self.here.level ≡ b.0.level = ap (λ (l : Left). l.here.level) e in
     let lower = b.1.lower in
     let smaller : c.down.new.self.here.level < c.levels.self.here.level = omega (arith, same, lower) in
@@ -29,7 +29,7 @@ levels-preserved g c =
     let b = below chunks c.levels.self c.in-Some.address.0 c.levels.invariant.can c.in-Some.ensures in
     let n = c.node_at-node.ensures b.0 b.1.stored in
     let e : c.down.new.self ≡ down_to c.levels.self b.0 c.place_of-at.result =
-      c.down.ensures ∙ ap (λ (n : Node). down_to c.levels.self n c.place_of-at.result) n in
+    c.down.ensures ∙ ap (λ (n : Node). down_to c.levels.self n c.place_of-at.result) n in
     let place : c.place_of-at.result ≡ place_of key b.0.items = c.place_of-at.ensures.place ∙ ap (λ (n : Node). place_of key n.items) n in
     let s = seek_down chunks key c.levels.self c.in-Some.address.0 b.0 c.place_of-at.result c.levels.invariant.can c.in-Some.ensures b.1 c.levels.invariant.rise c.levels.invariant.begun place in
     record {

@@ -12,7 +12,7 @@ ended-preserved c =
     record {
       kept = λ chunks. up_rows chunks inside c.pop.new.self.items c.in-Some.step over c.in-Some.ensures.items ∙ ap (rows_left chunks) same ∙ c.ended.invariant.kept chunks;
       can = λ chunks can.
-        subst (λ (r : ℕ). CanWalk chunks (record { here = c.in-Some.step; above = c.pop.new.self.items; room = r })) (sym c.pop.ensures.capacity)
+          subst (λ (r : ℕ). CanWalk chunks (record { here = c.in-Some.step; above = c.pop.new.self.items; room = r })) (sym c.pop.ensures.capacity)
           (up_can chunks inside c.pop.new.self.items c.in-Some.step c.in-Some.ensures.items (subst (CanWalk chunks) (sym same) (c.ended.invariant.can chunks can)));
     }
 
@@ -22,5 +22,5 @@ returns-in-None-clause-can c = λ chunks can.
     let same : inside ≡ c.ended.self = c.self.view_is in
     let items : c.self.inside.above.items ≡ c.pop.new.self.items = c.in-None.ensures.items ∙ append-nil c.pop.new.self.items in
     subst (λ (l : List Node). CanWalk chunks (record { here = c.self.inside.here; above = l; room = c.pop.new.self.capacity })) items
-      (subst (λ (r : ℕ). CanWalk chunks (record { here = c.self.inside.here; above = c.self.inside.above.items; room = r })) (sym c.pop.ensures.capacity)
-        (subst (CanWalk chunks) (sym same) (c.ended.invariant.can chunks can)))
+    (subst (λ (r : ℕ). CanWalk chunks (record { here = c.self.inside.here; above = c.self.inside.above.items; room = r })) (sym c.pop.ensures.capacity)
+    (subst (CanWalk chunks) (sym same) (c.ended.invariant.can chunks can)))

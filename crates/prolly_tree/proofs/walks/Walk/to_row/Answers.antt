@@ -21,7 +21,7 @@ pub levels-smaller : goal.levels-smaller
 levels-smaller g c =
     let b = below (chunks_of c.args.draft.now.chunks) c.levels.self c.in-Some.address.0 c.levels.invariant.can c.in-Some.ensures in
     let e : c.down.new.self ≡ down_to c.levels.self b.0 0 =
-      c.down.ensures ∙ ap (λ (n : Node). down_to c.levels.self n 0) (c.node_at.ensures b.0 b.1.stored) in
+    c.down.ensures ∙ ap (λ (n : Node). down_to c.levels.self n 0) (c.node_at.ensures b.0 b.1.stored) in
     let same : c.down.new.self.here.level ≡ b.0.level = ap (λ (l : Left). l.here.level) e in
     let lower = b.1.lower in
     let smaller : c.down.new.self.here.level < c.levels.self.here.level = omega (arith, same, lower) in
@@ -32,7 +32,7 @@ levels-preserved g c =
     let chunks = chunks_of c.args.draft.now.chunks in
     let b = below chunks c.levels.self c.in-Some.address.0 c.levels.invariant.can c.in-Some.ensures in
     let e : c.down.new.self ≡ down_to c.levels.self b.0 0 =
-      c.down.ensures ∙ ap (λ (n : Node). down_to c.levels.self n 0) (c.node_at.ensures b.0 b.1.stored) in
+    c.down.ensures ∙ ap (λ (n : Node). down_to c.levels.self n 0) (c.node_at.ensures b.0 b.1.stored) in
     record {
       can = subst (CanWalk chunks) (sym e) (down_can chunks c.levels.self c.in-Some.address.0 b.0 0 c.levels.invariant.can b.1);
       kept = ap (rows_left chunks) e ∙ down_rows chunks c.levels.self c.in-Some.address.0 b.0 b.1 ∙ c.levels.invariant.kept;
