@@ -9,20 +9,26 @@ use Rattle.prolly_tree.proofs.tests.no_rows.Goals as goal
 pub count-requires-clause-tree : goal.count-requires-clause-tree
 count-requires-clause-tree g c κs =
     let chunks = chunks_of c.put.new.self.chunks in
-    let bytes : c.as_slice.result.now ≡ bytes_of 0 [] = c.as_slice.ensures ∙ c.in_ok-leaf.ensures in
-    ([], empty_tree by_length chunks c.in_ok-root.root.0 (sym (c.in_ok-root.ensures.address ∙ ap by_length bytes))
-      (subst (λ (l : List ℕ). chunks (by_length l) ≡ Some l) bytes c.in_ok-root.ensures.held.held))
+    let bytes : c.as_slice.result.now ≡ bytes_of 0 [] = c.as_slice.ensures ∙ c.in_ok-leaf.ensures in (
+      [],
+      empty_tree by_length chunks c.in_ok-root.root.0 (sym (c.in_ok-root.ensures.address ∙ ap by_length bytes))
+          (subst (λ (l : List ℕ). chunks (by_length l) ≡ Some l) bytes c.in_ok-root.ensures.held.held),
+    )
 
 pub get-requires-clause-tree : goal.get-requires-clause-tree
 get-requires-clause-tree g c κs =
     let chunks = chunks_of c.put.new.self.chunks in
-    let bytes : c.as_slice.result.now ≡ bytes_of 0 [] = c.as_slice.ensures ∙ c.in_ok-leaf.ensures in
-    ([], empty_tree by_length chunks c.in_ok-root.root.0 (sym (c.in_ok-root.ensures.address ∙ ap by_length bytes))
-      (subst (λ (l : List ℕ). chunks (by_length l) ≡ Some l) bytes c.in_ok-root.ensures.held.held))
+    let bytes : c.as_slice.result.now ≡ bytes_of 0 [] = c.as_slice.ensures ∙ c.in_ok-leaf.ensures in (
+      [],
+      empty_tree by_length chunks c.in_ok-root.root.0 (sym (c.in_ok-root.ensures.address ∙ ap by_length bytes))
+          (subst (λ (l : List ℕ). chunks (by_length l) ≡ Some l) bytes c.in_ok-root.ensures.held.held),
+    )
 
 pub scan_from-requires-clause-tree : goal.scan_from-requires-clause-tree
 scan_from-requires-clause-tree g c κs =
     let chunks = chunks_of c.put.new.self.chunks in
-    let bytes : c.as_slice.result.now ≡ bytes_of 0 [] = c.as_slice.ensures ∙ c.in_ok-leaf.ensures in
-    ([], empty_tree by_length chunks c.in_ok-root.root.0 (sym (c.in_ok-root.ensures.address ∙ ap by_length bytes))
-      (subst (λ (l : List ℕ). chunks (by_length l) ≡ Some l) bytes c.in_ok-root.ensures.held.held))
+    let bytes : c.as_slice.result.now ≡ bytes_of 0 [] = c.as_slice.ensures ∙ c.in_ok-leaf.ensures in (
+      [],
+      empty_tree by_length chunks c.in_ok-root.root.0 (sym (c.in_ok-root.ensures.address ∙ ap by_length bytes))
+          (subst (λ (l : List ℕ). chunks (by_length l) ≡ Some l) bytes c.in_ok-root.ensures.held.held),
+    )
