@@ -6,20 +6,21 @@ use Rattle.chunk_store.specs.Standing.{AreHeld, IsTree}
 use Rattle.tree_laws.specs.Standing.{Chunks}
 
 pub empty_tree : (address : List ℕ → List ℕ) (chunks : Chunks) (k : List ℕ) → address (bytes_of 0 []) ≡ k → chunks (address (bytes_of 0 [])) ≡ Some (bytes_of 0 [])
-    → IsTree address chunks k []
+    → length (address (bytes_of 0 [])) ≡ 20 → IsTree address chunks k []
 unfolding name
-empty_tree address chunks k named held = record {
+empty_tree address chunks k named held size = record {
   are_rows = record { each = tt; rise = tt; few = omega arith };
   named = named;
-  held = (held, tt);
+  held = ((held, size), tt);
 }
 
 -- a tree whose rows fit one leaf
 pub one_leaf : (address : List ℕ → List ℕ) (chunks : Chunks) (k : List ℕ) (a b : Item) → AreRows (a ∷ b ∷ []) → cut address 0 (a ∷ b ∷ []) ≡ (a ∷ b ∷ []) ∷ []
-    → address (bytes_of 0 (a ∷ b ∷ [])) ≡ k → chunks (address (bytes_of 0 (a ∷ b ∷ []))) ≡ Some (bytes_of 0 (a ∷ b ∷ [])) → IsTree address chunks k (a ∷ b ∷ [])
+    → address (bytes_of 0 (a ∷ b ∷ [])) ≡ k → chunks (address (bytes_of 0 (a ∷ b ∷ []))) ≡ Some (bytes_of 0 (a ∷ b ∷ []))
+    → length (address (bytes_of 0 (a ∷ b ∷ []))) ≡ 20 → IsTree address chunks k (a ∷ b ∷ [])
 unfolding name
-one_leaf address chunks k a b are one named held = record {
+one_leaf address chunks k a b are one named held size = record {
   are_rows = are;
   named = ap (λ (l : List (List Item)). (top address 2 1 (names address 0 l)).body) one ∙ named;
-  held = subst (λ (l : List (List Item)). AreHeld address chunks (map (bytes_of 0) l ++ inner_chunks address 2 1 (names address 0 l))) (sym one) (held, tt);
+  held = subst (λ (l : List (List Item)). AreHeld address chunks (map (bytes_of 0) l ++ inner_chunks address 2 1 (names address 0 l))) (sym one) ((held, size), tt);
 }

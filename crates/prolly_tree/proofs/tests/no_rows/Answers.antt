@@ -1,4 +1,4 @@
-use Rattle.std.proofs.Common.{◌≡◌, ℕ, List, [], Some, sym, ap, ◌∙◌, subst}
+use Rattle.std.proofs.Common.{◌≡◌, ℕ, List, [], Some, refl, sym, ap, ◌∙◌, subst}
 use Rattle.tuple_codec.specs.Trees.{bytes_of}
 use Rattle.chunk_store.specs.Drafts.{chunks_of}
 use Rattle.chunk_store.specs.Standing.{IsTree}
@@ -12,7 +12,7 @@ count-requires-clause-tree g c κs =
     let bytes : c.as_slice.result.now ≡ bytes_of 0 [] = c.as_slice.ensures ∙ c.in_ok-leaf.ensures in (
       [],
       empty_tree by_length chunks c.in_ok-root.root.0 (sym (c.in_ok-root.ensures.address ∙ ap by_length bytes))
-          (subst (λ (l : List ℕ). chunks (by_length l) ≡ Some l) bytes c.in_ok-root.ensures.held.held),
+          (subst (λ (l : List ℕ). chunks (by_length l) ≡ Some l) bytes c.in_ok-root.ensures.held.held) refl,
     )
 
 pub get-requires-clause-tree : goal.get-requires-clause-tree
@@ -21,7 +21,7 @@ get-requires-clause-tree g c κs =
     let bytes : c.as_slice.result.now ≡ bytes_of 0 [] = c.as_slice.ensures ∙ c.in_ok-leaf.ensures in (
       [],
       empty_tree by_length chunks c.in_ok-root.root.0 (sym (c.in_ok-root.ensures.address ∙ ap by_length bytes))
-          (subst (λ (l : List ℕ). chunks (by_length l) ≡ Some l) bytes c.in_ok-root.ensures.held.held),
+          (subst (λ (l : List ℕ). chunks (by_length l) ≡ Some l) bytes c.in_ok-root.ensures.held.held) refl,
     )
 
 pub scan_from-requires-clause-tree : goal.scan_from-requires-clause-tree
@@ -30,5 +30,5 @@ scan_from-requires-clause-tree g c κs =
     let bytes : c.as_slice.result.now ≡ bytes_of 0 [] = c.as_slice.ensures ∙ c.in_ok-leaf.ensures in (
       [],
       empty_tree by_length chunks c.in_ok-root.root.0 (sym (c.in_ok-root.ensures.address ∙ ap by_length bytes))
-          (subst (λ (l : List ℕ). chunks (by_length l) ≡ Some l) bytes c.in_ok-root.ensures.held.held),
+          (subst (λ (l : List ℕ). chunks (by_length l) ≡ Some l) bytes c.in_ok-root.ensures.held.held) refl,
     )
