@@ -77,15 +77,16 @@ module _ (a : List ℕ → List ℕ) (begun : List (List Item)) (named : Item) w
       let over : closes a (suc at) (held ++ item ∷ []) ≡ false = ap (λ n. closes a n (held ++ item ∷ [])) (sym e) ∙ stays.0 in
       let opened = here nodes at item held within is in
       let pushed : pushes a (suc at) (drop at nodes) item ≡ now ∷ above =
-          ap (λ l. pushes a (suc at) l item) opened
-          ∙ ap (λ b. cond b ([] ∷ pushes a (suc (suc at)) above (name a (suc at) (held ++ item ∷ []))) ((held ++ item ∷ []) ∷ above)) over
-          ∙ ap (λ h. h ∷ above) (sym stays.1) in
+      ap (λ l. pushes a (suc at) l item) opened
+      ∙ ap (λ b. cond b ([] ∷ pushes a (suc (suc at)) above (name a (suc at) (held ++ item ∷ []))) ((held ++ item ∷ []) ∷ above)) over
+      ∙ ap (λ h. h ∷ above) (sym stays.1) in
       let ended : ended_chunks a (suc at) (drop at nodes) item ≡ [] =
-          ap (λ l. ended_chunks a (suc at) l item) opened
-          ∙ ap (λ b. cond b (bytes_of (suc at) (held ++ item ∷ []) ∷ ended_chunks a (suc (suc at)) above (name a (suc at) (held ++ item ∷ []))) []) over in
-      let P : List (List ℕ) → Type 0 = AreHeld a new in
-      (after_is ∙ set_split nodes at now within ∙ ap (λ l. take at nodes ++ l) (sym pushed) ∙ climbing.comes,
-       climbing.kept new grows (subst P (sym ended) tt))
+      ap (λ l. ended_chunks a (suc at) l item) opened
+      ∙ ap (λ b. cond b (bytes_of (suc at) (held ++ item ∷ []) ∷ ended_chunks a (suc (suc at)) above (name a (suc at) (held ++ item ∷ []))) []) over in
+      let P : List (List ℕ) → Type 0 = AreHeld a new in (
+        after_is ∙ set_split nodes at now within ∙ ap (λ l. take at nodes ++ l) (sym pushed) ∙ climbing.comes,
+        climbing.kept new grows (subst P (sym ended) tt),
+      )
 
   -- the node ends, and its name climbs on
   pub climb_up : (old new : Chunks) (nodes after : List (List Item)) (at : ℕ) (item next : Item) (held now : List Item) → IsClimbing a old begun named nodes at item
@@ -107,13 +108,13 @@ module _ (a : List ℕ → List ℕ) (begun : List (List Item)) (named : Item) w
           let dropped : drop (suc at) after ≡ above = ap (drop (suc at)) after_now ∙ drop_set nodes at [] within in
           let taken : take (suc at) after ≡ take at nodes ++ [] ∷ [] = ap (take (suc at)) after_now ∙ take_set nodes at [] within in
           let pushed : pushes a (suc at) (drop at nodes) item ≡ [] ∷ pushes a (suc (suc at)) above next =
-              ap (λ l. pushes a (suc at) l item) opened
-              ∙ ap (λ b. cond b ([] ∷ pushes a (suc (suc at)) above (name a (suc at) node)) (node ∷ above)) over
-              ∙ ap (λ n. [] ∷ pushes a (suc (suc at)) above n) (sym mine.named_is) in
+          ap (λ l. pushes a (suc at) l item) opened
+          ∙ ap (λ b. cond b ([] ∷ pushes a (suc (suc at)) above (name a (suc at) node)) (node ∷ above)) over
+          ∙ ap (λ n. [] ∷ pushes a (suc (suc at)) above n) (sym mine.named_is) in
           let chunks : ended_chunks a (suc at) (drop at nodes) item ≡ bytes_of (suc at) node ∷ ended_chunks a (suc (suc at)) above next =
-              ap (λ l. ended_chunks a (suc at) l item) opened
-              ∙ ap (λ b. cond b (bytes_of (suc at) node ∷ ended_chunks a (suc (suc at)) above (name a (suc at) node)) []) over
-              ∙ ap (λ n. bytes_of (suc at) node ∷ ended_chunks a (suc (suc at)) above n) (sym mine.named_is) in
+          ap (λ l. ended_chunks a (suc at) l item) opened
+          ∙ ap (λ b. cond b (bytes_of (suc at) node ∷ ended_chunks a (suc (suc at)) above (name a (suc at) node)) []) over
+          ∙ ap (λ n. bytes_of (suc at) node ∷ ended_chunks a (suc (suc at)) above n) (sym mine.named_is) in
           let up = fits_up a (suc at) held above item (fits_here old nodes at item held climbing within is) over mine.put.0.1 in
           let F : Item → Type 0 = λ n. Fits a (suc (suc at)) above n in
           let G : List (List Item) → Type 0 = λ l. Fits a (suc (suc at)) l next in
@@ -127,8 +128,8 @@ module _ (a : List ℕ → List ℕ) (begun : List (List Item)) (named : Item) w
             kept = λ later extends put.
                 let R : List (List ℕ) → Type 0 = AreHeld a later in
                 climbing.kept later (extends_both old new later grows extends)
-                  (subst R (ap (λ l. bytes_of (suc at) node ∷ ended_chunks a (suc (suc at)) l next) dropped ∙ sym chunks)
-                    ((extends (a (bytes_of (suc at) node)) (bytes_of (suc at) node) mine.put.0.0, mine.put.0.1), put));
+                (subst R (ap (λ l. bytes_of (suc at) node ∷ ended_chunks a (suc (suc at)) l next) dropped ∙ sym chunks)
+                ((extends (a (bytes_of (suc at) node)) (bytes_of (suc at) node) mine.put.0.0, mine.put.0.1), put));
           })
 
   -- past the last level the name begins one
@@ -144,10 +145,11 @@ module _ (a : List ℕ → List ℕ) (begun : List (List Item)) (named : Item) w
       → (after ≡ pushes a 1 begun named) × AreHeld a old (ended_chunks a 1 begun named)
   climb_ends old nodes after at item node climbing past node_is after_is =
       let none : drop at nodes ≡ [] = drop_of_length-le nodes {i = at} past in
-      let P : List (List ℕ) → Type 0 = AreHeld a old in
-      (after_is ∙ ap (λ n. nodes ++ n ∷ []) node_is ∙ ap (λ l. l ++ (item ∷ []) ∷ []) (sym (take_all at nodes past))
-        ∙ ap (λ l. take at nodes ++ pushes a (suc at) l item) (sym none) ∙ climbing.comes,
-       climbing.kept old (λ k bytes found. found) (subst P (ap (λ l. ended_chunks a (suc at) l item) (sym none)) tt))
+      let P : List (List ℕ) → Type 0 = AreHeld a old in (
+        after_is ∙ ap (λ n. nodes ++ n ∷ []) node_is ∙ ap (λ l. l ++ (item ∷ []) ∷ []) (sym (take_all at nodes past))
+            ∙ ap (λ l. take at nodes ++ pushes a (suc at) l item) (sym none) ∙ climbing.comes,
+        climbing.kept old (λ k bytes found. found) (subst P (ap (λ l. ended_chunks a (suc at) l item) (sym none)) tt),
+      )
 
 -- ---- a row
 
@@ -161,7 +163,7 @@ module _ (a : List ℕ → List ℕ) where
   row_stays old new leaf now above rows x tower fits grow stays =
       let n = name a 0 (leaf ++ x ∷ []) in
       let pushed : pushes a 0 (leaf ∷ above) x ≡ now ∷ above =
-          ap (λ b. cond b ([] ∷ pushes a 1 above n) ((leaf ++ x ∷ []) ∷ above)) stays.0 ∙ ap (λ l. l ∷ above) (sym stays.1) in
+      ap (λ b. cond b ([] ∷ pushes a 1 above n) ((leaf ++ x ∷ []) ∷ above)) stays.0 ∙ ap (λ l. l ∷ above) (sym stays.1) in
       let ended : ended_chunks a 0 (leaf ∷ above) x ≡ [] = ap (λ b. cond b (bytes_of 0 (leaf ++ x ∷ []) ∷ ended_chunks a 1 above n) []) stays.0 in
       let P : List (List Item) → Type 0 = λ l. IsTower a new l (rows ++ x ∷ []) in
       let Q : List (List ℕ) → Type 0 = AreHeld a new in
@@ -176,16 +178,16 @@ module _ (a : List ℕ → List ℕ) where
       let n = name a 0 (leaf ++ x ∷ []) in
       let mine = ended.1 in
       let pushed : pushes a 0 (leaf ∷ above) x ≡ now ∷ after =
-          ap (λ b. cond b ([] ∷ pushes a 1 above n) ((leaf ++ x ∷ []) ∷ above)) ended.0 ∙ ap (λ i. [] ∷ pushes a 1 above i) (sym mine.named_is)
-          ∙ ap (λ l. [] ∷ l) (sym after_is) ∙ ap (λ l. l ∷ after) (sym mine.emptied) in
+      ap (λ b. cond b ([] ∷ pushes a 1 above n) ((leaf ++ x ∷ []) ∷ above)) ended.0 ∙ ap (λ i. [] ∷ pushes a 1 above i) (sym mine.named_is)
+      ∙ ap (λ l. [] ∷ l) (sym after_is) ∙ ap (λ l. l ∷ after) (sym mine.emptied) in
       let chunks : ended_chunks a 0 (leaf ∷ above) x ≡ bytes_of 0 (leaf ++ x ∷ []) ∷ ended_chunks a 1 above named =
-          ap (λ b. cond b (bytes_of 0 (leaf ++ x ∷ []) ∷ ended_chunks a 1 above n) []) ended.0
-          ∙ ap (λ i. bytes_of 0 (leaf ++ x ∷ []) ∷ ended_chunks a 1 above i) (sym mine.named_is) in
+      ap (λ b. cond b (bytes_of 0 (leaf ++ x ∷ []) ∷ ended_chunks a 1 above n) []) ended.0
+      ∙ ap (λ i. bytes_of 0 (leaf ++ x ∷ []) ∷ ended_chunks a 1 above i) (sym mine.named_is) in
       let P : List (List Item) → Type 0 = λ l. IsTower a new l (rows ++ x ∷ []) in
       let Q : List (List ℕ) → Type 0 = AreHeld a new in
       let here = bytes_of 0 (leaf ++ x ∷ []) in
       subst P pushed (tower_push a old new leaf above rows x tower fits (extends_both old mid new grow more)
-        (subst Q (sym chunks) ((more (a here) here mine.put.0.0, mine.put.0.1), put)))
+      (subst Q (sym chunks) ((more (a here) here mine.put.0.0, mine.put.0.1), put)))
 
   pub name_fits : (old mid : Chunks) (leaf now : List Item) (above : List (List Item)) (x named : Item) → Fits a 0 (leaf ∷ above) x
       → (closes a 0 (leaf ++ x ∷ []) ≡ true) × IsNamed a mid 0 (leaf ++ x ∷ []) now named → Fits a 1 above named
@@ -225,6 +227,6 @@ pub row_next : (rows : List LeafItem) (i : ℕ) (x : LeafItem) → i < length ro
     → AreRows (map leaf_of (take i rows) ++ leaf_of x ∷ [])
 row_next rows i x within here are =
     let whole : map leaf_of rows ≡ map leaf_of (take (i + 1) rows) ++ map leaf_of (drop (i + 1) rows) =
-        ap (map leaf_of) (sym (take-append-drop (i + 1) rows)) ∙ map-append leaf_of (take (i + 1) rows) (drop (i + 1) rows) in
+    ap (map leaf_of) (sym (take-append-drop (i + 1) rows)) ∙ map-append leaf_of (take (i + 1) rows) (drop (i + 1) rows) in
     subst AreRows (row_more rows i x within here)
-      (first_rows (map leaf_of (take (i + 1) rows)) (map leaf_of (drop (i + 1) rows)) (subst AreRows whole are))
+    (first_rows (map leaf_of (take (i + 1) rows)) (map leaf_of (drop (i + 1) rows)) (subst AreRows whole are))

@@ -57,7 +57,8 @@ module _ (a : List ℕ → List ℕ) where
   cut_last level held (x ∷ []) one =
       elim (closes a level (held ++ x ∷ [])) as (λ b. cond b ((held ++ x ∷ []) ∷ []) (cut_from a level (held ++ x ∷ []) []) ≡ one_node (held ++ x ∷ [])) [
         | true ↦ whole held x
-        | false ↦ ended held x ]
+        | false ↦ ended held x
+      ]
     where
       whole : (items : List Item) (y : Item) → (items ++ y ∷ []) ∷ [] ≡ one_node (items ++ y ∷ [])
       whole [] y = refl
@@ -83,7 +84,7 @@ module _ (a : List ℕ → List ℕ) where
       let R : List Item → Type 0 = λ l. is_empty l ≡ false in
       let e = append-nil held in
       subst P (sym e) (writable level held (entries level held each) (omega (arith, open_small a level held (entries level held each) over))
-        (subst Rise e rise) (subst Q e few) low (λ above. not_nil held (subst R e some)))
+      (subst Rise e rise) (subst Q e few) low (λ above. not_nil held (subst R e some)))
     where
       not_nil : (items : List Item) → is_empty items ≡ false → 0 < length items
       not_nil [] none = absurd cc
@@ -107,10 +108,10 @@ module _ (a : List ℕ → List ℕ) where
       let few = closing.are_rows.few in
       let counted = closing.counted in
       let deep = low_level (level + length above) (rows_in (spread (held ∷ above))) (topped_rows level held above closing.are_open closing.topped)
-          (omega (arith, rows_join (spread (held ∷ above)) carry)) in
+      (omega (arith, rows_join (spread (held ∷ above)) carry)) in
       few_bytes level held carry closing.are_open.0 closing.entries closing.one closing.are_open.1
-        (rise_alone (last_after None (spread above)) (held ++ carry) (split_rise held above carry closing.rises).1)
-        (omega (arith, rows_held held above carry)) (omega arith) some
+      (rise_alone (last_after None (spread above)) (held ++ carry) (split_rise held above carry closing.rises).1)
+      (omega (arith, rows_held held above carry)) (omega arith) some
 
   -- levels that are left are few
   pub closing_low : (chunks : Chunks) (level : ℕ) (held : List Item) (above : List (List Item)) (carry rows : List Item)
@@ -119,7 +120,7 @@ module _ (a : List ℕ → List ℕ) where
       let few = closing.are_rows.few in
       let counted = closing.counted in
       low_level (level + length above) (rows_in (spread (held ∷ above))) (topped_rows level held above closing.are_open closing.topped)
-          (omega (arith, rows_join (spread (held ∷ above)) carry))
+      (omega (arith, rows_join (spread (held ∷ above)) carry))
 
   -- ---- the root
 
@@ -175,9 +176,11 @@ module _ (a : List ℕ → List ℕ) where
       → AreHeld a chunks (bytes_of level items ∷ []) → IsEntry (suc level) (name a level items)
   named_entry chunks level items some each put =
       let P : List ℕ → Type 0 = λ k. length k ≤ 4096 in
-      let Q : ℕ → Type 0 = λ n. 0 < n in
-      (subst P (sym (name_key a level items)) (last_short level items each), ap length (name_body a level items) ∙ put.0.1,
-       subst Q (sym (name_rows a level items)) (has_rows level items some each))
+      let Q : ℕ → Type 0 = λ n. 0 < n in (
+        subst P (sym (name_key a level items)) (last_short level items each),
+        ap length (name_body a level items) ∙ put.0.1,
+        subst Q (sym (name_rows a level items)) (has_rows level items some each),
+      )
 
   -- what the names of a level come to, one level up
   comes_up : (turns level : ℕ) (held : List Item) (above : List (List Item)) (carry : List Item) → is_root above (held ++ carry) ≡ false
@@ -209,7 +212,7 @@ module _ (a : List ℕ → List ℕ) where
         kept = λ later extends rest.
             let Q : List (List ℕ) → Type 0 = AreHeld a later in
             kept later (extends_both old new later grows extends)
-              (subst Q (ap (λ l. map (bytes_of level) l ++ chunks_after a turns (suc level) above (names a level l)) (sym none) ∙ sym (chunks_up turns level held above carry below)) rest);
+            (subst Q (ap (λ l. map (bytes_of level) l ++ chunks_after a turns (suc level) above (names a level l)) (sym none) ∙ sym (chunks_up turns level held above carry below)) rest);
         are_open = closing.are_open.2;
         topped = lower held above closing.topped;
         entries = tt;
@@ -237,10 +240,10 @@ module _ (a : List ℕ → List ℕ) where
         kept = λ later extends rest.
             let Q : List (List ℕ) → Type 0 = AreHeld a later in
             kept later (extends_both old new later grows extends)
-              (subst Q (ap (λ l. map (bytes_of level) l ++ chunks_after a turns (suc level) above (x ∷ [])) (sym one)
-                  ∙ ap (λ l. map (bytes_of level) (cut_from a level held carry) ++ chunks_after a turns (suc level) above l) (sym up)
-                  ∙ sym (chunks_up turns level held above carry below))
-                ((extends (a (bytes_of level items)) (bytes_of level items) closed.2.0.0, closed.2.0.1), rest));
+            (subst Q (ap (λ l. map (bytes_of level) l ++ chunks_after a turns (suc level) above (x ∷ [])) (sym one)
+            ∙ ap (λ l. map (bytes_of level) (cut_from a level held carry) ++ chunks_after a turns (suc level) above l) (sym up)
+            ∙ sym (chunks_up turns level held above carry below))
+            ((extends (a (bytes_of level items)) (bytes_of level items) closed.2.0.0, closed.2.0.1), rest));
         are_open = closing.are_open.2;
         topped = lower held above closing.topped;
         entries = (subst P (sym closed.1) (named_entry new level items closed.0 each closed.2), tt);
@@ -304,7 +307,7 @@ module _ (a : List ℕ → List ℕ) where
   chunks_are [] turns some more = absurd (omega arith)
   chunks_are (x ∷ rows) turns some more =
       ap (λ l. map (bytes_of 0) (cut a 0 (x ∷ rows)) ++ l)
-        (sym (chunks_enough a (length (x ∷ rows)) turns 1 (names a 0 (cut a 0 (x ∷ rows))) (omega (arith, names_short a 0 [] (x ∷ rows))) more))
+      (sym (chunks_enough a (length (x ∷ rows)) turns 1 (names a 0 (cut a 0 (x ∷ rows))) (omega (arith, names_short a 0 [] (x ∷ rows))) more))
 
   -- what is the same whether the leaf has rows left or not
   begins : (old new : Chunks) (leaf next : List Item) (above : List (List Item)) (rows carry : List Item) (here : List (List ℕ))
@@ -315,7 +318,7 @@ module _ (a : List ℕ → List ℕ) where
       let counted = grown.counted in
       let turns = length rows + length (next ∷ above) in
       let some : 0 < length rows =
-          omega (arith, topped_rows 1 next above grown.are_open.2 grown.topped, rows_join (spread (next ∷ above)) leaf, pow_pos (1 + length above)) in
+      omega (arith, topped_rows 1 next above grown.are_open.2 grown.topped, rows_join (spread (next ∷ above)) leaf, pow_pos (1 + length above)) in
       let more : length rows ≤ turns = omega arith in
       let e = append-nil rows in
       record {
@@ -325,10 +328,10 @@ module _ (a : List ℕ → List ℕ) where
         kept = λ later extends rest.
             let P : List (List ℕ) → Type 0 = AreHeld a later in
             subst P (ap (row_chunks a turns) e ∙ chunks_are rows turns some more)
-              (grown.kept later (extends_both old new later grows extends) turns []
-                (subst P (ap (λ l. l ++ chunks_after a turns 1 (next ∷ above) carry) (sym bytes)
-                    ∙ ap (λ l. map (bytes_of 0) (cut_from a 0 leaf []) ++ chunks_after a turns 1 (next ∷ above) l) (sym up))
-                  (all_join (IsThere a later) here (chunks_after a turns 1 (next ∷ above) carry) (held_later a new later here extends held) rest)));
+            (grown.kept later (extends_both old new later grows extends) turns []
+            (subst P (ap (λ l. l ++ chunks_after a turns 1 (next ∷ above) carry) (sym bytes)
+            ∙ ap (λ l. map (bytes_of 0) (cut_from a 0 leaf []) ++ chunks_after a turns 1 (next ∷ above) l) (sym up))
+            (all_join (IsThere a later) here (chunks_after a turns 1 (next ∷ above) carry) (held_later a new later here extends held) rest)));
         are_open = grown.are_open.2;
         topped = grown.topped;
         entries = each;
@@ -345,7 +348,7 @@ module _ (a : List ℕ → List ℕ) where
   closing_begins old new leaf next above rows None grown grows closed =
       let none : cut_from a 0 leaf [] ≡ [] = cut_last 0 leaf [] (omega arith) ∙ ap one_node (append-nil leaf ∙ closed) in
       begins old new leaf next above rows [] [] grown grows (ap (names a 0) none) (ap (map (bytes_of 0)) none) tt tt (omega arith)
-        (subst Rise (ap (λ l. spread (next ∷ above) ++ l) closed) grown.rises) (ap rows_in (sym closed))
+      (subst Rise (ap (λ l. spread (next ∷ above) ++ l) closed) grown.rises) (ap rows_in (sym closed))
   closing_begins old new leaf next above rows (Some x) grown grows closed =
       let one : cut_from a 0 leaf [] ≡ leaf ∷ [] = cut_last 0 leaf [] (omega arith) ∙ ap one_node (append-nil leaf) ∙ one_written leaf closed.0 in
       let parts = rise_split None (spread (next ∷ above)) leaf grown.rises in
@@ -354,11 +357,11 @@ module _ (a : List ℕ → List ℕ) where
       let key : x.key ≡ last_key leaf = ap (λ (i : Item). i.key) closed.1 ∙ name_key a 0 leaf in
       let many : x.rows ≡ rows_in leaf = ap (λ (i : Item). i.rows) closed.1 ∙ name_rows a 0 leaf in
       begins old new leaf next above rows (x ∷ []) (bytes_of 0 leaf ∷ []) grown grows
-        (ap (names a 0) one ∙ ap (λ i. i ∷ []) (sym closed.1)) (ap (map (bytes_of 0)) one) (closed.2.0, tt)
-        (subst P (sym closed.1) (named_entry new 0 leaf closed.0 (entries 0 leaf grown.are_open.0) closed.2), tt) (omega arith)
-        (rise_join None (spread (next ∷ above)) (x ∷ []) parts.0
-          (subst R (sym key) (reaches_last (last_after None (spread (next ∷ above))) leaf closed.0 parts.1), tt))
-        (omega arith)
+      (ap (names a 0) one ∙ ap (λ i. i ∷ []) (sym closed.1)) (ap (map (bytes_of 0)) one) (closed.2.0, tt)
+      (subst P (sym closed.1) (named_entry new 0 leaf closed.0 (entries 0 leaf grown.are_open.0) closed.2), tt) (omega arith)
+      (rise_join None (spread (next ∷ above)) (x ∷ []) parts.0
+      (subst R (sym key) (reaches_last (last_after None (spread (next ∷ above))) leaf closed.0 parts.1), tt))
+      (omega arith)
 
   -- ---- the level at a place among the inner levels
 
@@ -378,7 +381,7 @@ module _ (a : List ℕ → List ℕ) where
       → IsClosing a chunks (suc at) (drop at nodes) carry rows → at < 62
   level_low chunks nodes at carry rows within closing =
       let low = closing_low chunks (suc at) (get_or nodes at []) (drop (suc at) nodes) carry rows
-          (subst (λ l. IsClosing a chunks (suc at) l carry rows) (drop-cons nodes at [] within) closing) in
+      (subst (λ l. IsClosing a chunks (suc at) l carry rows) (drop-cons nodes at [] within) closing) in
       omega arith
 
   pub level_ready : (chunks : Chunks) (nodes : List (List Item)) (at : ℕ) (held carry rows : List Item) → at < length nodes → held ≡ get_or nodes at held
@@ -408,7 +411,7 @@ module _ (a : List ℕ → List ℕ) where
       let P : List (List Item) → Type 0 = λ l. IsClosing a old (suc at) (held ∷ l) carry rows in
       let Q : List ℕ → Type 0 = λ j. IsTree a new j rows in
       subst Q (sym k_is) (tree_later old new (first_of (held ++ carry)).body rows grows
-        (closing_root old (suc at) held carry rows (subst P none (closing_here old nodes at held carry rows within is closing)) parts.1))
+      (closing_root old (suc at) held carry rows (subst P none (closing_here old nodes at held carry rows within is closing)) parts.1))
 
   pub level_up : (old new : Chunks) (nodes after : List (List Item)) (at : ℕ) (held now carry rows : List Item) (named : Option Item) (count : ℕ) → count ≡ length nodes
       → at < length nodes → held ≡ get_or nodes at held → IsClosing a old (suc at) (drop at nodes) carry rows
@@ -420,8 +423,8 @@ module _ (a : List ℕ → List ℕ) where
       let Q : List (List Item) → Type 0 = λ l. IsClosing a new (suc (suc at)) l (option_to_list named) rows in
       let R : ℕ → Type 0 = λ n. IsClosing a new (suc n) (drop n after) (option_to_list named) rows in
       subst R (sym e) (subst Q (sym (ap (drop (suc at)) after_is ∙ drop_set nodes at now within))
-        (closing_up old new (suc at) held (drop (suc at) nodes) carry rows named (closing_here old nodes at held carry rows within is closing)
-          (ap (λ b. b && is_single (held ++ carry)) (last_level nodes at within ∙ ap (nat_eq (at + 1)) (sym count_is)) ∙ below) grows (subst P e closed)))
+      (closing_up old new (suc at) held (drop (suc at) nodes) carry rows named (closing_here old nodes at held carry rows within is closing)
+      (ap (λ b. b && is_single (held ++ carry)) (last_level nodes at within ∙ ap (nat_eq (at + 1)) (sym count_is)) ∙ below) grows (subst P e closed)))
 
   pub levels_done : (chunks : Chunks) (nodes : List (List Item)) (at : ℕ) (carry rows : List Item) → length nodes ≤ at
       → IsClosing a chunks (suc at) (drop at nodes) carry rows → IsClosing a chunks (suc at) [] carry rows
@@ -440,5 +443,5 @@ module _ (a : List ℕ → List ℕ) where
       let counted = grown.counted in
       let each = entries 0 leaf grown.are_open.0 in
       writable 0 leaf each (omega (arith, open_small a 0 leaf each grown.are_open.1))
-        (rise_alone (last_after None (spread above)) leaf (rise_split None (spread above) leaf grown.rises).1)
-        (omega (arith, rows_join (spread above) leaf)) (omega arith) (λ above_it. absurd (omega arith))
+      (rise_alone (last_after None (spread above)) leaf (rise_split None (spread above) leaf grown.rises).1)
+      (omega (arith, rows_join (spread above) leaf)) (omega arith) (λ above_it. absurd (omega arith))

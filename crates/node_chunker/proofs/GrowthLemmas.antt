@@ -182,8 +182,8 @@ pub more_writable : (a : List ℕ → List ℕ) (level : ℕ) (held : List Item)
     → closes a level held ≡ false → Rise (held ++ x ∷ []) → rows_in (held ++ x ∷ []) < 2 ^ 63 → level < 256 → IsWritable level (held ++ x ∷ [])
 more_writable a level held x each entry over rise few low =
     writable level (held ++ x ∷ []) (all_join (IsEntry level) held (x ∷ []) each (entry, tt))
-      (omega (arith, items_more level held x, open_small a level held each over, (entry_size level x entry).1)) rise few low
-      (λ above. omega (arith, length-append held (x ∷ [])))
+    (omega (arith, items_more level held x, open_small a level held each over, (entry_size level x entry).1)) rise few low
+    (λ above. omega (arith, length-append held (x ∷ [])))
 
 -- ---- a push
 
@@ -201,7 +201,7 @@ module _ (a : List ℕ → List ℕ) where
       let parts = rise_split None (spread above) (held ++ x ∷ []) (subst Rise (append_assoc (spread above) held (x ∷ [])) rise) in
       let P : List ℕ → Type 0 = λ k. is_after (last_after None (spread above)) k ≡ true in
       rise_join None (spread above) (name a level (held ++ x ∷ []) ∷ []) parts.0
-        (subst P (sym (name_key a level (held ++ x ∷ []) ∙ last_is held x)) (reaches (last_after None (spread above)) held x parts.1), tt)
+      (subst P (sym (name_key a level (held ++ x ∷ []) ∙ last_is held x)) (reaches (last_after None (spread above)) held x parts.1), tt)
 
   -- the last level's node has the rows of two for each level
   grown_up : (level : ℕ) (held : List Item) (x : Item) → AllByRecursion (IsGrown level) held → IsGrown level x → 0 < length held
@@ -217,10 +217,10 @@ module _ (a : List ℕ → List ℕ) where
       let parts = rise_split None (spread above) (held ++ x ∷ []) (subst Rise (append_assoc (spread above) held (x ∷ [])) fits.rises) in
       let few = fits.few in
       let rows : rows_in (held ++ x ∷ []) < 2 ^ 63 =
-          omega (arith, rows_join held (x ∷ []), rows_join (spread above ++ held) (x ∷ []), rows_join (spread above) held) in
+      omega (arith, rows_join held (x ∷ []), rows_join (spread above ++ held) (x ∷ []), rows_join (spread above) held) in
       let low = low_level level x.rows fits.grown.1 (omega (arith, rows_join held (x ∷ []))) in
       more_writable a level held x (entries level held fits.are_open.0) fits.grown.0 fits.are_open.1
-        (rise_alone (last_after None (spread above)) (held ++ x ∷ []) parts.1) rows (omega arith)
+      (rise_alone (last_after None (spread above)) (held ++ x ∷ []) parts.1) rows (omega arith)
 
   pub fits_up : (level : ℕ) (held : List Item) (above : List (List Item)) (x : Item) → Fits a level (held ∷ above) x
       → closes a level (held ++ x ∷ []) ≡ true → length (a (bytes_of level (held ++ x ∷ []))) ≡ 20
@@ -249,10 +249,11 @@ module _ (a : List ℕ → List ℕ) where
   open_push level (held ∷ above) x fits named =
       let n = name a level (held ++ x ∷ []) in
       elim (closes a level (held ++ x ∷ [])) as (λ b. closes a level (held ++ x ∷ []) ≡ b
-        → AreNamed (cond b (bytes_of level (held ++ x ∷ []) ∷ ended_chunks a (suc level) above n) [])
-        → AreOpen a level (cond b ([] ∷ pushes a (suc level) above n) ((held ++ x ∷ []) ∷ above))) [
+      → AreNamed (cond b (bytes_of level (held ++ x ∷ []) ∷ ended_chunks a (suc level) above n) [])
+      → AreOpen a level (cond b ([] ∷ pushes a (suc level) above n) ((held ++ x ∷ []) ∷ above))) [
         | true ↦ λ e each. (tt, closes_none a level, open_push (suc level) above n (fits_up level held above x fits e each.0) each.1)
-        | false ↦ λ e each. (all_join (IsGrown level) held (x ∷ []) fits.are_open.0 (fits.grown, tt), e, fits.are_open.2) ] refl named
+        | false ↦ λ e each. (all_join (IsGrown level) held (x ∷ []) fits.are_open.0 (fits.grown, tt), e, fits.are_open.2)
+      ] refl named
 
   pub rises_push : (level : ℕ) (nodes : List (List Item)) (x : Item) → Rise (spread nodes ++ x ∷ []) → Rise (spread (pushes a level nodes x))
   rises_push level [] x rise = rise
@@ -260,7 +261,8 @@ module _ (a : List ℕ → List ℕ) where
       let n = name a level (held ++ x ∷ []) in
       elim (closes a level (held ++ x ∷ [])) as (λ b. Rise (spread (cond b ([] ∷ pushes a (suc level) above n) ((held ++ x ∷ []) ∷ above)))) [
         | true ↦ subst Rise (sym (append-nil (spread (pushes a (suc level) above n)))) (rises_push (suc level) above n (rise_up level held above x rise))
-        | false ↦ subst Rise (append_assoc (spread above) held (x ∷ [])) rise ]
+        | false ↦ subst Rise (append_assoc (spread above) held (x ∷ [])) rise
+      ]
 
   pub last_push : (level : ℕ) (nodes : List (List Item)) (x : Item) → last_after None (spread (pushes a level nodes x)) ≡ Some x.key
   last_push level [] x = refl
@@ -269,7 +271,8 @@ module _ (a : List ℕ → List ℕ) where
       elim (closes a level (held ++ x ∷ [])) as (λ b. last_after None (spread (cond b ([] ∷ pushes a (suc level) above n) ((held ++ x ∷ []) ∷ above))) ≡ Some x.key) [
         | true ↦ ap (last_after None) (append-nil (spread (pushes a (suc level) above n))) ∙ last_push (suc level) above n
             ∙ ap (λ k. Some k) (name_key a level (held ++ x ∷ []) ∙ last_is held x)
-        | false ↦ last_join None (spread above) (held ++ x ∷ []) ∙ last_join (last_after None (spread above)) held (x ∷ []) ]
+        | false ↦ last_join None (spread above) (held ++ x ∷ []) ∙ last_join (last_after None (spread above)) held (x ∷ [])
+      ]
 
   pub counted_push : (level : ℕ) (nodes : List (List Item)) (x : Item) → rows_in (spread (pushes a level nodes x)) ≡ rows_in (spread nodes ++ x ∷ [])
   counted_push level [] x = refl
@@ -277,7 +280,8 @@ module _ (a : List ℕ → List ℕ) where
       let n = name a level (held ++ x ∷ []) in
       elim (closes a level (held ++ x ∷ [])) as (λ b. rows_in (spread (cond b ([] ∷ pushes a (suc level) above n) ((held ++ x ∷ []) ∷ above))) ≡ rows_in (spread (held ∷ above) ++ x ∷ [])) [
         | true ↦ ap rows_in (append-nil (spread (pushes a (suc level) above n))) ∙ counted_push (suc level) above n ∙ rows_up level held above x
-        | false ↦ ap rows_in (sym (append_assoc (spread above) held (x ∷ []))) ]
+        | false ↦ ap rows_in (sym (append_assoc (spread above) held (x ∷ [])))
+      ]
 
   not_empty : (held : List Item) (x : Item) → is_empty (held ++ x ∷ []) ≡ false
   not_empty [] x = refl
@@ -292,14 +296,16 @@ module _ (a : List ℕ → List ℕ) where
   topped_push level (held ∷ []) x topped =
       elim (closes a level (held ++ x ∷ [])) as (λ b. IsTopped (cond b ([] ∷ (name a level (held ++ x ∷ []) ∷ []) ∷ []) ((held ++ x ∷ []) ∷ []))) [
         | true ↦ refl
-        | false ↦ not_empty held x ]
+        | false ↦ not_empty held x
+      ]
   topped_push level (held ∷ next ∷ above) x topped =
       let n = name a level (held ++ x ∷ []) in
       elim (closes a level (held ++ x ∷ [])) as (λ b. IsTopped (cond b ([] ∷ pushes a (suc level) (next ∷ above) n) ((held ++ x ∷ []) ∷ next ∷ above))) [
         | true ↦ one_lower (pushes a (suc level) (next ∷ above) n) (topped_push (suc level) (next ∷ above) n topped) (never_empty a (suc level) (next ∷ above) n)
-        | false ↦ topped ]
+        | false ↦ topped
+      ]
 
--- ---- a tower
+  -- ---- a tower
 
   pub fits_row : (chunks : Chunks) (held : List Item) (above : List (List Item)) (rows : List Item) (x : Item) → IsTower a chunks (held ∷ above) rows
       → AreRows (rows ++ x ∷ []) → Fits a 0 (held ∷ above) x
@@ -336,7 +342,8 @@ module _ (a : List ℕ → List ℕ) where
       let n = name a 0 (held ++ x ∷ []) in
       elim (closes a 0 (held ++ x ∷ [])) as (λ b. IsTopped (above_of (cond b ([] ∷ pushes a 1 above n) ((held ++ x ∷ []) ∷ above)))) [
         | true ↦ topped_push 1 above n topped
-        | false ↦ topped ]
+        | false ↦ topped
+      ]
 
   found_named : (chunks : Chunks) (list : List (List ℕ)) → AreHeld a chunks list → AreNamed list
   found_named chunks [] put = tt

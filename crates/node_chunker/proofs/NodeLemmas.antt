@@ -55,7 +55,7 @@ module _ {X : Type 0} (f : X → Item) (level : ℕ) where
       → more ≡ length (item_bytes level (f x)) → size + more ≡ 4 + length (items_bytes level (map f new))
   size_pushed old new x size more new_is size_is more_is =
       let e : length (items_bytes level (map f new)) ≡ length (items_bytes level (map f old ++ f x ∷ [])) =
-          ap (λ l. length (items_bytes level l)) (ap (map f) new_is ∙ map-append f old (x ∷ [])) in
+      ap (λ l. length (items_bytes level l)) (ap (map f) new_is ∙ map-append f old (x ∷ [])) in
       omega (arith, items_more level (map f old) (f x))
 
   pub last_popped : (all rest : List X) (x : X) → all ≡ rest ++ x ∷ [] → last_key (map f all) ≡ (f x).key
@@ -104,13 +104,13 @@ pub rows_more : (items : List RefItem) (i : ℕ) (x : RefItem) → i < length it
     → rows_in (map ref_of (take (i + 1) items)) ≡ rows_in (map ref_of (take i items)) + x.rows
 rows_more items i x within here =
     let e = ap (λ l. rows_in (map ref_of l)) (take_more items i x within) ∙ ap rows_in (map-append ref_of (take i items) (get_or items i x ∷ []))
-        ∙ rows_join (map ref_of (take i items)) (ref_of (get_or items i x) ∷ []) in
+    ∙ rows_join (map ref_of (take i items)) (ref_of (get_or items i x) ∷ []) in
     let same : x.rows ≡ (get_or items i x).rows = ap (λ (r : RefItem). r.rows) here in
     omega arith
 
 pub rows_within : (items : List RefItem) (i : ℕ) → rows_in (map ref_of (take i items)) ≤ rows_in (map ref_of items)
 rows_within items i =
     let e : rows_in (map ref_of items) ≡ rows_in (map ref_of (take i items)) + rows_in (map ref_of (drop i items)) =
-        ap (λ l. rows_in (map ref_of l)) (sym (take-append-drop i items)) ∙ ap rows_in (map-append ref_of (take i items) (drop i items))
-        ∙ rows_join (map ref_of (take i items)) (map ref_of (drop i items)) in
+    ap (λ l. rows_in (map ref_of l)) (sym (take-append-drop i items)) ∙ ap rows_in (map-append ref_of (take i items) (drop i items))
+    ∙ rows_join (map ref_of (take i items)) (map ref_of (drop i items)) in
     omega arith

@@ -29,8 +29,8 @@ rises : (n : ℕ) → suc n < 2 ^ 64 → is_after (Some (to_be_bytes w64 n)) (to
 rises n few =
     let less : nat_cmp n (suc n) ≡ Less = sym (nat_cmp_is n (suc n) Less (omega arith)) in
     ap is_lt (ap (λ l. slice_cmp nat_cmp l (to_be_bytes w64 (suc n))) (sym (append-nil (to_be_bytes w64 n)))
-      ∙ ap (slice_cmp nat_cmp (to_be_bytes w64 n ++ [])) (sym (append-nil (to_be_bytes w64 (suc n))))
-      ∙ number_order n (suc n) [] [] (omega arith) few ∙ ap (λ (o : Ordering). ordering_then o (slice_cmp nat_cmp [] [])) less)
+    ∙ ap (slice_cmp nat_cmp (to_be_bytes w64 n ++ [])) (sym (append-nil (to_be_bytes w64 (suc n))))
+    ∙ number_order n (suc n) [] [] (omega arith) few ∙ ap (λ (o : Ordering). ordering_then o (slice_cmp nat_cmp [] [])) less)
 
 pub are_numbered : (n : ℕ) → n < 2 ^ 32 → AreRows (numbered n) × (length (numbered n) ≡ n) × (is_after (last_after None (numbered n)) (to_be_bytes w64 n) ≡ true)
 are_numbered zero few = (record { each = tt; rise = tt; few = omega arith }, refl, refl)
@@ -38,13 +38,15 @@ are_numbered (suc n) few =
     let before = are_numbered n (omega arith) in
     let key = wide64.len n in
     let value : length {A = ℕ} (replicate 30 7) ≡ 30 = refl in
-    let P : Option (List ℕ) → Type 0 = λ k. is_after k (to_be_bytes w64 (suc n)) ≡ true in
-    (record {
-      each = all_join IsRow (numbered n) (row n ∷ []) before.0.each (record { key = omega arith; size = omega arith; one = refl }, tt);
-      rise = rise_join None (numbered n) (row n ∷ []) before.0.rise (before.2, tt);
-      few = omega (arith, length-append (numbered n) (row n ∷ []));
-    }, omega (arith, length-append (numbered n) (row n ∷ [])),
-     subst P (sym (last_join None (numbered n) (row n ∷ []))) (rises n (omega arith)))
+    let P : Option (List ℕ) → Type 0 = λ k. is_after k (to_be_bytes w64 (suc n)) ≡ true in (
+      record {
+        each = all_join IsRow (numbered n) (row n ∷ []) before.0.each (record { key = omega arith; size = omega arith; one = refl }, tt);
+        rise = rise_join None (numbered n) (row n ∷ []) before.0.rise (before.2, tt);
+        few = omega (arith, length-append (numbered n) (row n ∷ []));
+      },
+      omega (arith, length-append (numbered n) (row n ∷ [])),
+      subst P (sym (last_join None (numbered n) (row n ∷ []))) (rises n (omega arith)),
+    )
 
 pub one_more : (old new : List LeafItem) (x : LeafItem) (n : ℕ) → new ≡ old ++ x ∷ [] → leaf_of x ≡ row n → map leaf_of old ≡ numbered n → map leaf_of new ≡ numbered (n + 1)
 one_more old new x n new_is x_is old_is =

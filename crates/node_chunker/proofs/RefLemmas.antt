@@ -7,9 +7,9 @@ use Rattle.tree_laws.specs.Found.{left, lift, Ended}
 use Rattle.tree_laws.proofs.Cuts.{closes_one, cut_apart, names_apart}
 use Rattle.std.proofs.lemmas.List.{append_assoc, map-append}
 use Rattle.chunk_store.specs.Chunks.{Chunks}
-use Rattle.chunk_store.specs.Standing.{AreHeld}
+use Rattle.chunk_store.specs.Standing.{AreHeld, IsThere}
 use Rattle.node_chunker.specs.Towers.{is_empty, is_single, first_of, is_root, after, chunks_after, row_top, after_rows, pushes, ended_chunks}
-use Rattle.node_chunker.proofs.TowerLemmas.{IsFound, all_join, all_split, never_empty, skip_left, after_push, held_push}
+use Rattle.node_chunker.proofs.TowerLemmas.{all_join, all_split, never_empty, skip_left, after_push, held_push}
 
 -- so many empty nodes below
 abbrev pub under : ℕ → List (List Item) → List (List Item)
@@ -39,16 +39,16 @@ module _ (a : List ℕ → List ℕ) where
   after_ref (suc rise) zero level nodes x below more some ended lifted =
       skip_left (is_empty (under rise nodes)) (is_single (below ++ more)) (first_of (below ++ more)) blank (some_under rise nodes some)
       ∙ sym (skip_left (is_empty (under rise (pushes a (up rise (suc level)) nodes x))) (is_single more) (first_of more) blank
-          (some_under rise (pushes a (up rise (suc level)) nodes x) (never_empty a (up rise (suc level)) nodes x)))
+      (some_under rise (pushes a (up rise (suc level)) nodes x) (never_empty a (up rise (suc level)) nodes x)))
   after_ref (suc rise) (suc turns) level nodes x below more some ended lifted =
       let over = pushes a (up rise (suc level)) nodes x in
       skip_left (is_empty (under rise nodes)) (is_single (below ++ more)) (first_of (below ++ more))
-        (after a turns (suc level) (under rise nodes) (names a level (cut a level (below ++ more)))) (some_under rise nodes some)
+      (after a turns (suc level) (under rise nodes) (names a level (cut a level (below ++ more)))) (some_under rise nodes some)
       ∙ ap (after a turns (suc level) (under rise nodes)) (names_apart a level below more ended.0)
       ∙ after_ref rise turns (suc level) nodes x (names a level (cut a level below)) (names a level (cut a level more)) some ended.1 lifted
       ∙ sym (skip_left (is_empty (under rise over)) (is_single more) (first_of more)
-          (after a turns (suc level) (under rise over) (names a level (cut a level more)))
-          (some_under rise over (never_empty a (up rise (suc level)) nodes x)))
+      (after a turns (suc level) (under rise over) (names a level (cut a level more)))
+      (some_under rise over (never_empty a (up rise (suc level)) nodes x)))
 
   -- a list that ended has two items or more
   ended_many : (level : ℕ) (items more : List Item) → 0 < length items → left a level [] items ≡ [] → is_single (items ++ more) ≡ false
@@ -94,7 +94,7 @@ module _ (a : List ℕ → List ℕ) where
       ∙ ap (top a turns (suc level)) (names_apart a level below more ended.0)
       ∙ after_first rise turns (suc level) x (names a level (cut a level below)) (names a level (cut a level more)) ended.1 lifted
       ∙ sym (skip_left (is_empty (under rise ((x ∷ []) ∷ []))) (is_single more) (first_of more)
-          (after a turns (suc level) (under rise ((x ∷ []) ∷ [])) (names a level (cut a level more))) (some_under rise ((x ∷ []) ∷ []) refl))
+      (after a turns (suc level) (under rise ((x ∷ []) ∷ [])) (names a level (cut a level more))) (some_under rise ((x ∷ []) ∷ []) refl))
 
   -- the nodes below it are held, and so are those that come
   pub held_ref : (c : Chunks) (rise turns level : ℕ) (nodes : List (List Item)) (x : Item) (below more : List Item) → is_empty nodes ≡ false
@@ -112,18 +112,18 @@ module _ (a : List ℕ → List ℕ) where
       let names_more = names a level (cut a level more) in
       let names_below = names a level (cut a level below) in
       let P : List (List ℕ) → Type 0 = AreHeld a c in
-      let mine = all_split (IsFound a c) lower (lift_chunks a rise (suc level) names_below) held in
-      let theirs = all_split (IsFound a c) later (chunks_after a turns (suc level) (under rise over) names_more)
-          (subst P (skip_left (is_empty (under rise over)) (is_single more) [] (later ++ chunks_after a turns (suc level) (under rise over) names_more)
-            (some_under rise over (never_empty a (up rise (suc level)) nodes x))) rest) in
+      let mine = all_split (IsThere a c) lower (lift_chunks a rise (suc level) names_below) held in
+      let theirs = all_split (IsThere a c) later (chunks_after a turns (suc level) (under rise over) names_more)
+      (subst P (skip_left (is_empty (under rise over)) (is_single more) [] (later ++ chunks_after a turns (suc level) (under rise over) names_more)
+      (some_under rise over (never_empty a (up rise (suc level)) nodes x))) rest) in
       let e = cut_apart a level [] below more ended.0 in
       let cuts : map (bytes_of level) (cut a level (below ++ more)) ≡ lower ++ later =
-          ap (map (bytes_of level)) e ∙ map-append (bytes_of level) (cut a level below) (cut a level more) in
+      ap (map (bytes_of level)) e ∙ map-append (bytes_of level) (cut a level below) (cut a level more) in
       subst P (sym (skip_left (is_empty (under rise nodes)) (is_single (below ++ more)) []
-            (map (bytes_of level) (cut a level (below ++ more)) ++ chunks_after a turns (suc level) (under rise nodes) (names a level (cut a level (below ++ more))))
-            (some_under rise nodes some)
-          ∙ ap (λ l. l ++ chunks_after a turns (suc level) (under rise nodes) (names a level (cut a level (below ++ more)))) cuts
-          ∙ ap (λ l. lower ++ later ++ chunks_after a turns (suc level) (under rise nodes) l) (names_apart a level below more ended.0)))
-        (all_join (IsFound a c) (lower ++ later) (chunks_after a turns (suc level) (under rise nodes) (names_below ++ names_more))
-          (all_join (IsFound a c) lower later mine.0 theirs.0)
-          (held_ref c rise turns (suc level) nodes x names_below names_more some ended.1 lifted mine.1 ends theirs.1))
+      (map (bytes_of level) (cut a level (below ++ more)) ++ chunks_after a turns (suc level) (under rise nodes) (names a level (cut a level (below ++ more))))
+      (some_under rise nodes some)
+      ∙ ap (λ l. l ++ chunks_after a turns (suc level) (under rise nodes) (names a level (cut a level (below ++ more)))) cuts
+      ∙ ap (λ l. lower ++ later ++ chunks_after a turns (suc level) (under rise nodes) l) (names_apart a level below more ended.0)))
+      (all_join (IsThere a c) (lower ++ later) (chunks_after a turns (suc level) (under rise nodes) (names_below ++ names_more))
+      (all_join (IsThere a c) lower later mine.0 theirs.0)
+      (held_ref c rise turns (suc level) nodes x names_below names_more some ended.1 lifted mine.1 ends theirs.1))

@@ -37,7 +37,7 @@ chunks_after address zero level (held ∷ above) items = []
 chunks_after address (suc turns) level (held ∷ above) items =
     if is_root above (held ++ items) then []
     else map (bytes_of level) (cut_from address level held items)
-      ++ chunks_after address turns (suc level) above (names address level (cut_from address level held items))
+    ++ chunks_after address turns (suc level) above (names address level (cut_from address level held items))
 
 -- what rows come to, and the bytes of their nodes
 abbrev pub row_top : (List ℕ → List ℕ) → ℕ → List Item → Item

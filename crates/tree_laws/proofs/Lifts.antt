@@ -74,20 +74,21 @@ module _ (a : List ℕ → List ℕ) where
         let below = both level in
         let z : 0 + level ≡ level = omega arith in
         let up = λ (item : Item) (items : List Item) (is : nodes level item.body ≡ Some items) (each : ButLast (IsCanonical a nodes level) (IsEnded a nodes level) items).
-            ap (lift a level 0) (found level item items is) ∙ all_lift level below.0 below.1 items each in
-        (λ item canonical.
-            lift_last level 0 (rows_at nodes (suc level) item)
-            ∙ ap (λ n. names a n (cut a n (lift a level 0 (rows_at nodes (suc level) item)))) z
-            ∙ ap (λ l. names a level (cut a level l)) (up item canonical.0 canonical.1 canonical.2) ∙ canonical.3,
-         λ item canonical ended.
-            let same : ended.0 ≡ canonical.0 = some_is ended.0 canonical.0 (sym ended.1 ∙ canonical.1) in
-            let P : List Item → Type 0 = λ l. AllByRecursion (IsEnded a nodes level) l in
-            let Q : List Item → Type 0 = λ l. Ended a level 0 l in
-            ended_last level 0 (rows_at nodes (suc level) item)
+        ap (lift a level 0) (found level item items is) ∙ all_lift level below.0 below.1 items each in (
+          λ item canonical.
+              lift_last level 0 (rows_at nodes (suc level) item)
+              ∙ ap (λ n. names a n (cut a n (lift a level 0 (rows_at nodes (suc level) item)))) z
+              ∙ ap (λ l. names a level (cut a level l)) (up item canonical.0 canonical.1 canonical.2) ∙ canonical.3,
+          λ item canonical ended.
+              let same : ended.0 ≡ canonical.0 = some_is ended.0 canonical.0 (sym ended.1 ∙ canonical.1) in
+              let P : List Item → Type 0 = λ l. AllByRecursion (IsEnded a nodes level) l in
+              let Q : List Item → Type 0 = λ l. Ended a level 0 l in
+              ended_last level 0 (rows_at nodes (suc level) item)
               (subst Q (sym (found level item canonical.0 canonical.1))
-                (all_end level below.0 below.1 canonical.0 (all_canonical level below.0 below.1 canonical.0 canonical.2) (subst P same ended.2)))
+              (all_end level below.0 below.1 canonical.0 (all_canonical level below.0 below.1 canonical.0 canonical.2) (subst P same ended.2)))
               (ap (λ n. left a n [] (lift a level 0 (rows_at nodes (suc level) item))) z
-                ∙ ap (left a level []) (up item canonical.0 canonical.1 canonical.2 ∙ sym same) ∙ ended.3))
+              ∙ ap (left a level []) (up item canonical.0 canonical.1 canonical.2 ∙ sym same) ∙ ended.3),
+        )
 
     -- the rows below a canonical node are lifted to it
     pub lifts : (level : ℕ) (item : Item) → IsCanonical a nodes level item → lift a level 0 (rows_at nodes level item) ≡ item ∷ []

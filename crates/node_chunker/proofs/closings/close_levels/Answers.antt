@@ -15,20 +15,26 @@ use Rattle.node_chunker.proofs.closings.close_levels.Goals as goal
 pub overflow_cast-level : goal.overflow_cast-level
 overflow_cast-level g c =
     let within : c.levels.at < length c.levels.inner.items = omega arith in
-    omega (arith, level_low g.D.Digester.address (chunks_of c.levels.draft.chunks) c.levels.inner.items c.levels.at (option_to_list (option_map ref_of c.levels.carry)) c.requires.0 within
-      (c.levels.invariant.1 c.requires.0 c.requires.1))
+    omega (
+      arith,
+      level_low g.D.Digester.address (chunks_of c.levels.draft.chunks) c.levels.inner.items c.levels.at (option_to_list (option_map ref_of c.levels.carry)) c.requires.0 within
+          (c.levels.invariant.1 c.requires.0 c.requires.1),
+    )
 
 pub overflow_add-level : goal.overflow_add-level
 overflow_add-level g c =
     let within : c.levels.at < length c.levels.inner.items = omega arith in
-    omega (arith, level_low g.D.Digester.address (chunks_of c.levels.draft.chunks) c.levels.inner.items c.levels.at (option_to_list (option_map ref_of c.levels.carry)) c.requires.0 within
-      (c.levels.invariant.1 c.requires.0 c.requires.1))
+    omega (
+      arith,
+      level_low g.D.Digester.address (chunks_of c.levels.draft.chunks) c.levels.inner.items c.levels.at (option_to_list (option_map ref_of c.levels.carry)) c.requires.0 within
+          (c.levels.invariant.1 c.requires.0 c.requires.1),
+    )
 
 pub close_level-requires-clause-fits : goal.close_level-requires-clause-fits
 close_level-requires-clause-fits g c κs live =
     let within : c.levels.at < length c.levels.inner.items = omega arith in
     level_ready g.D.Digester.address (chunks_of c.levels.draft.chunks) c.levels.inner.items c.levels.at c.index_mut.result.now (option_to_list (option_map ref_of c.levels.carry))
-      c.requires.0 within c.index_mut.ensures.value (c.levels.invariant.1 c.requires.0 c.requires.1)
+    c.requires.0 within c.index_mut.ensures.value (c.levels.invariant.1 c.requires.0 c.requires.1)
 
 pub returns-in-Root-clause-ok : goal.returns-in-Root-clause-ok
 returns-in-Root-clause-ok g c rows closing =
@@ -41,7 +47,7 @@ returns-in-Root-clause-ok g c rows closing =
     let P : Closed → Type 0 = λ o. IsLevelClosed a new (c.levels.at + 1) (held ++ carry) (nat_eq (c.levels.at + 1) c.len-in-levels.result) o in
     let step = subst P c.in-Root.is c.in_ok-root.ensures.ok in
     level_root a (chunks_of c.levels.draft.chunks) new c.levels.inner.items c.levels.at held carry rows c.in-Root.root.0 c.len-in-levels.result count within
-      c.index_mut.ensures.value (c.levels.invariant.1 rows closing) step.0 step.1 (grows c.levels.draft.chunks c.close_level.new.draft.chunks c.in_ok-root.ensures.longer)
+    c.index_mut.ensures.value (c.levels.invariant.1 rows closing) step.0 step.1 (grows c.levels.draft.chunks c.close_level.new.draft.chunks c.in_ok-root.ensures.longer)
 
 pub levels-preserved : goal.levels-preserved
 levels-preserved g c =
@@ -52,12 +58,13 @@ levels-preserved g c =
     let carry = option_to_list (option_map ref_of c.levels.carry) in
     let held = c.index_mut.result.now in
     let P : Closed → Type 0 = λ o. IsLevelClosed a new (c.levels.at + 1) (held ++ carry) (nat_eq (c.levels.at + 1) c.len-in-levels.result) o in
-    let step = subst P c.in-Below.is c.in_ok-root.ensures.ok in
-    (omega (arith, length-set c.levels.inner.items c.levels.at c.close_level.new.node),
-     λ rows closing. level_up a (chunks_of c.levels.draft.chunks) new c.levels.inner.items (set c.levels.inner.items c.levels.at c.close_level.new.node) c.levels.at held
-         c.close_level.new.node carry rows (option_map ref_of c.in-Below.named) c.len-in-levels.result count within c.index_mut.ensures.value
-         (c.levels.invariant.1 rows closing) step.0 (grows c.levels.draft.chunks c.close_level.new.draft.chunks c.in_ok-root.ensures.longer) step.1 refl,
-     drafts_follow.in_steps c.args.draft.now.chunks c.levels.draft.chunks c.close_level.new.draft.chunks c.levels.invariant.2 c.in_ok-root.ensures.longer)
+    let step = subst P c.in-Below.is c.in_ok-root.ensures.ok in (
+      omega (arith, length-set c.levels.inner.items c.levels.at c.close_level.new.node),
+      λ rows closing. level_up a (chunks_of c.levels.draft.chunks) new c.levels.inner.items (set c.levels.inner.items c.levels.at c.close_level.new.node) c.levels.at held
+          c.close_level.new.node carry rows (option_map ref_of c.in-Below.named) c.len-in-levels.result count within c.index_mut.ensures.value
+          (c.levels.invariant.1 rows closing) step.0 (grows c.levels.draft.chunks c.close_level.new.draft.chunks c.in_ok-root.ensures.longer) step.1 refl,
+      drafts_follow.in_steps c.args.draft.now.chunks c.levels.draft.chunks c.close_level.new.draft.chunks c.levels.invariant.2 c.in_ok-root.ensures.longer,
+    )
 
 pub unreachable-requires : goal.unreachable-requires
 unreachable-requires g c =
@@ -67,7 +74,7 @@ unreachable-requires g c =
     let rows = c.requires.0 in
     let P : Option RefItem → Type 0 = λ o. IsClosing a chunks (suc c.levels.at) [] (option_to_list (option_map ref_of o)) rows in
     closing_some a chunks (suc c.levels.at) rows (subst P c.in-None.is
-      (levels_done a chunks c.levels.inner.items c.levels.at (option_to_list (option_map ref_of c.levels.carry)) rows past (c.levels.invariant.1 rows c.requires.1)))
+    (levels_done a chunks c.levels.inner.items c.levels.at (option_to_list (option_map ref_of c.levels.carry)) rows past (c.levels.invariant.1 rows c.requires.1)))
 
 pub returns-clause-ok : goal.returns-clause-ok
 returns-clause-ok g c rows closing =
@@ -76,4 +83,4 @@ returns-clause-ok g c rows closing =
     let chunks = chunks_of c.levels.draft.chunks in
     let P : Option RefItem → Type 0 = λ o. IsClosing a chunks (suc c.levels.at) [] (option_to_list (option_map ref_of o)) rows in
     closing_done a chunks (suc c.levels.at) (ref_of c.in-Some.item) rows (subst P c.in-Some.is
-      (levels_done a chunks c.levels.inner.items c.levels.at (option_to_list (option_map ref_of c.levels.carry)) rows past (c.levels.invariant.1 rows closing)))
+    (levels_done a chunks c.levels.inner.items c.levels.at (option_to_list (option_map ref_of c.levels.carry)) rows past (c.levels.invariant.1 rows closing)))

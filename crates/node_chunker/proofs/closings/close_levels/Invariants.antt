@@ -11,7 +11,7 @@ abbrev pub invariant-levels : goal.invariant-levels
 invariant-levels g l =
     (l.at ≤ length l.inner.items)
     × ((rows : List Item) → IsClosing g.D.Digester.address (chunks_of l.fn.draft.chunks) 1 l.fn.inner.items (option_to_list (option_map ref_of l.fn.named)) rows
-        → IsClosing g.D.Digester.address (chunks_of l.draft.chunks) (suc l.at) (drop l.at l.inner.items) (option_to_list (option_map ref_of l.carry)) rows)
+    → IsClosing g.D.Digester.address (chunks_of l.draft.chunks) (suc l.at) (drop l.at l.inner.items) (option_to_list (option_map ref_of l.carry)) rows)
     × Longer l.fn.draft.chunks l.draft.chunks
 
 abbrev pub decreases-levels : goal.decreases-levels

@@ -16,10 +16,13 @@ returns g c =
     let count : c.len.result ≡ length mine = omega arith in
     c.ends_here.ensures
     ∙ inner_ends g.D.Digester.address c.args.level held (ref_of c.args.item.now) c.self.inside.size c.item_size.result c.len.result c.as_slice.result.now c.requires.level
-        (size_now ref_of 1 mine held c.self.inside.size c.self.invariant c.self.view_is) c.item_size.ensures.size
-        (count_now ref_of 1 mine held c.len.result count c.self.view_is) c.as_slice.ensures
+    (size_now ref_of 1 mine held c.self.inside.size c.self.invariant c.self.view_is) c.item_size.ensures.size
+    (count_now ref_of 1 mine held c.len.result count c.self.view_is) c.as_slice.ensures
 
 pub overflow_add-size : goal.overflow_add-size
 overflow_add-size g c =
-    omega (arith, inner_room c.args.level c.args.self.now (ref_of c.args.item.now) c.self.inside.size c.item_size.result c.requires.level c.requires.fits
-      (size_now ref_of 1 c.self.inside.items.items c.args.self.now c.self.inside.size c.self.invariant c.self.view_is) c.item_size.ensures.size)
+    omega (
+      arith,
+      inner_room c.args.level c.args.self.now (ref_of c.args.item.now) c.self.inside.size c.item_size.result c.requires.level c.requires.fits
+          (size_now ref_of 1 c.self.inside.items.items c.args.self.now c.self.inside.size c.self.invariant c.self.view_is) c.item_size.ensures.size,
+    )

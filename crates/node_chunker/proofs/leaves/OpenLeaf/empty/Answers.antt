@@ -14,4 +14,5 @@ returns-clause-key c =
       | in-Some w ↦ w.key-is
           ∙ sym (last_popped leaf_of 0 mine c.pop.new.self.items w.in-Some.last (c.pop.ensures.items ∙ ap (λ o. c.pop.new.self.items ++ option_to_list o) w.in-Some.is))
           ∙ ap last_key c.self.view_is
-      | in-None w ↦ let none : length mine ≡ 0 = let few = w.in-None.ensures.cases.0 in omega arith in w.key-is ∙ w.new-key.ensures ∙ sym (ap (λ l. last_key (map leaf_of l)) (nil_from_length mine none)) ∙ ap last_key c.self.view_is ]
+      | in-None w ↦ let none : length mine ≡ 0 = let few = w.in-None.ensures.cases.0 in omega arith in w.key-is ∙ w.new-key.ensures ∙ sym (ap (λ l. last_key (map leaf_of l)) (nil_from_length mine none)) ∙ ap last_key c.self.view_is
+    ]

@@ -16,5 +16,5 @@ returns g c =
     let count : c.len.result ≡ length mine = omega arith in
     c.ends_here.ensures
     ∙ ends_is g.D.Digester.address 0 held (leaf_of c.args.item.now) c.self.inside.size c.item_size.result c.len.result c.as_slice.result.now
-        (size_now leaf_of 0 mine held c.self.inside.size c.self.invariant c.self.view_is) c.item_size.ensures
-        (count_now leaf_of 0 mine held c.len.result count c.self.view_is) c.as_slice.ensures
+    (size_now leaf_of 0 mine held c.self.inside.size c.self.invariant c.self.view_is) c.item_size.ensures
+    (count_now leaf_of 0 mine held c.len.result count c.self.view_is) c.as_slice.ensures

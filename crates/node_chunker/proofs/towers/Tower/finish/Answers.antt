@@ -36,7 +36,7 @@ returns-then-is_empty-clause-ok g c rows tower =
     let none : inner ≡ [] = nil_from_length inner (omega arith) in
     let P : List (List Item) → Type 0 = λ l. IsTower a old l rows in
     leaf_root a old new leaf c.put.new.self rows (ref_of c.in_ok-named.named) (subst P (sym c.self.view_is ∙ ap (λ l. leaf ∷ l) none) tower)
-      (grows c.args.draft.now.chunks c.put.new.draft.chunks c.in_ok-named.ensures.longer) c.in_ok-named.ensures.ok
+    (grows c.args.draft.now.chunks c.put.new.draft.chunks c.in_ok-named.ensures.longer) c.in_ok-named.ensures.ok
 
 pub close_levels-requires-after_bounds : goal.close_levels-requires-after_bounds
 close_levels-requires-after_bounds g c κs live =
@@ -46,9 +46,11 @@ close_levels-requires-after_bounds g c κs live =
     let inner = c.self.inside.inner.items in
     let many = not_none (vec_len c.self.inside.inner) (sym c.is_empty.ensures ∙ c.if-is_empty.false) in
     let some : 0 < length inner = omega arith in
-    let P : List (List Item) → Type 0 = λ l. IsTower a old l c.requires.0 in
-    (c.requires.0, begins_above a old new c.self.inside.leaf inner c.requires.0 (option_map ref_of c.in_ok-carry.carry) some (subst P (sym c.self.view_is) c.requires.1)
-      (grows c.args.draft.now.chunks c.close.new.draft.chunks c.in_ok-carry.ensures.longer) c.in_ok-carry.ensures.ok)
+    let P : List (List Item) → Type 0 = λ l. IsTower a old l c.requires.0 in (
+      c.requires.0,
+      begins_above a old new c.self.inside.leaf inner c.requires.0 (option_map ref_of c.in_ok-carry.carry) some (subst P (sym c.self.view_is) c.requires.1)
+          (grows c.args.draft.now.chunks c.close.new.draft.chunks c.in_ok-carry.ensures.longer) c.in_ok-carry.ensures.ok,
+    )
 
 pub returns-clause-ok : goal.returns-clause-ok
 returns-clause-ok g c rows tower =
@@ -60,5 +62,5 @@ returns-clause-ok g c rows tower =
     let some : 0 < length inner = omega arith in
     let P : List (List Item) → Type 0 = λ l. IsTower a old l rows in
     c.close_levels.ensures.ok rows
-      (begins_above a old new c.self.inside.leaf inner rows (option_map ref_of c.in_ok-carry.carry) some (subst P (sym c.self.view_is) tower)
-        (grows c.args.draft.now.chunks c.close.new.draft.chunks c.in_ok-carry.ensures.longer) c.in_ok-carry.ensures.ok)
+    (begins_above a old new c.self.inside.leaf inner rows (option_map ref_of c.in_ok-carry.carry) some (subst P (sym c.self.view_is) tower)
+    (grows c.args.draft.now.chunks c.close.new.draft.chunks c.in_ok-carry.ensures.longer) c.in_ok-carry.ensures.ok)

@@ -19,7 +19,7 @@ push-requires-after_bounds g c κs live =
     let leaf = c.self.inside.leaf in
     let inner = c.self.inside.inner.items in
     let fits = row_fits a (chunks_of c.args.draft.now.chunks) c.args.self.now leaf inner (leaf_item c.args.key.now c.args.value.now) (leaf_of c.in_ok-row.row)
-        c.self.view_is c.in_ok-row.ensures c.requires in
+    c.self.view_is c.in_ok-row.ensures c.requires in
     writable_here a 0 leaf inner (leaf_of c.in_ok-row.row) fits
 
 pub push_name-requires-after_bounds : goal.push_name-requires-after_bounds
@@ -30,7 +30,7 @@ push_name-requires-after_bounds g c κs live =
     let x = leaf_of c.in_ok-row.row in
     let mid = chunks_of c.push.new.draft.chunks in
     let fits = row_fits a (chunks_of c.args.draft.now.chunks) c.args.self.now leaf inner (leaf_item c.args.key.now c.args.value.now) x
-        c.self.view_is c.in_ok-row.ensures c.requires in
+    c.self.view_is c.in_ok-row.ensures c.requires in
     let P : Option RefItem → Type 0 = λ o. IsPushed a mid 0 leaf x c.push.new.self (option_map ref_of o) in
     name_fits a (chunks_of c.args.draft.now.chunks) mid leaf c.push.new.self inner x (ref_of c.in-Some.named) fits (subst P c.in-Some.is c.in_ok-push.ensures.ok)
 
@@ -47,7 +47,7 @@ returns-in-None-clause-ok g c rows tower =
     let Q : List (List Item) → Type 0 = λ l. IsTower a old l rows in
     let R : Item → Type 0 = λ i. IsTower a mid (c.push.new.self ∷ inner) (rows ++ i ∷ []) in
     subst R c.in_ok-row.ensures (row_stays a old mid leaf c.push.new.self inner rows x (subst Q (sym c.self.view_is) tower) fits
-      (grows c.args.draft.now.chunks c.push.new.draft.chunks c.in_ok-push.ensures.longer) (subst P c.in-None.is c.in_ok-push.ensures.ok))
+    (grows c.args.draft.now.chunks c.push.new.draft.chunks c.in_ok-push.ensures.longer) (subst P c.in-None.is c.in_ok-push.ensures.ok))
 
 pub returns-in-Some-clause-ok : goal.returns-in-Some-clause-ok
 returns-in-Some-clause-ok g c rows tower =
@@ -65,9 +65,9 @@ returns-in-Some-clause-ok g c rows tower =
     let Q : List (List Item) → Type 0 = λ l. IsTower a old l rows in
     let R : Item → Type 0 = λ i. IsTower a new (c.push.new.self ∷ after) (rows ++ i ∷ []) in
     IfOk-weaker c.push_name.result
-      (λ _. (after ≡ pushes a 1 inner named) × AreHeld a new (ended_chunks a 1 inner named))
-      (λ _. IsTower a new (c.push.new.self ∷ after) (rows ++ leaf_item c.args.key.now c.args.value.now ∷ []))
-      (λ _ done. subst R c.in_ok-row.ensures (row_climbs a old mid new leaf c.push.new.self inner after rows x named (subst Q (sym c.self.view_is) tower) fits
-        (grows c.args.draft.now.chunks c.push.new.draft.chunks c.in_ok-push.ensures.longer)
-        (grows c.push.new.draft.chunks c.push_name.new.draft.chunks c.push_name.ensures.longer) (subst P c.in-Some.is c.in_ok-push.ensures.ok) done.0 done.1))
-      c.push_name.ensures.ok
+    (λ _. (after ≡ pushes a 1 inner named) × AreHeld a new (ended_chunks a 1 inner named))
+    (λ _. IsTower a new (c.push.new.self ∷ after) (rows ++ leaf_item c.args.key.now c.args.value.now ∷ []))
+    (λ _ done. subst R c.in_ok-row.ensures (row_climbs a old mid new leaf c.push.new.self inner after rows x named (subst Q (sym c.self.view_is) tower) fits
+    (grows c.args.draft.now.chunks c.push.new.draft.chunks c.in_ok-push.ensures.longer)
+    (grows c.push.new.draft.chunks c.push_name.new.draft.chunks c.push_name.ensures.longer) (subst P c.in-Some.is c.in_ok-push.ensures.ok) done.0 done.1))
+    c.push_name.ensures.ok
