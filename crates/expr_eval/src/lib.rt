@@ -5,6 +5,8 @@ mod binding;
 mod bound;
 mod faults;
 mod scopes;
+#[cfg(test)]
+mod tests;
 mod valuing;
 
 pub use binding::bind;

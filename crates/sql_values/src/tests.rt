@@ -11,16 +11,16 @@ fn decimal<'a>(units: i64, digits: u8) -> Worth<'a> {
     }
 }
 
-fn is_decimal(worth: Option<Worth<'_>>, units: i64, digits: u8) -> bool {
+fn is_decimal(worth: &Option<Worth<'_>>, units: i64, digits: u8) -> bool {
     match worth {
-        Some(Worth::Decimal(found, scale)) => found == units && scale.get() == digits,
+        Some(Worth::Decimal(found, scale)) => *found == units && scale.get() == digits,
         _ => false,
     }
 }
 
-fn is_int(worth: Option<Worth<'_>>, number: i64) -> bool {
+fn is_int(worth: &Option<Worth<'_>>, number: i64) -> bool {
     match worth {
-        Some(Worth::Int(found)) => found == number,
+        Some(Worth::Int(found)) => *found == number,
         _ => false,
     }
 }
@@ -49,14 +49,14 @@ fn numbers_are_exact(rt: HostRuntime) -> Result<(), Fail> {
     let most = Worth::Int(i64::MAX);
     let least = Worth::Int(i64::MIN);
     let one = Worth::Int(1);
-    assert!(rt; is_int(subtract(&Worth::Int(7), &Worth::Int(10)), -3));
-    assert!(rt; is_int(add(&most, &Worth::Int(-1)), i64::MAX - 1));
+    assert!(rt; is_int(&subtract(&Worth::Int(7), &Worth::Int(10)), -3));
+    assert!(rt; is_int(&add(&most, &Worth::Int(-1)), i64::MAX - 1));
     assert!(rt; add(&most, &one).is_none() && subtract(&least, &one).is_none());
     assert!(rt; negate(&least).is_none() && multiply(&least, &Worth::Int(-1)).is_none());
-    assert!(rt; is_int(negate(&most), -i64::MAX));
-    assert!(rt; is_decimal(add(&decimal(15, 1), &decimal(225, 2)), 375, 2));
-    assert!(rt; is_decimal(multiply(&decimal(15, 1), &decimal(225, 2)), 3375, 3));
-    assert!(rt; is_decimal(subtract(&Worth::Int(7), &decimal(15, 1)), 55, 1));
+    assert!(rt; is_int(&negate(&most), -i64::MAX));
+    assert!(rt; is_decimal(&add(&decimal(15, 1), &decimal(225, 2)), 375, 2));
+    assert!(rt; is_decimal(&multiply(&decimal(15, 1), &decimal(225, 2)), 3375, 3));
+    assert!(rt; is_decimal(&subtract(&Worth::Int(7), &decimal(15, 1)), 55, 1));
     let widest = decimal(999_999_999_999_999_999, 0);
     assert!(rt; add(&widest, &decimal(1, 0)).is_none());
     assert!(rt; subtract(&most, &widest).is_none());
@@ -143,7 +143,5 @@ fn texts_are_counted_in_characters(rt: HostRuntime) -> Result<(), Fail> {
         Value::Text(letters),
     );
     assert!(rt; refuses(long, Misfit::TooLong));
-    let copy = Worth::Text(b"abc").to_value(alloc)?;
-    assert!(rt; copy == Value::Text(Text::from_slice(alloc, b"abc")?));
     Ok(())
 }
