@@ -145,28 +145,29 @@ module _ (address : List ℕ → List ℕ) (chunks : Chunks) where
       let rise' : Rise (node ++ items) = subst Rise e rise in
       let few' : rows_in (node ++ items) < 2 ^ 63 = subst (λ (l : List Item). rows_in l < 2 ^ 63) e few in
       (elim (closes address level node) as (λ b. closes address level node ≡ b
-        → AreHeld address chunks (map (bytes_of level) (cond b (node ∷ cut_from address level [] items) (cut_from address level node items)))
-        → IsLevel level (cond b (node ∷ cut_from address level [] items) (cut_from address level node items)) (held ++ item ∷ items)) [
+      → AreHeld address chunks (map (bytes_of level) (cond b (node ∷ cut_from address level [] items) (cut_from address level node items)))
+      → IsLevel level (cond b (node ∷ cut_from address level [] items) (cut_from address level node items)) (held ++ item ∷ items)) [
         | true ↦ λ t there.
-          let front = but_left (IsLow address chunks level) (IsHigh address chunks level) node items each' in
-          let fit : AllByRecursion (HasFit level) node = all_map (λ i a. a.fit) node (but_all (IsLow address chunks level) (IsHigh address chunks level) node front) in
-          let some = some_last held item in
-          let sum = rows_in_append node items in
-          let is = stored level node low (node_size level held item fit small) some fit (rise_left None node items rise') (omega (arith, sum, few')) there.0 in
-          let over = cut_ended address level held item no_end t in
-          let more = levels level low [] items (no_end_yet address level) (inl (omega arith)) (but_right (IsLow address chunks level) (IsHigh address chunks level) node items each')
+            let front = but_left (IsLow address chunks level) (IsHigh address chunks level) node items each' in
+            let fit : AllByRecursion (HasFit level) node = all_map (λ i a. a.fit) node (but_all (IsLow address chunks level) (IsHigh address chunks level) node front) in
+            let some = some_last held item in
+            let sum = rows_in_append node items in
+            let is = stored level node low (node_size level held item fit small) some fit (rise_left None node items rise') (omega (arith, sum, few')) there.0 in
+            let over = cut_ended address level held item no_end t in
+            let more = levels level low [] items (no_end_yet address level) (inl (omega arith)) (but_right (IsLow address chunks level) (IsHigh address chunks level) node items each')
             (rise_right None node items rise') (omega (arith, sum, few')) there.1 in
-          let high = λ (follows : 0 < length items). ended level node (but_ended (IsLow address chunks level) (IsHigh address chunks level) node items follows each') (two_closed address level node t) over.1 is in
-          record {
-            each = but_cons (IsLow address chunks (suc level)) (IsHigh address chunks (suc level)) (name address level node) (names address level (cut_from address level [] items))
-                (whole level node some front over.0 is) (λ follows. high (cut_none address level items follows)) more.each;
-            rows = ap (λ (l : List Item). rows_at (nodes_in chunks) (suc level) (name address level node) ++ l) more.rows
-                ∙ ap (λ (l : List Item). l ++ each_of (rows_at (nodes_in chunks) level) items) (rows_named level node is)
-                ∙ sym (each_append (rows_at (nodes_in chunks) level) node items) ∙ ap (each_of (rows_at (nodes_in chunks) level)) (sym e);
-          }
+            let high = λ (follows : 0 < length items). ended level node (but_ended (IsLow address chunks level) (IsHigh address chunks level) node items follows each') (two_closed address level node t) over.1 is in
+            record {
+              each = but_cons (IsLow address chunks (suc level)) (IsHigh address chunks (suc level)) (name address level node) (names address level (cut_from address level [] items))
+                  (whole level node some front over.0 is) (λ follows. high (cut_none address level items follows)) more.each;
+              rows = ap (λ (l : List Item). rows_at (nodes_in chunks) (suc level) (name address level node) ++ l) more.rows
+                  ∙ ap (λ (l : List Item). l ++ each_of (rows_at (nodes_in chunks) level) items) (rows_named level node is)
+                  ∙ sym (each_append (rows_at (nodes_in chunks) level) node items) ∙ ap (each_of (rows_at (nodes_in chunks) level)) (sym e);
+            }
         | false ↦ λ t there.
-          subst (IsLevel level (cut_from address level node items)) (sym e)
-            (levels level low node items (no_end_more address level held item no_end t) (small_open address level node t) each' rise' few' there) ]) refl there
+            subst (IsLevel level (cut_from address level node items)) (sym e)
+            (levels level low node items (no_end_more address level held item no_end t) (small_open address level node t) each' rise' few' there)
+      ]) refl there
 
   record IsStanding (level : ℕ) (items rows : List Item) : Type 0 where
     each : ButLast (IsLow address chunks level) (IsHigh address chunks level) items
@@ -200,9 +201,10 @@ module _ (address : List ℕ → List ℕ) (chunks : Chunks) where
       let many = is.each.1.many in
       elim (decide level) [
         | inl below ↦ omega (arith, below)
-        | inr over ↦ (let p : 2 ^ 63 ≤ 2 ^ level = pow_mono over in absurd (omega (arith, p, many, count, few))) ] where
-    decide : (level : ℕ) → (level < 63) ⊎ (63 ≤ level)
-    decide level = elim (leb_tells 63 level) [ | inl most ↦ inr most.1 | inr least ↦ inl least.1 ]
+        | inr over ↦ (let p : 2 ^ 63 ≤ 2 ^ level = pow_mono over in absurd (omega (arith, p, many, count, few)))
+      ] where
+        decide : (level : ℕ) → (level < 63) ⊎ (63 ≤ level)
+        decide level = elim (leb_tells 63 level) [ inl most ↦ inr most.1 | inr least ↦ inl least.1 ]
 
   topped : (turns level : ℕ) (items rows : List Item) → length rows < 2 ^ 63 → IsStanding (suc level) items rows → 0 < length items → length items ≤ suc turns
       → AreHeld address chunks (inner_chunks address turns (suc level) items) → (height : ℕ) × IsAbove height (top address turns (suc level) items) rows
@@ -219,7 +221,7 @@ module _ (address : List ℕ → List ℕ) (chunks : Chunks) where
       let same = names_length address (suc level) (cut address (suc level) all) in
       let one = cut_some address (suc level) [] all (omega arith) in
       topped turns (suc level) (names address (suc level) (cut address (suc level) all)) rows few (above (suc level) all rows low few is held)
-        (omega (arith, one, same)) (omega (arith, half, same, short)) rest
+      (omega (arith, one, same)) (omega (arith, half, same, short)) rest
 
   -- ---- the rows themselves
 
@@ -282,7 +284,7 @@ module _ (address : List ℕ → List ℕ) (chunks : Chunks) where
       let same = names_length address 0 (cut address 0 all) in
       let one = cut_some address 0 [] all (omega arith) in
       let t = topped (length all) 0 (names address 0 (cut address 0 all)) all few (above 0 all all (omega arith) few (rows_stand all tree.are_rows) held)
-        (omega (arith, one, same)) (omega (arith, half, same)) rest in
+      (omega (arith, one, same)) (omega (arith, half, same)) rest in
       let rise : Rise (rows_at (nodes_in chunks) (suc t.0) (tower address all)) = subst Rise (sym t.1.rows_are) tree.are_rows.rise in (
         t.0,
         tower address all,

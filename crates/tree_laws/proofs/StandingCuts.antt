@@ -77,7 +77,8 @@ unfolding closes ends
 small_open address level items e =
     elim (both_false (leb 2 (length items)) _ e) [
       | inl one ↦ inl (let few = leb-false 2 (length items) one in omega (arith, few))
-      | inr small ↦ inr (leb-false 16384 (4 + length (items_bytes level items)) (or_false (leb 16384 (4 + length (items_bytes level items))) _ small)) ]
+      | inr small ↦ inr (leb-false 16384 (4 + length (items_bytes level items)) (or_false (leb 16384 (4 + length (items_bytes level items))) _ small))
+    ]
 
 pub two_closed : (address : List ℕ → List ℕ) (level : ℕ) (items : List Item) → closes address level items ≡ true → 2 ≤ length items
 unfolding closes ends

@@ -95,10 +95,13 @@ names_rise address level before held (item ∷ items) rise =
     let e : held ++ item ∷ items ≡ node ++ items = sym (append_assoc held (item ∷ []) items) in
     let tail = rise_tail before node items (some_last held item) (subst (λ (l : List Item). RiseAfter before l) e rise) in
     elim (closes address level node) as (λ b. RiseAfter before (names address level (cond b (node ∷ cut_from address level [] items) (cut_from address level node items)))) [
-      | true ↦ (subst (λ (k : List ℕ). is_after before k ≡ true) (sym (name_key address level node)) tail.0,
-          subst (λ (k : List ℕ). RiseAfter (Some k) (names address level (cut_from address level [] items))) (sym (name_key address level node))
-            (names_rise address level (Some (last_key node)) [] items tail.1))
-      | false ↦ names_rise address level before node items (subst (λ (l : List Item). RiseAfter before l) e rise) ]
+      | true ↦ (
+        subst (λ (k : List ℕ). is_after before k ≡ true) (sym (name_key address level node)) tail.0,
+        subst (λ (k : List ℕ). RiseAfter (Some k) (names address level (cut_from address level [] items))) (sym (name_key address level node))
+            (names_rise address level (Some (last_key node)) [] items tail.1),
+      )
+      | false ↦ names_rise address level before node items (subst (λ (l : List Item). RiseAfter before l) e rise)
+    ]
 
 -- a list is cut into at most half as many nodes, and one
 pub cut_short : (address : List ℕ → List ℕ) (level : ℕ) (held items : List Item)
@@ -111,9 +114,10 @@ cut_short address level held (item ∷ items) two =
     let opened = cut_short address level (held ++ item ∷ []) items two in
     let size : length (held ++ item ∷ []) ≡ length held + 1 = length_one held item in
     elim (closes address level (held ++ item ∷ [])) as (λ b. closes address level (held ++ item ∷ []) ≡ b
-      → 2 * length (cond b ((held ++ item ∷ []) ∷ cut_from address level [] items) (cut_from address level (held ++ item ∷ []) items)) ≤ length held + length (item ∷ items) + 1) [
+    → 2 * length (cond b ((held ++ item ∷ []) ∷ cut_from address level [] items) (cut_from address level (held ++ item ∷ []) items)) ≤ length held + length (item ∷ items) + 1) [
       | true ↦ λ e. let many = two (held ++ item ∷ []) e in omega (arith, closed, size, many)
-      | false ↦ λ e. omega (arith, opened, size) ] refl
+      | false ↦ λ e. omega (arith, opened, size)
+    ] refl
 
 -- a list that isn't empty has a node
 pub cut_some : (address : List ℕ → List ℕ) (level : ℕ) (held items : List Item) → 0 < length (held ++ items) → 0 < length (cut_from address level held items)
@@ -123,7 +127,8 @@ cut_some address level held (item ∷ items) some =
     let more = cut_some address level (held ++ item ∷ []) items (subst (λ (l : List Item). 0 < length l) (sym (append_assoc held (item ∷ []) items)) some) in
     elim (closes address level (held ++ item ∷ [])) as (λ b. 0 < length (cond b ((held ++ item ∷ []) ∷ cut_from address level [] items) (cut_from address level (held ++ item ∷ []) items))) [
       | true ↦ omega arith
-      | false ↦ more ]
+      | false ↦ more
+    ]
 
 pub cut_none : (address : List ℕ → List ℕ) (level : ℕ) (items : List Item) → 0 < length (names address level (cut_from address level [] items)) → 0 < length items
 cut_none address level [] some = some
