@@ -56,46 +56,96 @@ fn row(alloc: Global, a: i64, b: i64, c: Value) -> Result<Row, AllocError> {
     Ok(row)
 }
 
-#[test]
-fn rows_are_judged(rt: HostRuntime) -> Result<(), Fail> {
-    let alloc = rt.alloc();
+/// `(a + 1) * b > 10 AND c IN (1, 2, 3)`.
+fn condition(alloc: Global) -> Result<Expr, AllocError> {
     let left = Boxed::new(alloc, greater(alloc)?)?;
-    let expr = Expr::And(left, Boxed::new(alloc, listed(alloc)?)?);
-    let scope = scope(alloc)?;
-    let bound = bind(alloc, &expr, &scope).ok().ok_or("no kind")?;
-    for (a, b, c, value) in [
-        (4, 3, Value::Int(2), Ok(Value::Bool(true))),
-        (4, 3, Value::Int(4), Ok(Value::Bool(false))),
-        (4, 3, Value::Null, Ok(Value::Null)),
-        (4, 1, Value::Null, Ok(Value::Bool(false))),
-        (i64::MAX, 0, Value::Null, Err(EvalFault::OutOfRange)),
-    ] {
-        assert!(rt; eval(alloc, &bound, &row(alloc, a, b, c)?) == value);
+    let right = Boxed::new(alloc, listed(alloc)?)?;
+    Ok(Expr::And(left, right))
+}
+
+/// What an expression comes to on a row.
+#[derive(Debug, Drop, PartialEq, Eq)]
+enum Answer {
+    Value(Value),
+    OutOfRange,
+    Refused(u16),
+    Memory,
+}
+
+fn evaluated(alloc: Global, bound: &BoundExpr, row: &Row) -> Answer {
+    match eval(alloc, bound, row) {
+        Ok(value) => Answer::Value(value),
+        Err(EvalFault::OutOfRange) => Answer::OutOfRange,
+        Err(EvalFault::Memory) => Answer::Memory,
     }
+}
+
+fn bound_answer(alloc: Global, expr: &Expr, scope: &[ScopeColumn], row: &Row) -> Answer {
+    match bind(alloc, expr, scope) {
+        Ok(bound) => evaluated(alloc, &bound, row),
+        Err(BindFault::Refused(number)) => Answer::Refused(number),
+        Err(BindFault::Memory) => Answer::Memory,
+    }
+}
+
+fn judged(alloc: Global, row: &Row) -> Result<Answer, AllocError> {
+    let scope = scope(alloc)?;
+    let expr = condition(alloc)?;
+    Ok(bound_answer(alloc, &expr, &scope, row))
+}
+
+#[test]
+fn a_row_is_judged(rt: HostRuntime) -> Result<(), Fail> {
+    let met = row(rt.alloc(), 4, 3, Value::Int(2))?;
+    assert!(rt; judged(rt.alloc(), &met)? == Answer::Value(Value::Bool(true)));
     Ok(())
 }
 
 #[test]
+fn null_leaves_false_and_gives_null(rt: HostRuntime) -> Result<(), Fail> {
+    let unknown = row(rt.alloc(), 4, 3, Value::Null)?;
+    assert!(rt; judged(rt.alloc(), &unknown)? == Answer::Value(Value::Null));
+    let unmet = row(rt.alloc(), 4, 1, Value::Null)?;
+    assert!(rt; judged(rt.alloc(), &unmet)? == Answer::Value(Value::Bool(false)));
+    Ok(())
+}
+
+#[test]
+fn a_sum_leaves_its_range(rt: HostRuntime) -> Result<(), Fail> {
+    let greatest = row(rt.alloc(), i64::MAX, 0, Value::Null)?;
+    assert!(rt; judged(rt.alloc(), &greatest)? == Answer::OutOfRange);
+    Ok(())
+}
+
+/// `'x' + z`, or `'x' + 1 + z`.
+fn text_and_unknown(alloc: Global, behind_one: bool) -> Result<Expr, AllocError> {
+    let text = Expr::Literal(Literal::Text(Text::from_slice(alloc, b"x")?));
+    let left = if behind_one {
+        add(alloc, text, whole(1))?
+    } else {
+        text
+    };
+    add(alloc, left, name(alloc, b"z")?)
+}
+
+fn refusal(alloc: Global, behind_one: bool) -> Result<Answer, AllocError> {
+    let expr = text_and_unknown(alloc, behind_one)?;
+    let row = Sequence::new(alloc);
+    Ok(bound_answer(alloc, &expr, &[], &row))
+}
+
+#[test]
 fn the_first_refusal_comes_first(rt: HostRuntime) -> Result<(), Fail> {
-    let alloc = rt.alloc();
-    let scope = scope(alloc)?;
-    let text = Expr::Literal(Literal::Text(Text::from_slice(alloc, b"x")?));
-    let unknown = add(alloc, text, name(alloc, b"z")?)?;
-    assert!(rt; bind(alloc, &unknown, &scope).err() == Some(BindFault::Refused(1054)));
-    let text = Expr::Literal(Literal::Text(Text::from_slice(alloc, b"x")?));
-    let mismatch = add(alloc, add(alloc, text, whole(1))?, name(alloc, b"z")?)?;
-    assert!(rt; bind(alloc, &mismatch, &scope).err() == Some(BindFault::Refused(9001)));
+    assert!(rt; refusal(rt.alloc(), false)? == Answer::Refused(1054));
+    assert!(rt; refusal(rt.alloc(), true)? == Answer::Refused(9001));
     Ok(())
 }
 
 #[test]
 fn a_minus_reaches_the_least_number(rt: HostRuntime) -> Result<(), Fail> {
-    let alloc = rt.alloc();
-    let row = Sequence::new(alloc);
-    let least = Expr::Negate(Boxed::new(alloc, whole(1 << 63))?);
-    let bound = bind(alloc, &least, &[]).ok().ok_or("no kind")?;
-    assert!(rt; eval(alloc, &bound, &row) == Ok(Value::Int(i64::MIN)));
-    let bound = bind(alloc, &whole(1 << 63), &[]).ok().ok_or("no kind")?;
-    assert!(rt; eval(alloc, &bound, &row) == Err(EvalFault::OutOfRange));
+    let row = Sequence::new(rt.alloc());
+    let least = Expr::Negate(Boxed::new(rt.alloc(), whole(1 << 63))?);
+    assert!(rt; bound_answer(rt.alloc(), &least, &[], &row) == Answer::Value(Value::Int(i64::MIN)));
+    assert!(rt; bound_answer(rt.alloc(), &whole(1 << 63), &[], &row) == Answer::OutOfRange);
     Ok(())
 }

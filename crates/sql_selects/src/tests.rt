@@ -46,25 +46,55 @@ fn falls_by_x(query: &Query) -> bool {
     }
 }
 
+/// A piece as these tests write it.
+#[derive(Drop)]
+enum Mark {
+    Word(&'static [u8]),
+    Keyword(Keyword),
+    Sign(Sign),
+}
+
+fn piece(alloc: Global, mark: &Mark) -> Result<Piece, AllocError> {
+    match mark {
+        Mark::Word(name) => word(alloc, name),
+        Mark::Keyword(keyword) => Ok(Piece::Keyword(*keyword)),
+        Mark::Sign(sign) => Ok(Piece::Sign(*sign)),
+    }
+}
+
+fn pieces(alloc: Global, marks: &[Mark]) -> Result<Vec<Piece>, AllocError> {
+    let mut pieces = Vec::new(alloc);
+    for mark in marks {
+        pieces.push(piece(alloc, mark)?)?;
+    }
+    Ok(pieces)
+}
+
+/// `left.* FROM a left JOIN b ON x ORDER BY x DESC`
+fn a_query(alloc: Global) -> Result<Vec<Piece>, AllocError> {
+    let marks = [
+        Mark::Word(b"left"),
+        Mark::Sign(Sign::Point),
+        Mark::Sign(Sign::Star),
+        Mark::Keyword(Keyword::From),
+        Mark::Word(b"a"),
+        Mark::Word(b"left"),
+        Mark::Keyword(Keyword::Join),
+        Mark::Word(b"b"),
+        Mark::Keyword(Keyword::On),
+        Mark::Word(b"x"),
+        Mark::Keyword(Keyword::Order),
+        Mark::Keyword(Keyword::By),
+        Mark::Word(b"x"),
+        Mark::Keyword(Keyword::Desc),
+    ];
+    pieces(alloc, &marks)
+}
+
 #[test]
 fn reads_a_query(rt: HostRuntime) -> Result<(), Fail> {
     let alloc = rt.alloc();
-    let pieces = vec![in alloc;
-        word(alloc, b"left")?,
-        Piece::Sign(Sign::Point),
-        Piece::Sign(Sign::Star),
-        Piece::Keyword(Keyword::From),
-        word(alloc, b"a")?,
-        word(alloc, b"left")?,
-        Piece::Keyword(Keyword::Join),
-        word(alloc, b"b")?,
-        Piece::Keyword(Keyword::On),
-        word(alloc, b"x")?,
-        Piece::Keyword(Keyword::Order),
-        Piece::Keyword(Keyword::By),
-        word(alloc, b"x")?,
-        Piece::Keyword(Keyword::Desc),
-    ]?;
+    let pieces = a_query(alloc)?;
     let mut cursor = Cursor::new(pieces.as_slice());
     match read_select(alloc, &mut cursor) {
         Ok(Select::From(query)) => {

@@ -35,43 +35,81 @@ fn has_both(table: &CreateTable) -> bool {
     }
 }
 
+/// A piece as these tests write it.
+#[derive(Drop)]
+enum Mark {
+    Word(&'static [u8]),
+    Keyword(Keyword),
+    Sign(Sign),
+    Whole(u64),
+}
+
+fn piece(alloc: Global, mark: &Mark) -> Result<Piece, AllocError> {
+    match mark {
+        Mark::Word(name) => word(alloc, name),
+        Mark::Keyword(keyword) => Ok(Piece::Keyword(*keyword)),
+        Mark::Sign(sign) => Ok(Piece::Sign(*sign)),
+        Mark::Whole(number) => Ok(Piece::Whole(*number)),
+    }
+}
+
+fn pieces(alloc: Global, marks: &[Mark]) -> Result<Vec<Piece>, AllocError> {
+    let mut pieces = Vec::new(alloc);
+    for mark in marks {
+        pieces.push(piece(alloc, mark)?)?;
+    }
+    Ok(pieces)
+}
+
+/// `TABLE t (id TINYINT(1) NOT NULL, FOREIGN KEY (id) REFERENCES p (id) ON UPDATE RESTRICT)`
+fn a_table(alloc: Global) -> Result<Vec<Piece>, AllocError> {
+    let marks = [
+        Mark::Keyword(Keyword::Table),
+        Mark::Word(b"t"),
+        Mark::Sign(Sign::OpenParenthesis),
+        Mark::Word(b"id"),
+        Mark::Word(b"tinyint"),
+        Mark::Sign(Sign::OpenParenthesis),
+        Mark::Whole(1),
+        Mark::Sign(Sign::CloseParenthesis),
+        Mark::Keyword(Keyword::Not),
+        Mark::Keyword(Keyword::Null),
+        Mark::Sign(Sign::Comma),
+        Mark::Keyword(Keyword::Foreign),
+        Mark::Keyword(Keyword::Key),
+        Mark::Sign(Sign::OpenParenthesis),
+        Mark::Word(b"id"),
+        Mark::Sign(Sign::CloseParenthesis),
+        Mark::Keyword(Keyword::References),
+        Mark::Word(b"p"),
+        Mark::Sign(Sign::OpenParenthesis),
+        Mark::Word(b"id"),
+        Mark::Sign(Sign::CloseParenthesis),
+        Mark::Keyword(Keyword::On),
+        Mark::Keyword(Keyword::Update),
+        Mark::Keyword(Keyword::Restrict),
+        Mark::Sign(Sign::CloseParenthesis),
+    ];
+    pieces(alloc, &marks)
+}
+
 #[test]
 fn reads_a_table(rt: HostRuntime) -> Result<(), Fail> {
-    let alloc = rt.alloc();
-    let pieces = vec![in alloc;
-        Piece::Keyword(Keyword::Table),
-        word(alloc, b"t")?,
-        Piece::Sign(Sign::OpenParenthesis),
-        word(alloc, b"id")?,
-        word(alloc, b"tinyint")?,
-        Piece::Sign(Sign::OpenParenthesis),
-        Piece::Whole(1),
-        Piece::Sign(Sign::CloseParenthesis),
-        Piece::Keyword(Keyword::Not),
-        Piece::Keyword(Keyword::Null),
-        Piece::Sign(Sign::Comma),
-        Piece::Keyword(Keyword::Foreign),
-        Piece::Keyword(Keyword::Key),
-        Piece::Sign(Sign::OpenParenthesis),
-        word(alloc, b"id")?,
-        Piece::Sign(Sign::CloseParenthesis),
-        Piece::Keyword(Keyword::References),
-        word(alloc, b"p")?,
-        Piece::Sign(Sign::OpenParenthesis),
-        word(alloc, b"id")?,
-        Piece::Sign(Sign::CloseParenthesis),
-        Piece::Keyword(Keyword::On),
-        Piece::Keyword(Keyword::Update),
-        Piece::Keyword(Keyword::Restrict),
-        Piece::Sign(Sign::CloseParenthesis),
-    ]?;
+    let pieces = a_table(rt.alloc())?;
     let mut cursor = Cursor::new(pieces.as_slice());
-    match read_create(alloc, &mut cursor) {
+    match read_create(rt.alloc(), &mut cursor) {
         Ok(table) => assert!(rt; has_both(&table)),
         Err(_) => assert!(rt; false),
     }
-    let mut front = Cursor::new(&pieces[..24]);
-    match read_create(alloc, &mut front) {
+    Ok(())
+}
+
+#[test]
+fn wants_the_last_parenthesis(rt: HostRuntime) -> Result<(), Fail> {
+    let mut pieces = a_table(rt.alloc())?;
+    pieces.truncate(24);
+    let mut cursor = Cursor::new(pieces.as_slice());
+    match read_create(rt.alloc(), &mut cursor) {
         Ok(_) => assert!(rt; false),
         Err(stop) => assert!(rt; stop == Stop::At(0)),
     }
