@@ -46,6 +46,22 @@ fn falls_by_x(query: &Query) -> bool {
     }
 }
 
+fn is_filter(found: &Option<Expr>) -> bool {
+    match found {
+        Some(expr) => is_name(expr, b"x"),
+        None => false,
+    }
+}
+
+fn is_the_query(select: &Select) -> bool {
+    match select {
+        Select::From(query) => {
+            shows_all_of_left(&query.items) && joins_left(query) && falls_by_x(query)
+        }
+        Select::Alone(_) => false,
+    }
+}
+
 /// A piece as these tests write it.
 #[derive(Drop)]
 enum Mark {
@@ -97,12 +113,8 @@ fn reads_a_query(rt: HostRuntime) -> Result<(), Fail> {
     let pieces = a_query(alloc)?;
     let mut cursor = Cursor::new(pieces.as_slice());
     match read_select(alloc, &mut cursor) {
-        Ok(Select::From(query)) => {
-            assert!(rt; shows_all_of_left(&query.items));
-            assert!(rt; joins_left(&query));
-            assert!(rt; falls_by_x(&query));
-        }
-        _ => assert!(rt; false),
+        Ok(select) => assert!(rt; is_the_query(&select)),
+        Err(_) => assert!(rt; false),
     }
     assert!(rt; cursor.left() == 0);
     Ok(())
@@ -126,8 +138,8 @@ fn reads_a_filter(rt: HostRuntime) -> Result<(), Fail> {
     let pieces = vec![in alloc; Piece::Keyword(Keyword::Where), word(alloc, b"x")?]?;
     let mut cursor = Cursor::new(pieces.as_slice());
     match read_filter(alloc, &mut cursor) {
-        Ok(Some(expr)) => assert!(rt; is_name(&expr, b"x")),
-        _ => assert!(rt; false),
+        Ok(found) => assert!(rt; is_filter(&found)),
+        Err(_) => assert!(rt; false),
     }
     Ok(())
 }
