@@ -1,7 +1,0 @@
-use Rattle.std.proofs.Common.{◌≡◌, ◌-◌}
-use Rattle.sql_grammar.specs.Reading.{list, list_from}
-use Rattle.sql_statements.specs.Statements.{any_entry}
-use Rattle.sql_statements.proofs.rows.entries.Given as goal
-
-abbrev pub invariant-loop-turn : goal.invariant-loop-turn
-invariant-loop-turn l = list any_entry l.fn.cursor ≡ list_from any_entry (l._turn-end - l._turn) l.found l.cursor

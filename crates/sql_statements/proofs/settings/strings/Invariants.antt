@@ -1,6 +1,0 @@
-use Rattle.std.proofs.Common.{◌≡◌, ◌-◌}
-use Rattle.sql_grammar.specs.Reading.{list, list_from, string}
-use Rattle.sql_statements.proofs.settings.strings.Given as goal
-
-abbrev pub invariant-loop-turn : goal.invariant-loop-turn
-invariant-loop-turn l = list string l.fn.cursor ≡ list_from string (l._turn-end - l._turn) l.found l.cursor
