@@ -1,5 +1,5 @@
 -- Tokens that are read are slices of their text.
-use Rattle.std.proofs.Common.{◌≡◌, refl, sym, ◌∙◌, ap, subst, ℕ, ◌+◌, ◌-◌, ◌<◌, ◌≤◌, Bool, true, false, List, [], ◌∷◌, ◌++◌, length, get_or, IsTrue, Option, Some, None, Result, Ok, Err, arith, if◌then◌else◌}
+use Rattle.std.proofs.Common.{◌≡◌, refl, sym, ◌∙◌, ap, subst, ℕ, ◌+◌, ◌-◌, ◌<◌, ◌≤◌, Bool, true, false, List, [], ◌∷◌, ◌++◌, length, IsTrue, Option, Some, None, Result, Ok, Err, arith, if◌then◌else◌}
 use Rattle.std.proofs.Common.{below_more, append_assoc, ◌==◌}
 use Rattle.std.proofs.Math.Seq.{get_or-append_seam}
 use Rattle.std.proofs.lemmas.List.{length-append}
@@ -8,7 +8,7 @@ use Rattle.std.specs.Prelude.{IfOk, IfSome, ◌||◌, is_some, nat_le, slice_ind
 use Rattle.std.specs.Option.{option_map}
 use Rattle.sql_ast.specs.Bytes.{hex_value, is_blank, is_digit, is_word_byte, is_word_start}
 use Rattle.sql_ast.specs.Slices.{IsBlankFrom, AreSlices}
-use Rattle.sql_ast.specs.Tokens.{after_first, after_keyword, after_sign, and_then, begun, closed, Step, end_decimal, end_point, end_whole, ended, first_of_sign, first_place, gone_on, first_byte, in_string, most_whole, next_place, noted, on, nothing_read, opened, step, taken, tokens, tokens_from, with_point}
+use Rattle.sql_ast.specs.Tokens.{after_keyword, after_sign, and_then, begun, closed, end_decimal, end_point, end_whole, ended, first_place, gone_on, first_byte, most_whole, next_place, on, nothing_read, opened, step, taken, tokens, tokens_from, with_point}
 use Rattle.sql_ast.specs.declared.faults.Refusal.{Refusal}
 use Rattle.sql_ast.specs.declared.lexer.Reading.{Reading}
 use Rattle.sql_ast.specs.declared.places.Last.{Last}

@@ -2,7 +2,7 @@
 --
 -- A token goes on as long as its place takes the next byte. Then it is judged, and the byte is taken between tokens.
 use Rattle.std.specs.Prelude.{ℕ, Bool, ◌==◌, ◌||◌, ◌+◌, ◌-◌, ◌*◌, ◌^◌, List, [], ◌∷◌, ◌++◌, min, nat_le, is_some, Option, Some, None, Result, Ok, Err, if◌then◌else◌}
-use Rattle.std.specs.Option.{option_map, option_map_or}
+use Rattle.std.specs.Option.{option_map}
 use Rattle.sql_ast.specs.Bytes.{hex_value, is_blank, is_digit, is_word_byte, is_word_start, lower}
 use Rattle.sql_ast.specs.Words.{double_sign, keyword_of, single_sign}
 use Rattle.sql_ast.specs.declared.faults.Refusal.{Refusal}

@@ -26,11 +26,20 @@ pub enum Comparison {
     AtLeast,
 }
 
+/// What happens to an operand of a sum.
+#[derive(Clone, Copy, Debug, PartialEq, Eq)]
+pub enum Term {
+    Plus,
+    Minus,
+}
+
 /// An expression.
 #[derive(Debug, Drop)]
 pub enum Expr {
-    Or(Boxed<Expr>, Boxed<Expr>),
-    And(Boxed<Expr>, Boxed<Expr>),
+    /// The first operand and the others from the left, of which there is at least one. So a chain is one node, however long it is.
+    Or(Boxed<Expr>, Sequence<Expr>),
+    /// As `Or`.
+    And(Boxed<Expr>, Sequence<Expr>),
     Not(Boxed<Expr>),
     Compare(Boxed<Expr>, Comparison, Boxed<Expr>),
     IsNull(Boxed<Expr>),
@@ -41,9 +50,10 @@ pub enum Expr {
     /// The value, the low end and the high end.
     Between(Boxed<Expr>, Boxed<Expr>, Boxed<Expr>),
     NotBetween(Boxed<Expr>, Boxed<Expr>, Boxed<Expr>),
-    Add(Boxed<Expr>, Boxed<Expr>),
-    Subtract(Boxed<Expr>, Boxed<Expr>),
-    Multiply(Boxed<Expr>, Boxed<Expr>),
+    /// A sum: the first operand and what is added to it or subtracted, from the left, of which there is at least one.
+    Terms(Boxed<Expr>, Sequence<(Term, Expr)>),
+    /// A product: as `Or`.
+    Factors(Boxed<Expr>, Sequence<Expr>),
     /// A unary minus.
     Negate(Boxed<Expr>),
     Literal(Literal),

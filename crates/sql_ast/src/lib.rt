@@ -22,7 +22,7 @@ mod tokens;
 mod words;
 
 pub use bytes::{hex_value, lower_case, push_escape};
-pub use expressions::{Comparison, Expr, Literal};
+pub use expressions::{Comparison, Expr, Literal, Term};
 pub use faults::{ReadFault, Refusal};
 pub use keywords::keyword_of;
 pub use lexer::lex;
