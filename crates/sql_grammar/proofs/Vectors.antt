@@ -1,5 +1,5 @@
 -- Expressions, computed on pieces whose trees are known.
-use Rattle.std.proofs.Common.{◌≡◌, refl, codes, List, [], ◌∷◌, Ok, Err, ℕ, true, false}
+use Rattle.std.proofs.Common.{◌≡◌, refl, codes, [], ◌∷◌, Ok, Err}
 use Rattle.sql_ast.specs.declared.expressions.Comparison.TheVariants as comparison
 use Rattle.sql_ast.specs.declared.expressions.Expr.{Expr}
 use Rattle.sql_ast.specs.declared.expressions.Expr.TheVariants as e
@@ -11,7 +11,7 @@ use Rattle.sql_grammar.specs.declared.pieces.Piece.{Piece}
 use Rattle.sql_grammar.specs.declared.pieces.Piece.TheVariants.{Keyword, Word, Quoted, Whole, Sign}
 use Rattle.sql_grammar.specs.Pieces.{same_sign, same_keyword}
 use Rattle.sql_grammar.specs.Reading.{sees, sees_keyword, sees_name, name, list, chain, chain_from}
-use Rattle.sql_grammar.specs.Expressions.{column, branch, null_test, called, test_ahead, term_ahead, literal_ahead, enclosed, count, call, other_atom, plain_atom, atom, unary, product, term, sum, listed, limits, negated, tested, comparison as comparison_rule, negation, conjunction, disjunction, expression}
+use Rattle.sql_grammar.specs.Expressions.{column, called, test_ahead, term_ahead, literal_ahead, enclosed, count, call, other_atom, plain_atom, atom, unary, product, term, sum, listed, limits, negated, tested, comparison as comparison_rule, negation, conjunction, disjunction, expression}
 
 abbrev x : Piece
 x = Word (codes "x")

@@ -7,8 +7,7 @@
 --           | active_branch() | @@ name
 --
 -- Operands of one rank stand in one list, behind the first.
-use Rattle.std.specs.Prelude.{ℕ, zero, suc, Bool, true, false, if◌then◌else◌, List, [], ◌∷◌, Option, Some, None, Result, Ok, Err}
-use Rattle.sql_ast.specs.declared.expressions.Comparison.{Comparison}
+use Rattle.std.specs.Prelude.{ℕ, zero, suc, if◌then◌else◌, List, [], ◌∷◌, Option, Some, None}
 use Rattle.sql_ast.specs.declared.expressions.Expr.{Expr}
 use Rattle.sql_ast.specs.declared.expressions.Expr.TheVariants as e
 use Rattle.sql_ast.specs.declared.expressions.Literal.{Literal}
@@ -21,7 +20,7 @@ use Rattle.sql_grammar.specs.declared.heads.Function.{Function}
 use Rattle.sql_grammar.specs.declared.heads.Function.TheVariants as function
 use Rattle.sql_grammar.specs.declared.pieces.Piece.{Piece}
 use Rattle.sql_grammar.specs.Pieces.{test_of, term_of, function_of, literal_of, is_sign}
-use Rattle.sql_grammar.specs.Reading.{Reader, ◌>>=◌, ◌>>◌, ◌<$>◌, pure, stop, skip, seen, sees, eat, eat_keyword, expect, expect_keyword, name, behind, chain, list}
+use Rattle.sql_grammar.specs.Reading.{Reader, ◌>>=◌, ◌>>◌, ◌<$>◌, pure, stop, skip, seen, eat, eat_keyword, expect, expect_keyword, name, behind, chain, list}
 
 -- name | name . name
 unfoldable pub column : Reader Expr
