@@ -1,0 +1,21 @@
+//! Each law stands on a function that does nothing.
+
+ghost use Rattle.std.specs.Prelude.{ℕ};
+ghost use Rattle.grammar_laws.specs.Laws.{HasOneTree, ReadsBack, ReadsBackAt, ReadsTrees};
+
+/// A tree that is written with each operand in parentheses, at most 64 of them open at one place, is read as that tree, and what follows is left where
+/// no expression goes on with it. So it is at each limit.
+pub fn law_of_reading_back()
+    ensures any { ReadsBack }
+    ensures at_each_limit { (depth : ℕ) → ReadsBackAt depth }
+{}
+
+/// No pieces begin with the spellings of two trees, where each ends.
+pub fn law_of_one_tree()
+    ensures { HasOneTree }
+{}
+
+/// Whatever is read is a tree, in which no list is empty.
+pub fn law_of_trees()
+    ensures { ReadsTrees }
+{}
