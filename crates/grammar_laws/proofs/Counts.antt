@@ -4,7 +4,7 @@ use Rattle.std.specs.List.{AllByRecursion}
 use Rattle.std.proofs.lemmas.List.{append_assoc, append-nil}
 use Rattle.sql_ast.specs.declared.expressions.Comparison.{Comparison}
 use Rattle.sql_ast.specs.declared.expressions.Comparison.TheVariants as operator
-use Rattle.sql_ast.specs.declared.expressions.Expr.{Expr, fold-Expr, fold-roll-Expr, out-Expr, roll-Expr, roll-out-Expr}
+use Rattle.sql_ast.specs.declared.expressions.Expr.{Expr, fold-roll-Expr, out-Expr, roll-Expr, roll-out-Expr}
 use Rattle.sql_ast.specs.declared.expressions.Expr.TheOpen.{Expr-F}
 use Rattle.sql_ast.specs.declared.expressions.Literal.{Literal}
 use Rattle.sql_ast.specs.declared.expressions.Literal.TheVariants as literal

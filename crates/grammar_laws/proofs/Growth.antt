@@ -1,9 +1,9 @@
 -- Each variant is a tree where its parts are, and its list has an element.
-use Rattle.std.proofs.Common.{◌≡◌, ◌∙◌, sym, ap, refl, ℕ, true, false, Bool, ◌&&◌, List, [], ◌∷◌, map}
+use Rattle.std.proofs.Common.{◌≡◌, ◌∙◌, sym, ap, refl, ℕ, true, Bool, ◌&&◌, List, [], ◌∷◌, map}
 use Rattle.std.specs.List.{AllByRecursion, list_all}
 use Rattle.std.proofs.lemmas.Bool.{and_from}
 use Rattle.sql_ast.specs.declared.expressions.Comparison.{Comparison}
-use Rattle.sql_ast.specs.declared.expressions.Expr.{Expr, fold-Expr, fold-roll-Expr, roll-Expr}
+use Rattle.sql_ast.specs.declared.expressions.Expr.{Expr, fold-roll-Expr, roll-Expr}
 use Rattle.sql_ast.specs.declared.expressions.Expr.TheOpen.{Expr-F}
 use Rattle.sql_ast.specs.declared.expressions.Expr.TheVariants as e
 use Rattle.sql_ast.specs.declared.expressions.Expr.TheVariants.{rolls-Or, rolls-And, rolls-Not, rolls-Compare, rolls-IsNull, rolls-IsNotNull, rolls-In, rolls-NotIn, rolls-Between, rolls-NotBetween, rolls-Terms, rolls-Factors, rolls-Negate, rolls-Literal, rolls-Name, rolls-Qualified, rolls-CountAll, rolls-Count, rolls-Sum, rolls-Min, rolls-Max, rolls-ActiveBranch, rolls-Variable}

@@ -10,3 +10,4 @@ pub mod Opens
 pub mod Counts
 pub mod Growth
 pub mod Sound
+mod Vectors

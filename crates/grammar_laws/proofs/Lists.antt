@@ -1,5 +1,5 @@
 -- The lists of a node: the operands of a chain, and the elements behind IN.
-use Rattle.std.proofs.Common.{◌≡◌, ◌≤◌, ◌∙◌, sym, ap, refl, ℕ, true, false, List, [], ◌∷◌, ◌++◌, length, map, Option, Some, None, Ok, arith}
+use Rattle.std.proofs.Common.{◌≡◌, ◌∙◌, ap, refl, true, false, List, [], ◌∷◌, ◌++◌, length, map, Some, None, Ok, arith}
 use Rattle.std.specs.List.{AllByRecursion}
 use Rattle.std.proofs.lemmas.List.{append_assoc}
 use Rattle.sql_ast.specs.declared.expressions.Expr.{Expr}
@@ -9,7 +9,7 @@ use Rattle.sql_ast.specs.declared.signs.Sign.TheVariants as sign
 use Rattle.sql_ast.specs.declared.words.Keyword.TheVariants as word
 use Rattle.sql_grammar.specs.declared.pieces.Piece.{Piece}
 use Rattle.sql_grammar.specs.Pieces.{same_sign, same_keyword}
-use Rattle.sql_grammar.specs.Reading.{Reader, sees, sees_keyword, chain, chain_from, comma, list}
+use Rattle.sql_grammar.specs.Reading.{Reader, sees, sees_keyword, chain, comma, list}
 use Rattle.sql_grammar.specs.Expressions.{factor, term, conjunct, disjunct, listed, term_ahead, test_ahead}
 use Rattle.grammar_laws.specs.Spelling.{spelled, enclosed, each, led, led_term, separated, mark, key, ends_expression}
 use Rattle.grammar_laws.proofs.Chains.{Links, chain_from_reads, chain_reads, each_long, good_each}

@@ -1,5 +1,5 @@
 -- One lemma a variant: its spelling is read as it, where its parts are.
-use Rattle.std.proofs.Common.{◌≡◌, ◌≤◌, ◌∙◌, sym, ap, refl, ℕ, true, false, List, [], ◌∷◌, ◌++◌, map, Option, Some, None, Ok, codes, arith}
+use Rattle.std.proofs.Common.{◌≡◌, ◌∙◌, ap, refl, ℕ, true, false, List, [], ◌∷◌, ◌++◌, map, Some, None, Ok, codes}
 use Rattle.std.specs.List.{AllByRecursion}
 use Rattle.std.proofs.lemmas.List.{append_assoc}
 use Rattle.sql_ast.specs.declared.expressions.Comparison.{Comparison}
@@ -10,7 +10,6 @@ use Rattle.sql_ast.specs.declared.expressions.Expr.TheVariants as e
 use Rattle.sql_ast.specs.declared.expressions.Literal.{Literal}
 use Rattle.sql_ast.specs.declared.expressions.Literal.TheVariants as literal
 use Rattle.sql_ast.specs.declared.expressions.Term.{Term}
-use Rattle.sql_ast.specs.declared.expressions.Term.TheVariants as sum_term
 use Rattle.sql_ast.specs.declared.signs.Sign.TheVariants as sign
 use Rattle.sql_ast.specs.declared.words.Keyword.TheVariants as word
 use Rattle.sql_grammar.specs.declared.heads.Test.TheVariants as test
@@ -18,9 +17,8 @@ use Rattle.sql_grammar.specs.declared.pieces.Piece.{Piece}
 use Rattle.sql_grammar.specs.declared.pieces.Piece.TheVariants as piece
 use Rattle.sql_grammar.specs.Pieces.{same_sign, same_keyword, function_of, literal_of, is_sign, is_keyword}
 use Rattle.sql_grammar.specs.Reading.{Reader, sees, sees_keyword, name}
-use Rattle.sql_grammar.specs.Expressions as grammar
-use Rattle.sql_grammar.specs.Expressions.{atom, atom_by, plain_atom, literal_or_other, other_atom, literal_ahead, column, call, called, count, branch, unary, sum, comparison, disjunction, tested, negated, null_test, limits, term_ahead, test_ahead}
-use Rattle.grammar_laws.specs.Spelling.{spell, spelled, enclosed, each, led, led_term, separated, literal_piece, comparison_sign, mark, key, ends_expression}
+use Rattle.sql_grammar.specs.Expressions.{atom, atom_by, plain_atom, other_atom, literal_ahead, column, call, called, count, branch, disjunction, tested, negated, null_test, limits, term_ahead, test_ahead}
+use Rattle.grammar_laws.specs.Spelling.{spell, spelled, enclosed, each, led, led_term, separated, literal_piece, comparison_sign, mark, key}
 use Rattle.grammar_laws.proofs.Ends.{EndsAll}
 use Rattle.grammar_laws.proofs.Lists.{factors, no_star, terms, conjuncts, disjuncts, listed_read}
 use Rattle.grammar_laws.proofs.Operands.{IsRead, closed, operand_atom, operand_unary, operand_product, operand_sum, operand_comparison, operand_negation, operand_conjunction}

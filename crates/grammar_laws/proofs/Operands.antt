@@ -1,19 +1,16 @@
 -- An operand in parentheses, rule by rule.
-use Rattle.std.proofs.Common.{◌≡◌, ◌≤◌, ◌∙◌, sym, ap, refl, ℕ, true, false, cond, List, [], ◌∷◌, ◌++◌, Option, Some, None, Ok, arith}
+use Rattle.std.proofs.Common.{◌≡◌, ◌∙◌, ap, refl, true, false, List, [], ◌∷◌, ◌++◌, None, Ok}
 use Rattle.std.proofs.lemmas.List.{append_assoc}
 use Rattle.sql_ast.specs.declared.expressions.Expr.{Expr}
-use Rattle.sql_ast.specs.declared.expressions.Expr.TheVariants as e
 use Rattle.sql_ast.specs.declared.expressions.Term.{Term}
 use Rattle.sql_ast.specs.declared.signs.Sign.TheVariants as sign
 use Rattle.sql_ast.specs.declared.words.Keyword.TheVariants as word
-use Rattle.sql_grammar.specs.declared.heads.Test.TheVariants as test
 use Rattle.sql_grammar.specs.declared.pieces.Piece.{Piece}
-use Rattle.sql_grammar.specs.declared.pieces.Piece.TheVariants as piece
-use Rattle.sql_grammar.specs.Pieces.{same_sign, same_keyword}
+use Rattle.sql_grammar.specs.Pieces.{same_sign}
 use Rattle.sql_grammar.specs.Reading.{Reader, sees, sees_keyword, chain}
 use Rattle.sql_grammar.specs.Expressions as grammar
 use Rattle.sql_grammar.specs.Expressions.{atom, atom_by, plain_atom, other_atom, literal_ahead, unary, factor, product, term, sum, comparison, negation, conjunct, conjunction, disjunct, called, term_ahead, test_ahead}
-use Rattle.grammar_laws.specs.Spelling.{spelled, enclosed, mark, key, ends_expression}
+use Rattle.grammar_laws.specs.Spelling.{spelled, enclosed, mark, ends_expression}
 use Rattle.grammar_laws.proofs.Chains.{no_chain}
 use Rattle.grammar_laws.proofs.Ends.{EndsComparison}
 use Rattle.grammar_laws.proofs.Rungs.{not_called, unary_of_atom, product_of_unaries, sum_of_products, comparison_of_sum, untested, negation_of_comparison, conjunction_of_negations}

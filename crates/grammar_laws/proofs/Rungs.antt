@@ -1,20 +1,17 @@
 -- From each rule to the next looser one, where what follows is none of the looser rule's.
-use Rattle.std.proofs.Common.{◌≡◌, ◌≤◌, ◌+◌, ◌∙◌, sym, ap, refl, subst, ℕ, zero, suc, true, false, cond, Bool, List, [], ◌∷◌, ◌++◌, length, map, Option, Some, None, Ok, Err, arith}
-use Rattle.std.proofs.lemmas.List.{append_assoc, append-nil}
+use Rattle.std.proofs.Common.{◌≡◌, refl, true, false, cond, List, [], ◌∷◌, Option, None, Ok}
 use Rattle.sql_ast.specs.declared.expressions.Expr.{Expr}
 use Rattle.sql_ast.specs.declared.expressions.Expr.TheVariants as e
 use Rattle.sql_ast.specs.declared.expressions.Term.{Term}
-use Rattle.sql_ast.specs.declared.signs.Sign.{Sign}
 use Rattle.sql_ast.specs.declared.signs.Sign.TheVariants as sign
-use Rattle.sql_ast.specs.declared.words.Keyword.{Keyword}
 use Rattle.sql_ast.specs.declared.words.Keyword.TheVariants as word
 use Rattle.sql_grammar.specs.declared.heads.Function.{Function}
 use Rattle.sql_grammar.specs.declared.heads.Test.TheVariants as test
 use Rattle.sql_grammar.specs.declared.pieces.Piece.{Piece}
 use Rattle.sql_grammar.specs.declared.pieces.Piece.TheVariants as piece
 use Rattle.sql_grammar.specs.Pieces.{function_of, is_sign, same_sign, same_keyword}
-use Rattle.sql_grammar.specs.Reading.{Reader, sees, sees_keyword, chain, chain_from}
-use Rattle.sql_grammar.specs.Expressions.{atom, unary, factor, product, term, sum, comparison, negation, conjunct, conjunction, disjunct, disjunction, tested, test_ahead, term_ahead, called, chained}
+use Rattle.sql_grammar.specs.Reading.{Reader, sees, sees_keyword, chain}
+use Rattle.sql_grammar.specs.Expressions.{atom, unary, factor, product, term, sum, comparison, negation, conjunct, conjunction, disjunct, disjunction, tested, test_ahead, called, chained}
 
 -- no call begins with a piece that names no function
 pub not_called : (t : Piece) (ts : List Piece) → function_of t ≡ None → called (t ∷ ts) ≡ None

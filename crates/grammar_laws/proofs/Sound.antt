@@ -1,5 +1,5 @@
 -- Whatever a rule reads is a tree.
-use Rattle.std.proofs.Common.{◌≡◌, ◌∙◌, sym, ap, refl, subst, ℕ, zero, suc, true, false, Bool, cond, List, [], ◌∷◌, ◌++◌, length, drop, Option, Some, None, Ok, Err}
+use Rattle.std.proofs.Common.{subst, ℕ, zero, suc, true, false, Bool, cond, List, [], ◌∷◌, ◌++◌, length, drop, Option, Some, None, Ok, Err}
 use Rattle.std.specs.List.{AllByRecursion}
 use Rattle.sql_ast.specs.declared.expressions.Expr.{Expr}
 use Rattle.sql_ast.specs.declared.expressions.Expr.TheVariants as e
@@ -12,7 +12,7 @@ use Rattle.sql_grammar.specs.declared.heads.Function.TheVariants as function
 use Rattle.sql_grammar.specs.declared.heads.Test.{Test}
 use Rattle.sql_grammar.specs.declared.heads.Test.TheVariants as test
 use Rattle.sql_grammar.specs.declared.pieces.Piece.{Piece}
-use Rattle.sql_grammar.specs.Reading.{Outcome, Reader, and_then, eat, eat_keyword, expect, expect_keyword, skip, name, list, linked, chain, chain_from, comma, behind}
+use Rattle.sql_grammar.specs.Reading.{Outcome, Reader, and_then, eat, eat_keyword, expect, expect_keyword, name, list, linked, chain, chain_from, comma, behind}
 use Rattle.sql_grammar.specs.Expressions.{column, branch, null_test, called, literal_ahead, test_ahead, term_ahead, enclosed, count, call, call_of, other_atom, literal_or_other, plain_atom, atom_by, atom, unary, factor, product, term_by, term, sum, listed, limits, negated_by, negated, tested_by, tested, comparison, negation, conjunct, conjunction, disjunct, disjunction, chained, expression}
 use Rattle.grammar_laws.specs.Laws.{ReadsTrees}
 use Rattle.grammar_laws.proofs.Growth.{IsTree, or_tree, and_tree, not_tree, compare_tree, is_null_tree, is_not_null_tree, in_tree, not_in_tree, between_tree, not_between_tree, terms_tree, factors_tree, negate_tree, literal_tree, name_tree, qualified_tree, count_all_tree, count_tree, sum_tree, min_tree, max_tree, active_branch_tree, variable_tree}

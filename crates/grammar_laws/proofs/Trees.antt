@@ -13,7 +13,7 @@ use Rattle.sql_ast.specs.declared.signs.Sign.TheVariants as sign
 use Rattle.sql_grammar.specs.declared.pieces.Piece.{Piece}
 use Rattle.sql_grammar.specs.Pieces.{same_sign}
 use Rattle.sql_grammar.specs.Reading.{Outcome, Reader, sees}
-use Rattle.sql_grammar.specs.Expressions.{any, disjunction, expression}
+use Rattle.sql_grammar.specs.Expressions.{disjunction, expression}
 use Rattle.grammar_laws.specs.Laws.{HasOneTree, ReadsBackAt}
 use Rattle.grammar_laws.specs.Spelling.{spell, spelled, grown, is_tree, operands, mark, ends_expression}
 use Rattle.grammar_laws.proofs.Ends.{ends_all}
@@ -64,7 +64,7 @@ module _ (inner : Reader Expr) (depth : ℕ) (reads : (x : Expr) → is_tree x �
     layer_read (Expr-F.Or a (x ∷ xs)) tree few =
         let t : (is_tree a && list_all (λ b. b) (map is_tree (x ∷ xs))) ≡ true = sym (fold-roll-Expr Bool grown (Expr-F.Or a (x ∷ xs))) ∙ tree in
         let o : max (opens a) (greatest (map opens (x ∷ xs))) + 1 ≤ depth = subst (λ n. n ≤ depth) (fold-roll-Expr ℕ opened (Expr-F.Or a (x ∷ xs))) few in
-        rolled (Expr-F.Or a (x ∷ xs)) (spell (Expr-F.Or (spelled a) (map spelled (x ∷ xs)))) (e.Or a (x ∷ xs)) (fold-roll-Expr (List Piece) spell (Expr-F.Or a (x ∷ xs))) (rolls-Or a (x ∷ xs)) 
+        rolled (Expr-F.Or a (x ∷ xs)) (spell (Expr-F.Or (spelled a) (map spelled (x ∷ xs)))) (e.Or a (x ∷ xs)) (fold-roll-Expr (List Piece) spell (Expr-F.Or a (x ∷ xs))) (rolls-Or a (x ∷ xs))
         (or_read inner rest (ends_all rest ends) a x xs (reads a (and_parts (is_tree a) (list_all (λ b. b) (map is_tree (x ∷ xs))) t).0 (omega arith)) (all_read (x ∷ xs) (and_parts (is_tree a) (list_all (λ b. b) (map is_tree (x ∷ xs))) t).1 (omega arith)))
     layer_read (Expr-F.And a []) tree few =
         let t : (is_tree a && false) ≡ true = sym (fold-roll-Expr Bool grown (Expr-F.And a [])) ∙ tree in
@@ -72,7 +72,7 @@ module _ (inner : Reader Expr) (depth : ℕ) (reads : (x : Expr) → is_tree x �
     layer_read (Expr-F.And a (x ∷ xs)) tree few =
         let t : (is_tree a && list_all (λ b. b) (map is_tree (x ∷ xs))) ≡ true = sym (fold-roll-Expr Bool grown (Expr-F.And a (x ∷ xs))) ∙ tree in
         let o : max (opens a) (greatest (map opens (x ∷ xs))) + 1 ≤ depth = subst (λ n. n ≤ depth) (fold-roll-Expr ℕ opened (Expr-F.And a (x ∷ xs))) few in
-        rolled (Expr-F.And a (x ∷ xs)) (spell (Expr-F.And (spelled a) (map spelled (x ∷ xs)))) (e.And a (x ∷ xs)) (fold-roll-Expr (List Piece) spell (Expr-F.And a (x ∷ xs))) (rolls-And a (x ∷ xs)) 
+        rolled (Expr-F.And a (x ∷ xs)) (spell (Expr-F.And (spelled a) (map spelled (x ∷ xs)))) (e.And a (x ∷ xs)) (fold-roll-Expr (List Piece) spell (Expr-F.And a (x ∷ xs))) (rolls-And a (x ∷ xs))
         (and_read inner rest (ends_all rest ends) a x xs (reads a (and_parts (is_tree a) (list_all (λ b. b) (map is_tree (x ∷ xs))) t).0 (omega arith)) (all_read (x ∷ xs) (and_parts (is_tree a) (list_all (λ b. b) (map is_tree (x ∷ xs))) t).1 (omega arith)))
     layer_read (Expr-F.Not a) tree few =
         let t : is_tree a ≡ true = sym (fold-roll-Expr Bool grown (Expr-F.Not a)) ∙ tree in
@@ -82,7 +82,7 @@ module _ (inner : Reader Expr) (depth : ℕ) (reads : (x : Expr) → is_tree x �
         let t : (is_tree a && is_tree b) ≡ true = sym (fold-roll-Expr Bool grown (Expr-F.Compare a operator b)) ∙ tree in
         let o : max (opens a) (opens b) + 1 ≤ depth = subst (λ n. n ≤ depth) (fold-roll-Expr ℕ opened (Expr-F.Compare a operator b)) few in
         let parts = and_parts (is_tree a) (is_tree b) t in
-        rolled (Expr-F.Compare a operator b) (spell (Expr-F.Compare (spelled a) operator (spelled b))) (e.Compare a operator b) (fold-roll-Expr (List Piece) spell (Expr-F.Compare a operator b)) (rolls-Compare a operator b) 
+        rolled (Expr-F.Compare a operator b) (spell (Expr-F.Compare (spelled a) operator (spelled b))) (e.Compare a operator b) (fold-roll-Expr (List Piece) spell (Expr-F.Compare a operator b)) (rolls-Compare a operator b)
         (compare_read inner rest (ends_all rest ends) a operator b (reads a parts.0 (omega arith)) (reads b parts.1 (omega arith)))
     layer_read (Expr-F.IsNull a) tree few =
         let t : is_tree a ≡ true = sym (fold-roll-Expr Bool grown (Expr-F.IsNull a)) ∙ tree in
@@ -98,7 +98,7 @@ module _ (inner : Reader Expr) (depth : ℕ) (reads : (x : Expr) → is_tree x �
     layer_read (Expr-F.In a (x ∷ xs)) tree few =
         let t : (is_tree a && list_all (λ b. b) (map is_tree (x ∷ xs))) ≡ true = sym (fold-roll-Expr Bool grown (Expr-F.In a (x ∷ xs))) ∙ tree in
         let o : max (opens a) (greatest (map opens (x ∷ xs))) + 1 ≤ depth = subst (λ n. n ≤ depth) (fold-roll-Expr ℕ opened (Expr-F.In a (x ∷ xs))) few in
-        rolled (Expr-F.In a (x ∷ xs)) (spell (Expr-F.In (spelled a) (map spelled (x ∷ xs)))) (e.In a (x ∷ xs)) (fold-roll-Expr (List Piece) spell (Expr-F.In a (x ∷ xs))) (rolls-In a (x ∷ xs)) 
+        rolled (Expr-F.In a (x ∷ xs)) (spell (Expr-F.In (spelled a) (map spelled (x ∷ xs)))) (e.In a (x ∷ xs)) (fold-roll-Expr (List Piece) spell (Expr-F.In a (x ∷ xs))) (rolls-In a (x ∷ xs))
         (in_read inner rest (ends_all rest ends) a x xs (reads a (and_parts (is_tree a) (list_all (λ b. b) (map is_tree (x ∷ xs))) t).0 (omega arith)) (all_read (x ∷ xs) (and_parts (is_tree a) (list_all (λ b. b) (map is_tree (x ∷ xs))) t).1 (omega arith)))
     layer_read (Expr-F.NotIn a []) tree few =
         let t : (is_tree a && false) ≡ true = sym (fold-roll-Expr Bool grown (Expr-F.NotIn a [])) ∙ tree in
@@ -106,21 +106,21 @@ module _ (inner : Reader Expr) (depth : ℕ) (reads : (x : Expr) → is_tree x �
     layer_read (Expr-F.NotIn a (x ∷ xs)) tree few =
         let t : (is_tree a && list_all (λ b. b) (map is_tree (x ∷ xs))) ≡ true = sym (fold-roll-Expr Bool grown (Expr-F.NotIn a (x ∷ xs))) ∙ tree in
         let o : max (opens a) (greatest (map opens (x ∷ xs))) + 1 ≤ depth = subst (λ n. n ≤ depth) (fold-roll-Expr ℕ opened (Expr-F.NotIn a (x ∷ xs))) few in
-        rolled (Expr-F.NotIn a (x ∷ xs)) (spell (Expr-F.NotIn (spelled a) (map spelled (x ∷ xs)))) (e.NotIn a (x ∷ xs)) (fold-roll-Expr (List Piece) spell (Expr-F.NotIn a (x ∷ xs))) (rolls-NotIn a (x ∷ xs)) 
+        rolled (Expr-F.NotIn a (x ∷ xs)) (spell (Expr-F.NotIn (spelled a) (map spelled (x ∷ xs)))) (e.NotIn a (x ∷ xs)) (fold-roll-Expr (List Piece) spell (Expr-F.NotIn a (x ∷ xs))) (rolls-NotIn a (x ∷ xs))
         (not_in_read inner rest (ends_all rest ends) a x xs (reads a (and_parts (is_tree a) (list_all (λ b. b) (map is_tree (x ∷ xs))) t).0 (omega arith)) (all_read (x ∷ xs) (and_parts (is_tree a) (list_all (λ b. b) (map is_tree (x ∷ xs))) t).1 (omega arith)))
     layer_read (Expr-F.Between a low high) tree few =
         let t : (is_tree a && (is_tree low && is_tree high)) ≡ true = sym (fold-roll-Expr Bool grown (Expr-F.Between a low high)) ∙ tree in
         let o : max (opens a) (max (opens low) (opens high)) + 1 ≤ depth = subst (λ n. n ≤ depth) (fold-roll-Expr ℕ opened (Expr-F.Between a low high)) few in
         let parts = and_parts (is_tree a) (is_tree low && is_tree high) t in
         let others = and_parts (is_tree low) (is_tree high) parts.1 in
-        rolled (Expr-F.Between a low high) (spell (Expr-F.Between (spelled a) (spelled low) (spelled high))) (e.Between a low high) (fold-roll-Expr (List Piece) spell (Expr-F.Between a low high)) (rolls-Between a low high) 
+        rolled (Expr-F.Between a low high) (spell (Expr-F.Between (spelled a) (spelled low) (spelled high))) (e.Between a low high) (fold-roll-Expr (List Piece) spell (Expr-F.Between a low high)) (rolls-Between a low high)
         (between_read inner rest (ends_all rest ends) a low high (reads a parts.0 (omega arith)) (reads low others.0 (omega arith)) (reads high others.1 (omega arith)))
     layer_read (Expr-F.NotBetween a low high) tree few =
         let t : (is_tree a && (is_tree low && is_tree high)) ≡ true = sym (fold-roll-Expr Bool grown (Expr-F.NotBetween a low high)) ∙ tree in
         let o : max (opens a) (max (opens low) (opens high)) + 1 ≤ depth = subst (λ n. n ≤ depth) (fold-roll-Expr ℕ opened (Expr-F.NotBetween a low high)) few in
         let parts = and_parts (is_tree a) (is_tree low && is_tree high) t in
         let others = and_parts (is_tree low) (is_tree high) parts.1 in
-        rolled (Expr-F.NotBetween a low high) (spell (Expr-F.NotBetween (spelled a) (spelled low) (spelled high))) (e.NotBetween a low high) (fold-roll-Expr (List Piece) spell (Expr-F.NotBetween a low high)) (rolls-NotBetween a low high) 
+        rolled (Expr-F.NotBetween a low high) (spell (Expr-F.NotBetween (spelled a) (spelled low) (spelled high))) (e.NotBetween a low high) (fold-roll-Expr (List Piece) spell (Expr-F.NotBetween a low high)) (rolls-NotBetween a low high)
         (not_between_read inner rest (ends_all rest ends) a low high (reads a parts.0 (omega arith)) (reads low others.0 (omega arith)) (reads high others.1 (omega arith)))
     layer_read (Expr-F.Terms a []) tree few =
         let t : (is_tree a && false) ≡ true = sym (fold-roll-Expr Bool grown (Expr-F.Terms a [])) ∙ tree in
@@ -128,7 +128,7 @@ module _ (inner : Reader Expr) (depth : ℕ) (reads : (x : Expr) → is_tree x �
     layer_read (Expr-F.Terms a (x ∷ xs)) tree few =
         let t : (is_tree a && list_all (λ b. b) (operands (map (λ (y : Term × Expr). (y.0, is_tree y.1)) (x ∷ xs)))) ≡ true = sym (fold-roll-Expr Bool grown (Expr-F.Terms a (x ∷ xs))) ∙ tree in
         let o : max (opens a) (greatest (operands (map (λ (y : Term × Expr). (y.0, opens y.1)) (x ∷ xs)))) + 1 ≤ depth = subst (λ n. n ≤ depth) (fold-roll-Expr ℕ opened (Expr-F.Terms a (x ∷ xs))) few in
-        rolled (Expr-F.Terms a (x ∷ xs)) (spell (Expr-F.Terms (spelled a) (map (λ (y : Term × Expr). (y.0, spelled y.1)) (x ∷ xs)))) (e.Terms a (x ∷ xs)) (fold-roll-Expr (List Piece) spell (Expr-F.Terms a (x ∷ xs))) (rolls-Terms a (x ∷ xs)) 
+        rolled (Expr-F.Terms a (x ∷ xs)) (spell (Expr-F.Terms (spelled a) (map (λ (y : Term × Expr). (y.0, spelled y.1)) (x ∷ xs)))) (e.Terms a (x ∷ xs)) (fold-roll-Expr (List Piece) spell (Expr-F.Terms a (x ∷ xs))) (rolls-Terms a (x ∷ xs))
         (terms_read inner rest (ends_all rest ends) a x xs (reads a (and_parts (is_tree a) (list_all (λ b. b) (operands (map (λ (y : Term × Expr). (y.0, is_tree y.1)) (x ∷ xs)))) t).0 (omega arith)) (terms_all_read (x ∷ xs) (and_parts (is_tree a) (list_all (λ b. b) (operands (map (λ (y : Term × Expr). (y.0, is_tree y.1)) (x ∷ xs)))) t).1 (omega arith)))
     layer_read (Expr-F.Factors a []) tree few =
         let t : (is_tree a && false) ≡ true = sym (fold-roll-Expr Bool grown (Expr-F.Factors a [])) ∙ tree in
@@ -136,7 +136,7 @@ module _ (inner : Reader Expr) (depth : ℕ) (reads : (x : Expr) → is_tree x �
     layer_read (Expr-F.Factors a (x ∷ xs)) tree few =
         let t : (is_tree a && list_all (λ b. b) (map is_tree (x ∷ xs))) ≡ true = sym (fold-roll-Expr Bool grown (Expr-F.Factors a (x ∷ xs))) ∙ tree in
         let o : max (opens a) (greatest (map opens (x ∷ xs))) + 1 ≤ depth = subst (λ n. n ≤ depth) (fold-roll-Expr ℕ opened (Expr-F.Factors a (x ∷ xs))) few in
-        rolled (Expr-F.Factors a (x ∷ xs)) (spell (Expr-F.Factors (spelled a) (map spelled (x ∷ xs)))) (e.Factors a (x ∷ xs)) (fold-roll-Expr (List Piece) spell (Expr-F.Factors a (x ∷ xs))) (rolls-Factors a (x ∷ xs)) 
+        rolled (Expr-F.Factors a (x ∷ xs)) (spell (Expr-F.Factors (spelled a) (map spelled (x ∷ xs)))) (e.Factors a (x ∷ xs)) (fold-roll-Expr (List Piece) spell (Expr-F.Factors a (x ∷ xs))) (rolls-Factors a (x ∷ xs))
         (factors_read inner rest (ends_all rest ends) a x xs (reads a (and_parts (is_tree a) (list_all (λ b. b) (map is_tree (x ∷ xs))) t).0 (omega arith)) (all_read (x ∷ xs) (and_parts (is_tree a) (list_all (λ b. b) (map is_tree (x ∷ xs))) t).1 (omega arith)))
     layer_read (Expr-F.Negate a) tree few =
         let t : is_tree a ≡ true = sym (fold-roll-Expr Bool grown (Expr-F.Negate a)) ∙ tree in

@@ -1,5 +1,5 @@
 -- What a rule reads of a whole expression, up to where it ends, is the expression.
-use Rattle.std.proofs.Common.{◌≡◌, refl, false, List, [], Ok}
+use Rattle.std.proofs.Common.{◌≡◌, false, List, [], Ok}
 use Rattle.sql_ast.specs.declared.expressions.Expr.{Expr}
 use Rattle.sql_ast.specs.declared.signs.Sign.TheVariants as sign
 use Rattle.sql_ast.specs.declared.words.Keyword.TheVariants as word

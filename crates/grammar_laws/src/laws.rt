@@ -1,10 +1,10 @@
-//! Each law stands on a function that does nothing.
+//! Laws about expressions, for the crates above: call one where a proof needs it. None does anything.
 
 ghost use Rattle.std.specs.Prelude.{ℕ};
 ghost use Rattle.grammar_laws.specs.Laws.{HasOneTree, ReadsBack, ReadsBackAt, ReadsTrees};
 
-/// A tree that is written with each operand in parentheses, at most 64 of them open at one place, is read as that tree, and what follows is left where
-/// no expression goes on with it. So it is at each limit.
+/// A tree that is written with each operand in parentheses, of which at most 64 are open at one place, is read as that tree, and what
+/// follows is left, where no expression goes on with it. So it is at each other limit.
 pub fn law_of_reading_back()
     ensures any { ReadsBack }
     ensures at_each_limit { (depth : ℕ) → ReadsBackAt depth }
@@ -15,7 +15,7 @@ pub fn law_of_one_tree()
     ensures { HasOneTree }
 {}
 
-/// Whatever is read is a tree, in which no list is empty.
+/// Whatever is read is a tree: no list in it is empty.
 pub fn law_of_trees()
     ensures { ReadsTrees }
 {}
