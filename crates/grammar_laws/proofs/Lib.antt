@@ -10,4 +10,6 @@ pub mod Opens
 pub mod Counts
 pub mod Growth
 pub mod Sound
+pub mod Local
+pub mod LocalRules
 mod Vectors

@@ -1,5 +1,5 @@
 -- What the reader of expressions gives for an expression as it is written.
-use Rattle.std.specs.Prelude.{◌≡◌, ◌≤◌, ℕ, suc, true, List, ◌++◌, Ok}
+use Rattle.std.specs.Prelude.{◌≡◌, ◌≤◌, ℕ, suc, true, List, ◌∷◌, ◌++◌, length, Ok, Err}
 use Rattle.sql_ast.specs.declared.expressions.Expr.{Expr}
 use Rattle.sql_grammar.specs.declared.pieces.Piece.{Piece}
 use Rattle.sql_grammar.specs.Expressions.{any, expression}
@@ -23,3 +23,8 @@ HasOneTree = (x y : Expr) (rest more : List Piece) → is_tree x ≡ true → is
 -- whatever is read is a tree
 abbrev pub ReadsTrees : Type 0
 ReadsTrees = (depth : ℕ) (pieces rest : List Piece) (x : Expr) → expression depth pieces ≡ Ok (x, rest) → is_tree x ≡ true
+
+-- where reading stops at a piece, it stops there whatever stands behind that piece
+abbrev pub StopsForGood : Type 0
+StopsForGood = (depth : ℕ) (front : List Piece) (t : Piece) (behind other : List Piece) → expression depth (front ++ t ∷ behind) ≡ Err (length (t ∷ behind))
+    → expression depth (front ++ t ∷ other) ≡ Err (length (t ∷ other))

@@ -7,4 +7,4 @@ mod laws;
 #[cfg(test)]
 mod tests;
 
-pub use laws::{law_of_one_tree, law_of_reading_back, law_of_trees};
+pub use laws::{law_of_one_tree, law_of_reading_back, law_of_stops, law_of_trees};

@@ -1,4 +1,4 @@
-use crate::{law_of_one_tree, law_of_reading_back, law_of_trees};
+use crate::{law_of_one_tree, law_of_reading_back, law_of_stops, law_of_trees};
 use sql_ast::{Expr, Keyword, Sign};
 use sql_grammar::{Cursor, Piece, read_any};
 use std::test::Fail;
@@ -43,6 +43,7 @@ fn reads_a_spelling_back(rt: HostRuntime) -> Result<(), Fail> {
 fn laws_do_nothing(_rt: HostRuntime) -> Result<(), Fail> {
     law_of_reading_back();
     law_of_one_tree();
+    law_of_stops();
     law_of_trees();
     Ok(())
 }
