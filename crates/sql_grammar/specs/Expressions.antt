@@ -6,23 +6,21 @@
 --     atom := literal | name | name . name | ( expr ) | COUNT(*) | COUNT(expr) | SUM(expr) | MIN(expr) | MAX(expr)
 --           | active_branch() | @@ name
 --
--- Operations of one rank group from the left.
-use Rattle.std.specs.Prelude.{ℕ, zero, suc, Bool, true, false, if◌then◌else◌, List, [], ◌∷◌, Option, Some, None, Result, Ok, Err}
-use Rattle.sql_ast.specs.declared.expressions.Comparison.{Comparison}
+-- Operands of one rank stand in one list, behind the first.
+use Rattle.std.specs.Prelude.{ℕ, zero, suc, if◌then◌else◌, List, [], ◌∷◌, Option, Some, None}
 use Rattle.sql_ast.specs.declared.expressions.Expr.{Expr}
 use Rattle.sql_ast.specs.declared.expressions.Expr.TheVariants as e
 use Rattle.sql_ast.specs.declared.expressions.Literal.{Literal}
+use Rattle.sql_ast.specs.declared.expressions.Term.{Term}
 use Rattle.sql_ast.specs.declared.signs.Sign.TheVariants as sign
 use Rattle.sql_ast.specs.declared.words.Keyword.TheVariants as word
 use Rattle.sql_grammar.specs.declared.heads.Test.{Test}
 use Rattle.sql_grammar.specs.declared.heads.Test.TheVariants as test
-use Rattle.sql_grammar.specs.declared.heads.Term.{Term}
-use Rattle.sql_grammar.specs.declared.heads.Term.TheVariants as term
 use Rattle.sql_grammar.specs.declared.heads.Function.{Function}
 use Rattle.sql_grammar.specs.declared.heads.Function.TheVariants as function
 use Rattle.sql_grammar.specs.declared.pieces.Piece.{Piece}
 use Rattle.sql_grammar.specs.Pieces.{test_of, term_of, function_of, literal_of, is_sign}
-use Rattle.sql_grammar.specs.Reading.{Reader, ◌>>=◌, ◌>>◌, ◌<$>◌, pure, stop, skip, seen, sees, eat, eat_keyword, expect, expect_keyword, name, list, turns}
+use Rattle.sql_grammar.specs.Reading.{Reader, ◌>>=◌, ◌>>◌, ◌<$>◌, pure, stop, skip, seen, eat, eat_keyword, expect, expect_keyword, name, behind, chain, list}
 
 -- name | name . name
 unfoldable pub column : Reader Expr
@@ -63,9 +61,10 @@ term_ahead = seen term_of
 unfoldable pub literal_ahead : List Piece → Option Literal
 literal_ahead = seen literal_of
 
-abbrev pub joined : Term → Expr → Expr → Expr
-joined term.Plus left right = e.Add left right
-joined term.Minus left right = e.Subtract left right
+-- operands of one rank: the node of a chain, where others follow the first
+abbrev pub chained : {A : Type 0} → (Expr → List A → Expr) → Expr → List A → Expr
+chained node first [] = first
+chained node first (x ∷ xs) = node first (x ∷ xs)
 
 abbrev pub between : Expr → Expr × Expr → Expr
 between left ends = e.Between left ends.0 ends.1
@@ -125,30 +124,27 @@ module _ (inner : Reader Expr) where
     minus ← eat sign.Minus
     if minus then e.Negate <$> atom else atom
 
-  unfoldable pub products : ℕ → Expr → Reader Expr
-  products zero left = pure left
-  products (suc n) left = do
-    more ← eat sign.Star
-    if more then (do right ← unary; products n (e.Multiply left right)) else pure left
+  abbrev pub factor : Reader (Option Expr)
+  factor = behind (eat sign.Star) unary
 
   unfoldable pub product : Reader Expr
   product = do
     first ← unary
-    (λ ts. products (turns ts) first ts)
+    rest ← chain factor
+    pure (chained e.Factors first rest)
 
-  -- `go_on` reads the terms after this one
-  abbrev pub sums_by : (Expr → Reader Expr) → Expr → Option Term → Reader Expr
-  sums_by go_on left (Some sign) = skip >> (product >>= (λ right. go_on (joined sign left right)))
-  sums_by go_on left None = pure left
+  abbrev pub term_by : Option Term → Reader (Option (Term × Expr))
+  term_by (Some sign) = skip >> (λ x. Some (sign, x)) <$> product
+  term_by None = pure None
 
-  unfoldable pub sums : ℕ → Expr → Reader Expr
-  sums zero left = pure left
-  sums (suc n) left = λ ts. sums_by (sums n) left (term_ahead ts) ts
+  unfoldable pub term : Reader (Option (Term × Expr))
+  term = λ ts. term_by (term_ahead ts) ts
 
   unfoldable pub sum : Reader Expr
   sum = do
     first ← product
-    (λ ts. sums (turns ts) first ts)
+    rest ← chain term
+    pure (chained e.Terms first rest)
 
   -- behind IN
   unfoldable pub listed : Reader (List Expr)
@@ -196,27 +192,23 @@ module _ (inner : Reader Expr) where
     not_ ← eat_keyword word.Not
     if not_ then e.Not <$> comparison else comparison
 
-  unfoldable pub conjunctions : ℕ → Expr → Reader Expr
-  conjunctions zero left = pure left
-  conjunctions (suc n) left = do
-    more ← eat_keyword word.And
-    if more then (do right ← negation; conjunctions n (e.And left right)) else pure left
+  abbrev pub conjunct : Reader (Option Expr)
+  conjunct = behind (eat_keyword word.And) negation
 
   unfoldable pub conjunction : Reader Expr
   conjunction = do
     first ← negation
-    (λ ts. conjunctions (turns ts) first ts)
+    rest ← chain conjunct
+    pure (chained e.And first rest)
 
-  unfoldable pub disjunctions : ℕ → Expr → Reader Expr
-  disjunctions zero left = pure left
-  disjunctions (suc n) left = do
-    more ← eat_keyword word.Or
-    if more then (do right ← conjunction; disjunctions n (e.Or left right)) else pure left
+  abbrev pub disjunct : Reader (Option Expr)
+  disjunct = behind (eat_keyword word.Or) conjunction
 
   unfoldable pub disjunction : Reader Expr
   disjunction = do
     first ← conjunction
-    (λ ts. disjunctions (turns ts) first ts)
+    rest ← chain disjunct
+    pure (chained e.Or first rest)
 
 -- an expression in which fewer than so many parentheses are open at any place
 unfoldable pub expression : ℕ → Reader Expr

@@ -1,5 +1,5 @@
 -- What a piece is taken for.
-use Rattle.std.specs.Prelude.{ℕ, Bool, true, false, if◌then◌else◌, List, [], ◌∷◌, Option, Some, None, codes}
+use Rattle.std.specs.Prelude.{ℕ, Bool, true, false, if◌then◌else◌, List, Option, Some, None, codes}
 use Rattle.std.specs.Str.{bytes_eq}
 use denote.Enum.Bare.{sameb}
 use Rattle.sql_ast.specs.contracts.signs.Sign as sign_contracts
@@ -8,16 +8,15 @@ use Rattle.sql_ast.specs.declared.signs.Sign.{Sign}
 use Rattle.sql_ast.specs.declared.signs.Sign.TheVariants as sign
 use Rattle.sql_ast.specs.declared.words.Keyword.{Keyword}
 use Rattle.sql_ast.specs.declared.words.Keyword.TheVariants as word
-use Rattle.sql_ast.specs.declared.expressions.Comparison.{Comparison}
 use Rattle.sql_ast.specs.declared.expressions.Comparison.TheVariants as comparison
 use Rattle.sql_ast.specs.declared.expressions.Literal.{Literal}
 use Rattle.sql_ast.specs.declared.expressions.Literal.TheVariants as literal
+use Rattle.sql_ast.specs.declared.expressions.Term.{Term}
+use Rattle.sql_ast.specs.declared.expressions.Term.TheVariants as term
 use Rattle.sql_grammar.specs.declared.pieces.Piece.{Piece}
 use Rattle.sql_grammar.specs.declared.pieces.Piece.TheVariants as piece
 use Rattle.sql_grammar.specs.declared.heads.Test.{Test}
 use Rattle.sql_grammar.specs.declared.heads.Test.TheVariants as test
-use Rattle.sql_grammar.specs.declared.heads.Term.{Term}
-use Rattle.sql_grammar.specs.declared.heads.Term.TheVariants as term
 use Rattle.sql_grammar.specs.declared.heads.Function.{Function}
 use Rattle.sql_grammar.specs.declared.heads.Function.TheVariants as function
 

@@ -107,21 +107,37 @@ string = one string_of
 unfoldable pub literal : Reader Literal
 literal = one literal_of
 
--- Each turn of a list takes a piece, so the count of pieces is enough.
+-- what leads to an item, and the item; None where nothing leads to one
+abbrev pub behind : {A : Type 0} → Reader Bool → Reader A → Reader (Option A)
+behind lead item = do
+  goes_on ← lead
+  if goes_on then Some <$> item else pure None
+
+-- Each turn of a chain takes a piece, so the count of pieces is enough.
 abbrev pub turns : List Piece → ℕ
 turns ts = length ts
 
-unfoldable pub list_from : {A : Type 0} → Reader A → ℕ → List A → Reader (List A)
-list_from item zero found = pure found
-list_from item (suc n) found = do
-  more ← eat sign.Comma
-  if more then (do next ← item; list_from item n (found ++ next ∷ [])) else pure found
+-- `go_on` reads the links after this one
+abbrev pub linked : {A : Type 0} → (List A → Reader (List A)) → List A → Option A → Reader (List A)
+linked go_on found (Some next) = go_on (found ++ next ∷ [])
+linked go_on found None = pure found
+
+unfoldable pub chain_from : {A : Type 0} → Reader (Option A) → ℕ → List A → Reader (List A)
+chain_from link zero found = pure found
+chain_from link (suc n) found = link >>= linked (chain_from link n) found
+
+-- {link}
+unfoldable pub chain : {A : Type 0} → Reader (Option A) → Reader (List A)
+chain link = λ ts. chain_from link (turns ts) [] ts
+
+abbrev pub comma : {A : Type 0} → Reader A → Reader (Option A)
+comma item = behind (eat sign.Comma) item
 
 -- item {, item}
 unfoldable pub list : {A : Type 0} → Reader A → Reader (List A)
 list item = do
   first ← item
-  (λ ts. list_from item (turns ts) (first ∷ []) ts)
+  (λ ts. chain_from (comma item) (turns ts) (first ∷ []) ts)
 
 -- what a function that reads ensures: the reader's outcome, or no memory
 abbrev pub Reads : {A : Type 0} → Outcome A → Result A Stop → List Piece → Type 0

@@ -4,7 +4,7 @@ ghost use Rattle.std.specs.Prelude.{◌≡◌, IfOk};
 ghost use Rattle.sql_grammar.specs.Pieces as spec;
 
 use crate::pieces::Piece;
-use sql_ast::{Comparison, Keyword, Literal, Sign};
+use sql_ast::{Comparison, Keyword, Literal, Sign, Term};
 use std::alloc::{AllocError, Global};
 use tuple_codec::{Sequence, Text};
 
@@ -17,13 +17,6 @@ pub enum Test {
     In,
     Between,
     Absent,
-}
-
-/// How a sum goes on.
-#[derive(Clone, Copy, Debug)]
-pub enum Term {
-    Plus,
-    Minus,
 }
 
 /// The functions.

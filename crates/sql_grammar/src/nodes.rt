@@ -3,21 +3,26 @@
 ghost use Rattle.std.specs.Prelude.{◌≡◌, IfOk, if◌then◌else◌};
 ghost use Rattle.sql_grammar.specs.Expressions as spec;
 
-use crate::heads::Term;
-use sql_ast::{Comparison, Expr};
+use sql_ast::{Comparison, Expr, Term};
 use std::alloc::{AllocError, Global};
 use tuple_codec::{Boxed, Sequence};
 
-pub fn disjoined(alloc: Global, left: Expr, right: Expr) -> Result<Expr, AllocError>
-    ensures { IfOk result (λ x. x ≡ Expr.Or left right) }
+pub fn disjoined(alloc: Global, first: Expr, rest: Sequence<Expr>) -> Result<Expr, AllocError>
+    ensures { IfOk result (λ x. x ≡ spec.chained Expr.Or first rest) }
 {
-    Ok(Expr::Or(Boxed::new(alloc, left)?, Boxed::new(alloc, right)?))
+    if rest.as_slice().is_empty() {
+        return Ok(first);
+    }
+    Ok(Expr::Or(Boxed::new(alloc, first)?, rest))
 }
 
-pub fn conjoined(alloc: Global, left: Expr, right: Expr) -> Result<Expr, AllocError>
-    ensures { IfOk result (λ x. x ≡ Expr.And left right) }
+pub fn conjoined(alloc: Global, first: Expr, rest: Sequence<Expr>) -> Result<Expr, AllocError>
+    ensures { IfOk result (λ x. x ≡ spec.chained Expr.And first rest) }
 {
-    Ok(Expr::And(Boxed::new(alloc, left)?, Boxed::new(alloc, right)?))
+    if rest.as_slice().is_empty() {
+        return Ok(first);
+    }
+    Ok(Expr::And(Boxed::new(alloc, first)?, rest))
 }
 
 pub fn not(alloc: Global, operand: Expr) -> Result<Expr, AllocError>
@@ -86,21 +91,22 @@ pub fn not_between(alloc: Global, left: Expr, limits: (Expr, Expr)) -> Result<Ex
     ))
 }
 
-pub fn joined(alloc: Global, term: Term, left: Expr, right: Expr) -> Result<Expr, AllocError>
-    ensures { IfOk result (λ x. x ≡ spec.joined term left right) }
+pub fn added(alloc: Global, first: Expr, rest: Sequence<(Term, Expr)>) -> Result<Expr, AllocError>
+    ensures { IfOk result (λ x. x ≡ spec.chained Expr.Terms first rest) }
 {
-    let left = Boxed::new(alloc, left)?;
-    let right = Boxed::new(alloc, right)?;
-    match term {
-        Term::Plus => Ok(Expr::Add(left, right)),
-        Term::Minus => Ok(Expr::Subtract(left, right)),
+    if rest.as_slice().is_empty() {
+        return Ok(first);
     }
+    Ok(Expr::Terms(Boxed::new(alloc, first)?, rest))
 }
 
-pub fn multiplied(alloc: Global, left: Expr, right: Expr) -> Result<Expr, AllocError>
-    ensures { IfOk result (λ x. x ≡ Expr.Multiply left right) }
+pub fn multiplied(alloc: Global, first: Expr, rest: Sequence<Expr>) -> Result<Expr, AllocError>
+    ensures { IfOk result (λ x. x ≡ spec.chained Expr.Factors first rest) }
 {
-    Ok(Expr::Multiply(Boxed::new(alloc, left)?, Boxed::new(alloc, right)?))
+    if rest.as_slice().is_empty() {
+        return Ok(first);
+    }
+    Ok(Expr::Factors(Boxed::new(alloc, first)?, rest))
 }
 
 pub fn negative(alloc: Global, operand: Expr) -> Result<Expr, AllocError>

@@ -8,13 +8,13 @@ ghost use Rattle.sql_grammar.specs.Nests.{Nests};
 
 use crate::cursors::Cursor;
 use crate::grammars::Grammar;
-use crate::heads::{Term, Test, term_of, test_of};
+use crate::heads::{Test, term_of, test_of};
 use crate::nodes::{
-    among, between, compared, conjoined, disjoined, joined, multiplied, negative, not, not_among,
+    added, among, between, compared, conjoined, disjoined, multiplied, negative, not, not_among,
     not_between, null_tested,
 };
 use crate::stops::Stop;
-use sql_ast::{Expr, Keyword, Sign};
+use sql_ast::{Expr, Keyword, Sign, Term};
 use std::alloc::Global;
 use tuple_codec::Sequence;
 
@@ -59,40 +59,71 @@ impl<F: Fn(Global, &mut Cursor<'_>, usize) -> Result<Expr, Stop>> Grammar<F> {
         self.atom(cursor)
     }
 
-    #[tactic(auto, unfolding(crate::specs::Expressions::product, crate::specs::Expressions::products))]
+    #[tactic(auto, unfolding(crate::specs::Reading::chain, crate::specs::Reading::chain_from))]
+    fn factors(&self, cursor: &mut Cursor<'_>) -> Result<Sequence<Expr>, Stop>
+        requires { Nests self.now.depth (F.pre self.now.expression) (F.post self.now.expression) }
+        ensures { Reads (reading.chain (spec.factor (spec.expression self.now.depth)) cursor.old) result cursor.new }
+    {
+        let mut found = Sequence::new(self.alloc);
+        for _turn in 0..cursor.left() {
+            if !cursor.eat(Sign::Star) {
+                return Ok(found);
+            }
+            found.push(self.unary(cursor)?)?;
+        }
+        Ok(found)
+    }
+
+    #[tactic(auto, unfolding(crate::specs::Expressions::product))]
     fn product(&self, cursor: &mut Cursor<'_>) -> Result<Expr, Stop>
         requires { Nests self.now.depth (F.pre self.now.expression) (F.post self.now.expression) }
         ensures { Reads (spec.product (spec.expression self.now.depth) cursor.old) result cursor.new }
     {
-        let mut left = self.unary(cursor)?;
-        for _turn in 0..cursor.left() {
-            if !cursor.eat(Sign::Star) {
-                return Ok(left);
-            }
-            let right = self.unary(cursor)?;
-            left = multiplied(self.alloc, left, right)?;
-        }
-        Ok(left)
+        let first = self.unary(cursor)?;
+        let rest = self.factors(cursor)?;
+        Ok(multiplied(self.alloc, first, rest)?)
     }
 
-    #[tactic(auto, unfolding(crate::specs::Expressions::sum, crate::specs::Expressions::sums))]
+    #[tactic(auto, unfolding(crate::specs::Expressions::term))]
+    fn term(&self, cursor: &mut Cursor<'_>) -> Result<Option<(Term, Expr)>, Stop>
+        requires { Nests self.now.depth (F.pre self.now.expression) (F.post self.now.expression) }
+        ensures { Reads (spec.term (spec.expression self.now.depth) cursor.old) result cursor.new }
+    {
+        match term_ahead(cursor) {
+            Some(term) => {
+                cursor.skip();
+                Ok(Some((term, self.product(cursor)?)))
+            }
+            None => Ok(None),
+        }
+    }
+
+    #[tactic(auto, unfolding(crate::specs::Reading::chain, crate::specs::Reading::chain_from))]
+    fn terms(&self, cursor: &mut Cursor<'_>) -> Result<Sequence<(Term, Expr)>, Stop>
+        requires { Nests self.now.depth (F.pre self.now.expression) (F.post self.now.expression) }
+        ensures { Reads (reading.chain (spec.term (spec.expression self.now.depth)) cursor.old) result cursor.new }
+    {
+        let mut found = Sequence::new(self.alloc);
+        for _turn in 0..cursor.left() {
+            match self.term(cursor)? {
+                Some(term) => found.push(term)?,
+                None => return Ok(found),
+            }
+        }
+        Ok(found)
+    }
+
+    #[tactic(auto, unfolding(crate::specs::Expressions::sum))]
     fn sum(&self, cursor: &mut Cursor<'_>) -> Result<Expr, Stop>
         requires { Nests self.now.depth (F.pre self.now.expression) (F.post self.now.expression) }
         ensures { Reads (spec.sum (spec.expression self.now.depth) cursor.old) result cursor.new }
     {
-        let mut left = self.product(cursor)?;
-        for _turn in 0..cursor.left() {
-            let Some(term) = term_ahead(cursor) else {
-                return Ok(left);
-            };
-            cursor.skip();
-            let right = self.product(cursor)?;
-            left = joined(self.alloc, term, left, right)?;
-        }
-        Ok(left)
+        let first = self.product(cursor)?;
+        let rest = self.terms(cursor)?;
+        Ok(added(self.alloc, first, rest)?)
     }
 
-    #[tactic(auto, unfolding(crate::specs::Reading::list, crate::specs::Reading::list_from))]
+    #[tactic(auto, unfolding(crate::specs::Reading::list, crate::specs::Reading::chain_from))]
     fn list(&self, cursor: &mut Cursor<'_>) -> Result<Sequence<Expr>, Stop>
         requires { Nests self.now.depth (F.pre self.now.expression) (F.post self.now.expression) }
         ensures { Reads (reading.list (spec.expression self.now.depth) cursor.old) result cursor.new }
@@ -199,35 +230,53 @@ impl<F: Fn(Global, &mut Cursor<'_>, usize) -> Result<Expr, Stop>> Grammar<F> {
         self.comparison(cursor)
     }
 
-    #[tactic(auto, unfolding(crate::specs::Expressions::conjunction, crate::specs::Expressions::conjunctions))]
+    #[tactic(auto, unfolding(crate::specs::Reading::chain, crate::specs::Reading::chain_from))]
+    fn conjuncts(&self, cursor: &mut Cursor<'_>) -> Result<Sequence<Expr>, Stop>
+        requires { Nests self.now.depth (F.pre self.now.expression) (F.post self.now.expression) }
+        ensures { Reads (reading.chain (spec.conjunct (spec.expression self.now.depth)) cursor.old) result cursor.new }
+    {
+        let mut found = Sequence::new(self.alloc);
+        for _turn in 0..cursor.left() {
+            if !cursor.eat_keyword(Keyword::And) {
+                return Ok(found);
+            }
+            found.push(self.negation(cursor)?)?;
+        }
+        Ok(found)
+    }
+
+    #[tactic(auto, unfolding(crate::specs::Expressions::conjunction))]
     fn conjunction(&self, cursor: &mut Cursor<'_>) -> Result<Expr, Stop>
         requires { Nests self.now.depth (F.pre self.now.expression) (F.post self.now.expression) }
         ensures { Reads (spec.conjunction (spec.expression self.now.depth) cursor.old) result cursor.new }
     {
-        let mut left = self.negation(cursor)?;
-        for _turn in 0..cursor.left() {
-            if !cursor.eat_keyword(Keyword::And) {
-                return Ok(left);
-            }
-            let right = self.negation(cursor)?;
-            left = conjoined(self.alloc, left, right)?;
-        }
-        Ok(left)
+        let first = self.negation(cursor)?;
+        let rest = self.conjuncts(cursor)?;
+        Ok(conjoined(self.alloc, first, rest)?)
     }
 
-    #[tactic(auto, unfolding(crate::specs::Expressions::disjunction, crate::specs::Expressions::disjunctions))]
+    #[tactic(auto, unfolding(crate::specs::Reading::chain, crate::specs::Reading::chain_from))]
+    fn disjuncts(&self, cursor: &mut Cursor<'_>) -> Result<Sequence<Expr>, Stop>
+        requires { Nests self.now.depth (F.pre self.now.expression) (F.post self.now.expression) }
+        ensures { Reads (reading.chain (spec.disjunct (spec.expression self.now.depth)) cursor.old) result cursor.new }
+    {
+        let mut found = Sequence::new(self.alloc);
+        for _turn in 0..cursor.left() {
+            if !cursor.eat_keyword(Keyword::Or) {
+                return Ok(found);
+            }
+            found.push(self.conjunction(cursor)?)?;
+        }
+        Ok(found)
+    }
+
+    #[tactic(auto, unfolding(crate::specs::Expressions::disjunction))]
     pub fn disjunction(&self, cursor: &mut Cursor<'_>) -> Result<Expr, Stop>
         requires { Nests self.now.depth (F.pre self.now.expression) (F.post self.now.expression) }
         ensures { Reads (spec.disjunction (spec.expression self.now.depth) cursor.old) result cursor.new }
     {
-        let mut left = self.conjunction(cursor)?;
-        for _turn in 0..cursor.left() {
-            if !cursor.eat_keyword(Keyword::Or) {
-                return Ok(left);
-            }
-            let right = self.conjunction(cursor)?;
-            left = disjoined(self.alloc, left, right)?;
-        }
-        Ok(left)
+        let first = self.conjunction(cursor)?;
+        let rest = self.disjuncts(cursor)?;
+        Ok(disjoined(self.alloc, first, rest)?)
     }
 }

@@ -31,11 +31,18 @@ fn is_equation(expr: &Expr) -> bool {
     }
 }
 
+fn is_denied_equation(expr: &Expr) -> bool {
+    match expr {
+        Expr::Not(equation) => is_equation(equation.get()),
+        _ => false,
+    }
+}
+
 /// Whether this is `NOT a = 1 OR b`.
 fn is_read(expr: &Expr) -> bool {
     match expr {
-        Expr::Or(left, right) => match left.get() {
-            Expr::Not(equation) => is_equation(equation.get()) && is_name(right.get(), b"b"),
+        Expr::Or(first, rest) => match rest.as_slice() {
+            [second] => is_denied_equation(first.get()) && is_name(second, b"b"),
             _ => false,
         },
         _ => false,

@@ -34,7 +34,7 @@ fn column_name(alloc: Global, cursor: &mut Cursor<'_>) -> Result<ColumnName, Sto
     }
 }
 
-#[tactic(auto, unfolding(sql_grammar::specs::Reading::list, sql_grammar::specs::Reading::list_from))]
+#[tactic(auto, unfolding(sql_grammar::specs::Reading::list, sql_grammar::specs::Reading::chain_from))]
 fn column_names(alloc: Global, cursor: &mut Cursor<'_>) -> Result<Sequence<ColumnName>, Stop>
     ensures { Reads (reading.list spec.column_name cursor.old) result cursor.new }
 {
@@ -83,7 +83,7 @@ fn key(alloc: Global, cursor: &mut Cursor<'_>) -> Result<OrderKey, Stop>
     Ok(OrderKey { expr, direction })
 }
 
-#[tactic(auto, unfolding(sql_grammar::specs::Reading::list, sql_grammar::specs::Reading::list_from))]
+#[tactic(auto, unfolding(sql_grammar::specs::Reading::list, sql_grammar::specs::Reading::chain_from))]
 fn listed_keys(alloc: Global, cursor: &mut Cursor<'_>) -> Result<Sequence<OrderKey>, Stop>
     ensures { Reads (reading.list spec.key cursor.old) result cursor.new }
 {

@@ -19,7 +19,7 @@ pub struct Parent {
     pub columns: Sequence<Text>,
 }
 
-#[tactic(auto, unfolding(sql_grammar::specs::Reading::list, sql_grammar::specs::Reading::list_from))]
+#[tactic(auto, unfolding(sql_grammar::specs::Reading::list, sql_grammar::specs::Reading::chain_from))]
 fn listed_names(alloc: Global, cursor: &mut Cursor<'_>) -> Result<Sequence<Text>, Stop>
     ensures { Reads (reading.list reading.name cursor.old) result cursor.new }
 {

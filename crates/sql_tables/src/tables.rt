@@ -33,7 +33,7 @@ fn if_exists(cursor: &mut Cursor<'_>) -> Result<bool, Stop>
     Ok(true)
 }
 
-#[tactic(auto, unfolding(sql_grammar::specs::Reading::list, sql_grammar::specs::Reading::list_from))]
+#[tactic(auto, unfolding(sql_grammar::specs::Reading::list, sql_grammar::specs::Reading::chain_from))]
 fn listed_elements(alloc: Global, cursor: &mut Cursor<'_>) -> Result<Sequence<Element>, Stop>
     ensures { Reads (reading.list spec.any_element cursor.old) result cursor.new }
 {

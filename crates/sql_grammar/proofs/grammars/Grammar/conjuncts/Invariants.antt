@@ -1,0 +1,7 @@
+use Rattle.std.proofs.Common.{◌≡◌, ◌-◌}
+use Rattle.sql_grammar.specs.Reading.{chain, chain_from}
+use Rattle.sql_grammar.specs.Expressions.{expression, conjunct}
+use Rattle.sql_grammar.proofs.grammars.Grammar.conjuncts.Given as goal
+
+abbrev pub invariant-loop-turn : goal.invariant-loop-turn
+invariant-loop-turn g l = chain (conjunct (expression l.self.depth)) l.fn.cursor ≡ chain_from (conjunct (expression l.self.depth)) (l._turn-end - l._turn) l.found l.cursor

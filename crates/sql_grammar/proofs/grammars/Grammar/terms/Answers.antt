@@ -1,0 +1,12 @@
+use Rattle.std.proofs.Common.{rules, arith}
+use Rattle.std.proofs.lemmas.Grind.{common_steps}
+use Rattle.sql_grammar.specs.Reading.{chain_from}
+use Rattle.sql_grammar.specs.Expressions.{expression, term}
+use Rattle.sql_grammar.proofs.Turns.{one_more}
+use Rattle.sql_grammar.proofs.grammars.Grammar.terms.Goals as goal
+
+pub loop-turn-preserved : goal.loop-turn-preserved
+unfolding chain_from
+loop-turn-preserved g c =
+    let e = one_more (λ n. chain_from (term (expression c.args.self.now.depth)) n c.loop-turn.found c.loop-turn.cursor) _ c.loop-turn._turn c.loop-turn-test.true c.loop-turn.invariant in
+    first_of (search rules, grind (arith, common_steps))

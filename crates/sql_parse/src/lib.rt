@@ -1,0 +1,14 @@
+//! The statement that a text is, or the refusal that comes first where it is none; and the expression of a canonical text.
+#![tactic(auto)]
+
+mod checking;
+mod faults;
+mod judging;
+mod openings;
+mod parsing;
+mod places;
+#[cfg(test)]
+mod tests;
+
+pub use checking::parse_check;
+pub use parsing::parse;

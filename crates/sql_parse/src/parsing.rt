@@ -1,0 +1,64 @@
+ghost use Rattle.std.specs.Prelude.{◌≡◌, ◌<◌, ◌^◌, length};
+ghost use Rattle.sql_ast.specs.Lexing.{Reads};
+ghost use Rattle.sql_parse.specs.Parsing.{parsed, placed, statement_by, statement_in};
+ghost use Rattle.sql_statements.specs.Statements.{statement_of};
+
+use crate::faults::{misplaced, refused};
+use crate::judging::judge;
+use crate::openings::is_beyond_grammar;
+use crate::places::place;
+use sql_ast::{ReadFault, Statement, Token, lex};
+use sql_grammar::{Piece, Stop};
+use sql_pieces::pieces_of;
+use sql_statements::read_statement;
+use std::alloc::Global;
+
+/// The statement that a text is, or why it is refused by its text alone.
+pub fn parse(alloc: Global, text: &[u8]) -> Result<Statement, ReadFault>
+    requires { length text.now < 2 ^ 32 }
+    ensures { Reads (parsed text.now) result }
+{
+    let tokens = lex(alloc, text)?;
+    read_tokens(alloc, text, tokens.as_slice())
+}
+
+fn read_tokens(alloc: Global, text: &[u8], tokens: &[Token]) -> Result<Statement, ReadFault>
+    requires { length text.now < 2 ^ 32 }
+    ensures { Reads (statement_in text.now tokens.now) result }
+{
+    let pieces = pieces_of(alloc, text, tokens)?;
+    read_pieces(alloc, text, tokens, pieces.as_slice())
+}
+
+fn read_pieces(
+    alloc: Global,
+    text: &[u8],
+    tokens: &[Token],
+    pieces: &[Piece],
+) -> Result<Statement, ReadFault>
+    requires { length text.now < 2 ^ 32 }
+    ensures { Reads (statement_by text.now tokens.now pieces.now) result }
+{
+    if is_beyond_grammar(pieces) {
+        return Err(refused(9013));
+    }
+    let statement = read_placed(alloc, text, tokens, pieces)?;
+    judge(alloc, statement)
+}
+
+/// The statement that the pieces of these tokens are, or the place of the first token that fits none.
+fn read_placed(
+    alloc: Global,
+    text: &[u8],
+    tokens: &[Token],
+    pieces: &[Piece],
+) -> Result<Statement, ReadFault>
+    requires { length text.now < 2 ^ 32 }
+    ensures { Reads (placed text.now tokens.now (statement_of pieces.now)) result }
+{
+    match read_statement(alloc, pieces) {
+        Ok(statement) => Ok(statement),
+        Err(Stop::Memory) => Err(ReadFault::Memory),
+        Err(Stop::At(left)) => Err(misplaced(place(text, tokens, left))),
+    }
+}

@@ -1,0 +1,59 @@
+-- Statements, computed on pieces whose statements are known.
+use Rattle.std.proofs.Common.{◌≡◌, refl, codes, List, [], ◌∷◌, Ok, Err, Some, None, ℕ, true, false}
+use Rattle.sql_ast.specs.declared.expressions.Expr.TheVariants as e
+use Rattle.sql_ast.specs.declared.expressions.Literal.TheVariants as literal
+use Rattle.sql_ast.specs.declared.selects.Select.TheVariants as select
+use Rattle.sql_ast.specs.declared.signs.Sign.TheVariants as sign
+use Rattle.sql_ast.specs.declared.statements.Statement.TheVariants as statement
+use Rattle.sql_ast.specs.declared.words.Keyword.TheVariants as word
+use Rattle.sql_grammar.specs.declared.pieces.Piece.{Piece}
+use Rattle.sql_grammar.specs.declared.pieces.Piece.TheVariants.{Keyword, Word, Quoted, Text, Whole, Sign}
+use Rattle.sql_grammar.specs.Pieces.{same_sign, same_keyword}
+use Rattle.sql_grammar.specs.Reading.{sees, sees_keyword, sees_word, sees_name, name, optional_name, whole, string, list, chain, chain_from}
+use Rattle.sql_grammar.specs.Expressions.{column, called, test_ahead, term_ahead, literal_ahead, other_atom, plain_atom, atom, unary, product, term, sum, tested, comparison, negation, conjunction, disjunction, expression, any}
+use Rattle.sql_selects.specs.Selects.{named, begins_all_of, one_item, item, listing_from, listing, items, named_from, alone, selection}
+use Rattle.sql_statements.specs.Heads.{begins_session_point, begins_session}
+use Rattle.sql_tables.specs.Tables.{names, actions, first_action, update_action, referenced, foreign_key, constraint, any_element, element_ahead, element_behind, elements, if_not_exists, create}
+use Rattle.sql_statements.specs.Statements.{scope_behind, scope_word, scope, setting, call, arguments, statement_behind, any_statement, statement_of}
+
+-- SET session = 1: the variable is `session`
+sets_a_variable_called_session : statement_of (Keyword word.Set ∷ Word (codes "session") ∷ Sign sign.Equal ∷ Whole 1 ∷ []) ≡ Ok (statement.Set (record { variable = codes "session"; on = true }))
+unfolding same_sign same_keyword sees name begins_session begins_session_point scope_behind scope_word scope setting statement_behind any_statement statement_of
+sets_a_variable_called_session = refl
+
+-- SET @@session.autocommit = OFF
+sets_behind_session : statement_of (Keyword word.Set ∷ Sign sign.AtAt ∷ Word (codes "session") ∷ Sign sign.Point ∷ Word (codes "autocommit") ∷ Sign sign.Equal ∷ Word (codes "off") ∷ []) ≡ Ok (statement.Set (record { variable = codes "autocommit"; on = false }))
+unfolding same_sign same_keyword sees name begins_session begins_session_point scope_behind scope_word scope setting statement_behind any_statement statement_of
+sets_behind_session = refl
+
+-- SET autocommit = 2
+stops_at_a_two : statement_of (Keyword word.Set ∷ Word (codes "autocommit") ∷ Sign sign.Equal ∷ Whole 2 ∷ []) ≡ Err 1
+unfolding same_sign same_keyword sees name begins_session begins_session_point scope_behind scope_word scope setting statement_behind any_statement statement_of
+stops_at_a_two = refl
+
+-- CALL dolt_add('.')
+calls : statement_of (Keyword word.Call ∷ Word (codes "dolt_add") ∷ Sign sign.OpenParenthesis ∷ Text (codes ".") ∷ Sign sign.CloseParenthesis ∷ []) ≡ Ok (statement.Call (record { name = codes "dolt_add"; arguments = codes "." ∷ [] }))
+unfolding same_sign same_keyword sees name string list chain chain_from arguments call statement_behind any_statement statement_of
+calls = refl
+
+-- BEGIN WORK WORK
+stops_at_a_second_work : statement_of (Word (codes "begin") ∷ Word (codes "work") ∷ Word (codes "work") ∷ []) ≡ Err 1
+unfolding sees_word statement_behind any_statement statement_of
+stops_at_a_second_work = refl
+
+-- SELECT 1 x: FROM could follow
+wants_from_or_as : statement_of (Keyword word.Select ∷ Whole 1 ∷ Word (codes "x") ∷ []) ≡ Err 0
+unfolding same_sign same_keyword sees sees_keyword sees_name name optional_name chain chain_from column called test_ahead term_ahead literal_ahead other_atom plain_atom atom unary product term sum tested comparison negation conjunction disjunction expression any named begins_all_of one_item item listing_from listing items named_from alone selection statement_behind any_statement statement_of
+wants_from_or_as = refl
+
+-- SELECT 1 AS x
+selects_alone : statement_of (Keyword word.Select ∷ Whole 1 ∷ Keyword word.As ∷ Word (codes "x") ∷ []) ≡ Ok (statement.Select (select.Alone (record { expr = e.Literal (literal.Whole 1); name = Some (codes "x") } ∷ [])))
+unfolding same_sign same_keyword sees sees_keyword sees_name name optional_name chain chain_from column called test_ahead term_ahead literal_ahead other_atom plain_atom atom unary product term sum tested comparison negation conjunction disjunction expression any named begins_all_of one_item item listing_from listing items named_from alone selection statement_behind any_statement statement_of
+selects_alone = refl
+
+-- CREATE TABLE t (FOREIGN KEY (a) REFERENCES p (a) ON UPDATE RESTRICT ON DELETE RESTRICT)
+wants_delete_before_update : statement_of (Keyword word.Create ∷ Keyword word.Table ∷ Word (codes "t") ∷ Sign sign.OpenParenthesis ∷ Keyword word.Foreign ∷ Keyword word.Key
+    ∷ Sign sign.OpenParenthesis ∷ Word (codes "a") ∷ Sign sign.CloseParenthesis ∷ Keyword word.References ∷ Word (codes "p") ∷ Sign sign.OpenParenthesis ∷ Word (codes "a") ∷ Sign sign.CloseParenthesis
+    ∷ Keyword word.On ∷ Keyword word.Update ∷ Keyword word.Restrict ∷ Keyword word.On ∷ Keyword word.Delete ∷ Keyword word.Restrict ∷ Sign sign.CloseParenthesis ∷ []) ≡ Err 4
+unfolding same_sign same_keyword sees sees_keyword sees_name name list chain chain_from names actions first_action update_action referenced foreign_key any_element element_ahead element_behind elements if_not_exists create statement_behind any_statement statement_of
+wants_delete_before_update = refl

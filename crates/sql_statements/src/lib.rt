@@ -1,0 +1,14 @@
+//! The grammar of statements, over pieces.
+//!
+//! Each rule is a reader in `specs/` and one function on a cursor. `statement_of` of `specs/Statements.antt` is the whole:
+//! the statement that a list of pieces is, or how many pieces are left where no statement goes on.
+#![tactic(auto)]
+
+mod heads;
+mod reading;
+mod rows;
+mod settings;
+#[cfg(test)]
+mod tests;
+
+pub use reading::read_statement;
