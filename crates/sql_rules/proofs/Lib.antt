@@ -1,3 +1,4 @@
 mod Vectors
 pub mod AnyOf
+pub mod ListParts
 pub mod MadeNames

@@ -23,8 +23,8 @@ one = e.Literal (literal.Whole 1)
 forms : depth_at (Expr-F.NotIn 0 (0 ∷ 0 ∷ [])) ∷ depth_at (Expr-F.Between 0 0 0) ∷ depth_at (Expr-F.Negate 0) ∷ [] ≡ 3 ∷ 2 ∷ 1 ∷ []
 forms = refl
 
--- a SUM of what has an aggregate, and the sum of two
-nested : nested_at (Expr-F.Sum 1) ∷ nested_at (Expr-F.Add 1 1) ∷ [] ≡ 2 ∷ 1 ∷ []
+-- a SUM of what has an aggregate, and the product of two
+nested : nested_at (Expr-F.Sum 1) ∷ nested_at (Expr-F.Factors 1 (1 ∷ [])) ∷ [] ≡ 2 ∷ 1 ∷ []
 nested = refl
 
 -- `id INT PRIMARY KEY`

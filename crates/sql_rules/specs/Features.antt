@@ -1,5 +1,5 @@
 -- What an expression shows at a node of its tree, and anywhere in it.
-use Rattle.std.specs.Prelude.{ℕ, Bool, true, false, ◌||◌, List, [], ◌∷◌, length, nat_lt, not, codes}
+use Rattle.std.specs.Prelude.{ℕ, Bool, true, false, ◌||◌, List, [], ◌∷◌, length, map, nat_lt, not, codes}
 use Rattle.std.specs.Str.{bytes_eq}
 use Rattle.std.specs.List.{list_any}
 use Rattle.sql_ast.specs.declared.expressions.Expr.{Expr, fold-Expr}
@@ -9,8 +9,8 @@ use Rattle.sql_rules.specs.declared.features.Feature.TheVariants as feature
 
 -- what a node's parts gave, in the order of the text
 abbrev pub parts : {A : Type 0} → Expr-F A → List A
-parts (Expr-F.Or a b) = a ∷ b ∷ []
-parts (Expr-F.And a b) = a ∷ b ∷ []
+parts (Expr-F.Or a list) = a ∷ list
+parts (Expr-F.And a list) = a ∷ list
 parts (Expr-F.Not a) = a ∷ []
 parts (Expr-F.Compare a op b) = a ∷ b ∷ []
 parts (Expr-F.IsNull a) = a ∷ []
@@ -19,9 +19,8 @@ parts (Expr-F.In a list) = a ∷ list
 parts (Expr-F.NotIn a list) = a ∷ list
 parts (Expr-F.Between a low high) = a ∷ low ∷ high ∷ []
 parts (Expr-F.NotBetween a low high) = a ∷ low ∷ high ∷ []
-parts (Expr-F.Add a b) = a ∷ b ∷ []
-parts (Expr-F.Subtract a b) = a ∷ b ∷ []
-parts (Expr-F.Multiply a b) = a ∷ b ∷ []
+parts (Expr-F.Terms a terms) = a ∷ map (λ term. term.1) terms
+parts (Expr-F.Factors a list) = a ∷ list
 parts (Expr-F.Negate a) = a ∷ []
 parts (Expr-F.Count a) = a ∷ []
 parts (Expr-F.Sum a) = a ∷ []

@@ -1,8 +1,8 @@
 ghost use Rattle.std.specs.Prelude.{◌≡◌, map, List, ℕ};
-ghost use Rattle.sql_rules.specs.Depths.{depth, enclosed, is_deep, paired, ranged};
+ghost use Rattle.sql_rules.specs.Depths.{chained, depth, enclosed, is_deep, paired, ranged};
 ghost use Rattle.sql_rules.specs.Nesting.{greatest};
 
-use sql_ast::Expr;
+use sql_ast::{Expr, Term};
 
 /// How many parentheses may be open at one place of a CHECK's canonical text.
 const MOST_OPEN: u8 = 64;
@@ -20,12 +20,11 @@ fn open_at_once(expr: &Expr) -> u8
     ensures { result ≡ depth expr.now }
 {
     match expr {
-        Expr::Or(a, b)
-        | Expr::And(a, b)
-        | Expr::Compare(a, _, b)
-        | Expr::Add(a, b)
-        | Expr::Subtract(a, b)
-        | Expr::Multiply(a, b) => pair(open_at_once(a.get()), open_at_once(b.get())),
+        Expr::Or(a, list) | Expr::And(a, list) | Expr::Factors(a, list) => {
+            open_in_chain(open_at_once(a.get()), list.as_slice())
+        }
+        Expr::Terms(a, list) => open_in_sum(open_at_once(a.get()), list.as_slice()),
+        Expr::Compare(a, _, b) => pair(open_at_once(a.get()), open_at_once(b.get())),
         Expr::Not(a)
         | Expr::IsNull(a)
         | Expr::IsNotNull(a)
@@ -67,6 +66,31 @@ fn most_open(list: &[Expr]) -> u8
         most = here.max(most);
     }
     most
+}
+
+/// As `first` and the others have, each operation with what stands before it as its left operand.
+#[cycle(depths)]
+fn open_in_chain(first: u8, list: &[Expr]) -> u8
+    ensures { result ≡ chained first (map depth list.now) }
+{
+    let mut open = first;
+    for expr in list {
+        let here = open_at_once(expr);
+        open = pair(open, here);
+    }
+    open
+}
+
+#[cycle(depths)]
+fn open_in_sum(first: u8, list: &[(Term, Expr)]) -> u8
+    ensures { result ≡ chained first (map (λ term. depth term.1) list.now) }
+{
+    let mut open = first;
+    for term in list {
+        let here = open_at_once(&term.1);
+        open = pair(open, here);
+    }
+    open
 }
 
 fn enclose(inside: u8) -> u8

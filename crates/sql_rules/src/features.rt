@@ -3,7 +3,7 @@ ghost use Rattle.std.specs.List.{list_any};
 ghost use Rattle.sql_rules.specs.Features.{has, shows, is_long, is_variable, is_aggregate, is_session_word, has_long_name, is_other_variable};
 ghost use Rattle.sql_ast.specs.declared.expressions.Expr.{out-Expr};
 
-use sql_ast::Expr;
+use sql_ast::{Expr, Term};
 use tuple_codec::Text;
 
 /// What a part of an expression can be.
@@ -94,12 +94,7 @@ pub fn has_feature(expr: &Expr, feature: Feature) -> bool
         return true;
     }
     match expr {
-        Expr::Or(a, b)
-        | Expr::And(a, b)
-        | Expr::Compare(a, _, b)
-        | Expr::Add(a, b)
-        | Expr::Subtract(a, b)
-        | Expr::Multiply(a, b) => has_feature(a.get(), feature) || has_feature(b.get(), feature),
+        Expr::Compare(a, _, b) => has_feature(a.get(), feature) || has_feature(b.get(), feature),
         Expr::Not(a)
         | Expr::IsNull(a)
         | Expr::IsNotNull(a)
@@ -108,9 +103,15 @@ pub fn has_feature(expr: &Expr, feature: Feature) -> bool
         | Expr::Sum(a)
         | Expr::Min(a)
         | Expr::Max(a) => has_feature(a.get(), feature),
-        Expr::In(a, list) => has_feature(a.get(), feature) || some_has(list.as_slice(), feature),
-        Expr::NotIn(a, list) => {
+        Expr::Or(a, list)
+        | Expr::And(a, list)
+        | Expr::In(a, list)
+        | Expr::NotIn(a, list)
+        | Expr::Factors(a, list) => {
             has_feature(a.get(), feature) || some_has(list.as_slice(), feature)
+        }
+        Expr::Terms(a, list) => {
+            has_feature(a.get(), feature) || some_term_has(list.as_slice(), feature)
         }
         Expr::Between(a, low, high) | Expr::NotBetween(a, low, high) => {
             has_feature(a.get(), feature)
@@ -132,6 +133,18 @@ fn some_has(list: &[Expr], feature: Feature) -> bool
 {
     for expr in list {
         if has_feature(expr, feature) {
+            return true;
+        }
+    }
+    false
+}
+
+#[cycle(features)]
+fn some_term_has(list: &[(Term, Expr)], feature: Feature) -> bool
+    ensures { result ≡ list_any (λ term. has feature term.1) list.now }
+{
+    for term in list {
+        if has_feature(&term.1, feature) {
             return true;
         }
     }

@@ -1,7 +1,7 @@
 ghost use Rattle.std.specs.Prelude.{◌≡◌, map};
 ghost use Rattle.sql_rules.specs.Nesting.{greatest, nesting, nests, one_more};
 
-use sql_ast::Expr;
+use sql_ast::{Expr, Term};
 
 /// Whether an aggregate stands inside another.
 pub fn nests_aggregates(expr: &Expr) -> bool
@@ -16,18 +16,17 @@ fn levels(expr: &Expr) -> u8
     ensures { result ≡ nesting expr.now }
 {
     match expr {
-        Expr::Or(a, b)
-        | Expr::And(a, b)
-        | Expr::Compare(a, _, b)
-        | Expr::Add(a, b)
-        | Expr::Subtract(a, b)
-        | Expr::Multiply(a, b) => levels(a.get()).max(levels(b.get())),
+        Expr::Compare(a, _, b) => levels(a.get()).max(levels(b.get())),
         Expr::Not(a) | Expr::IsNull(a) | Expr::IsNotNull(a) | Expr::Negate(a) => levels(a.get()),
         Expr::Count(a) | Expr::Sum(a) | Expr::Min(a) | Expr::Max(a) => one_level_more(levels(
             a.get(),
         )),
-        Expr::In(a, list) => levels(a.get()).max(most_levels(list.as_slice())),
-        Expr::NotIn(a, list) => levels(a.get()).max(most_levels(list.as_slice())),
+        Expr::Or(a, list)
+        | Expr::And(a, list)
+        | Expr::In(a, list)
+        | Expr::NotIn(a, list)
+        | Expr::Factors(a, list) => levels(a.get()).max(most_levels(list.as_slice())),
+        Expr::Terms(a, list) => levels(a.get()).max(most_term_levels(list.as_slice())),
         Expr::Between(a, low, high) | Expr::NotBetween(a, low, high) => {
             levels(a.get())
                 .max(levels(low.get()))
@@ -49,6 +48,18 @@ fn most_levels(list: &[Expr]) -> u8
     let mut most = 0;
     for expr in list {
         let here = levels(expr);
+        most = here.max(most);
+    }
+    most
+}
+
+#[cycle(nesting)]
+fn most_term_levels(list: &[(Term, Expr)]) -> u8
+    ensures { result ≡ greatest (map (λ term. nesting term.1) list.now) }
+{
+    let mut most = 0;
+    for term in list {
+        let here = levels(&term.1);
         most = here.max(most);
     }
     most

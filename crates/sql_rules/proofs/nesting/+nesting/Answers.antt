@@ -1,43 +1,36 @@
-use Rattle.std.proofs.Common.{◌≡◌, ◌∙◌, ap, List, map, max, arith}
+use Rattle.std.proofs.Common.{◌≡◌, ◌∙◌, ap, ◌<◌, List, map, max, arith}
 use Rattle.sql_ast.specs.declared.expressions.Expr.{Expr}
-use Rattle.sql_ast.specs.declared.expressions.Expr.TheVariants as e
+use Rattle.sql_ast.specs.declared.expressions.Term.{Term}
 use Rattle.sql_ast.proofs.expressions.Expr.TheLaws.{the_size}
-use Rattle.sql_rules.specs.Nesting.{greatest}
-use Rattle.sql_rules.specs.Nesting.{nesting, nested_at}
-use Rattle.sql_ast.proofs.ListNodes.{in_size, not_in_size, fold_in, fold_not_in}
+use Rattle.sql_ast.proofs.ListNodes.{terms_size}
+use Rattle.sql_rules.specs.Nesting.{greatest, nesting}
+use Rattle.sql_rules.proofs.ListParts.{listed_size, nesting_listed, nesting_terms}
 use Rattle.sql_rules.proofs.nesting.+nesting.Goals as goal
 use denote.Param.Weighed.{most}
 
-nesting_in : (a : Expr) (xs : List Expr) → nesting (e.In a xs) ≡ max (nesting a) (greatest (map nesting xs))
-nesting_in a xs = fold_in nested_at a xs
-
-nesting_not_in : (a : Expr) (xs : List Expr) → nesting (e.NotIn a xs) ≡ max (nesting a) (greatest (map nesting xs))
-nesting_not_in a xs = fold_not_in nested_at a xs
-
 pub levels-most_levels-requires : goal.levels-most_levels-requires
 levels-most_levels-requires t c =
-    let shallow = in_size c.in-In.a c.in-In.list in
-    let lent = ap (λ (xs : List Expr). most the_size xs) c.as_slice.ensures in
-    let node = ap the_size c.in-In.is in
+    let shallow = listed_size c.args.expr.now c.in-Or.a c.in-Or.list c.in-Or.is in
+    let lent = ap (λ (xs : List Expr). most the_size xs) c.as_slice-in-Or.ensures in
     omega (arith, c.decreases)
 
-pub levels-most_levels-requires-in-NotIn : goal.levels-most_levels-requires-in-NotIn
-levels-most_levels-requires-in-NotIn t c =
-    let shallow = not_in_size c.in-NotIn.a c.in-NotIn.list in
-    let lent = ap (λ (xs : List Expr). most the_size xs) c.as_slice-in-NotIn.ensures in
-    let node = ap the_size c.in-NotIn.is in
+pub levels-most_term_levels-requires : goal.levels-most_term_levels-requires
+levels-most_term_levels-requires t c =
+    let shallow = terms_size c.in-Terms.a c.in-Terms.list in
+    let lent = ap (λ (xs : List (Term × Expr)). most (λ x. max 0 (max (the_size x.1) 0)) xs) c.as_slice.ensures in
+    let node = ap the_size c.in-Terms.is in
     omega (arith, c.decreases)
 
-pub levels-returns-in-In : goal.levels-returns-in-In
-levels-returns-in-In t c =
-    let node = ap (λ (x : Expr). nesting x) c.in-In.is ∙ nesting_in c.in-In.a c.in-In.list in
-    let first = ap (λ (x : Expr). nesting x) c.get.ensures in
-    let lent = ap (λ (xs : List Expr). greatest (map nesting xs)) c.as_slice.ensures in
+pub levels-returns-in-Or : goal.levels-returns-in-Or
+levels-returns-in-Or t c =
+    let node = nesting_listed c.args.expr.now c.in-Or.a c.in-Or.list c.in-Or.is in
+    let first = ap (λ (x : Expr). nesting x) c.get-in-Or.ensures in
+    let lent = ap (λ (xs : List Expr). greatest (map nesting xs)) c.as_slice-in-Or.ensures in
     cc
 
-pub levels-returns-in-NotIn : goal.levels-returns-in-NotIn
-levels-returns-in-NotIn t c =
-    let node = ap (λ (x : Expr). nesting x) c.in-NotIn.is ∙ nesting_not_in c.in-NotIn.a c.in-NotIn.list in
-    let first = ap (λ (x : Expr). nesting x) c.get-in-NotIn.ensures in
-    let lent = ap (λ (xs : List Expr). greatest (map nesting xs)) c.as_slice-in-NotIn.ensures in
+pub levels-returns-in-Terms : goal.levels-returns-in-Terms
+levels-returns-in-Terms t c =
+    let node = ap (λ (x : Expr). nesting x) c.in-Terms.is ∙ nesting_terms c.in-Terms.a c.in-Terms.list in
+    let first = ap (λ (x : Expr). nesting x) c.get-in-Terms.ensures in
+    let lent = ap (λ (xs : List (Term × Expr)). greatest (map (λ x. nesting x.1) xs)) c.as_slice.ensures in
     cc
