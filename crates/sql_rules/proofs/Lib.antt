@@ -1,4 +1,2 @@
 mod Vectors
-pub mod AnyOf
-pub mod ListParts
 pub mod MadeNames
