@@ -3,7 +3,7 @@ use Rattle.std.proofs.Common.{◌≡◌, ◌∙◌, sym, ap, refl, ℕ, zero, su
 use Rattle.std.specs.List.{filter}
 use Rattle.sql_ast.specs.declared.tables.Element.{Element}
 use Rattle.sql_rules.specs.Constraints.{is_free, made_name, names_from}
-use Rattle.sql_rules.specs.Features.{is_long}
+use Rattle.sql_features.specs.Features.{is_long}
 use Rattle.sql_rules.specs.Names.{are_long}
 use Rattle.sql_rules.specs.declared.constraints.Sort.{Sort}
 

@@ -1,6 +1,3 @@
-pub mod Features
-pub mod Nesting
-pub mod Depths
 pub mod Names
 pub mod Writes
 pub mod Arguments

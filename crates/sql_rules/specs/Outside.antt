@@ -7,16 +7,16 @@ use Rattle.sql_ast.specs.declared.statements.Write.{Write}
 use Rattle.sql_ast.specs.declared.statements.Write.TheVariants as write
 use Rattle.sql_ast.specs.declared.tables.CreateTable.{CreateTable}
 use Rattle.sql_ast.specs.declared.tables.Element.{Element}
-use Rattle.sql_rules.specs.Arguments.{procedure_of}
+use Rattle.sql_procedures.specs.Arguments.{procedure_of}
 use Rattle.sql_rules.specs.Constraints.{makes_long}
 use Rattle.sql_rules.specs.Defaults.{has_outside_default}
-use Rattle.sql_rules.specs.Features.{is_variable}
+use Rattle.sql_features.specs.Features.{is_variable}
 use Rattle.sql_rules.specs.Names.{is_long_worded, is_system_name}
 use Rattle.sql_rules.specs.Selects.{select_outside}
 use Rattle.sql_rules.specs.Tables.{elements_outside}
 use Rattle.sql_rules.specs.Writes.{delete_outside, insert_outside, update_outside}
 use Rattle.sql_rules.specs.declared.constraints.Sort.TheVariants as sort
-use Rattle.sql_rules.specs.declared.procedures.Procedure.{Procedure}
+use Rattle.sql_procedures.specs.declared.procedures.Procedure.{Procedure}
 
 abbrev pub makes_some_long : List ℕ → List Element → Bool
 makes_some_long table elements = makes_long table elements sort.Unique || makes_long table elements sort.Check || makes_long table elements sort.ForeignKey

@@ -4,23 +4,17 @@
 //! language is called with arguments that are none of its own.
 #![tactic(auto)]
 
-mod arguments;
-mod commits;
 mod constraints;
 mod defaults;
-mod depths;
-mod features;
-mod merges;
+mod misuse;
 mod names;
-mod nesting;
 mod order_keys;
 mod outside;
-mod procedures;
 mod selects;
 mod tables;
 #[cfg(test)]
 mod tests;
 mod writes;
 
+pub use misuse::is_misused;
 pub use outside::is_outside;
-pub use procedures::is_misused;

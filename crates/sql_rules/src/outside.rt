@@ -1,13 +1,13 @@
 ghost use Rattle.std.specs.Prelude.{◌≡◌, IfOk};
 ghost use Rattle.sql_rules.specs.Outside.{create_outside, is_none, makes_some_long, outside, statement_outside, write_outside};
-ghost use Rattle.sql_rules.specs.Arguments.{procedure_of};
+ghost use Rattle.sql_procedures.specs.Arguments.{procedure_of};
 ghost use Rattle.sql_rules.specs.Tables.{elements_outside};
 
 use crate::constraints::{Sort, makes_long_name};
 use crate::defaults::some_default_is_outside;
-use crate::features::is_variable_name;
+use sql_features::is_variable_name;
 use crate::names::{has_long_name, is_kept_by_system};
-use crate::procedures::procedure_named;
+use sql_procedures::procedure_named;
 use crate::selects::is_outside_select;
 use crate::tables::{
     is_keyed_once, repeats_column_name, repeats_constraint_name, some_element_is_outside,

@@ -2,14 +2,13 @@ ghost use Rattle.std.specs.Prelude.{◌≡◌};
 ghost use Rattle.std.specs.List.{list_all, list_any};
 ghost use Rattle.std.specs.Str.{bytes_eq};
 ghost use Rattle.sql_ast.specs.declared.expressions.Expr.{out-Expr};
-ghost use Rattle.sql_rules.specs.Features.{has};
+ghost use Rattle.sql_features.specs.Features.{has};
 ghost use Rattle.sql_rules.specs.Names.{repeats_by};
-ghost use Rattle.sql_rules.specs.Nesting.{nests};
+ghost use Rattle.sql_features.specs.Nesting.{nests};
 ghost use Rattle.sql_rules.specs.Selects.{alone_outside, are_of_groups, from_outside, in_item, in_items, is_call, is_group, is_grouped, is_of_groups, is_open_to_sources, is_some, is_ungrouped_item_shown, is_written_as, items_outside, joined_name, key_outside, keys_outside, mixes_aggregates, name_or, query_outside, repeats_source, select_outside, source_name};
 ghost use Rattle.sql_rules.specs.Writes.{is_misplaced};
 
-use crate::features::{Feature, has_feature, is_aggregate_node};
-use crate::nesting::nests_aggregates;
+use sql_features::{Feature, has_feature, is_aggregate_node, nests_aggregates};
 use crate::order_keys::is_outside_key;
 use crate::writes::{is_given_out_of_place, is_out_of_place};
 use sql_ast::{

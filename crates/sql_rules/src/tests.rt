@@ -1,8 +1,7 @@
 use super::*;
 use sql_ast::{
-    Attribute, Call, Clauses, ColumnElement, CreateTable, Delete, Direction, DropTable, Element,
-    Expr, FromClause, Item, Items, Literal, NamedExpr, OrderKey, Query, Select, Sorting, Source,
-    Statement, TypeName, Write,
+    Attribute, Call, ColumnElement, CreateTable, DropTable, Element, Expr, Literal, NamedExpr,
+    Select, Statement, TypeName, Write,
 };
 use std::alloc::{AllocError, Global};
 use std::test::Fail;
@@ -21,15 +20,6 @@ fn refuses_drop(alloc: Global, name: &[u8]) -> Result<bool, AllocError> {
         table: Text::from_slice(alloc, name)?,
     };
     is_outside(alloc, &Statement::Write(Write::Drop(drop)))
-}
-
-/// Whether DELETE FROM this name is outside.
-fn refuses_delete(alloc: Global, name: &[u8]) -> Result<bool, AllocError> {
-    let delete = Delete {
-        table: Text::from_slice(alloc, name)?,
-        filter: None,
-    };
-    is_outside(alloc, &Statement::Write(Write::Delete(delete)))
 }
 
 /// `id INT`, with these attributes.
@@ -66,52 +56,9 @@ fn refuses_alone(alloc: Global, expr: Expr) -> Result<bool, AllocError> {
     is_outside(alloc, &Statement::Select(Select::Alone(list)))
 }
 
-fn clauses_with(alloc: Global, keys: Sequence<OrderKey>) -> Clauses {
-    Clauses {
-        filter: None,
-        groups: Sequence::new(alloc),
-        sorting: Sorting { keys, limit: None },
-    }
-}
-
-/// `SELECT 1 FROM t` with these keys.
-fn select_by(alloc: Global, keys: Sequence<OrderKey>) -> Result<Statement, AllocError> {
-    let clauses = clauses_with(alloc, keys);
-    let item = Item::One(NamedExpr {
-        expr: Expr::Literal(Literal::Whole(1)),
-        name: None,
-    });
-    let items = Items::Listed(only(alloc, item)?);
-    let first = Source {
-        table: Text::from_slice(alloc, b"t")?,
-        alias: None,
-    };
-    let from = FromClause {
-        first,
-        joins: Sequence::new(alloc),
-    };
-    Ok(Statement::Select(Select::From(Query {
-        distinct: false,
-        items,
-        from,
-        clauses,
-    })))
-}
-
-/// Whether `SELECT 1 FROM t ORDER BY` and a number is outside.
-fn refuses_key(alloc: Global, number: u64) -> Result<bool, AllocError> {
-    let key = OrderKey {
-        expr: Expr::Literal(Literal::Whole(number)),
-        direction: Direction::Ascending,
-    };
-    let select = select_by(alloc, only(alloc, key)?)?;
-    is_outside(alloc, &select)
-}
-
-/// Whether a procedure doesn't take two arguments.
-fn misuses(alloc: Global, name: &[u8], first: &[u8], second: &[u8]) -> Result<bool, AllocError> {
-    let mut arguments = only(alloc, Text::from_slice(alloc, first)?)?;
-    arguments.push(Text::from_slice(alloc, second)?)?;
+/// Whether a procedure doesn't take an argument.
+fn misuses(alloc: Global, name: &[u8], argument: &[u8]) -> Result<bool, AllocError> {
+    let arguments = only(alloc, Text::from_slice(alloc, argument)?)?;
     let name = Text::from_slice(alloc, name)?;
     Ok(is_misused(&Call { name, arguments }))
 }
@@ -121,37 +68,23 @@ fn names_have_their_limits(rt: HostRuntime) -> Result<(), Fail> {
     let alloc = rt.alloc();
     assert!(rt; !refuses_drop(alloc, &[b'a'; 64])?);
     assert!(rt; refuses_drop(alloc, &[b'a'; 65])?);
-    assert!(rt; refuses_delete(alloc, b"dolt_conflicts_")?);
-    assert!(rt; !refuses_delete(alloc, b"dolt_conflicts_t")?);
     Ok(())
 }
 
 #[test]
-fn a_table_needs_a_key_and_defaults_that_fit(rt: HostRuntime) -> Result<(), Fail> {
+fn defaults_fit_their_columns(rt: HostRuntime) -> Result<(), Fail> {
     let alloc = rt.alloc();
-    assert!(rt; refuses_column(alloc, Sequence::new(alloc))?);
     assert!(rt; !refuses_default(alloc, false, 2147483647)?);
     assert!(rt; refuses_default(alloc, false, 2147483648)?);
-    assert!(rt; !refuses_default(alloc, true, 2147483648)?);
     Ok(())
 }
 
 #[test]
-fn selects_are_judged(rt: HostRuntime) -> Result<(), Fail> {
+fn selects_and_calls_are_judged(rt: HostRuntime) -> Result<(), Fail> {
     let alloc = rt.alloc();
     assert!(rt; !refuses_alone(alloc, Expr::CountAll)?);
-    assert!(rt; refuses_key(alloc, 0)?);
-    assert!(rt; !refuses_key(alloc, 1)?);
-    assert!(rt; refuses_key(alloc, 2)?);
-    Ok(())
-}
-
-#[test]
-fn arguments_are_judged(rt: HostRuntime) -> Result<(), Fail> {
-    let alloc = rt.alloc();
-    assert!(rt; misuses(alloc, b"dolt_add", b"t", b"T")?);
-    assert!(rt; !misuses(alloc, b"dolt_commit", b"-am", b"-m")?);
-    assert!(rt; !misuses(alloc, b"dolt_conflicts_resolve", b"--ours", b".")?);
-    assert!(rt; !misuses(alloc, b"dolt_gc", b"a", b"b")?);
+    assert!(rt; refuses_alone(alloc, Expr::Name(Text::from_slice(alloc, &[b'a'; 65])?))?);
+    assert!(rt; misuses(alloc, b"dolt_add", b"-m")?);
+    assert!(rt; !misuses(alloc, b"dolt_gc", b"a")?);
     Ok(())
 }

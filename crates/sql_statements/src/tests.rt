@@ -1,37 +1,25 @@
 use crate::read_statement;
-use sql_ast::Statement;
+use sql_ast::Keyword;
 use sql_grammar::{Piece, Stop};
-use std::alloc::{AllocError, Global};
-use std::test::Fail;
-use tuple_codec::Text;
+use std::alloc::Global;
 
-/// `COMMIT WORK WORK`
-fn committed(alloc: Global) -> Result<Vec<Piece>, AllocError> {
-    let names: [&[u8]; 3] = [b"commit", b"work", b"work"];
-    let mut pieces = Vec::new(alloc);
-    for name in names {
-        pieces.push(Piece::Word(Text::from_slice(alloc, name)?))?;
+/// Where the pieces stop being a statement.
+fn stop_in(alloc: Global, pieces: &[Piece]) -> Option<Stop> {
+    match read_statement(alloc, pieces) {
+        Ok(_) => None,
+        Err(stop) => Some(stop),
     }
-    Ok(pieces)
 }
 
 #[test]
-fn wants_all_pieces(rt: HostRuntime) -> Result<(), Fail> {
-    let pieces = committed(rt.alloc())?;
-    match read_statement(rt.alloc(), pieces.as_slice()) {
-        Ok(_) => assert!(rt; false),
-        Err(stop) => assert!(rt; stop == Stop::At(1)),
-    }
-    Ok(())
-}
-
-#[test]
-fn reads_a_statement(rt: HostRuntime) -> Result<(), Fail> {
-    let mut pieces = committed(rt.alloc())?;
-    pieces.truncate(2);
-    match read_statement(rt.alloc(), pieces.as_slice()) {
-        Ok(statement) => assert!(rt; matches!(&statement, Statement::Commit)),
-        Err(_) => assert!(rt; false),
-    }
-    Ok(())
+fn wants_all_pieces_and_no_more(rt: HostRuntime) {
+    let alloc = rt.alloc();
+    let pieces = [
+        Piece::Keyword(Keyword::Select),
+        Piece::Whole(1),
+        Piece::Whole(2),
+    ];
+    assert!(rt; stop_in(alloc, &pieces[..1]) == Some(Stop::At(0)));
+    assert!(rt; stop_in(alloc, &pieces[..2]) == None);
+    assert!(rt; stop_in(alloc, &pieces) == Some(Stop::At(1)));
 }

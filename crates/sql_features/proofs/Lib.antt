@@ -1,0 +1,3 @@
+mod Vectors
+pub mod AnyOf
+pub mod ListParts

@@ -1,0 +1,3 @@
+pub mod Features
+pub mod Nesting
+pub mod Depths

@@ -1,8 +1,0 @@
-use Rattle.std.proofs.Common.{◌≡◌, drop, map, max}
-use Rattle.sql_rules.specs.Nesting.{nesting}
-use Rattle.sql_rules.specs.Nesting.{greatest}
-use Rattle.sql_rules.proofs.nesting.+nesting.Given as goal
-
--- the greatest so far, and of those that are left, is that of all
-abbrev pub invariant-most_levels-loop-expr : goal.invariant-most_levels-loop-expr
-invariant-most_levels-loop-expr l = max (greatest (map nesting (drop l.expr-index l.list))) l.most ≡ greatest (map nesting l.fn.list)
