@@ -32,8 +32,11 @@ enum Step {
 }
 
 const PLUS: Step = Step::Term(Term::Plus);
+
 const MINUS: Step = Step::Term(Term::Minus);
+
 const EQUAL: Step = Step::Compare(Comparison::Equal);
+
 const GREATER: Step = Step::Compare(Comparison::Greater);
 
 fn leaf(alloc: Global, step: Step) -> Result<Expr, AllocError> {
@@ -201,7 +204,7 @@ fn evaluated(alloc: Global, bound: &BoundExpr) -> Result<Answer, AllocError> {
     })
 }
 
-fn answer(alloc: Global, steps: &[Step]) -> Result<Answer, AllocError> {
+fn answered(alloc: Global, steps: &[Step]) -> Result<Answer, AllocError> {
     let scope = scope(alloc)?;
     let expr = expr(alloc, steps)?;
     match bind(alloc, &expr, &scope) {
@@ -235,14 +238,54 @@ fn letter(answer: Answer) -> u8 {
 }
 
 const WITH_ANOTHER: [(Step, [&[u8; 6]; 6]); 8] = [
-    (Step::And, [b"xxxxxx", b"xtxxxx", b"xxxxxx", b"xxxxxx", b"xxxxxx", b"xxxxxx"]),
-    (Step::Or, [b"xxxxxx", b"xtxxxx", b"xxxxxx", b"xxxxxx", b"xxxxxx", b"xxxxxx"]),
-    (EQUAL, [b"tfxxfn", b"ftxxfn", b"xxtxxn", b"xxxtxn", b"ffxxtn", b"nnnnnn"]),
-    (GREATER, [b"ftxxtn", b"ffxxfn", b"xxfxxn", b"xxxfxn", b"ftxxfn", b"nnnnnn"]),
-    (Step::Element, [b"tfxxfn", b"ftxxfn", b"xxtxxn", b"xxxtxn", b"ffxxtn", b"nnnnnn"]),
-    (PLUS, [b"wxxxdx", b"xxxxxx", b"xxxxxx", b"xxxxxx", b"dxxxdx", b"xxxxxx"]),
-    (MINUS, [b"wxxxdx", b"xxxxxx", b"xxxxxx", b"xxxxxx", b"dxxxdx", b"xxxxxx"]),
-    (Step::Times, [b"wxxxdx", b"xxxxxx", b"xxxxxx", b"xxxxxx", b"dxxxdx", b"xxxxxx"]),
+    (
+        Step::And,
+        [
+            b"xxxxxx", b"xtxxxx", b"xxxxxx", b"xxxxxx", b"xxxxxx", b"xxxxxx",
+        ],
+    ),
+    (
+        Step::Or,
+        [
+            b"xxxxxx", b"xtxxxx", b"xxxxxx", b"xxxxxx", b"xxxxxx", b"xxxxxx",
+        ],
+    ),
+    (
+        EQUAL,
+        [
+            b"tfxxfn", b"ftxxfn", b"xxtxxn", b"xxxtxn", b"ffxxtn", b"nnnnnn",
+        ],
+    ),
+    (
+        GREATER,
+        [
+            b"ftxxtn", b"ffxxfn", b"xxfxxn", b"xxxfxn", b"ftxxfn", b"nnnnnn",
+        ],
+    ),
+    (
+        Step::Element,
+        [
+            b"tfxxfn", b"ftxxfn", b"xxtxxn", b"xxxtxn", b"ffxxtn", b"nnnnnn",
+        ],
+    ),
+    (
+        PLUS,
+        [
+            b"wxxxdx", b"xxxxxx", b"xxxxxx", b"xxxxxx", b"dxxxdx", b"xxxxxx",
+        ],
+    ),
+    (
+        MINUS,
+        [
+            b"wxxxdx", b"xxxxxx", b"xxxxxx", b"xxxxxx", b"dxxxdx", b"xxxxxx",
+        ],
+    ),
+    (
+        Step::Times,
+        [
+            b"wxxxdx", b"xxxxxx", b"xxxxxx", b"xxxxxx", b"dxxxdx", b"xxxxxx",
+        ],
+    ),
 ];
 
 #[test]
@@ -250,7 +293,7 @@ fn each_two_kinds_meet(rt: HostRuntime) -> Result<(), Fail> {
     for (operation, table) in &WITH_ANOTHER {
         for (a, letters) in KINDS.iter().zip(table) {
             for (b, expected) in KINDS.iter().zip(*letters) {
-                let found = answer(rt.alloc(), &[*a, *b, *operation])?;
+                let found = answered(rt.alloc(), &[*a, *b, *operation])?;
                 assert!(rt; letter(found) == *expected);
             }
         }
@@ -268,7 +311,7 @@ const ALONE: [(Step, &[u8; 6]); 3] = [
 fn each_kind_stands_alone(rt: HostRuntime) -> Result<(), Fail> {
     for (operation, letters) in &ALONE {
         for (a, expected) in KINDS.iter().zip(*letters) {
-            let found = answer(rt.alloc(), &[*a, *operation])?;
+            let found = answered(rt.alloc(), &[*a, *operation])?;
             assert!(rt; letter(found) == *expected);
         }
     }
@@ -276,26 +319,58 @@ fn each_kind_stands_alone(rt: HostRuntime) -> Result<(), Fail> {
 }
 
 const MAX: Step = Step::Whole(9_223_372_036_854_775_807);
+
 const BEYOND: Step = Step::Whole(9_223_372_036_854_775_808);
 /// 99999999999999999.9
 const WIDEST: Step = Step::Decimal(999_999_999_999_999_999, 1);
+
 const ONE: Step = Step::Whole(1);
+
 const TWO: Step = Step::Whole(2);
+
 const THREE: Step = Step::Whole(3);
+
 const TRUE: Step = Step::Bool(true);
+
 const FALSE: Step = Step::Bool(false);
+
 const NULL: Step = Step::Null;
+
 const A: Step = Step::Name(b'a');
+
 const B: Step = Step::Name(b'b');
+
 const C: Step = Step::Name(b'c');
+
 const D: Step = Step::Name(b'd');
+
 const X: Step = Step::Text(b'x');
+
 const Z: Step = Step::Name(b'z');
 
 /// Whole numbers and logic as SQLite 3.40 answers them, where they are in range; decimals by hand.
 const VALUES: [(&[Step], Answer); 26] = [
     // (a + 1) * b > 10 AND a IN (1, 2, 4)
-    (&[A, ONE, PLUS, B, Step::Times, Step::Whole(10), GREATER, A, ONE, Step::Element, TWO, Step::Element, A, Step::Element, Step::And], Answer::Bool(true)),
+    (
+        &[
+            A,
+            ONE,
+            PLUS,
+            B,
+            Step::Times,
+            Step::Whole(10),
+            GREATER,
+            A,
+            ONE,
+            Step::Element,
+            TWO,
+            Step::Element,
+            A,
+            Step::Element,
+            Step::And,
+        ],
+        Answer::Bool(true),
+    ),
     (&[Step::Whole(10), THREE, MINUS, TWO, MINUS], Answer::Int(5)),
     (&[MAX, ONE, PLUS, ONE, MINUS], Answer::OutOfRange),
     (&[MAX, ONE, MINUS, ONE, PLUS], Answer::Int(i64::MAX)),
@@ -303,10 +378,19 @@ const VALUES: [(&[Step], Answer); 26] = [
     (&[BEYOND], Answer::OutOfRange),
     (&[BEYOND, Step::Negate, Step::Negate], Answer::OutOfRange),
     (&[BEYOND, Step::Negate, ONE, MINUS], Answer::OutOfRange),
-    (&[MAX, ONE, Step::Negate, Step::Times], Answer::Int(-i64::MAX)),
+    (
+        &[MAX, ONE, Step::Negate, Step::Times],
+        Answer::Int(-i64::MAX),
+    ),
     (&[MAX, TWO, Step::Times], Answer::OutOfRange),
-    (&[Step::Decimal(15, 1), Step::Decimal(225, 2), PLUS], Answer::Decimal(375)),
-    (&[Step::Decimal(15, 1), Step::Decimal(225, 2), Step::Times], Answer::Decimal(3375)),
+    (
+        &[Step::Decimal(15, 1), Step::Decimal(225, 2), PLUS],
+        Answer::Decimal(375),
+    ),
+    (
+        &[Step::Decimal(15, 1), Step::Decimal(225, 2), Step::Times],
+        Answer::Decimal(3375),
+    ),
     (&[TWO, Step::Decimal(225, 2), MINUS], Answer::Decimal(-25)),
     (&[WIDEST, Step::Decimal(1, 1), PLUS], Answer::OutOfRange),
     (&[MAX, Step::Decimal(1, 1), GREATER], Answer::Bool(true)),
@@ -315,11 +399,23 @@ const VALUES: [(&[Step], Answer); 26] = [
     (&[C, ONE, EQUAL, TRUE, Step::Or], Answer::Bool(true)),
     (&[C, ONE, EQUAL, TRUE, Step::And], Answer::Null),
     // every operand is evaluated
-    (&[FALSE, MAX, ONE, PLUS, ONE, EQUAL, Step::And], Answer::OutOfRange),
+    (
+        &[FALSE, MAX, ONE, PLUS, ONE, EQUAL, Step::And],
+        Answer::OutOfRange,
+    ),
     (&[C, MAX, ONE, PLUS, PLUS], Answer::OutOfRange),
-    (&[ONE, ONE, Step::Element, MAX, ONE, PLUS, Step::Element], Answer::OutOfRange),
-    (&[ONE, NULL, Step::Element, ONE, Step::Element], Answer::Bool(true)),
-    (&[TWO, NULL, Step::Element, ONE, Step::Element], Answer::Null),
+    (
+        &[ONE, ONE, Step::Element, MAX, ONE, PLUS, Step::Element],
+        Answer::OutOfRange,
+    ),
+    (
+        &[ONE, NULL, Step::Element, ONE, Step::Element],
+        Answer::Bool(true),
+    ),
+    (
+        &[TWO, NULL, Step::Element, ONE, Step::Element],
+        Answer::Null,
+    ),
     (&[TWO, THREE, NULL, Step::Between], Answer::Bool(false)),
     (&[TWO, NULL, THREE, Step::Between], Answer::Null),
     (&[TWO, ONE, TWO, Step::Between], Answer::Bool(true)),
@@ -336,13 +432,16 @@ const REFUSALS: [(&[Step], u16); 11] = [
     (&[ONE, Z, X, Step::Between], 1054),
     (&[X, Z, EQUAL], 1054),
     (&[D], 1054),
-    (&[Step::Decimal(1, 18), Step::Decimal(1, 1), Step::Times], 9001),
+    (
+        &[Step::Decimal(1, 18), Step::Decimal(1, 1), Step::Times],
+        9001,
+    ),
 ];
 
 #[test]
 fn values_are_known(rt: HostRuntime) -> Result<(), Fail> {
     for (steps, expected) in &VALUES {
-        let found = answer(rt.alloc(), *steps)?;
+        let found = answered(rt.alloc(), *steps)?;
         assert!(rt; found == *expected);
     }
     Ok(())
@@ -351,7 +450,7 @@ fn values_are_known(rt: HostRuntime) -> Result<(), Fail> {
 #[test]
 fn the_first_refusal_comes_first(rt: HostRuntime) -> Result<(), Fail> {
     for (steps, expected) in &REFUSALS {
-        let found = answer(rt.alloc(), *steps)?;
+        let found = answered(rt.alloc(), *steps)?;
         assert!(rt; found == Answer::Refused(*expected));
     }
     Ok(())
