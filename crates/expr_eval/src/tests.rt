@@ -4,8 +4,8 @@ use std::alloc::{AllocError, Global};
 use std::test::Fail;
 use tuple_codec::{Boxed, Row, Sequence, SqlType, Text, Value};
 
-/// An expression in postfix form, a step at a time.
-#[derive(Clone, Copy, Debug, PartialEq, Eq)]
+/// A step of an expression in prefix form: an operation stands before its operands.
+#[derive(Clone, Copy)]
 enum Step {
     Whole(u64),
     /// Digits, and how many of them stand behind the point.
@@ -21,101 +21,18 @@ enum Step {
     Not,
     Negate,
     IsNull,
-    Or,
-    And,
     Compare(Comparison),
-    /// `a IN (b)`, or one more element.
-    Element,
-    Term(Term),
-    Times,
     Between,
-}
-
-const PLUS: Step = Step::Term(Term::Plus);
-
-const MINUS: Step = Step::Term(Term::Minus);
-
-const EQUAL: Step = Step::Compare(Comparison::Equal);
-
-const GREATER: Step = Step::Compare(Comparison::Greater);
-
-fn leaf(alloc: Global, step: Step) -> Result<Expr, AllocError> {
-    Ok(match step {
-        Step::Whole(number) => Expr::Literal(Literal::Whole(number)),
-        Step::Decimal(number, scale) => Expr::Literal(Literal::Decimal(number, scale)),
-        Step::Text(letter) => Expr::Literal(Literal::Text(Text::from_slice(alloc, &[letter])?)),
-        Step::Byte(byte) => {
-            let bytes = Vec::from_slice(alloc, &[byte])?;
-            Expr::Literal(Literal::Bytes(Sequence::from_vec(bytes)))
-        }
-        Step::Bool(bit) => Expr::Literal(Literal::Bool(bit)),
-        Step::Name(letter) => Expr::Name(Text::from_slice(alloc, &[letter])?),
-        _ => Expr::Literal(Literal::Null),
-    })
-}
-
-fn unary(alloc: Global, step: Step, a: Expr) -> Result<Expr, AllocError> {
-    let a = Boxed::new(alloc, a)?;
-    Ok(match step {
-        Step::Not => Expr::Not(a),
-        Step::Negate => Expr::Negate(a),
-        _ => Expr::IsNull(a),
-    })
-}
-
-/// An operation, or a chain with one more operand.
-fn binary(alloc: Global, step: Step, a: Expr, b: Expr) -> Result<Expr, AllocError> {
-    match (step, a) {
-        (Step::And, Expr::And(first, rest)) => Ok(Expr::And(first, longer(rest, b)?)),
-        (Step::Or, Expr::Or(first, rest)) => Ok(Expr::Or(first, longer(rest, b)?)),
-        (Step::Times, Expr::Factors(first, rest)) => Ok(Expr::Factors(first, longer(rest, b)?)),
-        (Step::Element, Expr::In(value, elements)) => Ok(Expr::In(value, longer(elements, b)?)),
-        (Step::Term(term), a) => sum(alloc, a, term, b),
-        (step, a) => pair(alloc, step, a, b),
-    }
-}
-
-fn longer(operands: Sequence<Expr>, operand: Expr) -> Result<Sequence<Expr>, AllocError> {
-    let mut operands = operands;
-    operands.push(operand)?;
-    Ok(operands)
-}
-
-fn sum(alloc: Global, a: Expr, term: Term, b: Expr) -> Result<Expr, AllocError> {
-    match a {
-        Expr::Terms(first, rest) => {
-            let mut rest = rest;
-            rest.push((term, b))?;
-            Ok(Expr::Terms(first, rest))
-        }
-        a => {
-            let mut rest = Sequence::new(alloc);
-            rest.push((term, b))?;
-            Ok(Expr::Terms(Boxed::new(alloc, a)?, rest))
-        }
-    }
-}
-
-fn pair(alloc: Global, step: Step, a: Expr, b: Expr) -> Result<Expr, AllocError> {
-    let a = Boxed::new(alloc, a)?;
-    match step {
-        Step::Compare(comparison) => Ok(Expr::Compare(a, comparison, Boxed::new(alloc, b)?)),
-        step => {
-            let rest = longer(Sequence::new(alloc), b)?;
-            Ok(match step {
-                Step::And => Expr::And(a, rest),
-                Step::Or => Expr::Or(a, rest),
-                Step::Element => Expr::In(a, rest),
-                _ => Expr::Factors(a, rest),
-            })
-        }
-    }
-}
-
-fn between(alloc: Global, a: Expr, low: Expr, high: Expr) -> Result<Expr, AllocError> {
-    let a = Boxed::new(alloc, a)?;
-    let low = Boxed::new(alloc, low)?;
-    Ok(Expr::Between(a, low, Boxed::new(alloc, high)?))
+    /// A chain of so many operands.
+    Or(usize),
+    And(usize),
+    Times(usize),
+    /// A value and its elements, so many in all.
+    In(usize),
+    /// A sum of two.
+    Sum(Term),
+    /// A sum of three.
+    Sums(Term, Term),
 }
 
 fn popped(stack: &mut Vec<Expr>) -> Expr {
@@ -125,26 +42,90 @@ fn popped(stack: &mut Vec<Expr>) -> Expr {
     }
 }
 
-fn taken(alloc: Global, stack: &mut Vec<Expr>, step: Step) -> Result<Expr, AllocError> {
+fn leaf(alloc: Global, step: Step) -> Result<Literal, AllocError> {
+    Ok(match step {
+        Step::Whole(number) => Literal::Whole(number),
+        Step::Decimal(number, scale) => Literal::Decimal(number, scale),
+        Step::Text(letter) => Literal::Text(Text::from_slice(alloc, &[letter])?),
+        Step::Byte(byte) => Literal::Bytes(Sequence::from_vec(Vec::from_slice(alloc, &[byte])?)),
+        Step::Bool(bit) => Literal::Bool(bit),
+        _ => Literal::Null,
+    })
+}
+
+fn unary(alloc: Global, step: Step, stack: &mut Vec<Expr>) -> Result<Expr, AllocError> {
+    let a = Boxed::new(alloc, popped(stack))?;
+    Ok(match step {
+        Step::Not => Expr::Not(a),
+        Step::Negate => Expr::Negate(a),
+        _ => Expr::IsNull(a),
+    })
+}
+
+fn compare(
+    alloc: Global,
+    comparison: Comparison,
+    stack: &mut Vec<Expr>,
+) -> Result<Expr, AllocError> {
+    let a = Boxed::new(alloc, popped(stack))?;
+    let b = Boxed::new(alloc, popped(stack))?;
+    Ok(Expr::Compare(a, comparison, b))
+}
+
+fn between(alloc: Global, stack: &mut Vec<Expr>) -> Result<Expr, AllocError> {
+    let a = Boxed::new(alloc, popped(stack))?;
+    let low = Boxed::new(alloc, popped(stack))?;
+    let high = Boxed::new(alloc, popped(stack))?;
+    Ok(Expr::Between(a, low, high))
+}
+
+fn chain(
+    alloc: Global,
+    step: Step,
+    operands: usize,
+    stack: &mut Vec<Expr>,
+) -> Result<Expr, AllocError> {
+    let first = Boxed::new(alloc, popped(stack))?;
+    let mut rest = Sequence::new(alloc);
+    for _turn in 1..operands {
+        rest.push(popped(stack))?;
+    }
+    Ok(match step {
+        Step::Or(_) => Expr::Or(first, rest),
+        Step::And(_) => Expr::And(first, rest),
+        Step::Times(_) => Expr::Factors(first, rest),
+        _ => Expr::In(first, rest),
+    })
+}
+
+fn sum(alloc: Global, terms: &[Term], stack: &mut Vec<Expr>) -> Result<Expr, AllocError> {
+    let first = Boxed::new(alloc, popped(stack))?;
+    let mut rest = Sequence::new(alloc);
+    for term in terms {
+        rest.push((*term, popped(stack)))?;
+    }
+    Ok(Expr::Terms(first, rest))
+}
+
+fn taken(alloc: Global, step: Step, stack: &mut Vec<Expr>) -> Result<Expr, AllocError> {
     match step {
-        Step::Not | Step::Negate | Step::IsNull => unary(alloc, step, popped(stack)),
-        Step::Or | Step::And | Step::Compare(_) | Step::Element | Step::Term(_) | Step::Times => {
-            let b = popped(stack);
-            binary(alloc, step, popped(stack), b)
+        Step::Not | Step::Negate | Step::IsNull => unary(alloc, step, stack),
+        Step::Compare(comparison) => compare(alloc, comparison, stack),
+        Step::Between => between(alloc, stack),
+        Step::Or(operands) | Step::And(operands) | Step::Times(operands) | Step::In(operands) => {
+            chain(alloc, step, operands, stack)
         }
-        Step::Between => {
-            let high = popped(stack);
-            let low = popped(stack);
-            between(alloc, popped(stack), low, high)
-        }
-        _ => leaf(alloc, step),
+        Step::Sum(term) => sum(alloc, &[term], stack),
+        Step::Sums(one, other) => sum(alloc, &[one, other], stack),
+        Step::Name(letter) => Ok(Expr::Name(Text::from_slice(alloc, &[letter])?)),
+        _ => Ok(Expr::Literal(leaf(alloc, step)?)),
     }
 }
 
 fn expr(alloc: Global, steps: &[Step]) -> Result<Expr, AllocError> {
     let mut stack = Vec::new(alloc);
-    for step in steps {
-        let top = taken(alloc, &mut stack, *step)?;
+    for step in steps.iter().rev() {
+        let top = taken(alloc, *step, &mut stack)?;
         stack.push(top)?;
     }
     Ok(popped(&mut stack))
@@ -172,7 +153,7 @@ fn row(alloc: Global) -> Result<Row, AllocError> {
 }
 
 /// What an expression comes to on that row.
-#[derive(Clone, Copy, Debug, PartialEq, Eq)]
+#[derive(Clone, Copy, PartialEq)]
 enum Answer {
     Null,
     Int(i64),
@@ -237,15 +218,24 @@ fn letter(answer: Answer) -> u8 {
     }
 }
 
-const WITH_ANOTHER: [(Step, [&[u8; 6]; 6]); 8] = [
+const EQUAL: Step = Step::Compare(Comparison::Equal);
+
+const GREATER: Step = Step::Compare(Comparison::Greater);
+
+const PLUS: Step = Step::Sum(Term::Plus);
+
+const MINUS: Step = Step::Sum(Term::Minus);
+
+/// An operation and the answers to it, a row for each first operand. Of BETWEEN they are the first two operands, the high end being NULL.
+const MEETINGS: [(Step, [&[u8; 6]; 6]); 9] = [
     (
-        Step::And,
+        Step::And(2),
         [
             b"xxxxxx", b"xtxxxx", b"xxxxxx", b"xxxxxx", b"xxxxxx", b"xxxxxx",
         ],
     ),
     (
-        Step::Or,
+        Step::Or(2),
         [
             b"xxxxxx", b"xtxxxx", b"xxxxxx", b"xxxxxx", b"xxxxxx", b"xxxxxx",
         ],
@@ -263,9 +253,15 @@ const WITH_ANOTHER: [(Step, [&[u8; 6]; 6]); 8] = [
         ],
     ),
     (
-        Step::Element,
+        Step::In(2),
         [
             b"tfxxfn", b"ftxxfn", b"xxtxxn", b"xxxtxn", b"ffxxtn", b"nnnnnn",
+        ],
+    ),
+    (
+        Step::Between,
+        [
+            b"nnxxnn", b"fnxxfn", b"xxnxxn", b"xxxnxn", b"fnxxnn", b"nnnnnn",
         ],
     ),
     (
@@ -281,7 +277,7 @@ const WITH_ANOTHER: [(Step, [&[u8; 6]; 6]); 8] = [
         ],
     ),
     (
-        Step::Times,
+        Step::Times(2),
         [
             b"wxxxdx", b"xxxxxx", b"xxxxxx", b"xxxxxx", b"dxxxdx", b"xxxxxx",
         ],
@@ -290,29 +286,12 @@ const WITH_ANOTHER: [(Step, [&[u8; 6]; 6]); 8] = [
 
 #[test]
 fn each_two_kinds_meet(rt: HostRuntime) -> Result<(), Fail> {
-    for (operation, table) in &WITH_ANOTHER {
+    for (operation, table) in &MEETINGS {
         for (a, letters) in KINDS.iter().zip(table) {
             for (b, expected) in KINDS.iter().zip(*letters) {
-                let found = answered(rt.alloc(), &[*a, *b, *operation])?;
+                let found = answered(rt.alloc(), &[*operation, *a, *b])?;
                 assert!(rt; letter(found) == *expected);
             }
-        }
-    }
-    Ok(())
-}
-
-const ALONE: [(Step, &[u8; 6]); 3] = [
-    (Step::Not, b"xfxxxx"),
-    (Step::Negate, b"wxxxdx"),
-    (Step::IsNull, b"ffffft"),
-];
-
-#[test]
-fn each_kind_stands_alone(rt: HostRuntime) -> Result<(), Fail> {
-    for (operation, letters) in &ALONE {
-        for (a, expected) in KINDS.iter().zip(*letters) {
-            let found = answered(rt.alloc(), &[*a, *operation])?;
-            assert!(rt; letter(found) == *expected);
         }
     }
     Ok(())
@@ -342,116 +321,124 @@ const B: Step = Step::Name(b'b');
 
 const C: Step = Step::Name(b'c');
 
-const D: Step = Step::Name(b'd');
-
 const X: Step = Step::Text(b'x');
 
 const Z: Step = Step::Name(b'z');
 
-/// Whole numbers and logic as SQLite 3.40 answers them, where they are in range; decimals by hand.
-const VALUES: [(&[Step], Answer); 26] = [
+const NOT: Step = Step::Not;
+
+const NEGATE: Step = Step::Negate;
+
+const BETWEEN: Step = Step::Between;
+
+/// Whole numbers in range, texts and logic as SQLite 3.40 answers them; decimals and refusals by hand.
+const ANSWERS: [(&[Step], Answer); 44] = [
     // (a + 1) * b > 10 AND a IN (1, 2, 4)
     (
         &[
-            A,
-            ONE,
-            PLUS,
-            B,
-            Step::Times,
-            Step::Whole(10),
+            Step::And(2),
             GREATER,
+            Step::Times(2),
+            PLUS,
             A,
             ONE,
-            Step::Element,
-            TWO,
-            Step::Element,
+            B,
+            Step::Whole(10),
+            Step::In(4),
             A,
-            Step::Element,
-            Step::And,
+            ONE,
+            TWO,
+            A,
         ],
         Answer::Bool(true),
     ),
-    (&[Step::Whole(10), THREE, MINUS, TWO, MINUS], Answer::Int(5)),
-    (&[MAX, ONE, PLUS, ONE, MINUS], Answer::OutOfRange),
-    (&[MAX, ONE, MINUS, ONE, PLUS], Answer::Int(i64::MAX)),
-    (&[BEYOND, Step::Negate], Answer::Int(i64::MIN)),
-    (&[BEYOND], Answer::OutOfRange),
-    (&[BEYOND, Step::Negate, Step::Negate], Answer::OutOfRange),
-    (&[BEYOND, Step::Negate, ONE, MINUS], Answer::OutOfRange),
     (
-        &[MAX, ONE, Step::Negate, Step::Times],
-        Answer::Int(-i64::MAX),
+        &[
+            Step::Sums(Term::Minus, Term::Minus),
+            Step::Whole(10),
+            THREE,
+            TWO,
+        ],
+        Answer::Int(5),
     ),
-    (&[MAX, TWO, Step::Times], Answer::OutOfRange),
     (
-        &[Step::Decimal(15, 1), Step::Decimal(225, 2), PLUS],
+        &[Step::Sums(Term::Plus, Term::Minus), MAX, ONE, ONE],
+        Answer::OutOfRange,
+    ),
+    (
+        &[Step::Sums(Term::Minus, Term::Plus), MAX, ONE, ONE],
+        Answer::Int(i64::MAX),
+    ),
+    (&[NEGATE, BEYOND], Answer::Int(i64::MIN)),
+    (&[BEYOND], Answer::OutOfRange),
+    (&[NEGATE, NEGATE, BEYOND], Answer::OutOfRange),
+    (&[MINUS, NEGATE, BEYOND, ONE], Answer::OutOfRange),
+    (&[Step::Times(2), MAX, NEGATE, ONE], Answer::Int(-i64::MAX)),
+    (&[Step::Times(2), MAX, TWO], Answer::OutOfRange),
+    (&[Step::Times(3), TWO, THREE, NEGATE, TWO], Answer::Int(-12)),
+    (
+        &[PLUS, Step::Decimal(15, 1), Step::Decimal(225, 2)],
         Answer::Decimal(375),
     ),
     (
-        &[Step::Decimal(15, 1), Step::Decimal(225, 2), Step::Times],
+        &[Step::Times(2), Step::Decimal(15, 1), Step::Decimal(225, 2)],
         Answer::Decimal(3375),
     ),
-    (&[TWO, Step::Decimal(225, 2), MINUS], Answer::Decimal(-25)),
-    (&[WIDEST, Step::Decimal(1, 1), PLUS], Answer::OutOfRange),
-    (&[MAX, Step::Decimal(1, 1), GREATER], Answer::Bool(true)),
-    // NULL AND FALSE, NULL OR TRUE, NULL AND TRUE
-    (&[C, ONE, EQUAL, FALSE, Step::And], Answer::Bool(false)),
-    (&[C, ONE, EQUAL, TRUE, Step::Or], Answer::Bool(true)),
-    (&[C, ONE, EQUAL, TRUE, Step::And], Answer::Null),
-    // every operand is evaluated
+    (&[MINUS, TWO, Step::Decimal(225, 2)], Answer::Decimal(-25)),
+    (&[PLUS, WIDEST, Step::Decimal(1, 1)], Answer::OutOfRange),
+    (&[GREATER, MAX, WIDEST], Answer::Bool(true)),
+    (&[NOT, TRUE], Answer::Bool(false)),
+    (&[NOT, EQUAL, C, ONE], Answer::Null),
+    (&[Step::IsNull, C], Answer::Bool(true)),
     (
-        &[FALSE, MAX, ONE, PLUS, ONE, EQUAL, Step::And],
-        Answer::OutOfRange,
-    ),
-    (&[C, MAX, ONE, PLUS, PLUS], Answer::OutOfRange),
-    (
-        &[ONE, ONE, Step::Element, MAX, ONE, PLUS, Step::Element],
-        Answer::OutOfRange,
+        &[Step::And(3), TRUE, EQUAL, C, ONE, FALSE],
+        Answer::Bool(false),
     ),
     (
-        &[ONE, NULL, Step::Element, ONE, Step::Element],
+        &[Step::Or(3), FALSE, EQUAL, C, ONE, TRUE],
         Answer::Bool(true),
     ),
+    (&[Step::And(2), EQUAL, C, ONE, TRUE], Answer::Null),
+    // every operand is evaluated
     (
-        &[TWO, NULL, Step::Element, ONE, Step::Element],
-        Answer::Null,
+        &[Step::And(2), FALSE, EQUAL, PLUS, MAX, ONE, ONE],
+        Answer::OutOfRange,
     ),
-    (&[TWO, THREE, NULL, Step::Between], Answer::Bool(false)),
-    (&[TWO, NULL, THREE, Step::Between], Answer::Null),
-    (&[TWO, ONE, TWO, Step::Between], Answer::Bool(true)),
-];
-
-const REFUSALS: [(&[Step], u16); 11] = [
-    (&[X, Z, PLUS], 1054),
-    (&[X, ONE, PLUS, Z, PLUS], 9001),
-    (&[ONE, Z, Step::And], 1054),
-    (&[ONE, TRUE, Step::And, Z, Step::And], 9001),
-    (&[ONE, Z, Step::Element, X, Step::Element], 1054),
-    (&[ONE, X, Step::Element, Z, Step::Element], 9001),
-    (&[ONE, X, Z, Step::Between], 9001),
-    (&[ONE, Z, X, Step::Between], 1054),
-    (&[X, Z, EQUAL], 1054),
-    (&[D], 1054),
+    (&[PLUS, C, PLUS, MAX, ONE], Answer::OutOfRange),
+    (&[Step::In(3), ONE, ONE, PLUS, MAX, ONE], Answer::OutOfRange),
+    (&[Step::In(3), ONE, NULL, ONE], Answer::Bool(true)),
+    (&[Step::In(3), TWO, NULL, ONE], Answer::Null),
+    (&[BETWEEN, TWO, THREE, NULL], Answer::Bool(false)),
+    (&[BETWEEN, TWO, NULL, ONE], Answer::Bool(false)),
+    (&[BETWEEN, TWO, ONE, TWO], Answer::Bool(true)),
+    // an operation is judged right after its last operand, a chain after each
+    (&[PLUS, X, Z], Answer::Refused(1054)),
     (
-        &[Step::Decimal(1, 18), Step::Decimal(1, 1), Step::Times],
-        9001,
+        &[Step::Sums(Term::Plus, Term::Plus), X, ONE, Z],
+        Answer::Refused(9001),
+    ),
+    (&[Step::And(2), ONE, Z], Answer::Refused(1054)),
+    (&[Step::And(3), ONE, TRUE, Z], Answer::Refused(9001)),
+    (&[Step::In(3), ONE, Z, X], Answer::Refused(1054)),
+    (&[Step::In(3), ONE, X, Z], Answer::Refused(9001)),
+    (&[BETWEEN, ONE, X, Z], Answer::Refused(9001)),
+    (&[BETWEEN, ONE, Z, X], Answer::Refused(1054)),
+    (&[NEGATE, NULL], Answer::Refused(9001)),
+    (&[NEGATE, TRUE], Answer::Refused(9001)),
+    (&[NOT, ONE], Answer::Refused(9001)),
+    (&[Step::IsNull, X], Answer::Bool(false)),
+    (&[Step::Name(b'd')], Answer::Refused(1054)),
+    (
+        &[Step::Times(2), Step::Decimal(1, 18), Step::Decimal(1, 1)],
+        Answer::Refused(9001),
     ),
 ];
 
 #[test]
-fn values_are_known(rt: HostRuntime) -> Result<(), Fail> {
-    for (steps, expected) in &VALUES {
+fn answers_are_known(rt: HostRuntime) -> Result<(), Fail> {
+    for (steps, expected) in &ANSWERS {
         let found = answered(rt.alloc(), *steps)?;
         assert!(rt; found == *expected);
-    }
-    Ok(())
-}
-
-#[test]
-fn the_first_refusal_comes_first(rt: HostRuntime) -> Result<(), Fail> {
-    for (steps, expected) in &REFUSALS {
-        let found = answered(rt.alloc(), *steps)?;
-        assert!(rt; found == Answer::Refused(*expected));
     }
     Ok(())
 }
