@@ -1,3 +1,3 @@
 pub mod BindLemmas
-pub mod InLemmas
-pub mod SizeLemmas
+pub mod FoldLemmas
+pub mod ValueLemmas

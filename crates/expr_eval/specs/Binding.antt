@@ -1,12 +1,12 @@
 -- The kinds of an expression and the places of its names, or the first refusal.
-use Rattle.std.specs.Prelude.{◌≡◌, ℕ, Bool, true, false, List, [], ◌∷◌, ◌++◌, Option, None, Some, Result, Ok, Err, ◌+◌, ◌-◌, ◌^◌, ◌==◌, ◌&&◌, nat_lt, pos, negsuc, slice_get, if◌then◌else◌}
-use Rattle.std.specs.Option.{option_map, option_map_or, option_and_then}
+use Rattle.std.specs.Prelude.{◌≡◌, ℕ, Bool, List, [], ◌∷◌, ◌++◌, Option, None, Some, Result, Ok, Err, ◌-◌, ◌^◌, ◌==◌, ◌&&◌, fold, nat_lt, pos, negsuc, slice_get, if◌then◌else◌}
+use Rattle.std.specs.Option.{option_map_or}
 use Rattle.sql_ast.specs.declared.expressions.Comparison.{Comparison}
 use Rattle.sql_ast.specs.declared.expressions.Expr.{Expr, fold-Expr}
 use Rattle.sql_ast.specs.declared.expressions.Expr.TheOpen.{Expr-F}
+use Rattle.sql_ast.specs.declared.expressions.Term.{Term}
 use Rattle.sql_ast.specs.declared.expressions.Literal.{Literal}
 use Rattle.sql_ast.specs.declared.expressions.Literal.TheVariants as literal
-use Rattle.tuple_codec.specs.declared.values.Value.{Value}
 use Rattle.tuple_codec.specs.declared.values.Value.TheVariants as cell
 use Rattle.sql_values.specs.declared.kinds.Kind.{Kind}
 use Rattle.sql_values.specs.declared.kinds.Kind.TheVariants as kind
@@ -15,6 +15,10 @@ use Rattle.expr_eval.specs.declared.bound.Node.{Node, out-Node}
 use Rattle.expr_eval.specs.declared.bound.Node.TheOpen.{Node-F}
 use Rattle.expr_eval.specs.declared.bound.Node.TheVariants as node
 use Rattle.expr_eval.specs.declared.bound.BoundExpr.{BoundExpr}
+use Rattle.expr_eval.specs.declared.binding.Meeting.{Meeting}
+use Rattle.expr_eval.specs.declared.binding.Meeting.TheVariants as meeting
+use Rattle.expr_eval.specs.declared.bound.Chain.{Chain}
+use Rattle.expr_eval.specs.declared.bound.Sum.{Sum}
 use Rattle.expr_eval.specs.declared.bound.Ends.{Ends}
 use Rattle.expr_eval.specs.declared.faults.BindFault.{BindFault}
 use Rattle.expr_eval.specs.declared.faults.BindFault.TheVariants.{Memory, Refused}
@@ -40,12 +44,6 @@ typed None made = mismatch
 abbrev pub truth_if : Bool → Node → Outcome BoundExpr
 truth_if fitting made = if fitting then Ok (record { kind = kind.Bool; node = made }) else mismatch
 
-abbrev pub bound_and : BoundExpr → BoundExpr → Outcome BoundExpr
-bound_and a b = truth_if (is_bool a.kind && is_bool b.kind) (node.And a.node b.node)
-
-abbrev pub bound_or : BoundExpr → BoundExpr → Outcome BoundExpr
-bound_or a b = truth_if (is_bool a.kind && is_bool b.kind) (node.Or a.node b.node)
-
 abbrev pub bound_not : BoundExpr → Outcome BoundExpr
 bound_not a = truth_if (is_bool a.kind) (node.Not a.node)
 
@@ -58,15 +56,6 @@ bound_is_not_null a = Ok (record { kind = kind.Bool; node = node.IsNotNull a.nod
 abbrev pub bound_compare : Comparison → BoundExpr → BoundExpr → Outcome BoundExpr
 bound_compare op a b = truth_if (are_comparable a.kind b.kind) (node.Compare a.node op b.node)
 
-abbrev pub bound_add : BoundExpr → BoundExpr → Outcome BoundExpr
-bound_add a b = typed (sum_kind a.kind b.kind) (node.Add a.node b.node)
-
-abbrev pub bound_subtract : BoundExpr → BoundExpr → Outcome BoundExpr
-bound_subtract a b = typed (sum_kind a.kind b.kind) (node.Subtract a.node b.node)
-
-abbrev pub bound_multiply : BoundExpr → BoundExpr → Outcome BoundExpr
-bound_multiply a b = typed (product_kind a.kind b.kind) (node.Multiply a.node b.node)
-
 -- a minus brings the literal 2^63 into range
 abbrev pub minus_of : Node-F Node → Node → Node
 minus_of Node-F.MinusOnly operand = node.Constant kind.Int (cell.Int (negsuc (2 ^ 63 - 1)))
@@ -75,17 +64,73 @@ minus_of opened operand = node.Negate operand
 abbrev pub bound_negate : BoundExpr → Outcome BoundExpr
 bound_negate a = typed (negative_kind a.kind) (minus_of (out-Node a.node) a.node)
 
--- each element is compared with the value as soon as it is bound
-abbrev pub members : Kind → List Node → List (Outcome BoundExpr) → Outcome (List Node)
-members value found [] = Ok found
-members value found (element ∷ elements) = and_then element (λ x.
-    if are_comparable value x.kind then members value (found ++ x.node ∷ []) elements else mismatch)
+-- an operation right after its last operand
+abbrev pub two : {A B C : Type 0} → (A → B → Outcome C) → Outcome A → Outcome B → Outcome C
+two f a b = and_then a (λ x. and_then b (f x))
 
-abbrev pub in_node : BoundExpr → List Node → Outcome BoundExpr
-in_node value found = Ok (record { kind = kind.Bool; node = node.In value.node found })
+-- AND and OR take truth values
+abbrev pub logic_kind : Kind → Kind → Option Kind
+logic_kind a b = if is_bool a && is_bool b then Some kind.Bool else None
 
+-- a value that goes on being compared
+abbrev pub compared_kind : Kind → Kind → Option Kind
+compared_kind value element = if are_comparable value element then Some value else None
+
+abbrev pub chain_kind : Meeting → Kind → Kind → Option Kind
+chain_kind meeting.Logic = logic_kind
+chain_kind meeting.Product = product_kind
+chain_kind meeting.Comparison = compared_kind
+
+-- a chain without others is its first operand
+abbrev pub opened_chain : BoundExpr → Chain
+opened_chain first = record { kind = first.kind; first = first.node; rest = [] }
+
+abbrev pub longer_if : Option Kind → Chain → Node → Outcome Chain
+longer_if (Some kind) chain operand = Ok (record { kind = kind; first = chain.first; rest = chain.rest ++ operand ∷ [] })
+longer_if None chain operand = mismatch
+
+-- one more operand, judged with those before it
+abbrev pub extended : (Kind → Kind → Option Kind) → Chain → BoundExpr → Outcome Chain
+extended meet chain operand = longer_if (meet chain.kind operand.kind) chain operand.node
+
+-- each operand is judged as soon as it is bound
+abbrev pub bound_chain : (Kind → Kind → Option Kind) → List (Outcome BoundExpr) → BoundExpr → Outcome Chain
+bound_chain meet rest first = fold (two (extended meet)) (Ok (opened_chain first)) rest
+
+abbrev pub or_node : Chain → Outcome BoundExpr
+or_node chain = Ok (record { kind = chain.kind; node = node.Or chain.first chain.rest })
+
+abbrev pub and_node : Chain → Outcome BoundExpr
+and_node chain = Ok (record { kind = chain.kind; node = node.And chain.first chain.rest })
+
+abbrev pub factors_node : Chain → Outcome BoundExpr
+factors_node chain = Ok (record { kind = chain.kind; node = node.Factors chain.first chain.rest })
+
+abbrev pub in_node : Chain → Outcome BoundExpr
+in_node chain = Ok (record { kind = kind.Bool; node = node.In chain.first chain.rest })
+
+-- each element is compared with the value
 abbrev pub bound_in : List (Outcome BoundExpr) → BoundExpr → Outcome BoundExpr
-bound_in elements value = and_then (members value.kind [] elements) (in_node value)
+bound_in elements value = and_then (bound_chain compared_kind elements value) in_node
+
+abbrev pub opened_sum : BoundExpr → Sum
+opened_sum first = record { kind = first.kind; first = first.node; rest = [] }
+
+abbrev pub longer_sum_if : Option Kind → Sum → Term × Node → Outcome Sum
+longer_sum_if (Some kind) sum operand = Ok (record { kind = kind; first = sum.first; rest = sum.rest ++ operand ∷ [] })
+longer_sum_if None sum operand = mismatch
+
+abbrev pub longer_sum : Term → Sum → BoundExpr → Outcome Sum
+longer_sum term sum operand = longer_sum_if (sum_kind sum.kind operand.kind) sum (term, operand.node)
+
+abbrev pub lengthened : Outcome Sum → Term × Outcome BoundExpr → Outcome Sum
+lengthened sum x = two (longer_sum x.0) sum x.1
+
+abbrev pub bound_sum : List (Term × Outcome BoundExpr) → BoundExpr → Outcome Sum
+bound_sum rest first = fold lengthened (Ok (opened_sum first)) rest
+
+abbrev pub terms_node : Sum → Outcome BoundExpr
+terms_node sum = Ok (record { kind = sum.kind; node = node.Terms sum.first sum.rest })
 
 abbrev pub low_end : BoundExpr → BoundExpr → Outcome Ends
 low_end value low = if are_comparable value.kind low.kind then Ok (record { kind = value.kind; value = value.node; low = low.node }) else mismatch
@@ -95,16 +140,6 @@ high_end ends high = truth_if (are_comparable ends.kind high.kind) (node.Between
 
 abbrev pub bound_between : Outcome BoundExpr → Outcome BoundExpr → BoundExpr → Outcome BoundExpr
 bound_between low high value = and_then (and_then low (low_end value)) (λ ends. and_then high (high_end ends))
-
-abbrev pub not_in_node : BoundExpr → List Node → Outcome BoundExpr
-not_in_node value found = and_then (in_node value found) bound_not
-
-abbrev pub not_high_end : Ends → BoundExpr → Outcome BoundExpr
-not_high_end ends high = and_then (high_end ends high) bound_not
-
--- an operation right after its last operand
-abbrev pub two : (BoundExpr → BoundExpr → Outcome BoundExpr) → Outcome BoundExpr → Outcome BoundExpr → Outcome BoundExpr
-two join a b = and_then a (λ x. and_then b (join x))
 
 -- a whole literal is at most 2^63 - 1, but for 2^63 under a minus
 abbrev pub whole_node : ℕ → Node
@@ -138,19 +173,18 @@ bound_column scope None = Err 1054
 
 -- what an expression is bound to, given what its parts are
 abbrev pub step : List ScopeColumn → Expr-F (Outcome BoundExpr) → Outcome BoundExpr
-step scope (Expr-F.Or a b) = two bound_or a b
-step scope (Expr-F.And a b) = two bound_and a b
+step scope (Expr-F.Or first rest) = and_then (and_then first (bound_chain logic_kind rest)) or_node
+step scope (Expr-F.And first rest) = and_then (and_then first (bound_chain logic_kind rest)) and_node
 step scope (Expr-F.Not a) = and_then a bound_not
 step scope (Expr-F.Compare a op b) = two (bound_compare op) a b
 step scope (Expr-F.IsNull a) = and_then a bound_is_null
 step scope (Expr-F.IsNotNull a) = and_then a bound_is_not_null
-step scope (Expr-F.In a elements) = and_then a (bound_in elements)
-step scope (Expr-F.NotIn a elements) = and_then (and_then a (bound_in elements)) bound_not
-step scope (Expr-F.Between a low high) = and_then a (bound_between low high)
-step scope (Expr-F.NotBetween a low high) = and_then (and_then a (bound_between low high)) bound_not
-step scope (Expr-F.Add a b) = two bound_add a b
-step scope (Expr-F.Subtract a b) = two bound_subtract a b
-step scope (Expr-F.Multiply a b) = two bound_multiply a b
+step scope (Expr-F.In value elements) = and_then value (bound_in elements)
+step scope (Expr-F.NotIn value elements) = and_then (and_then value (bound_in elements)) bound_not
+step scope (Expr-F.Between value low high) = and_then value (bound_between low high)
+step scope (Expr-F.NotBetween value low high) = and_then (and_then value (bound_between low high)) bound_not
+step scope (Expr-F.Terms first rest) = and_then (and_then first (bound_sum rest)) terms_node
+step scope (Expr-F.Factors first rest) = and_then (and_then first (bound_chain product_kind rest)) factors_node
 step scope (Expr-F.Negate a) = and_then a bound_negate
 step scope (Expr-F.Literal given) = bound_literal given
 step scope (Expr-F.Name name) = bound_column scope (place_named name scope)

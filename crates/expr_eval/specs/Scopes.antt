@@ -1,5 +1,5 @@
 -- Which column a name means.
-use Rattle.std.specs.Prelude.{ℕ, Bool, ◌==◌, ◌&&◌, List, Option, None, Some, count_by, bytes_eq, if◌then◌else◌}
+use Rattle.std.specs.Prelude.{ℕ, Bool, ◌==◌, ◌&&◌, List, Option, None, count_by, bytes_eq, if◌then◌else◌}
 use Rattle.std.specs.List.{position}
 use Rattle.expr_eval.specs.declared.scopes.ScopeColumn.{ScopeColumn}
 

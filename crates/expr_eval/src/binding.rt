@@ -1,37 +1,37 @@
-ghost use Rattle.std.specs.Prelude.{◌≡◌, [], map, IfOk};
+ghost use Rattle.std.specs.Prelude.{◌≡◌, map, fold, Ok, IfOk};
 ghost use Rattle.expr_eval.specs.declared.bound.Node.{out-Node};
 ghost use Rattle.expr_eval.specs.Binding.{
   Gives,
+  and_then,
   bound,
-  bound_add,
-  bound_and,
   bound_column,
   bound_compare,
+  bound_in,
   bound_is_not_null,
   bound_is_null,
   bound_literal,
-  bound_multiply,
   bound_negate,
   bound_not,
-  bound_or,
-  bound_subtract,
+  chain_kind,
   column_at,
-  decimal_typed,
   decimal_node,
+  decimal_typed,
+  extended,
   high_end,
-  in_node,
+  lengthened,
+  longer_sum,
   low_end,
-  members,
   minus_of,
-  not_high_end,
-  not_in_node,
+  opened_chain,
+  opened_sum,
+  two,
   whole_node,
 };
 
-use crate::bound::{BoundExpr, Ends, Node};
+use crate::bound::{BoundExpr, Chain, Ends, Node, Sum};
 use crate::faults::BindFault;
 use crate::scopes::{ScopeColumn, place_named, place_qualified};
-use sql_ast::{Comparison, Expr, Literal};
+use sql_ast::{Comparison, Expr, Literal, Term};
 use sql_values::{Kind, are_comparable, negative_kind, product_kind, sum_kind};
 use std::alloc::{AllocError, Global};
 use tuple_codec::{Boxed, Sequence, Text, Value};
@@ -43,8 +43,18 @@ const MISMATCH: BindFault = BindFault::Refused(9001);
 /// What has no value on a row.
 const NOT_OF_A_ROW: BindFault = BindFault::Refused(9013);
 
+/// How the kinds of a chain's operands meet.
+#[derive(Clone, Copy, Debug, PartialEq, Eq)]
+enum Meeting {
+    /// AND and OR take truth values.
+    Logic,
+    Product,
+    /// The first is compared with each of the others.
+    Comparison,
+}
+
 /// An expression with its kind, its names being places in the scope; or its first refusal from left to right, where an
-/// operation stands right after its last operand, and a list's element is judged as soon as it is bound.
+/// operation stands right after its last operand, and a chain's operand is judged as soon as it is bound.
 ///
 /// Aggregate calls, variables and `active_branch()` have no value on a row: put their values in their places first.
 #[cycle(bind)]
@@ -52,62 +62,62 @@ pub fn bind(alloc: Global, expr: &Expr, scope: &[ScopeColumn]) -> Result<BoundEx
     ensures { Gives result (bound scope.now expr.now) }
 {
     match expr {
-        Expr::Or(a, b) => {
-            let a = bind(alloc, a.get(), scope)?;
-            let b = bind(alloc, b.get(), scope)?;
-            bound_or(alloc, a, b)
+        Expr::Or(first, rest) => {
+            let first = bind(alloc, first.get(), scope)?;
+            let chain = chain(alloc, Meeting::Logic, first, rest.as_slice(), scope)?;
+            Ok(BoundExpr {
+                kind: chain.kind,
+                node: Node::Or(chain.first, chain.rest),
+            })
         }
-        Expr::And(a, b) => {
-            let a = bind(alloc, a.get(), scope)?;
-            let b = bind(alloc, b.get(), scope)?;
-            bound_and(alloc, a, b)
+        Expr::And(first, rest) => {
+            let first = bind(alloc, first.get(), scope)?;
+            let chain = chain(alloc, Meeting::Logic, first, rest.as_slice(), scope)?;
+            Ok(BoundExpr {
+                kind: chain.kind,
+                node: Node::And(chain.first, chain.rest),
+            })
         }
         Expr::Not(a) => bound_not(alloc, bind(alloc, a.get(), scope)?),
         Expr::Compare(a, comparison, b) => {
             let a = bind(alloc, a.get(), scope)?;
-            let b = bind(alloc, b.get(), scope)?;
-            bound_compare(alloc, *comparison, a, b)
+            compared(alloc, a, *comparison, b.get(), scope)
         }
         Expr::IsNull(a) => bound_is_null(alloc, bind(alloc, a.get(), scope)?),
         Expr::IsNotNull(a) => bound_is_not_null(alloc, bind(alloc, a.get(), scope)?),
-        Expr::In(a, elements) => {
-            let a = bind(alloc, a.get(), scope)?;
-            let elements = members(alloc, &a.kind, elements.as_slice(), scope)?;
-            in_node(alloc, a, elements)
+        Expr::In(value, elements) => {
+            let value = bind(alloc, value.get(), scope)?;
+            listed(alloc, value, elements.as_slice(), scope)
         }
-        Expr::NotIn(a, elements) => {
-            let a = bind(alloc, a.get(), scope)?;
-            let elements = members(alloc, &a.kind, elements.as_slice(), scope)?;
-            not_in_node(alloc, a, elements)
+        Expr::NotIn(value, elements) => {
+            let value = bind(alloc, value.get(), scope)?;
+            bound_not(alloc, listed(alloc, value, elements.as_slice(), scope)?)
         }
-        Expr::Between(a, low, high) => {
-            let a = bind(alloc, a.get(), scope)?;
-            let low = bind(alloc, low.get(), scope)?;
-            let ends = low_end(alloc, a, low)?;
-            let high = bind(alloc, high.get(), scope)?;
-            high_end(alloc, ends, high)
+        Expr::Between(value, low, high) => {
+            let value = bind(alloc, value.get(), scope)?;
+            let ends = above(alloc, value, low.get(), scope)?;
+            within(alloc, ends, high.get(), scope)
         }
-        Expr::NotBetween(a, low, high) => {
-            let a = bind(alloc, a.get(), scope)?;
-            let low = bind(alloc, low.get(), scope)?;
-            let ends = low_end(alloc, a, low)?;
-            let high = bind(alloc, high.get(), scope)?;
-            not_high_end(alloc, ends, high)
+        Expr::NotBetween(value, low, high) => {
+            let value = bind(alloc, value.get(), scope)?;
+            let ends = above(alloc, value, low.get(), scope)?;
+            bound_not(alloc, within(alloc, ends, high.get(), scope)?)
         }
-        Expr::Add(a, b) => {
-            let a = bind(alloc, a.get(), scope)?;
-            let b = bind(alloc, b.get(), scope)?;
-            bound_add(alloc, a, b)
+        Expr::Terms(first, rest) => {
+            let first = bind(alloc, first.get(), scope)?;
+            let sum = sum(alloc, first, rest.as_slice(), scope)?;
+            Ok(BoundExpr {
+                kind: sum.kind,
+                node: Node::Terms(sum.first, sum.rest),
+            })
         }
-        Expr::Subtract(a, b) => {
-            let a = bind(alloc, a.get(), scope)?;
-            let b = bind(alloc, b.get(), scope)?;
-            bound_subtract(alloc, a, b)
-        }
-        Expr::Multiply(a, b) => {
-            let a = bind(alloc, a.get(), scope)?;
-            let b = bind(alloc, b.get(), scope)?;
-            bound_multiply(alloc, a, b)
+        Expr::Factors(first, rest) => {
+            let first = bind(alloc, first.get(), scope)?;
+            let chain = chain(alloc, Meeting::Product, first, rest.as_slice(), scope)?;
+            Ok(BoundExpr {
+                kind: chain.kind,
+                node: Node::Factors(chain.first, chain.rest),
+            })
         }
         Expr::Negate(a) => bound_negate(alloc, bind(alloc, a.get(), scope)?),
         Expr::Literal(literal) => bound_literal(alloc, literal),
@@ -128,53 +138,167 @@ pub fn bind(alloc: Global, expr: &Expr, scope: &[ScopeColumn]) -> Result<BoundEx
     }
 }
 
-/// The elements of a list that a value of this kind is compared with.
+/// A chain of operands, the first of which is bound.
 #[cycle(bind)]
-fn members(
+fn chain(
     alloc: Global,
-    value: &Kind,
+    meeting: Meeting,
+    first: BoundExpr,
+    rest: &[Expr],
+    scope: &[ScopeColumn],
+) -> Result<Chain, BindFault>
+    ensures { Gives result (fold (two (extended (chain_kind meeting))) (Ok (opened_chain first)) (map (bound scope.now) rest.now)) }
+{
+    let mut chain = opened_chain(alloc, first)?;
+    for operand in rest {
+        let operand = bind(alloc, operand, scope)?;
+        chain = extended(meeting, chain, operand)?;
+    }
+    Ok(chain)
+}
+
+/// A sum, whose first operand is bound.
+#[cycle(bind)]
+fn sum(
+    alloc: Global,
+    first: BoundExpr,
+    rest: &[(Term, Expr)],
+    scope: &[ScopeColumn],
+) -> Result<Sum, BindFault>
+    ensures { Gives result (fold lengthened (Ok (opened_sum first)) (map (λ x. (x.0, bound scope.now x.1)) rest.now)) }
+{
+    let mut sum = opened_sum(alloc, first)?;
+    for (term, operand) in rest {
+        let operand = bind(alloc, operand, scope)?;
+        sum = lengthened(sum, *term, operand)?;
+    }
+    Ok(sum)
+}
+
+#[cycle(bind)]
+fn listed(
+    alloc: Global,
+    value: BoundExpr,
     elements: &[Expr],
     scope: &[ScopeColumn],
-) -> Result<Sequence<Node>, BindFault>
-    ensures { Gives result (members value.now [] (map (bound scope.now) elements.now)) }
+) -> Result<BoundExpr, BindFault>
+    ensures { Gives result (bound_in (map (bound scope.now) elements.now) value) }
 {
-    let mut found = Sequence::new(alloc);
-    for element in elements {
-        let element = bind(alloc, element, scope)?;
-        if !are_comparable(value, &element.kind) {
-            return Err(MISMATCH);
+    let chain = chain(alloc, Meeting::Comparison, value, elements, scope)?;
+    Ok(BoundExpr {
+        kind: Kind::Bool,
+        node: Node::In(chain.first, chain.rest),
+    })
+}
+
+#[cycle(bind)]
+fn compared(
+    alloc: Global,
+    a: BoundExpr,
+    comparison: Comparison,
+    b: &Expr,
+    scope: &[ScopeColumn],
+) -> Result<BoundExpr, BindFault>
+    ensures { Gives result (and_then (bound scope.now b.now) (bound_compare comparison a)) }
+{
+    let b = bind(alloc, b, scope)?;
+    bound_compare(alloc, comparison, a, b)
+}
+
+/// A value with its low end.
+#[cycle(bind)]
+fn above(
+    alloc: Global,
+    value: BoundExpr,
+    low: &Expr,
+    scope: &[ScopeColumn],
+) -> Result<Ends, BindFault>
+    ensures { Gives result (and_then (bound scope.now low.now) (low_end value)) }
+{
+    let low = bind(alloc, low, scope)?;
+    low_end(alloc, value, low)
+}
+
+/// A value between its ends.
+#[cycle(bind)]
+fn within(
+    alloc: Global,
+    ends: Ends,
+    high: &Expr,
+    scope: &[ScopeColumn],
+) -> Result<BoundExpr, BindFault>
+    ensures { Gives result (and_then (bound scope.now high.now) (high_end ends)) }
+{
+    let high = bind(alloc, high, scope)?;
+    high_end(alloc, ends, high)
+}
+
+/// The kind of a chain's operands so far with one more, or None where they don't go together.
+fn chain_kind(meeting: Meeting, so_far: &Kind, operand: &Kind) -> Option<Kind>
+    ensures { result ≡ chain_kind meeting so_far.now operand.now }
+{
+    match meeting {
+        Meeting::Logic if so_far.is_bool() && operand.is_bool() => Some(Kind::Bool),
+        Meeting::Comparison if are_comparable(so_far, operand) => Some(so_far.copied()),
+        Meeting::Product => product_kind(so_far, operand),
+        _ => None,
+    }
+}
+
+fn opened_chain(alloc: Global, first: BoundExpr) -> Result<Chain, AllocError>
+    ensures { IfOk result (λ chain. chain ≡ opened_chain first) }
+{
+    Ok(Chain {
+        kind: first.kind,
+        first: Boxed::new(alloc, first.node)?,
+        rest: Sequence::new(alloc),
+    })
+}
+
+/// A chain with one more operand.
+fn extended(meeting: Meeting, chain: Chain, operand: BoundExpr) -> Result<Chain, BindFault>
+    ensures { Gives result (extended (chain_kind meeting) chain operand) }
+{
+    match chain_kind(meeting, &chain.kind, &operand.kind) {
+        None => Err(MISMATCH),
+        Some(kind) => {
+            let mut rest = chain.rest;
+            rest.push(operand.node)?;
+            Ok(Chain {
+                kind,
+                first: chain.first,
+                rest,
+            })
         }
-        found.push(element.node)?;
     }
-    Ok(found)
 }
 
-fn bound_or(alloc: Global, a: BoundExpr, b: BoundExpr) -> Result<BoundExpr, BindFault>
-    ensures { Gives result (bound_or a b) }
+fn opened_sum(alloc: Global, first: BoundExpr) -> Result<Sum, AllocError>
+    ensures { IfOk result (λ sum. sum ≡ opened_sum first) }
 {
-    if !(a.kind.is_bool() && b.kind.is_bool()) {
-        return Err(MISMATCH);
-    }
-    let a = Boxed::new(alloc, a.node)?;
-    let b = Boxed::new(alloc, b.node)?;
-    Ok(BoundExpr {
-        kind: Kind::Bool,
-        node: Node::Or(a, b),
+    Ok(Sum {
+        kind: first.kind,
+        first: Boxed::new(alloc, first.node)?,
+        rest: Sequence::new(alloc),
     })
 }
 
-fn bound_and(alloc: Global, a: BoundExpr, b: BoundExpr) -> Result<BoundExpr, BindFault>
-    ensures { Gives result (bound_and a b) }
+/// A sum with one more operand.
+fn lengthened(sum: Sum, term: Term, operand: BoundExpr) -> Result<Sum, BindFault>
+    ensures { Gives result (longer_sum term sum operand) }
 {
-    if !(a.kind.is_bool() && b.kind.is_bool()) {
-        return Err(MISMATCH);
+    match sum_kind(&sum.kind, &operand.kind) {
+        None => Err(MISMATCH),
+        Some(kind) => {
+            let mut rest = sum.rest;
+            rest.push((term, operand.node))?;
+            Ok(Sum {
+                kind,
+                first: sum.first,
+                rest,
+            })
+        }
     }
-    let a = Boxed::new(alloc, a.node)?;
-    let b = Boxed::new(alloc, b.node)?;
-    Ok(BoundExpr {
-        kind: Kind::Bool,
-        node: Node::And(a, b),
-    })
 }
 
 fn bound_not(alloc: Global, a: BoundExpr) -> Result<BoundExpr, BindFault>
@@ -229,30 +353,6 @@ fn bound_is_not_null(alloc: Global, a: BoundExpr) -> Result<BoundExpr, BindFault
     })
 }
 
-fn in_node(
-    alloc: Global,
-    value: BoundExpr,
-    elements: Sequence<Node>,
-) -> Result<BoundExpr, BindFault>
-    ensures { Gives result (in_node value elements) }
-{
-    let value = Boxed::new(alloc, value.node)?;
-    Ok(BoundExpr {
-        kind: Kind::Bool,
-        node: Node::In(value, elements),
-    })
-}
-
-fn not_in_node(
-    alloc: Global,
-    value: BoundExpr,
-    elements: Sequence<Node>,
-) -> Result<BoundExpr, BindFault>
-    ensures { Gives result (not_in_node value elements) }
-{
-    bound_not(alloc, in_node(alloc, value, elements)?)
-}
-
 fn low_end(alloc: Global, value: BoundExpr, low: BoundExpr) -> Result<Ends, BindFault>
     ensures { Gives result (low_end value low) }
 {
@@ -276,60 +376,6 @@ fn high_end(alloc: Global, ends: Ends, high: BoundExpr) -> Result<BoundExpr, Bin
         kind: Kind::Bool,
         node: Node::Between(ends.value, ends.low, high),
     })
-}
-
-fn not_high_end(alloc: Global, ends: Ends, high: BoundExpr) -> Result<BoundExpr, BindFault>
-    ensures { Gives result (not_high_end ends high) }
-{
-    bound_not(alloc, high_end(alloc, ends, high)?)
-}
-
-fn bound_add(alloc: Global, a: BoundExpr, b: BoundExpr) -> Result<BoundExpr, BindFault>
-    ensures { Gives result (bound_add a b) }
-{
-    match sum_kind(&a.kind, &b.kind) {
-        None => Err(MISMATCH),
-        Some(kind) => {
-            let a = Boxed::new(alloc, a.node)?;
-            let b = Boxed::new(alloc, b.node)?;
-            Ok(BoundExpr {
-                kind,
-                node: Node::Add(a, b),
-            })
-        }
-    }
-}
-
-fn bound_subtract(alloc: Global, a: BoundExpr, b: BoundExpr) -> Result<BoundExpr, BindFault>
-    ensures { Gives result (bound_subtract a b) }
-{
-    match sum_kind(&a.kind, &b.kind) {
-        None => Err(MISMATCH),
-        Some(kind) => {
-            let a = Boxed::new(alloc, a.node)?;
-            let b = Boxed::new(alloc, b.node)?;
-            Ok(BoundExpr {
-                kind,
-                node: Node::Subtract(a, b),
-            })
-        }
-    }
-}
-
-fn bound_multiply(alloc: Global, a: BoundExpr, b: BoundExpr) -> Result<BoundExpr, BindFault>
-    ensures { Gives result (bound_multiply a b) }
-{
-    match product_kind(&a.kind, &b.kind) {
-        None => Err(MISMATCH),
-        Some(kind) => {
-            let a = Boxed::new(alloc, a.node)?;
-            let b = Boxed::new(alloc, b.node)?;
-            Ok(BoundExpr {
-                kind,
-                node: Node::Multiply(a, b),
-            })
-        }
-    }
 }
 
 fn bound_negate(alloc: Global, a: BoundExpr) -> Result<BoundExpr, BindFault>

@@ -1,4 +1,4 @@
-use sql_ast::Comparison;
+use sql_ast::{Comparison, Term};
 use sql_values::Kind;
 use tuple_codec::{Boxed, Sequence, Value};
 
@@ -13,8 +13,10 @@ pub struct BoundExpr {
 /// of theirs knows its own.
 #[derive(Debug, Drop)]
 pub enum Node {
-    Or(Boxed<Node>, Boxed<Node>),
-    And(Boxed<Node>, Boxed<Node>),
+    /// The first operand and the others from the left. So a chain is one node, however long it is.
+    Or(Boxed<Node>, Sequence<Node>),
+    /// As `Or`.
+    And(Boxed<Node>, Sequence<Node>),
     Not(Boxed<Node>),
     Compare(Boxed<Node>, Comparison, Boxed<Node>),
     IsNull(Boxed<Node>),
@@ -23,9 +25,10 @@ pub enum Node {
     In(Boxed<Node>, Sequence<Node>),
     /// The value, the low end and the high end.
     Between(Boxed<Node>, Boxed<Node>, Boxed<Node>),
-    Add(Boxed<Node>, Boxed<Node>),
-    Subtract(Boxed<Node>, Boxed<Node>),
-    Multiply(Boxed<Node>, Boxed<Node>),
+    /// A sum: the first operand and what is added to it or subtracted, from the left.
+    Terms(Boxed<Node>, Sequence<(Term, Node)>),
+    /// A product: as `Or`.
+    Factors(Boxed<Node>, Sequence<Node>),
     /// A unary minus.
     Negate(Boxed<Node>),
     /// A literal.
@@ -36,6 +39,22 @@ pub enum Node {
     OutOfRange,
     /// A column, by its place in the scope.
     Column(Kind, usize),
+}
+
+/// A chain's operands so far and their kind, or a value and the elements that it is compared with.
+#[derive(Drop)]
+pub struct Chain {
+    pub kind: Kind,
+    pub first: Boxed<Node>,
+    pub rest: Sequence<Node>,
+}
+
+/// A sum's operands so far and their kind.
+#[derive(Drop)]
+pub struct Sum {
+    pub kind: Kind,
+    pub first: Boxed<Node>,
+    pub rest: Sequence<(Term, Node)>,
 }
 
 /// The value and the low end of a BETWEEN, and the value's kind.

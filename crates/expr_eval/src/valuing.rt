@@ -2,11 +2,11 @@ ghost use Rattle.std.specs.Prelude.{◌≡◌, map, false, not, Some, Option};
 ghost use Rattle.std.specs.Option.{option_map};
 ghost use Rattle.sql_values.specs.Views.{seen};
 ghost use Rattle.sql_values.specs.Worths.{of_truth};
-ghost use Rattle.expr_eval.specs.Valuing.{Evaluates, among, compared, comparison, conjunction, disjunction, holds, negation, within, worth, value};
+ghost use Rattle.expr_eval.specs.Valuing.{Evaluates, added, among, chained, compared, comparison, conjunction, disjunction, holds, joined, negation, total, within, worth, value};
 
 use crate::bound::{BoundExpr, Node};
 use crate::faults::EvalFault;
-use sql_ast::Comparison;
+use sql_ast::{Comparison, Term};
 use sql_values::{Worth, add, and, compare, multiply, negate, not, or, subtract};
 use std::alloc::Global;
 use std::cmp::Ordering;
@@ -24,28 +24,19 @@ pub fn eval(alloc: Global, expr: &BoundExpr, row: &Row) -> Result<Value, EvalFau
 }
 
 /// What a node is worth on a row, or None where it is out of range.
+#[cycle(worth)]
 fn worth<'a>(node: &'a Node, row: &'a [Value]) -> Option<Worth<'a>>
     ensures { option_map seen result ≡ worth row.now node.now }
 {
     match node {
-        Node::Or(a, b) => {
-            let Some(a) = worth(a.get(), row) else {
-                return None;
-            };
-            let Some(b) = worth(b.get(), row) else {
-                return None;
-            };
-            Some(disjunction(&a, &b))
-        }
-        Node::And(a, b) => {
-            let Some(a) = worth(a.get(), row) else {
-                return None;
-            };
-            let Some(b) = worth(b.get(), row) else {
-                return None;
-            };
-            Some(conjunction(&a, &b))
-        }
+        Node::Or(first, rest) => match worth(first.get(), row) {
+            Some(first) => chained(Operation::Or, &first, rest.as_slice(), row),
+            None => None,
+        },
+        Node::And(first, rest) => match worth(first.get(), row) {
+            Some(first) => chained(Operation::And, &first, rest.as_slice(), row),
+            None => None,
+        },
         Node::Not(a) => {
             let Some(a) = worth(a.get(), row) else {
                 return None;
@@ -73,19 +64,10 @@ fn worth<'a>(node: &'a Node, row: &'a [Value]) -> Option<Worth<'a>>
             };
             Some(Worth::Bool(!a.is_null()))
         }
-        Node::In(a, elements) => {
-            let Some(a) = worth(a.get(), row) else {
-                return None;
-            };
-            let mut found = Some(false);
-            for element in elements.as_slice() {
-                let Some(element) = worth(element, row) else {
-                    return None;
-                };
-                found = or(found, compared(Comparison::Equal, &a, &element));
-            }
-            Some(Worth::of_truth(found))
-        }
+        Node::In(value, elements) => match worth(value.get(), row) {
+            Some(value) => among(&value, elements.as_slice(), row),
+            None => None,
+        },
         Node::Between(a, low, high) => {
             let Some(a) = worth(a.get(), row) else {
                 return None;
@@ -98,33 +80,14 @@ fn worth<'a>(node: &'a Node, row: &'a [Value]) -> Option<Worth<'a>>
             };
             Some(within(&a, &low, &high))
         }
-        Node::Add(a, b) => {
-            let Some(a) = worth(a.get(), row) else {
-                return None;
-            };
-            let Some(b) = worth(b.get(), row) else {
-                return None;
-            };
-            add(&a, &b)
-        }
-        Node::Subtract(a, b) => {
-            let Some(a) = worth(a.get(), row) else {
-                return None;
-            };
-            let Some(b) = worth(b.get(), row) else {
-                return None;
-            };
-            subtract(&a, &b)
-        }
-        Node::Multiply(a, b) => {
-            let Some(a) = worth(a.get(), row) else {
-                return None;
-            };
-            let Some(b) = worth(b.get(), row) else {
-                return None;
-            };
-            multiply(&a, &b)
-        }
+        Node::Terms(first, rest) => match worth(first.get(), row) {
+            Some(first) => total(&first, rest.as_slice(), row),
+            None => None,
+        },
+        Node::Factors(first, rest) => match worth(first.get(), row) {
+            Some(first) => chained(Operation::Times, &first, rest.as_slice(), row),
+            None => None,
+        },
         Node::Negate(a) => {
             let Some(a) = worth(a.get(), row) else {
                 return None;
@@ -137,6 +100,105 @@ fn worth<'a>(node: &'a Node, row: &'a [Value]) -> Option<Worth<'a>>
             Some(value) => Some(Worth::of(kind, value)),
             None => Some(Worth::Null),
         },
+    }
+}
+
+/// A chain's worth, from that of its first operand.
+#[cycle(worth)]
+fn chained<'a>(
+    operation: Operation,
+    first: &Worth<'a>,
+    rest: &'a [Node],
+    row: &'a [Value],
+) -> Option<Worth<'a>>
+    ensures { option_map seen result ≡ chained (joined operation) (Some (seen first.now)) (map (worth row.now) rest.now) }
+{
+    let mut so_far = copied(first);
+    for operand in rest {
+        let Some(operand) = worth(operand, row) else {
+            return None;
+        };
+        let Some(next) = operation.on(&so_far, &operand) else {
+            return None;
+        };
+        so_far = next;
+    }
+    Some(so_far)
+}
+
+/// A sum's worth, from that of its first operand.
+#[cycle(worth)]
+fn total<'a>(first: &Worth<'a>, rest: &'a [(Term, Node)], row: &'a [Value]) -> Option<Worth<'a>>
+    ensures { option_map seen result ≡ total (Some (seen first.now)) (map (λ x. (x.0, worth row.now x.1)) rest.now) }
+{
+    let mut so_far = copied(first);
+    for (term, operand) in rest {
+        let Some(operand) = worth(operand, row) else {
+            return None;
+        };
+        let Some(next) = added(*term, &so_far, &operand) else {
+            return None;
+        };
+        so_far = next;
+    }
+    Some(so_far)
+}
+
+/// Whether a value equals an element.
+#[cycle(worth)]
+fn among<'a>(value: &Worth<'a>, elements: &'a [Node], row: &'a [Value]) -> Option<Worth<'a>>
+    ensures { option_map seen result ≡ among (map (worth row.now) elements.now) (seen value.now) }
+{
+    let mut found = Some(false);
+    for element in elements {
+        let Some(element) = worth(element, row) else {
+            return None;
+        };
+        found = or(found, compared(Comparison::Equal, value, &element));
+    }
+    Some(Worth::of_truth(found))
+}
+
+/// The same worth once more.
+fn copied<'a>(worth: &Worth<'a>) -> Worth<'a>
+    ensures { seen result ≡ seen worth.now }
+{
+    match worth {
+        Worth::Null => Worth::Null,
+        Worth::Int(number) => Worth::Int(*number),
+        Worth::Bool(bit) => Worth::Bool(*bit),
+        Worth::Text(text) => Worth::Text(*text),
+        Worth::Bytes(bytes) => Worth::Bytes(*bytes),
+        Worth::Decimal(number, scale) => Worth::Decimal(*number, *scale),
+    }
+}
+
+/// What joins a chain's operands.
+#[derive(Clone, Copy, Debug, PartialEq, Eq)]
+enum Operation {
+    Or,
+    And,
+    Times,
+}
+
+impl Operation {
+    fn on<'a>(self, a: &Worth<'_>, b: &Worth<'_>) -> Option<Worth<'a>>
+        ensures { option_map seen result ≡ joined self (seen a.now) (seen b.now) }
+    {
+        match self {
+            Operation::Or => Some(disjunction(a, b)),
+            Operation::And => Some(conjunction(a, b)),
+            Operation::Times => multiply(a, b),
+        }
+    }
+}
+
+fn added<'a>(term: Term, a: &Worth<'_>, b: &Worth<'_>) -> Option<Worth<'a>>
+    ensures { option_map seen result ≡ added term (seen a.now) (seen b.now) }
+{
+    match term {
+        Term::Plus => add(a, b),
+        Term::Minus => subtract(a, b),
     }
 }
 

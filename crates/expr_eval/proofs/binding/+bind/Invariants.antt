@@ -1,7 +1,11 @@
-use Rattle.std.proofs.Common.{◌≡◌, map, drop, []}
-use Rattle.expr_eval.specs.Binding.{bound, members}
+use Rattle.std.proofs.Common.{◌≡◌, Ok}
+use Rattle.expr_eval.specs.Binding.{bound, chain_kind, extended, lengthened, opened_chain, opened_sum, two}
+use Rattle.expr_eval.proofs.FoldLemmas.{so_far}
 use Rattle.expr_eval.proofs.binding.+bind.Given as goal
 
--- what is left to bind, behind what was found
-abbrev pub invariant-members-loop-element : goal.invariant-members-loop-element
-invariant-members-loop-element l = members l.value [] (map (bound l.scope) l.elements) ≡ members l.value l.found (map (bound l.scope) (drop l.element-index l.elements))
+-- what the operands so far come to
+abbrev pub invariant-chain-loop-operand : goal.invariant-chain-loop-operand
+invariant-chain-loop-operand l = so_far (two (extended (chain_kind l.meeting))) (bound l.scope) (Ok (opened_chain l.fn.first)) l.rest l.operand-index ≡ Ok l.chain
+
+abbrev pub invariant-sum-loop-term : goal.invariant-sum-loop-term
+invariant-sum-loop-term l = so_far lengthened (λ x. (x.0, bound l.scope x.1)) (Ok (opened_sum l.fn.first)) l.rest l.term-index ≡ Ok l.sum
