@@ -1,3 +1,4 @@
+mod Grouping
 mod NodeLemmas
 mod Openings
 mod Vectors
