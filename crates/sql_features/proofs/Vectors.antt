@@ -1,5 +1,5 @@
 -- The definitions, computed on nodes whose parts are known.
-use Rattle.std.proofs.Common.{◌≡◌, refl, List, [], ◌∷◌, true, false}
+use Rattle.std.proofs.Common.{◌≡◌, refl, [], ◌∷◌}
 use Rattle.sql_ast.specs.declared.expressions.Expr.TheOpen.{Expr-F}
 use Rattle.sql_ast.specs.declared.expressions.Term.TheVariants as term
 use Rattle.sql_features.specs.Depths.{depth_at}

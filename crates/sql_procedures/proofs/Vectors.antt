@@ -1,5 +1,5 @@
 -- The definitions, computed on worked examples.
-use Rattle.std.proofs.Common.{◌≡◌, refl, codes, List, [], ◌∷◌, ℕ, true, false, map}
+use Rattle.std.proofs.Common.{◌≡◌, refl, codes, [], ◌∷◌, true, false, map}
 use Rattle.sql_procedures.specs.Arguments.{takes_add, takes_branch, takes_checkout, takes_commit, takes_merge, takes_reset, takes_resolve, takes_verify}
 
 commits : map takes_commit ((codes "-am" ∷ codes "-m" ∷ []) ∷ (codes "-m" ∷ codes "x" ∷ codes "-A" ∷ codes "-a" ∷ []) ∷ (codes "-m" ∷ []) ∷ (codes "-a" ∷ [])

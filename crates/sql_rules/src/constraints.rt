@@ -3,9 +3,9 @@ ghost use Rattle.std.specs.List.{count_by};
 ghost use Rattle.sql_rules.specs.Constraints.{is_free, is_unique_mark, made_name, makes_long, one_if_none, unnamed, unnamed_in, word_of};
 ghost use Rattle.sql_features.specs.Features.{is_long};
 
-use sql_features::is_long_name;
 use crate::tables::has_constraint;
 use sql_ast::{Attribute, Element};
+use sql_features::is_long_name;
 use std::alloc::{AllocError, Global};
 use tuple_codec::Text;
 

@@ -5,15 +5,15 @@ ghost use Rattle.sql_rules.specs.Tables.{elements_outside};
 
 use crate::constraints::{Sort, makes_long_name};
 use crate::defaults::some_default_is_outside;
-use sql_features::is_variable_name;
 use crate::names::{has_long_name, is_kept_by_system};
-use sql_procedures::procedure_named;
 use crate::selects::is_outside_select;
 use crate::tables::{
     is_keyed_once, repeats_column_name, repeats_constraint_name, some_element_is_outside,
 };
 use crate::writes::{is_outside_delete, is_outside_insert, is_outside_update};
 use sql_ast::{Call, CreateTable, Element, Statement, Write};
+use sql_features::is_variable_name;
+use sql_procedures::procedure_named;
 use std::alloc::{AllocError, Global};
 use tuple_codec::Text;
 

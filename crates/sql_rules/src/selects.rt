@@ -8,12 +8,12 @@ ghost use Rattle.sql_features.specs.Nesting.{nests};
 ghost use Rattle.sql_rules.specs.Selects.{alone_outside, are_of_groups, from_outside, in_item, in_items, is_call, is_group, is_grouped, is_of_groups, is_open_to_sources, is_some, is_ungrouped_item_shown, is_written_as, items_outside, joined_name, key_outside, keys_outside, mixes_aggregates, name_or, query_outside, repeats_source, select_outside, source_name};
 ghost use Rattle.sql_rules.specs.Writes.{is_misplaced};
 
-use sql_features::{Feature, has_feature, is_aggregate_node, nests_aggregates};
 use crate::order_keys::is_outside_key;
 use crate::writes::{is_given_out_of_place, is_out_of_place};
 use sql_ast::{
     ColumnName, Expr, FromClause, Item, Items, Join, NamedExpr, OrderKey, Query, Select, Source,
 };
+use sql_features::{Feature, has_feature, is_aggregate_node, nests_aggregates};
 use tuple_codec::Text;
 
 pub fn is_outside_select(select: &Select) -> bool

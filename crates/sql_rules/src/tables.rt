@@ -5,10 +5,10 @@ ghost use Rattle.tuple_codec.specs.Limits.{is_type};
 ghost use Rattle.sql_rules.specs.Names.{in_given};
 ghost use Rattle.sql_rules.specs.Tables.{check_outside, column_name, decimal_type, element_outside, given_name, has_named, has_one_key, is_key_mark, is_typed, keys_in, misnames, repeats_given, text_type, type_of};
 
-use sql_features::is_too_deep;
 use crate::names::repeats_name;
 use crate::writes::is_out_of_place;
 use sql_ast::{Attribute, Element, Expr, TypeName};
+use sql_features::is_too_deep;
 use std::alloc::AllocError;
 use tuple_codec::{SqlType, Text};
 

@@ -4,9 +4,9 @@ ghost use Rattle.std.specs.Str.{bytes_eq};
 ghost use Rattle.sql_rules.specs.Names.{in_given, repeats_by, repeats};
 ghost use Rattle.sql_rules.specs.Writes.{delete_outside, entry_outside, insert_outside, is_below, is_list_of_entries, is_misplaced, is_misplaced_if, update_outside};
 
-use sql_features::{Feature, has_feature};
 use crate::names::{is_kept_by_system, repeats_name};
 use sql_ast::{Assignment, Delete, Entry, Expr, Insert, Tuple, Update};
+use sql_features::{Feature, has_feature};
 use tuple_codec::{Sequence, Text};
 
 /// Whether an expression has a part that only a SELECT's items may have.

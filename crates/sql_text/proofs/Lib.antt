@@ -1,2 +1,4 @@
+mod Grouping
 mod NodeLemmas
+mod Openings
 mod Vectors

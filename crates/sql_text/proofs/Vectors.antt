@@ -5,6 +5,7 @@ use Rattle.sql_ast.specs.declared.expressions.Comparison.TheVariants.{NotEqual, 
 use Rattle.sql_ast.specs.declared.expressions.Expr.TheOpen.{Expr-F}
 use Rattle.sql_ast.specs.declared.expressions.Literal.{Literal}
 use Rattle.sql_ast.specs.declared.expressions.Literal.TheVariants as literal
+use Rattle.sql_ast.specs.declared.expressions.Term.TheVariants.{Plus, Minus}
 use Rattle.sql_text.specs.Canon.{step}
 use Rattle.value_text.specs.Values.{byte_string}
 
@@ -26,21 +27,22 @@ no_limits = refl
 lists : (says (Expr-F.In (codes "a") (codes "1" ∷ codes "2" ∷ [])) ≡ codes "(a IN (1, 2))") × (says (Expr-F.NotIn (codes "a") (codes "1" ∷ codes "2" ∷ [])) ≡ codes "(NOT (a IN (1, 2)))")
 lists = (refl, refl)
 
-chains : says (Expr-F.And (says (Expr-F.And (named (codes "a")) (named (codes "b")))) (named (codes "c"))) ≡ codes "((a AND b) AND c)"
-chains = refl
-
 tests : (says (Expr-F.IsNotNull (codes "a")) ≡ codes "(a IS NOT NULL)") × (says (Expr-F.IsNull (codes "''")) ≡ codes "('' IS NULL)") × (says (Expr-F.Not (codes "a")) ≡ codes "(NOT a)")
 tests = (refl, refl, refl)
 
 comparisons : (says (Expr-F.Compare (says (Expr-F.Qualified (codes "t") (codes "n"))) Less (codes "10")) ≡ codes "(t.n < 10)") × (says (Expr-F.Compare (codes "v.id") NotEqual (codes "19")) ≡ codes "(v.id <> 19)")
 comparisons = (refl, refl)
 
--- - y - 3 <= 2 * x + 1
-sums : says (Expr-F.Compare (says (Expr-F.Subtract (says (Expr-F.Negate (codes "y"))) (codes "3"))) AtMost (says (Expr-F.Add (says (Expr-F.Multiply (codes "2") (codes "x"))) (codes "1"))))
-    ≡ codes "(((- y) - 3) <= ((2 * x) + 1))"
+chains : (says (Expr-F.And (named (codes "a")) (named (codes "b") ∷ named (codes "c") ∷ [])) ≡ codes "((a AND b) AND c)") × (says (Expr-F.Or (codes "a") (codes "b" ∷ [])) ≡ codes "(a OR b)")
+chains = (refl, refl)
+
+-- - y - 3 + z <= 2 * x * x + 1
+sums : says (Expr-F.Compare (says (Expr-F.Terms (says (Expr-F.Negate (codes "y"))) ((Minus, codes "3") ∷ (Plus, codes "z") ∷ []))) AtMost
+    (says (Expr-F.Terms (says (Expr-F.Factors (codes "2") (codes "x" ∷ codes "x" ∷ []))) ((Plus, codes "1") ∷ []))))
+    ≡ codes "((((- y) - 3) + z) <= (((2 * x) * x) + 1))"
 sums = refl
 
-calls : (says (Expr-F.Sum (says (Expr-F.Add (codes "x") (codes "1")))) ≡ codes "SUM((x + 1))") × (says (Expr-F.Count (codes "x")) ≡ codes "COUNT(x)") × (says (Expr-F.Min (codes "x")) ≡ codes "MIN(x)")
+calls : (says (Expr-F.Sum (says (Expr-F.Terms (codes "x") ((Plus, codes "1") ∷ [])))) ≡ codes "SUM((x + 1))") × (says (Expr-F.Count (codes "x")) ≡ codes "COUNT(x)") × (says (Expr-F.Min (codes "x")) ≡ codes "MIN(x)")
     × (says (Expr-F.Max (codes "x")) ≡ codes "MAX(x)") × (says Expr-F.CountAll ≡ codes "COUNT(*)") × (says Expr-F.ActiveBranch ≡ codes "active_branch()") × (says (Expr-F.Variable (codes "autocommit")) ≡ codes "@@autocommit")
 calls = (refl, refl, refl, refl, refl, refl, refl)
 

@@ -1,10 +1,11 @@
 ghost use Rattle.std.specs.Prelude.{◌≡◌, ◌++◌, [], IfOk, OnOk, map};
-ghost use Rattle.sql_text.specs.Canon.{listed, text};
+ghost use Rattle.sql_text.specs.Canon.{addends, listed, operands, text};
 
 use crate::pieces::{
-    push_active_branch, push_literal, push_qualified, push_variable, word_of, write,
+    back_of, front_of, operator_of, push_active_branch, push_literal, push_opening, push_qualified,
+    push_variable, word_of, word_of_term, write,
 };
-use sql_ast::Expr;
+use sql_ast::{Expr, Term};
 use std::alloc::{AllocError, Global};
 use tuple_codec::Text;
 
@@ -22,24 +23,27 @@ fn push_expr(alloc: Global, out: &mut Vec<u8>, expr: &Expr) -> Result<(), AllocE
     ensures { OnOk result (out.new.items ≡ out.old.items ++ text expr.now) }
 {
     match expr {
-        Expr::Or(a, b) => {
-            write(out, b"(")?;
+        Expr::Or(a, list) | Expr::And(a, list) | Expr::Factors(a, list) => {
+            push_opening(out, list.as_slice().len())?;
             push_expr(alloc, out, a.get())?;
-            write(out, b" OR ")?;
-            push_expr(alloc, out, b.get())?;
-            write(out, b")")
+            push_operands(alloc, out, list.as_slice(), operator_of(expr))
         }
-        Expr::And(a, b) => {
-            write(out, b"(")?;
+        Expr::Terms(a, list) => {
+            push_opening(out, list.as_slice().len())?;
             push_expr(alloc, out, a.get())?;
-            write(out, b" AND ")?;
-            push_expr(alloc, out, b.get())?;
-            write(out, b")")
+            push_addends(alloc, out, list.as_slice())
         }
-        Expr::Not(a) => {
-            write(out, b"(NOT ")?;
+        Expr::Not(a)
+        | Expr::IsNull(a)
+        | Expr::IsNotNull(a)
+        | Expr::Negate(a)
+        | Expr::Count(a)
+        | Expr::Sum(a)
+        | Expr::Min(a)
+        | Expr::Max(a) => {
+            write(out, front_of(expr))?;
             push_expr(alloc, out, a.get())?;
-            write(out, b")")
+            write(out, back_of(expr))
         }
         Expr::Compare(a, op, b) => {
             write(out, b"(")?;
@@ -48,34 +52,15 @@ fn push_expr(alloc: Global, out: &mut Vec<u8>, expr: &Expr) -> Result<(), AllocE
             push_expr(alloc, out, b.get())?;
             write(out, b")")
         }
-        Expr::IsNull(a) => {
-            write(out, b"(")?;
-            push_expr(alloc, out, a.get())?;
-            write(out, b" IS NULL")?;
-            write(out, b")")
-        }
-        Expr::IsNotNull(a) => {
-            write(out, b"(")?;
-            push_expr(alloc, out, a.get())?;
-            write(out, b" IS NOT")?;
-            write(out, b" NULL)")
-        }
-        Expr::In(a, list) => {
-            write(out, b"(")?;
+        Expr::In(a, list) | Expr::NotIn(a, list) => {
+            write(out, front_of(expr))?;
             push_expr(alloc, out, a.get())?;
             write(out, b" IN (")?;
             push_list(alloc, out, list.as_slice())?;
-            write(out, b"))")
+            write(out, back_of(expr))
         }
-        Expr::NotIn(a, list) => {
-            write(out, b"(NOT (")?;
-            push_expr(alloc, out, a.get())?;
-            write(out, b" IN (")?;
-            push_list(alloc, out, list.as_slice())?;
-            write(out, b")))")
-        }
-        Expr::Between(a, low, high) => {
-            write(out, b"((")?;
+        Expr::Between(a, low, high) | Expr::NotBetween(a, low, high) => {
+            write(out, front_of(expr))?;
             push_expr(alloc, out, a.get())?;
             write(out, b" >= ")?;
             push_expr(alloc, out, low.get())?;
@@ -83,69 +68,12 @@ fn push_expr(alloc: Global, out: &mut Vec<u8>, expr: &Expr) -> Result<(), AllocE
             push_expr(alloc, out, a.get())?;
             write(out, b" <= ")?;
             push_expr(alloc, out, high.get())?;
-            write(out, b"))")
-        }
-        Expr::NotBetween(a, low, high) => {
-            write(out, b"(NOT ((")?;
-            push_expr(alloc, out, a.get())?;
-            write(out, b" >= ")?;
-            push_expr(alloc, out, low.get())?;
-            write(out, b") AND (")?;
-            push_expr(alloc, out, a.get())?;
-            write(out, b" <= ")?;
-            push_expr(alloc, out, high.get())?;
-            write(out, b")))")
-        }
-        Expr::Add(a, b) => {
-            write(out, b"(")?;
-            push_expr(alloc, out, a.get())?;
-            write(out, b" + ")?;
-            push_expr(alloc, out, b.get())?;
-            write(out, b")")
-        }
-        Expr::Subtract(a, b) => {
-            write(out, b"(")?;
-            push_expr(alloc, out, a.get())?;
-            write(out, b" - ")?;
-            push_expr(alloc, out, b.get())?;
-            write(out, b")")
-        }
-        Expr::Multiply(a, b) => {
-            write(out, b"(")?;
-            push_expr(alloc, out, a.get())?;
-            write(out, b" * ")?;
-            push_expr(alloc, out, b.get())?;
-            write(out, b")")
-        }
-        Expr::Negate(a) => {
-            write(out, b"(- ")?;
-            push_expr(alloc, out, a.get())?;
-            write(out, b")")
+            write(out, back_of(expr))
         }
         Expr::Literal(literal) => push_literal(alloc, out, literal),
         Expr::Name(name) => write(out, name.as_slice()),
         Expr::Qualified(source, name) => push_qualified(out, source, name),
         Expr::CountAll => write(out, b"COUNT(*)"),
-        Expr::Count(a) => {
-            write(out, b"COUNT(")?;
-            push_expr(alloc, out, a.get())?;
-            write(out, b")")
-        }
-        Expr::Sum(a) => {
-            write(out, b"SUM(")?;
-            push_expr(alloc, out, a.get())?;
-            write(out, b")")
-        }
-        Expr::Min(a) => {
-            write(out, b"MIN(")?;
-            push_expr(alloc, out, a.get())?;
-            write(out, b")")
-        }
-        Expr::Max(a) => {
-            write(out, b"MAX(")?;
-            push_expr(alloc, out, a.get())?;
-            write(out, b")")
-        }
         Expr::ActiveBranch => push_active_branch(out),
         Expr::Variable(name) => push_variable(out, name),
     }
@@ -161,6 +89,36 @@ fn push_list(alloc: Global, out: &mut Vec<u8>, list: &[Expr]) -> Result<(), Allo
         write(out, front)?;
         push_expr(alloc, out, element)?;
         front = b", ";
+    }
+    Ok(())
+}
+
+/// Writes the operands behind the first, each with the operator before it and a parenthesis behind it.
+#[cycle(canon)]
+fn push_operands(
+    alloc: Global,
+    out: &mut Vec<u8>,
+    list: &[Expr],
+    operator: &'static [u8],
+) -> Result<(), AllocError>
+    ensures { OnOk result (out.new.items ≡ out.old.items ++ operands operator.now (map text list.now)) }
+{
+    for operand in list {
+        write(out, operator)?;
+        push_expr(alloc, out, operand)?;
+        write(out, b")")?;
+    }
+    Ok(())
+}
+
+#[cycle(canon)]
+fn push_addends(alloc: Global, out: &mut Vec<u8>, list: &[(Term, Expr)]) -> Result<(), AllocError>
+    ensures { OnOk result (out.new.items ≡ out.old.items ++ addends (map (λ term. (term.0, text term.1)) list.now)) }
+{
+    for term in list {
+        write(out, word_of_term(term.0))?;
+        push_expr(alloc, out, &term.1)?;
+        write(out, b")")?;
     }
     Ok(())
 }

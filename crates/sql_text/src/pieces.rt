@@ -1,7 +1,8 @@
 ghost use Rattle.std.specs.Prelude.{◌≡◌, ◌++◌, OnOk, codes};
-ghost use Rattle.sql_text.specs.Canon.{comparison_word, literal_text, truth_word};
+ghost use Rattle.sql_ast.specs.declared.expressions.Expr.{out-Expr};
+ghost use Rattle.sql_text.specs.Canon.{back, comparison_word, front, literal_text, opened, operator, term_word, truth_word};
 
-use sql_ast::{Comparison, Literal};
+use sql_ast::{Comparison, Expr, Literal, Term};
 use std::alloc::{AllocError, Global};
 use tuple_codec::Text;
 use value_text::{push_byte_string, push_number, push_quoted, push_scaled};
@@ -24,6 +25,68 @@ pub fn word_of(op: Comparison) -> &'static [u8]
         Comparison::Greater => b" > ",
         Comparison::AtLeast => b" >= ",
     }
+}
+
+pub fn word_of_term(term: Term) -> &'static [u8]
+    ensures { result.now ≡ term_word term }
+{
+    match term {
+        Term::Plus => b" + ",
+        Term::Minus => b" - ",
+    }
+}
+
+/// The operator of a chain of one operator, with a space before it and behind it.
+pub fn operator_of(expr: &Expr) -> &'static [u8]
+    ensures { result.now ≡ operator (out-Expr expr.now) }
+{
+    match expr {
+        Expr::Or(_, _) => b" OR ",
+        Expr::And(_, _) => b" AND ",
+        Expr::Factors(_, _) => b" * ",
+        _ => b"",
+    }
+}
+
+/// What stands before the parts of an operation that is no chain.
+pub fn front_of(expr: &Expr) -> &'static [u8]
+    ensures { result.now ≡ front (out-Expr expr.now) }
+{
+    match expr {
+        Expr::Not(_) => b"(NOT ",
+        Expr::NotIn(_, _) => b"(NOT (",
+        Expr::Between(_, _, _) => b"((",
+        Expr::NotBetween(_, _, _) => b"(NOT ((",
+        Expr::Negate(_) => b"(- ",
+        Expr::Count(_) => b"COUNT(",
+        Expr::Sum(_) => b"SUM(",
+        Expr::Min(_) => b"MIN(",
+        Expr::Max(_) => b"MAX(",
+        _ => b"(",
+    }
+}
+
+/// What stands behind the parts of an operation that is no chain.
+pub fn back_of(expr: &Expr) -> &'static [u8]
+    ensures { result.now ≡ back (out-Expr expr.now) }
+{
+    match expr {
+        Expr::IsNull(_) => b" IS NULL)",
+        Expr::IsNotNull(_) => b" IS NOT NULL)",
+        Expr::In(_, _) | Expr::Between(_, _, _) => b"))",
+        Expr::NotIn(_, _) | Expr::NotBetween(_, _, _) => b")))",
+        _ => b")",
+    }
+}
+
+/// Writes as many opening parentheses.
+pub fn push_opening(out: &mut Vec<u8>, count: usize) -> Result<(), AllocError>
+    ensures { OnOk result (out.new.items ≡ out.old.items ++ opened count) }
+{
+    for _turn in 0..count {
+        write(out, b"(")?;
+    }
+    Ok(())
 }
 
 pub fn push_literal(alloc: Global, out: &mut Vec<u8>, literal: &Literal) -> Result<(), AllocError>

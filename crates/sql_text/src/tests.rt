@@ -1,5 +1,5 @@
 use crate::canonical_text;
-use sql_ast::{Expr, Literal};
+use sql_ast::{Expr, Literal, Term};
 use std::alloc::{AllocError, Global};
 use std::test::Fail;
 use tuple_codec::{Boxed, Sequence, Text};
@@ -8,35 +8,34 @@ fn name(alloc: Global, name: &[u8]) -> Result<Boxed<Expr>, AllocError> {
     Boxed::new(alloc, Expr::Name(Text::from_slice(alloc, name)?))
 }
 
-fn number(alloc: Global, number: u64) -> Result<Boxed<Expr>, AllocError> {
-    Boxed::new(alloc, Expr::Literal(Literal::Whole(number)))
-}
-
-/// b BETWEEN 1 AND 2.
-fn limited(alloc: Global) -> Result<Boxed<Expr>, AllocError> {
-    let low = number(alloc, 1)?;
-    let high = number(alloc, 2)?;
-    let value = name(alloc, b"b")?;
-    Boxed::new(alloc, Expr::Between(value, low, high))
-}
-
 /// a NOT IN (-83.40, TRUE).
-fn listed(alloc: Global) -> Result<Boxed<Expr>, AllocError> {
+fn listed(alloc: Global) -> Result<Expr, AllocError> {
     let mut list = Sequence::new(alloc);
     let decimal = Boxed::new(alloc, Expr::Literal(Literal::Decimal(8340, 2)))?;
     list.push(Expr::Negate(decimal))?;
     list.push(Expr::Literal(Literal::Bool(true)))?;
     let value = name(alloc, b"a")?;
-    Boxed::new(alloc, Expr::NotIn(value, list))
+    Ok(Expr::NotIn(value, list))
+}
+
+/// a - 1 + 2.
+fn summed(alloc: Global) -> Result<Expr, AllocError> {
+    let mut rest = Sequence::new(alloc);
+    rest.push((Term::Minus, Expr::Literal(Literal::Whole(1))))?;
+    rest.push((Term::Plus, Expr::Literal(Literal::Whole(2))))?;
+    Ok(Expr::Terms(name(alloc, b"a")?, rest))
 }
 
 #[test]
-fn prints_an_expression(rt: HostRuntime) -> Result<(), Fail> {
-    let first = listed(rt.alloc())?;
-    let second = limited(rt.alloc())?;
-    let expr = Expr::Or(first, second);
-    let text = canonical_text(rt.alloc(), &expr)?;
-    let wanted = b"((NOT (a IN ((- 83.40), TRUE))) OR ((b >= 1) AND (b <= 2)))";
-    assert!(rt; text.as_slice() == wanted.as_slice());
+fn prints_lists(rt: HostRuntime) -> Result<(), Fail> {
+    let text = canonical_text(rt.alloc(), &listed(rt.alloc())?)?;
+    assert!(rt; text.is(b"(NOT (a IN ((- 83.40), TRUE)))"));
+    Ok(())
+}
+
+#[test]
+fn groups_a_sum_from_the_left(rt: HostRuntime) -> Result<(), Fail> {
+    let text = canonical_text(rt.alloc(), &summed(rt.alloc())?)?;
+    assert!(rt; text.is(b"((a - 1) + 2)"));
     Ok(())
 }

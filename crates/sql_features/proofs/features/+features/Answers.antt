@@ -1,4 +1,4 @@
-use Rattle.std.proofs.Common.{◌≡◌, ◌∙◌, sym, ap, ◌<◌, max, List, arith}
+use Rattle.std.proofs.Common.{◌∙◌, sym, ap, max, List, arith}
 use Rattle.std.specs.List.{list_any}
 use Rattle.sql_ast.specs.declared.expressions.Expr.{Expr}
 use Rattle.sql_ast.specs.declared.expressions.Term.{Term}

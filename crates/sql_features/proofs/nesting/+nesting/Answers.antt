@@ -1,4 +1,4 @@
-use Rattle.std.proofs.Common.{◌≡◌, ◌∙◌, ap, ◌<◌, List, map, max, arith}
+use Rattle.std.proofs.Common.{◌∙◌, ap, List, map, max, arith}
 use Rattle.sql_ast.specs.declared.expressions.Expr.{Expr}
 use Rattle.sql_ast.specs.declared.expressions.Term.{Term}
 use Rattle.sql_ast.proofs.expressions.Expr.TheLaws.{the_size}
