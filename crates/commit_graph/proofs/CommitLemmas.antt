@@ -1,9 +1,9 @@
 -- A commit that was written is read again, and how many bytes it has at most.
-use Rattle.std.proofs.Common.{◌≡◌, ℕ, ℤ, zero, suc, ◌+◌, ◌*◌, ◌^◌, ◌<◌, ◌≤◌, Bool, true, false, cond, eqb, ltb, List, [], ◌∷◌, ◌++◌, length, map, take, drop, Option, Some, None, refl, sym, ap, subst, ◌∙◌, append_assoc, append-nil, arith, eq-eqb}
-use Rattle.std.specs.List.{flat_map, list_all, AllByRecursion}
+use Rattle.std.proofs.Common.{◌≡◌, ℕ, ℤ, zero, suc, ◌+◌, ◌*◌, ◌^◌, ◌<◌, ◌≤◌, Bool, true, false, cond, eqb, ltb, List, [], ◌∷◌, ◌++◌, length, map, take, drop, Option, Some, None, refl, sym, ap, subst, ◌∙◌, append_assoc, append-nil, arith}
+use Rattle.std.specs.List.{flat_map, list_all}
 use Rattle.std.specs.Option.{option_map}
 use Rattle.std.specs.Int.{w64, cast_signed, cast_unsigned, from_be_bytes, to_be_bytes}
-use Rattle.std.proofs.lemmas.Bool.{and_from, eqb-true, le-ltb}
+use Rattle.std.proofs.lemmas.Bool.{and_parts, eqb-true, le-ltb}
 use Rattle.std.proofs.lemmas.List.{take_at, drop_at, length-append}
 use Rattle.std.proofs.lemmas.Nat.{from_be_bytes-to_be_bytes_8}
 use Rattle.tuple_codec.specs.RowBytes.{counted}
@@ -14,15 +14,12 @@ use Rattle.tuple_codec.proofs.TextLemmas.{counted_again}
 use Rattle.schema_model.specs.Reading.{◌>>=◌, bytes_at, items_at}
 use Rattle.schema_model.specs.WrittenForms.{CommitParts, commit_bytes}
 use Rattle.schema_model.proofs.PartLemmas.{IsReader, bytes_again, bytes_takes, items_again, nothing, some_is, takes}
-use Rattle.commit_graph.specs.Commits.{HasOneSpelling, IsAddress, IsCommit, parts_of}
+use Rattle.commit_graph.specs.Commits.{HasOneSpelling, IsCommit, is_address, parts_of}
 use Rattle.commit_graph.specs.declared.commits.CommitRecord.{CommitRecord}
 use Rattle.tuple_codec.specs.declared.addresses.Address.{Address}
 use Rattle.commit_graph.specs.Reading.{address_at, after_kind, commit_of, number_at, parents_at}
 
 -- ---- addresses
-
-abbrev is_address : List ℕ → Bool
-is_address bytes = eqb (length bytes) 20
 
 address_reader : IsReader (λ bytes. bytes) is_address address_at
 address_reader = record {
@@ -30,19 +27,17 @@ address_reader = record {
   again = λ address rest h. bytes_again 20 address rest (eqb-true _ _ h);
 }
 
-are_addresses : (parents : List (List ℕ)) → AllByRecursion IsAddress parents → list_all is_address parents ≡ true
-are_addresses [] h = refl
-are_addresses (parent ∷ parents) h = and_from _ _ (eq-eqb (length parent) 20 h.0) (are_addresses parents h.1)
-
-addresses_length : (parents : List (List ℕ)) → AllByRecursion IsAddress parents → length (flat_map (λ parent. parent) parents) ≡ 20 * length parents
+addresses_length : (parents : List (List ℕ)) → list_all is_address parents ≡ true → length (flat_map (λ parent. parent) parents) ≡ 20 * length parents
 addresses_length [] h = refl
 addresses_length (parent ∷ parents) h =
-    let more = addresses_length parents h.1 in
-    length-append parent (flat_map (λ parent. parent) parents) ∙ omega (arith, h.0, more)
+    let both = and_parts (is_address parent) (list_all is_address parents) h in
+    let one : length parent ≡ 20 = eqb-true _ _ both.0 in
+    let more = addresses_length parents both.1 in
+    length-append parent (flat_map (λ parent. parent) parents) ∙ omega (arith, one, more)
 
-parents_again : (parents : List (List ℕ)) (rest : List ℕ) → AllByRecursion IsAddress parents
+parents_again : (parents : List (List ℕ)) (rest : List ℕ) → list_all is_address parents ≡ true
     → parents_at (length parents ∷ (flat_map (λ parent. parent) parents ++ rest)) ≡ Some (parents, rest)
-parents_again parents rest h = items_again (λ parent. parent) is_address address_at address_reader parents rest (are_addresses parents h)
+parents_again parents rest h = items_again (λ parent. parent) is_address address_at address_reader parents rest h
 
 mapped : {A B : Type 0} (f : A → B) (b : Bool) (y : A) → option_map f (cond b None (Some y)) ≡ cond b None (Some (f y))
 mapped f true y = refl
@@ -94,15 +89,15 @@ commit_again c h =
     let third = to_be_bytes w64 date ++ fourth in
     let second = to_be_bytes w64 c.height ++ third in
     let first = length c.parents ∷ (flat_map (λ parent. parent) c.parents ++ second) in
-    ap (λ (o : Option (List ℕ × List ℕ)). o >>= after_root) (bytes_again 20 c.root first h.root)
-    ∙ ap (λ (o : Option (List (List ℕ) × List ℕ)). o >>= after_parents c.root) (parents_again c.parents second h.parents)
-    ∙ ap (λ (o : Option (ℕ × List ℕ)). o >>= after_height c.root c.parents) (number_again c.height third h.height)
-    ∙ ap (λ (o : Option (ℕ × List ℕ)). o >>= after_date c.root c.parents c.height) (number_again date fourth (bits_fit form.Row c.date h.date_fits))
+    ap (λ (o : Option (List ℕ × List ℕ)). o >>= after_root) (bytes_again 20 c.root first (eqb-true _ _ h.addresses.root))
+    ∙ ap (λ (o : Option (List (List ℕ) × List ℕ)). o >>= after_parents c.root) (parents_again c.parents second h.addresses.parents)
+    ∙ ap (λ (o : Option (ℕ × List ℕ)). o >>= after_height c.root c.parents) (number_again c.height third h.limits.height)
+    ∙ ap (λ (o : Option (ℕ × List ℕ)). o >>= after_date c.root c.parents c.height) (number_again date fourth (bits_fit form.Row c.date h.limits.date_fits))
     ∙ ap (λ (o : Option (List ℕ × List ℕ)). o >>= after_committer c.root c.parents c.height date) (counted_again c.committer fifth)
     ∙ ap (λ (o : Option (List ℕ × List ℕ)). o >>= λ message. Some (made c.root c.parents c.height date c.committer message.0))
     (ap uncounted (sym (append-nil fifth)) ∙ counted_again c.message [])
     ∙ ap (λ (n : ℤ). Some (record { root = c.root; parents = c.parents; height = c.height; date = n; committer = c.committer; message = c.message }))
-    (number_back form.Row c.date h.date_fits)
+    (number_back form.Row c.date h.limits.date_fits)
 
 pub one_spelling : HasOneSpelling
 one_spelling a b ha hb same = some_is a b (sym (commit_again a ha) ∙ ap commit_of same ∙ commit_again b hb)
@@ -114,7 +109,7 @@ read_is c found bytes h e read = some_is c found (sym (commit_again c h) ∙ ap 
 pub is_found : (c : CommitParts) (bytes : List ℕ) → IsCommit c → bytes ≡ commit_bytes c → commit_of bytes ≡ None → ⊥
 is_found c bytes h e none = nothing c (sym none ∙ ap commit_of e ∙ commit_again c h)
 
-pub commit_size : (c : CommitParts) → IsAddress c.root → AllByRecursion IsAddress c.parents → length c.parents ≤ 2 → length c.committer ≤ 32 → length c.message ≤ 8192
+pub commit_size : (c : CommitParts) → is_address c.root ≡ true → list_all is_address c.parents ≡ true → length c.parents ≤ 2 → length c.committer ≤ 32 → length c.message ≤ 8192
     → length (commit_bytes c) ≤ 65536
 commit_size c root parents few committer message =
     let many = addresses_length c.parents parents in
@@ -128,16 +123,13 @@ commit_size c root parents few committer message =
     let d = length-append (to_be_bytes w64 c.height) third in
     let e = length-append (to_be_bytes w64 date) fourth in
     let f = length-append (counted c.committer) fifth in
-    omega (arith, a, b, d, e, f, many, root)
+    let twenty : length c.root ≡ 20 = eqb-true _ _ root in
+    omega (arith, a, b, d, e, f, many, twenty)
 
 -- the parts in the order in which they are written
 pub in_order : (root parents height date committer message : List ℕ) (n : ℕ)
     → (((5 ∷ []) ++ (root ++ n ∷ parents)) ++ (height ++ date)) ++ (committer ++ message) ≡ 5 ∷ (root ++ (n ∷ (parents ++ (height ++ (date ++ (committer ++ message))))))
 in_order root parents height date committer message n = simp append_assoc
-
--- the bytes of a commit are found once
-pub bytes_are : (bytes : List ℕ) (c : CommitParts) (o : Option (List ℕ)) → Some bytes ≡ o → o ≡ Some (commit_bytes c) → bytes ≡ commit_bytes c
-bytes_are bytes c o e held = some_is bytes (commit_bytes c) (e ∙ held)
 
 -- height and date, written one after the other
 pub numbers_join : (a b c : List ℕ) (m n : ℕ) → b ≡ a ++ to_be_bytes w64 m → c ≡ b ++ to_be_bytes w64 n → c ≡ a ++ (to_be_bytes w64 m ++ to_be_bytes w64 n)

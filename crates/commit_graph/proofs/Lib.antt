@@ -1,2 +1,3 @@
 mod AddressListLemmas
 mod CommitLemmas
+mod Vectors

@@ -1,6 +1,6 @@
 -- Commits, and which commit stands at an address.
-use Rattle.std.specs.Prelude.{◌≡◌, ◌<◌, ◌≤◌, ◌≤ℤ◌, ◌^◌, ℕ, pos, true, List, length, map, Some}
-use Rattle.std.specs.List.{AllByRecursion}
+use Rattle.std.specs.Prelude.{◌≡◌, ◌<◌, ◌≤◌, ◌≤ℤ◌, ◌==◌, ◌^◌, ℕ, Bool, pos, true, List, length, map, Some}
+use Rattle.std.specs.List.{list_all}
 use Rattle.tuple_codec.specs.Rows.{fits_bits}
 use Rattle.schema_model.specs.WrittenForms.{CommitParts, commit_bytes}
 use Rattle.chunk_store.specs.Chunks.{Chunks}
@@ -18,13 +18,16 @@ parts_of commit = record {
 }
 
 -- twenty bytes
-abbrev pub IsAddress : List ℕ → Type 0
-IsAddress bytes = length bytes ≡ 20
+abbrev pub is_address : List ℕ → Bool
+is_address bytes = length bytes == 20
 
--- what a commit is: addresses of 20 bytes, at most two parents, a date from 1970 on, a short committer and message
-pub record IsCommit (commit : CommitParts) : Type 0 where
-  pub root : IsAddress commit.root
-  pub parents : AllByRecursion IsAddress commit.parents
+-- the root and each parent have twenty bytes
+pub record HasAddresses (commit : CommitParts) : Type 0 where
+  pub root : is_address commit.root ≡ true
+  pub parents : list_all is_address commit.parents ≡ true
+
+-- at most two parents, a date from 1970 on, a short committer and message
+pub record KeepsLimits (commit : CommitParts) : Type 0 where
   pub few : length commit.parents ≤ 2
   pub height : commit.height < 2 ^ 64
   pub date : pos 0 ≤ℤ commit.date
@@ -32,11 +35,19 @@ pub record IsCommit (commit : CommitParts) : Type 0 where
   pub committer : length commit.committer ≤ 32
   pub message : length commit.message ≤ 8192
 
--- the bytes of a commit are found at the address
-pub record IsCommitAt (chunks : Chunks) (k : List ℕ) : Type 0 where
-  pub commit : CommitParts
+-- what a commit is
+pub record IsCommit (commit : CommitParts) : Type 0 where
+  pub addresses : HasAddresses commit
+  pub limits : KeepsLimits commit
+
+-- the commit's bytes are found at the address
+pub record IsCommitFound (chunks : Chunks) (k : List ℕ) (commit : CommitParts) : Type 0 where
   pub is_commit : IsCommit commit
   pub held : chunks k ≡ Some (commit_bytes commit)
+
+-- some commit's are
+abbrev pub HasCommit : Chunks → List ℕ → Type 0
+HasCommit chunks k = (commit : CommitParts) × IsCommitFound chunks k commit
 
 -- two commits with the same bytes are one
 abbrev pub HasOneSpelling : Type 0

@@ -8,6 +8,8 @@ mod commits;
 mod fields;
 mod laws;
 mod reading;
+#[cfg(test)]
+mod tests;
 mod unread;
 mod writing;
 

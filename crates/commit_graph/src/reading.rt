@@ -1,10 +1,9 @@
 //! Commits read from drafts.
 
-ghost use Rattle.std.specs.Prelude.{◌≡◌, map, Some, IfOk};
+ghost use Rattle.std.specs.Prelude.{◌≡◌, map, IfOk};
 ghost use Rattle.schema_model.specs.Reading.{items_at};
-ghost use Rattle.schema_model.specs.WrittenForms.{commit_bytes};
 ghost use Rattle.chunk_store.specs.Drafts.{chunks_of};
-ghost use Rattle.commit_graph.specs.Commits.{IsCommit, IsCommitAt, parts_of};
+ghost use Rattle.commit_graph.specs.Commits.{HasCommit, IsCommitFound, parts_of};
 ghost use Rattle.commit_graph.specs.Gives.{Gives};
 ghost use Rattle.commit_graph.specs.Reading.{address_at, after_kind, commit_of, parents_at};
 
@@ -15,15 +14,14 @@ use chunk_store::Draft;
 use std::alloc::{AllocError, Global};
 use tuple_codec::{Address, Digester, Sequence, Text};
 
-/// The commit whose written form stands at the address.
+/// The commit whose written form is found at the address.
 pub fn read_commit<D: Digester>(
     alloc: Global,
     draft: &Draft<D>,
     address: &Address,
 ) -> Result<CommitRecord, AllocError>
-    requires { IsCommitAt (chunks_of draft.now.chunks) address.now.0 }
-    ensures commit { IfOk result (λ commit. IsCommit (parts_of commit)) }
-    ensures held { IfOk result (λ commit. chunks_of draft.now.chunks address.now.0 ≡ Some (commit_bytes (parts_of commit))) }
+    requires { HasCommit (chunks_of draft.now.chunks) address.now.0 }
+    ensures { IfOk result (λ commit. IsCommitFound (chunks_of draft.now.chunks) address.now.0 (parts_of commit)) }
 {
     let Some(bytes) = draft.get(address) else {
         unreachable!()

@@ -1,14 +1,14 @@
 //! Commits written into drafts.
 
-ghost use Rattle.std.specs.Prelude.{◌≡◌, ◌⊎◌, ◌<◌, ◌≤◌, ◌++◌, [], ◌∷◌, length, map, OnOk, OnErr, IfOk, IfErr};
+ghost use Rattle.std.specs.Prelude.{◌≡◌, ◌⊎◌, ◌<◌, ◌≤◌, ◌++◌, [], ◌∷◌, true, length, map, OnOk, OnErr, IfOk, IfErr};
 ghost use Rattle.std.specs.Int.{w64, cast_unsigned, to_be_bytes};
 ghost use Rattle.tuple_codec.specs.RowBytes.{counted};
-ghost use Rattle.std.specs.List.{flat_map};
+ghost use Rattle.std.specs.List.{flat_map, list_all};
 ghost use Rattle.schema_model.specs.WrittenForms.{commit_bytes};
 ghost use Rattle.chunk_store.specs.Chunks.{IsHeld, bytes_at};
 ghost use Rattle.chunk_store.specs.Clashes.{IsCause};
 ghost use Rattle.chunk_store.specs.Drafts.{TakesAtMostOnePage, chunks_of, put_in};
-ghost use Rattle.commit_graph.specs.Commits.{IsCommit, parts_of};
+ghost use Rattle.commit_graph.specs.Commits.{IsCommit, IsCommitFound, KeepsLimits, is_address, parts_of};
 
 use crate::commits::CommitRecord;
 use crate::fields::{push_long, push_number};
@@ -22,10 +22,11 @@ pub fn write_commit<D: Digester>(
     draft: &mut Draft<D>,
     commit: &CommitRecord,
 ) -> Result<Address, PutFault>
-    requires { IsCommit (parts_of commit.now) }
+    requires { KeepsLimits (parts_of commit.now) }
     ensures address { IfOk result (λ address. address.0 ≡ D.address (commit_bytes (parts_of commit.now))) }
     ensures exact { OnOk result (draft.new.chunks ≡ put_in D.address (commit_bytes (parts_of commit.now)) draft.old.chunks) }
     ensures held { OnOk result (IsHeld D.address (chunks_of draft.new.chunks) (D.address (commit_bytes (parts_of commit.now))) (commit_bytes (parts_of commit.now))) }
+    ensures found { IfOk result (λ address. IsCommitFound (chunks_of draft.new.chunks) address.0 (parts_of commit.now)) }
     ensures cause { IfErr result (IsCause (chunks_of draft.old.chunks) (bytes_at ((D.address (commit_bytes (parts_of commit.now)), commit_bytes (parts_of commit.now)) ∷ []))) }
     ensures same { OnErr result (draft.new ≡ draft.old) }
     ensures pages { TakesAtMostOnePage draft.old draft.new }
@@ -37,8 +38,9 @@ pub fn write_commit<D: Digester>(
 
 /// The commit's written form.
 fn commit_bytes(alloc: Global, commit: &CommitRecord) -> Result<Blob, AllocError>
-    requires { IsCommit (parts_of commit.now) }
+    requires { KeepsLimits (parts_of commit.now) }
     ensures bytes { IfOk result (λ bytes. bytes ≡ commit_bytes (parts_of commit.now)) }
+    ensures commit { OnOk result (IsCommit (parts_of commit.now)) }
     ensures size { IfOk result (λ bytes. length bytes ≤ 65536) }
 {
     let mut out = Vec::new(alloc);
@@ -57,10 +59,12 @@ fn push_links(
     parents: &Sequence<Address>,
 ) -> Result<(), AllocError>
     requires { length parents.now < 256 }
-    ensures { OnOk result (out.new.items ≡ out.old.items ++ (root.now.0 ++ length parents.now ∷ flat_map (λ parent. parent) (map (λ parent. parent.0) parents.now))) }
+    ensures bytes { OnOk result (out.new.items ≡ out.old.items ++ (root.now.0 ++ length parents.now ∷ flat_map (λ parent. parent) (map (λ parent. parent.0) parents.now))) }
+    ensures root { OnOk result (is_address root.now.0 ≡ true) }
+    ensures parents { OnOk result (list_all is_address (map (λ parent. parent.0) parents.now) ≡ true) }
 {
     let parents = parents.as_slice();
-    out.extend_from_slice(&root.0)?;
+    push_address(out, root)?;
     out.push(parents.len() as u8)?;
     push_addresses(out, parents)
 }
@@ -94,10 +98,20 @@ fn push_texts(out: &mut Vec<u8>, committer: &Text, message: &Text) -> Result<(),
 
 /// Writes addresses one after another.
 fn push_addresses(out: &mut Vec<u8>, addresses: &[Address]) -> Result<(), AllocError>
-    ensures { OnOk result (out.new.items ≡ out.old.items ++ flat_map (λ address. address) (map (λ address. address.0) addresses.now)) }
+    ensures bytes { OnOk result (out.new.items ≡ out.old.items ++ flat_map (λ address. address) (map (λ address. address.0) addresses.now)) }
+    ensures addresses { OnOk result (list_all is_address (map (λ address. address.0) addresses.now) ≡ true) }
 {
     for address in addresses {
-        out.extend_from_slice(&address.0)?;
+        push_address(out, address)?;
     }
     Ok(())
+}
+
+/// Writes an address, which has 20 bytes.
+fn push_address(out: &mut Vec<u8>, address: &Address) -> Result<(), AllocError>
+    ensures bytes { OnOk result (out.new.items ≡ out.old.items ++ address.now.0) }
+    ensures address { is_address address.now.0 ≡ true }
+{
+    let address = *address;
+    out.extend_from_slice(&address.0)
 }

@@ -1,0 +1,192 @@
+-- What is written is read again, so each form has one spelling.
+use Rattle.std.proofs.Common.{◌≡◌, ℕ, zero, suc, ◌+◌, ◌*◌, ◌^◌, ◌<◌, ◌≤◌, Bool, true, false, cond, eqb, ltb, List, [], ◌∷◌, ◌++◌, length, map, take, drop, Option, Some, None, refl, sym, ap, subst, ◌∙◌, append_assoc, append-nil, arith}
+use Rattle.std.specs.Prelude.{◌&&◌}
+use Rattle.std.specs.List.{flat_map, list_all}
+use Rattle.std.specs.Option.{option_map}
+use Rattle.std.specs.Int.{w16, w32, from_be_bytes, to_be_bytes}
+use Rattle.std.proofs.lemmas.Bool.{and_parts, and_from, eqb-true}
+use Rattle.std.proofs.lemmas.List.{length-map}
+use Rattle.std.proofs.lemmas.List.Folds.{flat_map-map}
+use Rattle.std.proofs.lemmas.Nat.{from_be_bytes-to_be_bytes_2, from_be_bytes-to_be_bytes_4}
+use Rattle.tuple_codec.specs.declared.addresses.Address.{Address}
+use Rattle.tuple_codec.specs.declared.records.BranchRecord.{BranchRecord}
+use Rattle.tuple_codec.proofs.NumberLemmas.{AreBytes}
+use Rattle.schema_model.specs.Reading.{◌>>=◌, bytes_at, items_at, short_at}
+use Rattle.schema_model.specs.SchemaBytes.{schema_bytes, short}
+use Rattle.schema_model.specs.WrittenForms.{Entry, branch_bytes, merging_bytes}
+use Rattle.schema_model.specs.declared.schemas.Schema.{Schema}
+use Rattle.schema_model.proofs.PartLemmas.{IsReader, Takes, Takes-then, bind_some, bytes_again, bytes_takes, items_again, map_some, short_again, short_reader, some_is, takes}
+use Rattle.table_root.specs.Branches.{IsBranch, is_address_or_none}
+use Rattle.table_root.specs.Databases.{IsDatabase, entry_of, fits_name, has_address, named_bytes, written_database}
+use Rattle.table_root.specs.Reading.{address_at, after_kind, as_address, as_four, as_two, branch_of, database_of, four_at, merging_of, named_at, schema_text, table_of, two_at}
+use Rattle.table_root.specs.Tables.{IsTable, is_address, written_table}
+use Rattle.table_root.specs.declared.records.NamedTable.{NamedTable}
+use Rattle.table_root.specs.declared.records.Table.{Table}
+
+-- ---- addresses and numbers
+
+address_again : (a : Address) (rest : List ℕ) → is_address a ≡ true → address_at (a.0 ++ rest) ≡ Some (a, rest)
+address_again a rest h = ap (option_map as_address) (bytes_again 20 a.0 rest (eqb-true _ _ h))
+
+address_takes : (bytes : List ℕ) (x : Address × List ℕ) → AreBytes bytes → address_at bytes ≡ Some x → Takes bytes x.0.0 x.1
+address_takes bytes x fit e =
+    let m = map_some (bytes_at 20 bytes) as_address x e in
+    subst (λ (y : Address × List ℕ). Takes bytes y.0.0 y.1) m.2 (takes bytes m.0.0 m.0.1 fit (bytes_takes 20 bytes m.0 m.1).0)
+
+address_reader : IsReader (λ (a : Address). a.0) is_address address_at
+address_reader = record { takes = address_takes; again = address_again }
+
+two_again : (n : ℕ) (rest : List ℕ) → n < 2 ^ 16 → two_at (to_be_bytes w16 n ++ rest) ≡ Some (n, rest)
+two_again n rest lt = ap (option_map as_two) (bytes_again 2 (to_be_bytes w16 n) rest refl) ∙ ap (λ (k : ℕ). Some (k, rest)) (from_be_bytes-to_be_bytes_2 n lt)
+
+four_again : (n : ℕ) (rest : List ℕ) → n < 2 ^ 32 → four_at (to_be_bytes w32 n ++ rest) ≡ Some (n, rest)
+four_again n rest lt = ap (option_map as_four) (bytes_again 4 (to_be_bytes w32 n) rest refl) ∙ ap (λ (k : ℕ). Some (k, rest)) (from_be_bytes-to_be_bytes_4 n lt)
+
+-- ---- tables
+
+-- the bytes after a table's schema
+abbrev pub roots_bytes : Table → List ℕ
+roots_bytes t = t.rows.0 ++ (flat_map (λ index. index) (map (λ index. index.0) t.indexes) ++ (t.conflicts.0 ++ t.violations.0))
+
+pub text_again : (t : Table) → IsTable t → schema_text (written_table t) ≡ Some (schema_bytes t.schema, roots_bytes t)
+unfolding schema_text
+text_again t h =
+    let text = schema_bytes t.schema in
+    ap (λ (o : Option (ℕ × List ℕ)). o >>= λ size. bytes_at size.0 size.1) (four_again (length text) (text ++ roots_bytes t) h.size)
+    ∙ bytes_again (length text) text (roots_bytes t) refl
+
+abbrev made : Schema → Address → List Address → Address → Address → Table
+made schema rows indexes conflicts violations = record { schema = schema; rows = rows; indexes = indexes; conflicts = conflicts; violations = violations }
+
+abbrev after_conflicts : Schema → Address → List Address → Address × List ℕ → Option Table
+after_conflicts schema rows indexes conflicts = address_at conflicts.1 >>= λ violations. Some (made schema rows indexes conflicts.0 violations.0)
+
+abbrev after_indexes : Schema → Address → List Address × List ℕ → Option Table
+after_indexes schema rows indexes = address_at indexes.1 >>= after_conflicts schema rows indexes.0
+
+abbrev after_rows : Schema → Address × List ℕ → Option Table
+after_rows schema rows = items_at address_at (length schema.indexes) rows.1 >>= after_indexes schema rows.0
+
+indexes_again : (n : ℕ) (indexes : List Address) (rest : List ℕ) → length indexes ≡ n → list_all is_address indexes ≡ true
+    → items_at address_at n (flat_map (λ index. index) (map (λ (index : Address). index.0) indexes) ++ rest) ≡ Some (indexes, rest)
+indexes_again n indexes rest count h =
+    ap (λ (k : ℕ). items_at address_at k (flat_map (λ index. index) (map (λ (index : Address). index.0) indexes) ++ rest)) (sym count)
+    ∙ ap (λ (l : List ℕ). items_at address_at (length indexes) (l ++ rest)) (flat_map-map (λ (bytes : List ℕ). bytes) (λ (index : Address). index.0) indexes)
+    ∙ items_again (λ (index : Address). index.0) is_address address_at address_reader indexes rest h
+
+pub roots_again : (t : Table) → IsTable t → table_of t.schema (roots_bytes t) ≡ Some t
+unfolding table_of
+roots_again t h =
+    let second = t.conflicts.0 ++ t.violations.0 in
+    let first = flat_map (λ index. index) (map (λ (index : Address). index.0) t.indexes) ++ second in
+    ap (λ (o : Option (Address × List ℕ)). o >>= after_rows t.schema) (address_again t.rows first h.roots.rows)
+    ∙ ap (λ (o : Option (List Address × List ℕ)). o >>= after_indexes t.schema t.rows) (indexes_again (length t.schema.indexes) t.indexes second h.count h.roots.indexes)
+    ∙ ap (λ (o : Option (Address × List ℕ)). o >>= after_conflicts t.schema t.rows t.indexes) (address_again t.conflicts t.violations.0 h.roots.conflicts)
+    ∙ ap (λ (o : Option (Address × List ℕ)). o >>= λ violations. Some (made t.schema t.rows t.indexes t.conflicts violations.0))
+    (ap address_at (sym (append-nil t.violations.0)) ∙ address_again t.violations [] h.roots.violations)
+
+-- ---- databases
+
+abbrev made_named : List ℕ → Address × List ℕ → Option (NamedTable × List ℕ)
+made_named name table = Some (record { name = name; table = table.0 }, table.1)
+
+abbrev after_name : List ℕ × List ℕ → Option (NamedTable × List ℕ)
+after_name name = address_at name.1 >>= made_named name.0
+
+abbrev is_named : NamedTable → Bool
+is_named named = fits_name named && has_address named
+
+named_again : (n : NamedTable) (rest : List ℕ) → is_named n ≡ true → named_at (named_bytes n ++ rest) ≡ Some (n, rest)
+unfolding named_at
+named_again n rest h =
+    let both = and_parts (fits_name n) (has_address n) h in
+    ap named_at (append_assoc (short n.name) n.table.0 rest)
+    ∙ ap (λ (o : Option (List ℕ × List ℕ)). o >>= after_name) (short_again n.name (n.table.0 ++ rest))
+    ∙ ap (λ (o : Option (Address × List ℕ)). o >>= made_named n.name) (address_again n.table rest both.1)
+
+named_takes : (bytes : List ℕ) (x : NamedTable × List ℕ) → AreBytes bytes → named_at bytes ≡ Some x → Takes bytes (named_bytes x.0) x.1
+unfolding named_at
+named_takes bytes x fit e =
+    let b = bind_some (short_at bytes) after_name x e in
+    let m = bind_some (address_at b.0.1) (made_named b.0.0) x b.2 in
+    let s = (short_reader (λ (name : List ℕ). true)).takes bytes b.0 fit b.1 in
+    let t = address_takes b.0.1 m.0 s.rest_fits m.1 in
+    subst (λ (y : NamedTable × List ℕ). Takes bytes (named_bytes y.0) y.1) (some_is _ x m.2) (Takes-then bytes (short b.0.0) b.0.1 m.0.0.0 m.0.1 s t)
+
+named_reader : IsReader named_bytes is_named named_at
+named_reader = record { takes = named_takes; again = named_again }
+
+both_all : {A : Type 0} (p q : A → Bool) (xs : List A) → list_all p xs ≡ true → list_all q xs ≡ true → list_all (λ x. p x && q x) xs ≡ true
+both_all p q [] h k = refl
+both_all p q (x ∷ xs) h k =
+    let a = and_parts (p x) (list_all p xs) h in
+    let b = and_parts (q x) (list_all q xs) k in
+    and_from (p x && q x) _ (and_from (p x) (q x) a.0 b.0) (both_all p q xs a.1 b.1)
+
+abbrev tables_in : List NamedTable × List ℕ → Option (List NamedTable)
+tables_in tables = Some tables.0
+
+abbrev after_count : ℕ × List ℕ → Option (List NamedTable)
+after_count count = items_at named_at count.0 count.1 >>= tables_in
+
+-- the tables' bytes, as the form has them and as they are read
+entries_are : (tables : List NamedTable) → flat_map (λ (entry : Entry). short entry.name ++ entry.address) (map entry_of tables) ≡ flat_map named_bytes tables
+entries_are [] = refl
+entries_are (named ∷ tables) = ap (λ (l : List ℕ). named_bytes named ++ l) (entries_are tables)
+
+count_is : (tables : List NamedTable) → length (map entry_of tables) ≡ length tables
+count_is [] = refl
+count_is (named ∷ tables) = ap (λ (n : ℕ). suc n) (count_is tables)
+
+-- a database's bytes over its tables
+pub database_is : (tables : List NamedTable) → written_database tables ≡ 4 ∷ (to_be_bytes w16 (length tables) ++ flat_map named_bytes tables)
+database_is tables =
+    ap (λ (n : ℕ). 4 ∷ (to_be_bytes w16 n ++ flat_map (λ (entry : Entry). short entry.name ++ entry.address) (map entry_of tables))) (count_is tables)
+    ∙ ap (λ (l : List ℕ). 4 ∷ (to_be_bytes w16 (length tables) ++ l)) (entries_are tables)
+
+pub database_again : (tables : List NamedTable) → IsDatabase tables → database_of (written_database tables) ≡ Some tables
+unfolding database_of
+database_again tables h =
+    let text = flat_map named_bytes tables in
+    ap database_of (database_is tables)
+    ∙ ap (λ (o : Option (ℕ × List ℕ)). o >>= after_count) (two_again (length tables) text h.few)
+    ∙ ap (λ (l : List ℕ). items_at named_at (length tables) l >>= tables_in) (sym (append-nil text))
+    ∙ ap (λ (o : Option (List NamedTable × List ℕ)). o >>= tables_in)
+    (items_again named_bytes is_named named_at named_reader tables [] (both_all fits_name has_address tables h.names h.addresses))
+
+-- ---- branch records
+
+merging_again : (merging : Option Address) → is_address_or_none merging ≡ true → merging_of (merging_bytes merging) ≡ Some merging
+merging_again None h = refl
+merging_again (Some commit) h =
+    ap (λ (l : List ℕ). option_map (λ (x : Address × List ℕ). Some x.0) (address_at l)) (sym (append-nil commit.0))
+    ∙ ap (λ (o : Option (Address × List ℕ)). option_map (λ (x : Address × List ℕ). Some x.0) o) (address_again commit [] h)
+
+abbrev made_branch : Address → Address → Address → Option Address → Option BranchRecord
+made_branch head working staged merging = Some (record { head = head; working = working; staged = staged; merging = merging })
+
+abbrev after_staged : Address → Address → Address × List ℕ → Option BranchRecord
+after_staged head working staged = merging_of staged.1 >>= made_branch head working staged.0
+
+abbrev after_working : Address → Address × List ℕ → Option BranchRecord
+after_working head working = address_at working.1 >>= after_staged head working.0
+
+abbrev after_head : Address × List ℕ → Option BranchRecord
+after_head head = address_at head.1 >>= after_working head.0
+
+pub branch_again : (b : BranchRecord) → IsBranch b → branch_of (branch_bytes b) ≡ Some b
+unfolding branch_of
+branch_again b h =
+    let third = merging_bytes b.merging in
+    let second = b.staged.0 ++ third in
+    let first = b.working.0 ++ second in
+    ap (λ (o : Option (Address × List ℕ)). o >>= after_head) (address_again b.head first h.head)
+    ∙ ap (λ (o : Option (Address × List ℕ)). o >>= after_working b.head) (address_again b.working second h.working)
+    ∙ ap (λ (o : Option (Address × List ℕ)). o >>= after_staged b.head b.working) (address_again b.staged third h.staged)
+    ∙ ap (λ (o : Option (Option Address)). o >>= made_branch b.head b.working b.staged) (merging_again b.merging h.merging)
+
+pub databases_one : (a b : List NamedTable) → IsDatabase a → IsDatabase b → written_database a ≡ written_database b → a ≡ b
+databases_one a b ha hb same = some_is a b (sym (database_again a ha) ∙ ap database_of same ∙ database_again b hb)
+
+pub branches_one : (a b : BranchRecord) → IsBranch a → IsBranch b → branch_bytes a ≡ branch_bytes b → a ≡ b
+branches_one a b ha hb same = some_is a b (sym (branch_again a ha) ∙ ap branch_of same ∙ branch_again b hb)

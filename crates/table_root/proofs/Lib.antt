@@ -1,0 +1,5 @@
+mod FormLemmas
+mod NameLemmas
+mod ReadLemmas
+mod StandingLemmas
+mod WriteLemmas

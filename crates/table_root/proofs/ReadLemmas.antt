@@ -1,0 +1,63 @@
+-- What code finds where the form of a thing is found.
+use Rattle.std.proofs.Common.{◌≡◌, ℕ, ◌+◌, ◌-◌, ◌<◌, true, List, [], ◌∷◌, Option, Some, None, Result, Ok, Err, refl, sym, ap, subst, ◌∙◌}
+use Rattle.tuple_codec.specs.declared.records.BranchRecord.{BranchRecord}
+use Rattle.schema_model.specs.Reading.{after_items, items_at}
+use Rattle.schema_model.specs.SchemaBytes.{schema_bytes}
+use Rattle.schema_model.specs.Schemas.{is_schema}
+use Rattle.schema_model.specs.Spellings as spelled
+use Rattle.schema_model.specs.declared.schemas.Schema.{Schema}
+use Rattle.schema_model.proofs.ItemLemmas.{none_more}
+use Rattle.schema_model.proofs.PartLemmas.{nothing, some_is}
+use Rattle.table_root.specs.Gives.{Finds, Gives}
+use Rattle.table_root.specs.Reading.{schema_text, table_of}
+use Rattle.table_root.specs.Tables.{IsTable, written_table}
+use Rattle.table_root.specs.declared.records.Table.{Table}
+use Rattle.table_root.specs.declared.unread.Unread.{Unread}
+use Rattle.table_root.specs.declared.unread.Unread.TheVariants.{Memory, NoForm}
+use Rattle.table_root.proofs.FormLemmas.{roots_again, roots_bytes, text_again}
+
+-- a part that isn't read stops the reading
+pub fails : {A X Y : Type 0} (front : List ℕ → Option (A × List ℕ)) (count k : ℕ) (bytes rest : List ℕ) (items : List A) (view : X → A × List ℕ) (all : Y → List A × List ℕ) (e : Unread)
+    → items_at front count bytes ≡ after_items items (items_at front (count - k) rest) → k < count → Gives view (Err e) (front rest) → Gives all (Err e) (items_at front count bytes)
+fails front count k bytes rest items view all Memory so_far below gives = tt
+fails front count k bytes rest items view all NoForm so_far below gives = none_more front count k bytes rest items so_far below gives
+
+-- what isn't read isn't there
+pub is_there : {X : Type 0} (o : Option X) (x : X) → o ≡ Some x → o ≡ None → ⊥
+is_there o x found none = nothing x (sym none ∙ found)
+
+-- code finds what reading gives
+pub finds : {X Y : Type 0} (view : X → Y) (read : Result X Unread) (o : Option Y) (y : Y) → Gives view read o → o ≡ Some y → Finds view read y
+finds view (Ok x) o y gives found = some_is (view x) y (sym gives ∙ found)
+finds view (Err Memory) o y gives found = tt
+finds view (Err NoForm) o y gives found = is_there o y found gives
+
+-- where a part isn't read, nothing more is found
+pub finds_none : {X Y Z W : Type 0} (view : X → Y) (other : Z → W) (e : Unread) (o : Option Y) (y : Y) (w : W) → Gives view (Err e) o → o ≡ Some y → Finds other (Err e) w
+finds_none view other Memory o y w gives found = tt
+finds_none view other NoForm o y w gives found = is_there o y found gives
+
+-- ---- tables
+
+-- the bytes of a table's schema, and those of its roots
+pub text_is : (t : Table) (bytes text roots : List ℕ) → IsTable t → bytes ≡ written_table t → schema_text bytes ≡ Some (text, roots) → (text ≡ schema_bytes t.schema) × (roots ≡ roots_bytes t)
+text_is t bytes text roots h e read =
+    let pair : List ℕ × List ℕ = (text, roots) in
+    let same = some_is pair (schema_bytes t.schema, roots_bytes t) (sym read ∙ ap schema_text e ∙ text_again t h) in
+    (ap (λ (p : List ℕ × List ℕ). p.0) same, ap (λ (p : List ℕ × List ℕ). p.1) same)
+
+pub text_there : (t : Table) (bytes : List ℕ) → IsTable t → bytes ≡ written_table t → schema_text bytes ≡ Some (schema_bytes t.schema, roots_bytes t)
+text_there t bytes h e = ap schema_text e ∙ text_again t h
+
+-- the roots are read by the number of the schema's indexes
+pub roots_are : (one : spelled.HasOneSpelling) (t : Table) (found : Schema) (text roots : List ℕ) → IsTable t → text ≡ schema_bytes t.schema → roots ≡ roots_bytes t
+    → is_schema found ≡ true → schema_bytes found ≡ text → table_of found roots ≡ Some t
+roots_are one t found text roots h e f is same_bytes =
+    let same : found ≡ t.schema = one found t.schema is h.schema (same_bytes ∙ e) in
+    ap (λ (s : Schema). table_of s roots) same ∙ ap (table_of t.schema) f ∙ roots_again t h
+
+pub tables_one : (one : spelled.HasOneSpelling) (a b : Table) → IsTable a → IsTable b → written_table a ≡ written_table b → a ≡ b
+tables_one one a b ha hb same =
+    let parts = text_is b (written_table a) (schema_bytes a.schema) (roots_bytes a) hb same (text_again a ha) in
+    let read = roots_are one b a.schema (schema_bytes a.schema) (roots_bytes a) hb parts.0 parts.1 ha.schema refl in
+    some_is a b (sym (roots_again a ha) ∙ read)

@@ -1,0 +1,53 @@
+-- Databases as bytes, and which database is found at an address.
+use Rattle.std.specs.Prelude.{◌≡◌, ◌<◌, ◌++◌, ◌^◌, ℕ, Bool, true, ◌&&◌, nat_lt, List, length, map, Some}
+use Rattle.std.specs.List.{list_all}
+use Rattle.std.specs.Ordering.{nat_cmp}
+use Rattle.std.specs.Cmp.Lexicographic.{slice_cmp}
+use Rattle.schema_model.specs.Limits.{is_short_name}
+use Rattle.schema_model.specs.PlainTables.{rises}
+use Rattle.schema_model.specs.SchemaBytes.{short}
+use Rattle.schema_model.specs.WrittenForms.{Entry, database_form}
+use Rattle.chunk_store.specs.Chunks.{Chunks}
+use Rattle.table_root.specs.Tables.{is_address}
+use Rattle.table_root.specs.declared.records.NamedTable.{NamedTable}
+
+abbrev pub entry_of : NamedTable → Entry
+entry_of named = record { name = named.name; address = named.table.0 }
+
+-- the bytes of a table's name and address
+abbrev pub named_bytes : NamedTable → List ℕ
+named_bytes named = short named.name ++ named.table.0
+
+-- a database's bytes
+abbrev pub written_database : List NamedTable → List ℕ
+written_database tables = database_form (map entry_of tables)
+
+-- the name's length fits in one byte
+abbrev pub fits_name : NamedTable → Bool
+fits_name named = nat_lt (length named.name) 256
+
+abbrev pub has_address : NamedTable → Bool
+has_address named = is_address named.table
+
+-- each name comes strictly before the next
+abbrev pub names_rise : List NamedTable → Bool
+names_rise tables = rises (λ a b. slice_cmp nat_cmp a.name b.name) tables
+
+abbrev pub has_short_name : NamedTable → Bool
+has_short_name named = is_short_name named.name
+
+-- what a database is: tables by rising name, their number and each name's length fitting in their fields
+pub record IsDatabase (tables : List NamedTable) : Type 0 where
+  pub few : length tables < 2 ^ 16
+  pub names : list_all fits_name tables ≡ true
+  pub addresses : list_all has_address tables ≡ true
+  pub rise : names_rise tables ≡ true
+
+-- the database's bytes are found at the address
+pub record IsDatabaseFound (chunks : Chunks) (k : List ℕ) (tables : List NamedTable) : Type 0 where
+  pub is_database : IsDatabase tables
+  pub held : chunks k ≡ Some (written_database tables)
+
+-- some database's are
+abbrev pub HasDatabase : Chunks → List ℕ → Type 0
+HasDatabase chunks k = (tables : List NamedTable) × IsDatabaseFound chunks k tables

@@ -1,0 +1,9 @@
+pub mod Tables
+pub mod Databases
+pub mod Branches
+pub mod Spellings
+pub mod Standing
+pub mod Gives
+pub mod Reading
+pub mod Names
+pub mod Heads

@@ -1,0 +1,117 @@
+//! Branch records written into drafts, and read back.
+
+ghost use Rattle.std.specs.Prelude.{◌≡◌, ◌⊎◌, ◌≤◌, ◌++◌, [], ◌∷◌, true, length, OnOk, OnErr, IfOk, IfErr};
+ghost use Rattle.schema_model.specs.WrittenForms.{branch_bytes, merging_bytes};
+ghost use Rattle.chunk_store.specs.Chunks.{IsHeld, bytes_at};
+ghost use Rattle.chunk_store.specs.Clashes.{IsCause};
+ghost use Rattle.chunk_store.specs.Drafts.{TakesAtMostOnePage, chunks_of, put_in};
+ghost use Rattle.table_root.specs.Branches.{HasBranch, IsBranch, IsBranchFound, is_address_or_none};
+ghost use Rattle.table_root.specs.Gives.{Gives};
+ghost use Rattle.table_root.specs.Reading.{branch_of, merging_of};
+
+use crate::fields::{address_at, after_kind, push_address};
+use crate::unread::Unread;
+use chunk_store::{Draft, PutFault};
+use std::alloc::{AllocError, Global};
+use tuple_codec::{Address, Blob, BranchRecord, Digester};
+
+/// Puts the record's written form into the draft: the address is the record's.
+pub fn write_branch<D: Digester>(
+    alloc: Global,
+    draft: &mut Draft<D>,
+    branch: &BranchRecord,
+) -> Result<Address, PutFault>
+    ensures address { IfOk result (λ address. address.0 ≡ D.address (branch_bytes branch.now)) }
+    ensures exact { OnOk result (draft.new.chunks ≡ put_in D.address (branch_bytes branch.now) draft.old.chunks) }
+    ensures held { OnOk result (IsHeld D.address (chunks_of draft.new.chunks) (D.address (branch_bytes branch.now)) (branch_bytes branch.now)) }
+    ensures found { IfOk result (λ address. IsBranchFound (chunks_of draft.new.chunks) address.0 branch.now) }
+    ensures cause { IfErr result (IsCause (chunks_of draft.old.chunks) (bytes_at ((D.address (branch_bytes branch.now), branch_bytes branch.now) ∷ []))) }
+    ensures same { OnErr result (draft.new ≡ draft.old) }
+    ensures pages { TakesAtMostOnePage draft.old draft.new }
+    ensures steps { (draft.new.chunks ≡ draft.old.chunks) ⊎ (draft.new.chunks ≡ put_in D.address (branch_bytes branch.now) draft.old.chunks) }
+{
+    let bytes = branch_bytes(alloc, branch)?;
+    draft.put(bytes.as_slice())
+}
+
+/// The record's written form.
+fn branch_bytes(alloc: Global, branch: &BranchRecord) -> Result<Blob, AllocError>
+    ensures bytes { IfOk result (λ bytes. bytes ≡ branch_bytes branch.now) }
+    ensures branch { OnOk result (IsBranch branch.now) }
+    ensures size { IfOk result (λ bytes. length bytes ≤ 65536) }
+{
+    let mut out = Vec::new(alloc);
+    out.push(6)?;
+    push_address(&mut out, &branch.head)?;
+    push_address(&mut out, &branch.working)?;
+    push_address(&mut out, &branch.staged)?;
+    push_merging(&mut out, &branch.merging)?;
+    Ok(Blob::from_vec(out))
+}
+
+/// Writes the commit of a merge in progress, if there is one.
+fn push_merging(out: &mut Vec<u8>, merging: &Option<Address>) -> Result<(), AllocError>
+    ensures bytes { OnOk result (out.new.items ≡ out.old.items ++ merging_bytes merging.now) }
+    ensures whole { OnOk result (is_address_or_none merging.now ≡ true) }
+{
+    match merging {
+        Some(commit) => {
+            out.push(1)?;
+            push_address(out, commit)
+        }
+        None => {
+            out.push(0)?;
+            Ok(())
+        }
+    }
+}
+
+/// The branch record whose written form is found at the address.
+pub fn read_branch<D: Digester>(
+    draft: &Draft<D>,
+    address: &Address,
+) -> Result<BranchRecord, AllocError>
+    requires { HasBranch (chunks_of draft.now.chunks) address.now.0 }
+    ensures { IfOk result (λ branch. IsBranchFound (chunks_of draft.now.chunks) address.now.0 branch) }
+{
+    let Some(bytes) = draft.get(address) else {
+        unreachable!()
+    };
+    match branch_of(bytes) {
+        Ok(branch) => Ok(branch),
+        Err(Unread::Memory) => Err(AllocError),
+        Err(Unread::NoForm) => unreachable!(),
+    }
+}
+
+/// The branch record that has these bytes.
+#[tactic(auto, unfolding(crate::specs::Reading::branch_of))]
+fn branch_of(bytes: &[u8]) -> Result<BranchRecord, Unread>
+    ensures { Gives (λ branch. branch) result (branch_of bytes.now) }
+{
+    let rest = after_kind(6, bytes)?;
+    let (head, rest) = address_at(rest)?;
+    let (working, rest) = address_at(rest)?;
+    let (staged, rest) = address_at(rest)?;
+    let merging = merging_of(rest)?;
+    Ok(BranchRecord {
+        head,
+        working,
+        staged,
+        merging,
+    })
+}
+
+/// The commit of a merge in progress, if there is one.
+fn merging_of(bytes: &[u8]) -> Result<Option<Address>, Unread>
+    ensures { Gives (λ merging. merging) result (merging_of bytes.now) }
+{
+    match bytes {
+        [0, ..] => Ok(None),
+        [1, rest @ ..] => {
+            let (commit, _) = address_at(rest)?;
+            Ok(Some(commit))
+        }
+        _ => Err(Unread::NoForm),
+    }
+}

@@ -1,0 +1,96 @@
+//! Databases written into drafts, and read back.
+
+ghost use Rattle.std.specs.Prelude.{◌≡◌, ◌⊎◌, ◌≤◌, ◌++◌, [], ◌∷◌, true, length, OnOk, OnErr, IfOk, IfErr};
+ghost use Rattle.std.specs.Int.{w16, to_be_bytes};
+ghost use Rattle.std.specs.List.{list_all};
+ghost use Rattle.chunk_store.specs.Chunks.{IsHeld, bytes_at};
+ghost use Rattle.chunk_store.specs.Clashes.{IsCause};
+ghost use Rattle.chunk_store.specs.Drafts.{TakesAtMostOnePage, chunks_of, put_in};
+ghost use Rattle.table_root.specs.Databases.{HasDatabase, IsDatabase, IsDatabaseFound, has_short_name, names_rise, written_database};
+ghost use Rattle.table_root.specs.Gives.{Gives};
+ghost use Rattle.table_root.specs.Reading.{database_of};
+
+use crate::fields::{after_kind, two_at};
+use crate::parts::{items_at, push_items};
+use crate::records::NamedTable;
+use crate::unread::Unread;
+use chunk_store::{Draft, PutFault};
+use std::alloc::{AllocError, Global};
+use tuple_codec::{Address, Blob, Digester};
+
+/// Puts the database's written form into the draft: the address is the database's.
+pub fn write_database<D: Digester>(
+    alloc: Global,
+    draft: &mut Draft<D>,
+    tables: &[NamedTable],
+) -> Result<Address, PutFault>
+    requires few { length tables.now ≤ 256 }
+    requires names { list_all has_short_name tables.now ≡ true }
+    requires rise { names_rise tables.now ≡ true }
+    ensures address { IfOk result (λ address. address.0 ≡ D.address (written_database tables.now)) }
+    ensures exact { OnOk result (draft.new.chunks ≡ put_in D.address (written_database tables.now) draft.old.chunks) }
+    ensures held { OnOk result (IsHeld D.address (chunks_of draft.new.chunks) (D.address (written_database tables.now)) (written_database tables.now)) }
+    ensures found { IfOk result (λ address. IsDatabaseFound (chunks_of draft.new.chunks) address.0 tables.now) }
+    ensures cause { IfErr result (IsCause (chunks_of draft.old.chunks) (bytes_at ((D.address (written_database tables.now), written_database tables.now) ∷ []))) }
+    ensures same { OnErr result (draft.new ≡ draft.old) }
+    ensures pages { TakesAtMostOnePage draft.old draft.new }
+    ensures steps { (draft.new.chunks ≡ draft.old.chunks) ⊎ (draft.new.chunks ≡ put_in D.address (written_database tables.now) draft.old.chunks) }
+{
+    let bytes = database_bytes(alloc, tables)?;
+    draft.put(bytes.as_slice())
+}
+
+/// The database's written form.
+fn database_bytes(alloc: Global, tables: &[NamedTable]) -> Result<Blob, AllocError>
+    requires few { length tables.now ≤ 256 }
+    requires names { list_all has_short_name tables.now ≡ true }
+    requires rise { names_rise tables.now ≡ true }
+    ensures bytes { IfOk result (λ bytes. bytes ≡ written_database tables.now) }
+    ensures database { OnOk result (IsDatabase tables.now) }
+    ensures size { IfOk result (λ bytes. length bytes ≤ 65536) }
+{
+    let mut out = Vec::new(alloc);
+    push_count(&mut out, tables)?;
+    push_items(&mut out, tables)?;
+    Ok(Blob::from_vec(out))
+}
+
+/// Writes the kind of the chunk, and how many tables there are.
+fn push_count(out: &mut Vec<u8>, tables: &[NamedTable]) -> Result<(), AllocError>
+    requires { length tables.now ≤ 256 }
+    ensures { OnOk result (out.new.items ≡ out.old.items ++ 4 ∷ to_be_bytes w16 (length tables.now)) }
+{
+    let count = tables.len() as u16;
+    out.push(4)?;
+    out.extend_from_slice(&count.to_be_bytes())
+}
+
+/// The database whose written form is found at the address.
+pub fn read_database<D: Digester>(
+    alloc: Global,
+    draft: &Draft<D>,
+    address: &Address,
+) -> Result<Vec<NamedTable>, AllocError>
+    requires { HasDatabase (chunks_of draft.now.chunks) address.now.0 }
+    ensures { IfOk result (λ tables. IsDatabaseFound (chunks_of draft.now.chunks) address.now.0 tables.items) }
+{
+    let Some(bytes) = draft.get(address) else {
+        unreachable!()
+    };
+    match database_of(alloc, bytes) {
+        Ok(tables) => Ok(tables),
+        Err(Unread::Memory) => Err(AllocError),
+        Err(Unread::NoForm) => unreachable!(),
+    }
+}
+
+/// The database that has these bytes.
+#[tactic(auto, unfolding(crate::specs::Reading::database_of))]
+fn database_of(alloc: Global, bytes: &[u8]) -> Result<Vec<NamedTable>, Unread>
+    ensures { Gives (λ tables. tables.items) result (database_of bytes.now) }
+{
+    let rest = after_kind(4, bytes)?;
+    let (count, rest) = two_at(rest)?;
+    let (tables, _) = items_at(alloc, usize::from(count), rest)?;
+    Ok(tables.into_vec())
+}

@@ -1,0 +1,59 @@
+ghost use Rattle.std.specs.Prelude.{◌≡◌, true};
+ghost use Rattle.table_root.specs.Heads.{heads_rise};
+
+use crate::names::BranchName;
+use chunk_store::Store;
+use std::marker::Model;
+use tuple_codec::{Address, BranchRecord};
+
+/// A branch's name and its newest commit.
+#[derive(Clone, Copy, Debug)]
+pub struct Head {
+    pub branch: BranchName,
+    pub head: Address,
+}
+
+/// The heads of branches, by rising name.
+#[derive(Debug, Drop)]
+pub struct Heads {
+    heads: Vec<Head>,
+}
+
+impl Model for Heads {
+    ghost use Rattle.std.specs.Prelude.{List, ◌≡◌, true};
+    ghost use Rattle.table_root.specs.Heads.{heads_rise};
+    ghost use Rattle.table_root.specs.declared.heads.Head.{Head};
+
+    ghost Value = { List Head };
+
+    ghost view = { λ heads. heads.heads.items };
+
+    ghost invariant = { λ heads. heads_rise heads.heads.items ≡ true };
+}
+
+impl Heads {
+    /// These heads, without a copy.
+    pub fn from_vec(heads: Vec<Head>) -> Heads
+        requires { heads_rise heads.items ≡ true }
+        ensures { result ≡ heads.items }
+    {
+        Heads { heads }
+    }
+
+    pub fn as_slice(&self) -> &[Head]
+        ensures heads { result.now ≡ self.now }
+        ensures rise { heads_rise self.now ≡ true }
+    {
+        self.heads.as_slice()
+    }
+}
+
+/// What a session sees of the shared state at one moment: a branch and its record, the heads of all branches, and a store
+/// in which what these name stands.
+#[derive(Debug, Drop)]
+pub struct Look {
+    pub branch: BranchName,
+    pub rec: BranchRecord,
+    pub heads: Heads,
+    pub store: Store,
+}

@@ -1,0 +1,25 @@
+//! Laws, for proofs above: call one where a proof needs it. None does anything.
+
+ghost use Rattle.table_root.specs.Spellings.{HaveOneSpelling};
+ghost use Rattle.table_root.specs.Standing.{DatabasesStand, TablesStand};
+
+use schema_model::law_of_schemas;
+
+/// Two tables, databases or branch records with the same bytes are one.
+pub fn law_of_written_forms()
+    ensures { HaveOneSpelling }
+{
+    law_of_schemas();
+}
+
+/// Where an address stands for a plain table, the table found there has the roots of its lists.
+pub fn law_of_tables()
+    ensures { TablesStand }
+{
+    law_of_schemas();
+}
+
+/// Where an address stands for a plain database, the database found there names its tables.
+pub fn law_of_databases()
+    ensures { DatabasesStand }
+{}

@@ -1,0 +1,26 @@
+//! Tables, databases and branch records as chunks: written into drafts, and read back.
+//!
+//! The crates above use the clauses of the calls, over the written forms of `schema_model`, and the words of `specs/`:
+//! what may be written, what is found at an address, and which plain table or database an address stands for.
+#![tactic(auto)]
+
+mod branches;
+mod databases;
+mod fields;
+mod heads;
+mod laws;
+mod names;
+mod parts;
+mod records;
+mod tables;
+#[cfg(test)]
+mod tests;
+mod unread;
+
+pub use branches::{read_branch, write_branch};
+pub use databases::{read_database, write_database};
+pub use heads::{Head, Heads, Look};
+pub use laws::{law_of_databases, law_of_tables, law_of_written_forms};
+pub use names::BranchName;
+pub use records::{NamedTable, Table};
+pub use tables::{read_table, write_table};

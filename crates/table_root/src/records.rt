@@ -1,0 +1,20 @@
+use schema_model::Schema;
+use tuple_codec::{Address, Sequence, Text};
+
+/// A table: its schema, and the roots of the trees that keep its rows.
+#[derive(Clone, Debug, Drop, PartialEq, Eq)]
+pub struct Table {
+    pub schema: Schema,
+    pub rows: Address,
+    /// One root for each of the schema's indexes, in their order.
+    pub indexes: Sequence<Address>,
+    pub conflicts: Address,
+    pub violations: Address,
+}
+
+/// A table in a database: its name, and the address of its written form.
+#[derive(Clone, Debug, Drop, PartialEq, Eq)]
+pub struct NamedTable {
+    pub name: Text,
+    pub table: Address,
+}

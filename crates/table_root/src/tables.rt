@@ -1,0 +1,141 @@
+//! Tables written into drafts, and read back.
+
+ghost use Rattle.std.specs.Prelude.{◌≡◌, ◌⊎◌, ◌<◌, ◌≤◌, ◌^◌, ◌++◌, [], ◌∷◌, true, length, OnOk, OnErr, IfOk, IfErr};
+ghost use Rattle.std.specs.Int.{w32, to_be_bytes};
+ghost use Rattle.std.specs.List.{flat_map};
+ghost use Rattle.schema_model.specs.Limits.{is_within_limits};
+ghost use Rattle.schema_model.specs.Schemas.{is_schema};
+ghost use Rattle.chunk_store.specs.Chunks.{IsHeld, bytes_at};
+ghost use Rattle.chunk_store.specs.Clashes.{IsCause};
+ghost use Rattle.chunk_store.specs.Drafts.{TakesAtMostOnePage, chunks_of, put_in};
+ghost use Rattle.table_root.specs.Gives.{Finds, Gives};
+ghost use Rattle.table_root.specs.Reading.{schema_text, table_of};
+ghost use Rattle.table_root.specs.Tables.{HasRoots, HasTable, IsTable, IsTableFound, written_table};
+
+use crate::fields::{address_at, after_kind, bytes_at, four_at, push_address};
+use crate::parts::{items_at, push_items};
+use crate::records::Table;
+use crate::unread::Unread;
+use chunk_store::{Draft, PutFault};
+use schema_model::{Schema, law_of_schemas, read_schema, write_schema};
+use std::alloc::{AllocError, Global};
+use tuple_codec::{Address, Blob, Digester};
+
+/// Puts the table's written form into the draft: the address is the table's.
+pub fn write_table<D: Digester>(
+    alloc: Global,
+    draft: &mut Draft<D>,
+    table: &Table,
+) -> Result<Address, PutFault>
+    requires schema { is_schema table.now.schema ≡ true }
+    requires limits { is_within_limits table.now.schema ≡ true }
+    requires count { length table.now.indexes ≡ length table.now.schema.indexes }
+    ensures address { IfOk result (λ address. address.0 ≡ D.address (written_table table.now)) }
+    ensures exact { OnOk result (draft.new.chunks ≡ put_in D.address (written_table table.now) draft.old.chunks) }
+    ensures held { OnOk result (IsHeld D.address (chunks_of draft.new.chunks) (D.address (written_table table.now)) (written_table table.now)) }
+    ensures found { IfOk result (λ address. IsTableFound (chunks_of draft.new.chunks) address.0 table.now) }
+    ensures cause { IfErr result (IsCause (chunks_of draft.old.chunks) (bytes_at ((D.address (written_table table.now), written_table table.now) ∷ []))) }
+    ensures same { OnErr result (draft.new ≡ draft.old) }
+    ensures pages { TakesAtMostOnePage draft.old draft.new }
+    ensures steps { (draft.new.chunks ≡ draft.old.chunks) ⊎ (draft.new.chunks ≡ put_in D.address (written_table table.now) draft.old.chunks) }
+{
+    let bytes = table_bytes(alloc, table)?;
+    draft.put(bytes.as_slice())
+}
+
+/// The table's written form.
+fn table_bytes(alloc: Global, table: &Table) -> Result<Blob, AllocError>
+    requires schema { is_schema table.now.schema ≡ true }
+    requires limits { is_within_limits table.now.schema ≡ true }
+    requires count { length table.now.indexes ≡ length table.now.schema.indexes }
+    ensures bytes { IfOk result (λ bytes. bytes ≡ written_table table.now) }
+    ensures table { OnOk result (IsTable table.now) }
+    ensures size { IfOk result (λ bytes. length bytes ≤ 65536) }
+{
+    let schema = write_schema(alloc, &table.schema)?;
+    let mut out = Vec::new(alloc);
+    push_schema(&mut out, schema.as_slice())?;
+    push_roots(&mut out, table)?;
+    Ok(Blob::from_vec(out))
+}
+
+/// Writes the kind of the chunk, and a schema's bytes behind their length.
+fn push_schema(out: &mut Vec<u8>, schema: &[u8]) -> Result<(), AllocError>
+    requires { length schema.now < 2 ^ 32 }
+    ensures { OnOk result (out.new.items ≡ out.old.items ++ 3 ∷ (to_be_bytes w32 (length schema.now) ++ schema.now)) }
+{
+    let size = schema.len() as u32;
+    out.push(3)?;
+    out.extend_from_slice(&size.to_be_bytes())?;
+    out.extend_from_slice(schema)
+}
+
+/// Writes the table's roots.
+fn push_roots(out: &mut Vec<u8>, table: &Table) -> Result<(), AllocError>
+    ensures bytes { OnOk result (out.new.items ≡ out.old.items ++ (table.now.rows.0 ++ (flat_map (λ index. index.0) table.now.indexes ++ (table.now.conflicts.0 ++ table.now.violations.0)))) }
+    ensures roots { OnOk result (HasRoots table.now) }
+{
+    push_address(out, &table.rows)?;
+    push_items(out, table.indexes.as_slice())?;
+    push_address(out, &table.conflicts)?;
+    push_address(out, &table.violations)
+}
+
+/// The table whose written form is found at the address.
+pub fn read_table<D: Digester>(
+    alloc: Global,
+    draft: &Draft<D>,
+    address: &Address,
+) -> Result<Table, AllocError>
+    requires { HasTable (chunks_of draft.now.chunks) address.now.0 }
+    ensures { IfOk result (λ table. IsTableFound (chunks_of draft.now.chunks) address.now.0 table) }
+{
+    let Some(bytes) = draft.get(address) else {
+        unreachable!()
+    };
+    match table_at(alloc, bytes) {
+        Ok(table) => Ok(table),
+        Err(Unread::Memory) => Err(AllocError),
+        Err(Unread::NoForm) => unreachable!(),
+    }
+}
+
+/// The table that has these bytes.
+fn table_at(alloc: Global, bytes: &[u8]) -> Result<Table, Unread>
+    ensures { (table : Table) → IsTable table → bytes.now ≡ written_table table → Finds (λ found. found) result table }
+{
+    law_of_schemas();
+    let (text, roots) = schema_text(bytes)?;
+    match read_schema(alloc, text)? {
+        Some(schema) => table_of(alloc, schema, roots),
+        None => Err(Unread::NoForm),
+    }
+}
+
+/// The bytes of a table's schema, and those after them.
+#[tactic(auto, unfolding(crate::specs::Reading::schema_text))]
+fn schema_text(bytes: &[u8]) -> Result<(&[u8], &[u8]), Unread>
+    ensures { Gives (λ x. (x.0.now, x.1.now)) result (schema_text bytes.now) }
+{
+    let rest = after_kind(3, bytes)?;
+    let (size, rest) = four_at(rest)?;
+    bytes_at(size as usize, rest)
+}
+
+/// The table of this schema whose roots these are.
+#[tactic(auto, unfolding(crate::specs::Reading::table_of))]
+fn table_of(alloc: Global, schema: Schema, bytes: &[u8]) -> Result<Table, Unread>
+    ensures { Gives (λ table. table) result (table_of schema bytes.now) }
+{
+    let (rows, rest) = address_at(bytes)?;
+    let (indexes, rest) = items_at(alloc, schema.indexes.as_slice().len(), rest)?;
+    let (conflicts, rest) = address_at(rest)?;
+    let (violations, _) = address_at(rest)?;
+    Ok(Table {
+        schema,
+        rows,
+        indexes,
+        conflicts,
+        violations,
+    })
+}
