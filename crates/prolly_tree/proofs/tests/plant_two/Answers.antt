@@ -5,8 +5,8 @@ use Rattle.prolly_tree.specs.Samples.{by_length, two_rows}
 use Rattle.prolly_tree.proofs.SampleLemmas.{two_tree}
 use Rattle.prolly_tree.proofs.tests.plant_two.Goals as goal
 
-pub returns-in_ok : goal.returns-in_ok
-returns-in_ok c =
+pub returns : goal.returns
+returns c =
     let chunks = chunks_of c.put.new.self.chunks in
     let bytes : c.as_slice.result.now ≡ bytes_of 0 two_rows = c.as_slice.ensures ∙ c.in_ok-leaf.ensures in
     two_tree chunks c.in_ok-put.ok.0 (sym (c.in_ok-put.ensures.address ∙ ap by_length bytes)) (subst (λ (l : List ℕ). chunks (by_length l) ≡ Some l) bytes c.in_ok-put.ensures.held.held)
