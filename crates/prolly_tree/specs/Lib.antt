@@ -2,3 +2,4 @@ pub mod Lists
 pub mod Walks
 pub mod Heads
 pub mod Samples
+pub mod Fronts

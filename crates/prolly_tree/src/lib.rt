@@ -2,12 +2,15 @@
 #![tactic(auto)]
 
 mod nodes;
+mod paths;
 mod scans;
 mod steps;
 mod walks;
 
 pub use nodes::{count, get};
 pub use scans::{Scan, scan_from};
+pub use steps::Head;
+pub use walks::Walk;
 
 #[cfg(test)]
 mod tests;

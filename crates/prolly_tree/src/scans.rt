@@ -10,7 +10,7 @@ ghost use Rattle.prolly_tree.specs.Walks.{CanScan, scan_rest};
 
 use crate::nodes::{node_at, place_of};
 use crate::steps::{Head, Step};
-use crate::walks::Walk;
+use crate::paths::Path;
 use chunk_store::Draft;
 use smallvec::SmallVec;
 use std::alloc::{AllocError, Global};
@@ -21,7 +21,7 @@ use tuple_codec::{Address, Digester};
 #[derive(Drop)]
 pub struct Scan<'a, D: Digester> {
     draft: &'a Draft<D>,
-    walk: Walk<'a>,
+    walk: Path<'a>,
 }
 
 impl<'a, D: Digester> Model for Scan<'a, D> {
@@ -47,7 +47,7 @@ pub fn scan_from<'a, D: Digester>(
     let node = node_at(draft, root);
     let at = place_of(&node, key);
     let above = SmallVec::with_capacity(alloc, usize::from(node.level()))?;
-    let mut walk = Walk::new(Step::from(node, at), above);
+    let mut walk = Path::new(Step::from(node, at), above);
     walk.seek(draft, key);
     Ok(Scan { draft, walk })
 }

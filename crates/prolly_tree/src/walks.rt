@@ -1,123 +1,84 @@
-//! Walks through trees: what is left is looked at item by item, skipped, or opened.
+//! Walks through whole trees: what comes first is looked at, skipped whole, or opened.
 
-ghost use Rattle.std.specs.Prelude.{◌≡◌, ◌<◌, ◌≤◌, ◌∷◌, ◌++◌, [], ℕ, List, MatchOption, length, drop};
-ghost use Rattle.tuple_codec.specs.Nodes.{Item, Node, Rise};
-ghost use Rattle.chunk_store.specs.Chunks.{Chunks};
+ghost use Rattle.std.specs.Prelude.{◌≡◌, ◌∷◌, [], List, IfOk, MatchOption, drop};
+ghost use Rattle.tuple_codec.specs.Nodes.{Item, Node};
 ghost use Rattle.chunk_store.specs.Drafts.{chunks_of};
-ghost use Rattle.tree_laws.specs.Standing.{IsStored, Leads, rows_below};
-ghost use Rattle.prolly_tree.specs.Lists.{from_key};
-ghost use Rattle.prolly_tree.specs.Walks.{CanWalk, IsAtNode, IsAtRow, IsSettled, Left, left_in, rows_above, rows_left};
+ghost use Rattle.chunk_store.specs.Standing.{IsTree};
+ghost use Rattle.tree_laws.specs.Standing.{IsStored};
+ghost use Rattle.prolly_tree.specs.Lists.{StandsForRows};
+ghost use Rattle.prolly_tree.specs.Fronts.{nodes_of, on_level, opened, rows_of};
 ghost use Rattle.prolly_tree.specs.Heads.{item_of, level_of};
 
-use crate::nodes::{node_at, place_of};
+use crate::nodes::node_at;
+use crate::paths::Path;
 use crate::steps::{Head, Step};
 use chunk_store::Draft;
-use node_format::NodeRef;
 use smallvec::SmallVec;
+use std::alloc::{AllocError, Global};
 use std::marker::Model;
-use std::mem;
 use tuple_codec::{Address, Digester};
 
-/// A walk through a tree: the node where it is, and those above it. A contract sees what each of these has left.
+/// A walk through a tree by rising key. What it has left are rows, and nodes that it hasn't opened.
 #[derive(Drop)]
-pub(crate) struct Walk<'a> {
-    here: Step<'a>,
-    above: SmallVec<Step<'a>, 4>,
+pub struct Walk<'a, D: Digester> {
+    draft: &'a Draft<D>,
+    path: Path<'a>,
 }
 
-impl<'a> Model for Walk<'a> {
-    ghost use Rattle.prolly_tree.specs.Walks.{Left};
+impl<'a, D: Digester> Model for Walk<'a, D> {
+    ghost use Rattle.chunk_store.specs.Drafts.{chunks_of};
+    ghost use Rattle.prolly_tree.specs.Fronts.{IsReady, Walking, front_of};
 
-    ghost Value = { Left };
+    ghost Value = { Walking };
 
-    ghost view = { λ w. record { here = w.here; above = w.above.items; room = w.above.capacity } };
+    ghost view = { λ w. record { parts = w.draft.now.chunks; front = front_of w.path } };
+
+    ghost invariant = { λ w. IsReady (chunks_of w.draft.now.chunks) w.path };
 }
 
-impl<'a> Walk<'a> {
-    /// A walk from this step on, with places for steps above those to come.
-    pub(crate) fn new(here: Step<'a>, above: SmallVec<Step<'a>, 4>) -> Walk<'a>
-        ensures { result ≡ record { here = here.entry; above = above.entry.items; room = above.entry.capacity } }
+impl<'a, D: Digester> Walk<'a, D> {
+    /// A walk through all of a tree. It reads the root, and takes all the memory that it will need.
+    pub fn new(
+        alloc: Global,
+        draft: &'a Draft<D>,
+        root: &Address,
+    ) -> Result<Walk<'a, D>, AllocError>
+        requires tree { StandsForRows D.address (chunks_of draft.now.chunks) root.now.0 }
+        ensures parts { IfOk result (λ walk. walk.parts ≡ draft.now.chunks) }
+        ensures rows { (rows : List Item) → IsTree D.address (chunks_of draft.now.chunks) root.now.0 rows
+            → IfOk result (λ walk. rows_of walk ≡ rows) }
+        ensures items { (node : Node) → IsStored (chunks_of draft.now.chunks) root.now.0 node
+            → IfOk result (λ walk. walk.front ≡ on_level node.level node.items) }
     {
-        Walk { here, above }
+        let node = node_at(draft, root);
+        let above = SmallVec::with_capacity(alloc, usize::from(node.level()))?;
+        let path = Path::new(Step::from(node, 0), above);
+        Ok(Walk { draft, path })
     }
 
-    /// The first item that is left in the node where the walk is.
-    pub(crate) fn head(&self) -> Option<Head<'a>>
-        ensures { MatchOption result (self.now.here.items ≡ [])
-            (λ head. (self.now.here.items ≡ item_of head ∷ drop 1 self.now.here.items) × (self.now.here.level ≡ level_of head)) }
+    /// What comes first; none at the end.
+    pub fn head(&self) -> Option<Head<'a>>
+        ensures { MatchOption result (self.now.front ≡ [])
+            (λ head. self.now.front ≡ (level_of head, item_of head) ∷ drop 1 self.now.front) }
     {
-        self.here.head()
+        self.path.head()
     }
 
-    /// Leaves the first item, with all that is below it.
-    pub(crate) fn skip(&mut self)
-        ensures { self.new ≡ record self.old { here = left_in self.old.here 1 } }
+    /// Leaves what comes first, with all that is below it, and reads nothing.
+    pub fn skip(&mut self)
+        ensures { self.new ≡ record self.old { front = drop 1 self.old.front } }
     {
-        self.here.skip();
+        self.path.skip();
+        self.path.settle();
     }
 
-    /// Goes down into a node, which stands for the first item, from this item of it on.
-    pub(crate) fn down(&mut self, node: NodeRef<'a>, at: u16)
-        requires { length self.old.above < self.old.room }
-        ensures { self.new ≡ record { here = left_in node.entry at; above = self.old.above ++ left_in self.old.here 1 ∷ []; room = self.old.room } }
+    /// Goes down into the node that comes first, so that its items do. It reads this node, and takes no memory.
+    pub fn open(&mut self)
+        ensures { self.new ≡ record self.old { front = opened (nodes_of self.old.parts) self.old.front } }
     {
-        self.here.skip();
-        let above = mem::replace(&mut self.here, Step::from(node, at));
-        self.above.push_reserved(above);
-    }
-
-    /// Goes up from nodes that have nothing left.
-    pub(crate) fn settle(&mut self)
-        ensures kept { (chunks : Chunks) → rows_left chunks self.new ≡ rows_left chunks self.old }
-        ensures can { (chunks : Chunks) → CanWalk chunks self.old → CanWalk chunks self.new }
-        ensures settled { IsSettled self.new }
-    {
-        'ended: while self.head().is_none() {
-            match self.above.pop() {
-                Some(step) => self.here = step,
-                None => return,
-            }
-        }
-    }
-
-    /// The address of the node that is first, where it isn't a row.
-    fn ahead(&self) -> Option<Address>
-        ensures { MatchOption result (IsAtRow self.now) (λ address. IsAtNode self.now address.0) }
-    {
-        match self.head() {
-            None => None,
-            Some(Head::Row { .. }) => None,
-            Some(Head::Below { address, .. }) => Some(address),
-        }
-    }
-
-    /// Goes to the next row, if one is left.
-    pub(crate) fn to_row<D: Digester>(&mut self, draft: &'a Draft<D>)
-        requires { CanWalk (chunks_of draft.now.chunks) self.old }
-        ensures can { CanWalk (chunks_of draft.now.chunks) self.new }
-        ensures kept { rows_left (chunks_of draft.now.chunks) self.new ≡ rows_left (chunks_of draft.now.chunks) self.old }
-        ensures settled { IsSettled self.new }
-        ensures at_row { IsAtRow self.new }
-    {
-        self.settle();
-        'levels: while let Some(address) = self.ahead() {
-            self.down(node_at(draft, &address), 0);
-        }
-    }
-
-    /// Goes down to the first row whose key isn't below this one, where the items that are left begin with such.
-    pub(crate) fn seek<D: Digester>(&mut self, draft: &'a Draft<D>, key: &[u8])
-        requires can { CanWalk (chunks_of draft.now.chunks) self.old }
-        requires rise { Rise (rows_below (chunks_of draft.now.chunks) self.old.here) }
-        requires begun { from_key key.now self.old.here.items ≡ self.old.here.items }
-        ensures can { CanWalk (chunks_of draft.now.chunks) self.new }
-        ensures rest { rows_left (chunks_of draft.now.chunks) self.new
-            ≡ from_key key.now (rows_below (chunks_of draft.now.chunks) self.old.here) ++ rows_above (chunks_of draft.now.chunks) self.old.above }
-    {
-        'levels: while let Some(address) = self.ahead() {
-            let node = node_at(draft, &address);
-            let at = place_of(&node, key);
-            self.down(node, at);
+        if let Some(address) = self.path.ahead() {
+            let node = node_at(self.draft, &address);
+            self.path.down(node, 0);
         }
     }
 }

@@ -5,7 +5,7 @@ use Rattle.tree_laws.specs.Standing.{rows_below}
 use Rattle.prolly_tree.specs.Lists.{from_key, place_of}
 use Rattle.prolly_tree.specs.Walks.{CanWalk, Left, left_in, rows_above, rows_left}
 use Rattle.prolly_tree.proofs.WalkLemmas.{below, down_can, down_to, seek_down, seek_over}
-use Rattle.prolly_tree.proofs.walks.Walk.seek.Goals as goal
+use Rattle.prolly_tree.proofs.paths.Path.seek.Goals as goal
 
 pub node_at-node-requires-after_bounds : goal.node_at-node-requires-after_bounds
 node_at-node-requires-after_bounds g c κs within =

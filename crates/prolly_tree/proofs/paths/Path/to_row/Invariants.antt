@@ -1,7 +1,7 @@
 use Rattle.std.proofs.Common.{◌≡◌}
 use Rattle.chunk_store.specs.Drafts.{chunks_of}
 use Rattle.prolly_tree.specs.Walks.{CanWalk, IsSettled, rows_left}
-use Rattle.prolly_tree.proofs.walks.Walk.to_row.Given as goal
+use Rattle.prolly_tree.proofs.paths.Path.to_row.Given as goal
 
 abbrev pub invariant-levels : goal.invariant-levels
 invariant-levels g l = record {

@@ -3,7 +3,7 @@ use Rattle.tuple_codec.specs.Nodes.{Node}
 use Rattle.chunk_store.specs.Drafts.{chunks_of}
 use Rattle.prolly_tree.specs.Walks.{CanWalk, IsSettled, Left, rows_left}
 use Rattle.prolly_tree.proofs.WalkLemmas.{below, down_can, down_rows, down_settled, down_to}
-use Rattle.prolly_tree.proofs.walks.Walk.to_row.Goals as goal
+use Rattle.prolly_tree.proofs.paths.Path.to_row.Goals as goal
 
 pub levels-init : goal.levels-init
 levels-init g c = record {

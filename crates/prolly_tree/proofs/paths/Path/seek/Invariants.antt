@@ -4,7 +4,7 @@ use Rattle.chunk_store.specs.Drafts.{chunks_of}
 use Rattle.tree_laws.specs.Standing.{rows_below}
 use Rattle.prolly_tree.specs.Lists.{from_key}
 use Rattle.prolly_tree.specs.Walks.{CanWalk, rows_above}
-use Rattle.prolly_tree.proofs.walks.Walk.seek.Given as goal
+use Rattle.prolly_tree.proofs.paths.Path.seek.Given as goal
 
 abbrev pub invariant-levels : goal.invariant-levels
 invariant-levels g l = record {

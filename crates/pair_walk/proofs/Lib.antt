@@ -1,0 +1,5 @@
+pub mod ChangeLaws
+pub mod TurnLemmas
+pub mod Arms
+pub mod Comparisons
+mod Vectors

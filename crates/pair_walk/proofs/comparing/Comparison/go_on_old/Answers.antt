@@ -1,0 +1,10 @@
+use Rattle.std.proofs.Common.{◌≡◌, ap, sym, subst}
+use Rattle.prolly_tree.specs.Heads.{level_of}
+use Rattle.pair_walk.specs.Turns.{IsTurn}
+use Rattle.pair_walk.proofs.Arms.{head_old_last}
+use Rattle.pair_walk.proofs.comparing.Comparison.go_on_old.Goals as goal
+
+pub returns-in-Below : goal.returns-in-Below
+returns-in-Below g c =
+    subst (IsTurn c.args.self.now) (sym c.open_old.ensures)
+    (head_old_last c.args.self.now c.in-Below.level c.args.head c.requires.old (ap level_of c.in-Below.is) c.requires.new)

@@ -1,0 +1,4 @@
+pub mod Counts
+pub mod Pairs
+pub mod Turns
+pub mod Heads

@@ -1,0 +1,52 @@
+-- A turn of a comparison: what is found and what is left come to the same as before, and less is left.
+use Rattle.std.specs.Prelude.{◌≡◌, ◌<◌, ◌≤◌, ◌+◌, ◌-◌, ◌*◌, ◌^◌, ℕ, zero, suc, List, [], ◌∷◌, ◌++◌}
+use Rattle.tuple_codec.specs.Nodes.{Item}
+use Rattle.tuple_codec.specs.Edits.{changed}
+use Rattle.tuple_codec.specs.declared.edits.Change.{Change}
+use Rattle.tree_laws.specs.Found.{Nodes, items_of}
+use Rattle.prolly_tree.specs.Fronts.{Front, Walking, nodes_of, rows_of}
+use Rattle.pair_walk.specs.Counts.{counted}
+use Rattle.pair_walk.specs.Pairs.{AreAligned, differing_ahead}
+
+abbrev pub sum_of : (Item → ℕ) → List Item → ℕ
+sum_of f [] = 0
+sum_of f (item ∷ items) = f item + sum_of f items
+
+-- how many items there are at and below an item
+abbrev pub weight : Nodes → ℕ → Item → ℕ
+weight nodes zero item = 1
+weight nodes (suc level) item = suc (sum_of (weight nodes level) (items_of (nodes level item.body)))
+
+abbrev pub load : Nodes → Front → ℕ
+load nodes [] = 0
+load nodes (p ∷ front) = weight nodes p.0 p.1 + load nodes front
+
+-- two walks, what was found, and how many nodes were read
+pub record Compared : Type 0 where
+  pub old_walk : Walking
+  pub new_walk : Walking
+  pub found : List Change
+  pub reads : ℕ
+
+abbrev pub load_of : Walking → ℕ
+load_of walk = load (nodes_of walk.parts) walk.front
+
+-- all changes: those found, and those of what is left
+abbrev pub all_changes : Compared → List Change
+all_changes c = c.found ++ changed (rows_of c.old_walk) (rows_of c.new_walk)
+
+-- what the count comes to on trees that are alike
+abbrev pub all_reads : Compared → ℕ
+all_reads c = counted c.reads (2 * differing_ahead (nodes_of c.old_walk.parts) c.old_walk.front c.new_walk.front)
+
+abbrev pub AreAlikeAhead : Compared → Type 0
+AreAlikeAhead c = AreAligned (nodes_of c.old_walk.parts) c.old_walk.front c.new_walk.front
+
+pub record IsTurn (before after : Compared) : Type 0 where
+  pub old_parts : after.old_walk.parts ≡ before.old_walk.parts
+  pub new_parts : after.new_walk.parts ≡ before.new_walk.parts
+  pub changes : all_changes after ≡ all_changes before
+  pub less : load_of after.old_walk + load_of after.new_walk < load_of before.old_walk + load_of before.new_walk
+  pub alike : AreAlikeAhead before → AreAlikeAhead after
+  pub reads : AreAlikeAhead before → all_reads after ≡ all_reads before
+  pub few : before.reads ≤ 2 ^ 64 - 1 → after.reads ≤ 2 ^ 64 - 1

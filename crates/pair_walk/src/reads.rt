@@ -1,0 +1,28 @@
+//! A count of the nodes that are read.
+
+ghost use Rattle.std.specs.Prelude.{◌≡◌};
+ghost use Rattle.pair_walk.specs.Counts.{counted};
+
+/// How many nodes were read. At its last value, 2^64 - 1, the count stays.
+#[derive(Clone, Copy, Debug, PartialEq, Eq)]
+pub struct Reads(u64);
+
+impl Reads {
+    pub fn new() -> Reads
+        ensures { result.0 ≡ 0 }
+    {
+        Reads(0)
+    }
+
+    pub fn count(&self) -> u64
+        ensures { result ≡ self.now.0 }
+    {
+        self.0
+    }
+
+    pub(crate) fn raise(&mut self)
+        ensures { self.new.0 ≡ counted self.old.0 1 }
+    {
+        self.0 = self.0.saturating_add(1);
+    }
+}
