@@ -1,6 +1,8 @@
 -- A tower onto which a subtree was pushed whole has taken the rows below it.
 use Rattle.std.proofs.Common.{◌≡◌, ◌≤◌, ◌<◌, ◌+◌, ◌-◌, ◌*◌, ◌^◌, ℕ, zero, suc, Bool, true, false, cond, List, [], ◌∷◌, ◌++◌, length, map, take, drop, replicate, Option, None, Some, ◌⊎◌, inl, inr, sym, refl, ap, subst, ◌∙◌, arith}
-use Rattle.std.specs.List.{AllByRecursion}
+use Rattle.std.specs.Prelude.{◌&&◌}
+use Rattle.std.specs.List.{AllByRecursion, list_all}
+use Rattle.std.proofs.lemmas.Bool.{and_parts}
 use Rattle.std.proofs.lemmas.List.{append-nil, append_assoc, length-append, map-append, nil_from_length}
 use Rattle.tuple_codec.specs.Nodes.{Item, Rise, RiseAfter, is_after}
 use Rattle.tuple_codec.specs.Trees.{AreRows, IsRow, bytes_of, closes, cut, cut_from, inner_chunks, last_key, name, names, rows_in, top}
@@ -11,7 +13,7 @@ use Rattle.chunk_store.specs.Standing.{AreHeld, IsThere}
 use Rattle.node_chunker.specs.Towers.{is_empty, is_single, after, chunks_after, row_top, row_chunks, after_rows, chunks_after_rows, pushes, ended_chunks, Continues, IsKept}
 use Rattle.node_chunker.specs.Growth.{IsEntry, IsGrown, AreOpen, IsTopped, spread, last_after, Fits, IsTower}
 use Rattle.node_chunker.specs.Steps.{IsPushedAt}
-use Rattle.node_chunker.specs.Subtrees.{AreClear, IsSubtree, lift_chunks}
+use Rattle.node_chunker.specs.Subtrees.{IsSubtree, is_clear, lift_chunks}
 use Rattle.node_chunker.proofs.TowerLemmas.{all_join, all_split, extends_both, held_later, held_push, never_empty, skip_left}
 use Rattle.node_chunker.proofs.GrowthLemmas.{name_key, name_rows, last_is, rows_join, name_grown, after_less, rise_split, rise_join, last_join, one_lower, found_named, AreNamed, open_push, rises_push, last_push, counted_push, topped_push}
 use Rattle.node_chunker.proofs.ClosingLemmas.{lower}
@@ -55,6 +57,13 @@ pub no_level : {X : Type 0} (items : List (List X)) (count : ℕ) → count ≤ 
 no_level items count enough =
     let e : count - length items ≡ 0 = omega arith in
     ap (λ k. items ++ replicate k []) e ∙ append-nil items
+
+-- so many levels of a tower are its leaf and the levels above it
+pub clear_levels : (level : ℕ) (leaf : List Item) (inner : List (List Item)) → 0 < level
+    → is_clear level (leaf ∷ inner) ≡ (is_empty leaf && list_all is_empty (take (level - 1) inner))
+clear_levels level leaf inner some =
+    let e : level ≡ suc (level - 1) = omega arith in
+    ap (λ n. list_all is_empty (take n (leaf ∷ inner))) e
 
 -- ---- what items are lifted to
 
@@ -353,15 +362,23 @@ module _ (a : List ℕ → List ℕ) where
 
   -- ---- the levels that the code has opened
 
-  clear_split : (place : ℕ) (inner : List (List Item)) → AreClear place inner → IsTopped inner
+  none_in : (held : List Item) → is_empty held ≡ true → held ≡ []
+  none_in [] none = refl
+  none_in (x ∷ held) none = absurd cc
+
+  clear_split : (place : ℕ) (inner : List (List Item)) → is_clear place inner ≡ true → IsTopped inner
       → ((nodes : List (List Item)) × (inner ≡ under place nodes) × (is_empty nodes ≡ false)) ⊎ (inner ≡ [])
   clear_split zero [] clear topped = inr refl
   clear_split zero (held ∷ above) clear topped = inl (held ∷ above, refl, refl)
   clear_split (suc place) [] clear topped = inr refl
-  clear_split (suc place) (held ∷ []) clear topped = absurd (cc (ap is_empty clear.0, topped))
+  clear_split (suc place) (held ∷ []) clear topped =
+      let parts = and_parts (is_empty held) (is_clear place []) clear in
+      let one = parts.0 in
+      absurd (cc (one, topped))
   clear_split (suc place) (held ∷ next ∷ above) clear topped =
-      elim (clear_split place (next ∷ above) clear.1 topped) [
-        | inl found ↦ inl (found.0, ap (λ h. h ∷ next ∷ above) clear.0 ∙ ap (λ l. [] ∷ l) found.1, found.2)
+      let parts = and_parts (is_empty held) (is_clear place (next ∷ above)) clear in
+      elim (clear_split place (next ∷ above) parts.1 topped) [
+        | inl found ↦ inl (found.0, ap (λ h. h ∷ next ∷ above) (none_in held parts.0) ∙ ap (λ l. [] ∷ l) found.1, found.2)
         | inr none ↦ absurd (cc none)
       ]
 
@@ -373,36 +390,38 @@ module _ (a : List ℕ → List ℕ) where
     ground : IsGround c place nodes rows
 
   reached : (c : Chunks) (place : ℕ) (leaf : List Item) (inner now : List (List Item)) (rows : List Item) → IsTower a c (leaf ∷ inner) rows
-      → AreClear (suc place) (leaf ∷ inner) → now ≡ inner ++ replicate (place - length inner) [] → IsReached c place leaf now rows
+      → is_clear (suc place) (leaf ∷ inner) ≡ true → now ≡ inner ++ replicate (place - length inner) [] → IsReached c place leaf now rows
   reached c place leaf inner now rows tower clear opened =
-      elim (clear_split place inner clear.1 tower.topped) [
+      let parts = and_parts (is_empty leaf) (is_clear place inner) clear in
+      let no_leaf = none_in leaf parts.0 in
+      elim (clear_split place inner parts.1 tower.topped) [
         | inl found ↦
             let enough : place ≤ length inner = omega (arith, ap length found.1, under_length place found.0) in
             let P : List (List Item) → Type 0 = λ l. IsTower a c l rows in
             record {
               nodes = found.0;
-              empty = clear.0;
+              empty = no_leaf;
               are = opened ∙ no_level inner place enough ∙ found.1;
-              ground = inl (found.2, subst P (ap (λ h. h ∷ inner) clear.0 ∙ ap (λ l. [] ∷ l) found.1) tower);
+              ground = inl (found.2, subst P (ap (λ h. h ∷ inner) no_leaf ∙ ap (λ l. [] ∷ l) found.1) tower);
             }
         | inr none ↦
             let counted = tower.counted in
-            let spread_is : spread (leaf ∷ inner) ≡ [] = ap (λ l. spread (leaf ∷ l)) none ∙ clear.0 in
+            let spread_is : spread (leaf ∷ inner) ≡ [] = ap (λ l. spread (leaf ∷ l)) none ∙ no_leaf in
             let no_rows : length rows ≡ 0 = sym counted ∙ ap rows_in spread_is in
             let e : place - length inner ≡ place = omega (arith, ap length none) in
             record {
               nodes = [];
-              empty = clear.0;
+              empty = no_leaf;
               are = opened ∙ ap (λ l. l ++ replicate (place - length inner) []) none ∙ ap (λ n. replicate n []) e ∙ under_none place;
               ground = inr (refl, nil_from_length rows no_rows);
             }
       ]
 
   module _ (c : Chunks) (place level : ℕ) (is : level ≡ suc place) (x : Item) (leaf : List Item) (inner now : List (List Item)) (rows below : List Item)
-      (tower : IsTower a c (leaf ∷ inner) rows) (clear : AreClear level (leaf ∷ inner)) (opened : now ≡ inner ++ replicate (place - length inner) [])
+      (tower : IsTower a c (leaf ∷ inner) rows) (clear : is_clear level (leaf ∷ inner) ≡ true) (opened : now ≡ inner ++ replicate (place - length inner) [])
       (sub : IsSubtree a c level x below) (follow : AreRows (rows ++ below)) where
     here : IsReached c place leaf now rows
-    here = reached c place leaf inner now rows tower (subst (λ n. AreClear n (leaf ∷ inner)) is clear) opened
+    here = reached c place leaf inner now rows tower (subst (λ n. is_clear n (leaf ∷ inner) ≡ true) is clear) opened
 
     sub_here : IsSubtree a c (suc place) x below
     sub_here = subst (λ n. IsSubtree a c n x below) is sub

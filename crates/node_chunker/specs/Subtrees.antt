@@ -1,11 +1,13 @@
 -- Subtrees that are pushed whole.
-use Rattle.std.specs.Prelude.{◌≡◌, ◌<◌, ℕ, zero, suc, List, [], ◌∷◌, ◌++◌, map}
+use Rattle.std.specs.Prelude.{◌≡◌, ◌<◌, ℕ, zero, suc, Bool, true, List, [], ◌∷◌, ◌++◌, map, take}
+use Rattle.std.specs.List.{list_all}
 use Rattle.tuple_codec.specs.Nodes.{Item}
 use Rattle.tuple_codec.specs.Trees.{AreRows, bytes_of, cut, names}
 use Rattle.tree_laws.specs.Found.{Ended, lift}
 use Rattle.chunk_store.specs.Chunks.{Chunks}
 use Rattle.chunk_store.specs.Standing.{AreHeld}
 use Rattle.node_chunker.specs.Growth.{IsTower}
+use Rattle.node_chunker.specs.Towers.{is_empty}
 
 -- the bytes of the nodes on so many levels
 abbrev pub lift_chunks : (List ℕ → List ℕ) → ℕ → ℕ → List Item → List (List ℕ)
@@ -21,11 +23,9 @@ pub record IsSubtree (address : List ℕ → List ℕ) (chunks : Chunks) (level 
   pub ended : Ended address level 0 below
   pub held : AreHeld address chunks (lift_chunks address level 0 below)
 
--- so many levels have no item in their open nodes
-abbrev pub AreClear : ℕ → List (List Item) → Type 0
-AreClear zero nodes = Unit {0}
-AreClear (suc level) [] = Unit {0}
-AreClear (suc level) (held ∷ above) = (held ≡ []) × AreClear level above
+-- no open node of so many levels has an item
+abbrev pub is_clear : ℕ → List (List Item) → Bool
+is_clear level nodes = list_all is_empty (take level nodes)
 
 -- a subtree may be pushed after the rows that were pushed
 pub record CanPushRef (address : List ℕ → List ℕ) (chunks : Chunks) (open_nodes : List (List Item)) (level : ℕ) (item : Item) : Type 0 where
@@ -34,4 +34,4 @@ pub record CanPushRef (address : List ℕ → List ℕ) (chunks : Chunks) (open_
   pub tower : IsTower address chunks open_nodes rows
   pub subtree : IsSubtree address chunks level item below
   pub follow : AreRows (rows ++ below)
-  pub clear : AreClear level open_nodes
+  pub clear : is_clear level open_nodes ≡ true

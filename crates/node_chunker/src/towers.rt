@@ -1,6 +1,7 @@
 //! A tower: a tree that grows row by row.
 
-ghost use Rattle.std.specs.Prelude.{◌≡◌, ◌≤◌, ◌<◌, ◌-◌, ◌++◌, suc, ℕ, List, [], ◌∷◌, drop, length, replicate, IfOk, IfErr, OnOk};
+ghost use Rattle.std.specs.Prelude.{◌≡◌, ◌≤◌, ◌<◌, ◌-◌, ◌++◌, suc, ℕ, List, [], ◌∷◌, drop, length, replicate, take, IfOk, IfErr, OnOk};
+ghost use Rattle.std.specs.List.{list_all};
 ghost use Rattle.tuple_codec.specs.Nodes.{IsItem, Item, leaf_item};
 ghost use Rattle.tuple_codec.specs.Trees.{AreRows};
 ghost use Rattle.node_format.specs.Views.{leaf_of, ref_of};
@@ -10,7 +11,8 @@ ghost use Rattle.chunk_store.specs.Standing.{IsTree};
 ghost use Rattle.node_chunker.specs.Faults.{IsReason};
 ghost use Rattle.node_chunker.specs.Growth.{CanPush, Fits, IsTower, WasPushed};
 ghost use Rattle.node_chunker.specs.Steps.{IsPushedAt};
-ghost use Rattle.node_chunker.specs.Subtrees.{CanPushRef, IsSubtree};
+ghost use Rattle.node_chunker.specs.Subtrees.{CanPushRef, IsSubtree, is_clear};
+ghost use Rattle.node_chunker.specs.Towers.{is_empty};
 
 use crate::closings::close_levels;
 use crate::inners::OpenInner;
@@ -73,6 +75,14 @@ impl Tower {
         }
     }
 
+    /// Whether no level below this one has an item, so that a subtree may be pushed at it.
+    pub fn is_clear(&self, level: u8) -> bool
+        requires { 0 < level }
+        ensures { result ≡ is_clear level self.now }
+    {
+        self.leaf.is_empty() && are_empty(&self.inner, level as usize - 1)
+    }
+
     /// Pushes the rows below an item of this level at once, without reading them, where no lower level has an item.
     ///
     /// The node that the item names is left as it is, and so is each node below it.
@@ -130,6 +140,13 @@ fn copy_of_name(alloc: Global, item: &RefItem) -> Result<RefItem, AllocError>
         address: item.address,
         rows: item.rows,
     })
+}
+
+/// Whether no node of the first so many has a name.
+fn are_empty(nodes: &[OpenInner], count: usize) -> bool
+    ensures { result ≡ list_all is_empty (take count nodes.now) }
+{
+    nodes.iter().take(count).all(|node| node.is_empty())
 }
 
 /// Opens empty levels until there are so many.

@@ -6,7 +6,7 @@ mod scans;
 mod steps;
 mod walks;
 
-pub use nodes::{count, get};
+pub use nodes::{count, get, node_at};
 pub use scans::{Scan, scan_from};
 
 #[cfg(test)]
