@@ -15,7 +15,7 @@ use Rattle.tree_laws.proofs.Cuts.{cut_apart, names_apart}
 use Rattle.tree_laws.proofs.Lifts.{all_lift, ends, lifts}
 use Rattle.tree_laws.proofs.StandingReads.{items_there, rows_there}
 
-joined : List (List Item) → List Item
+abbrev joined : List (List Item) → List Item
 joined [] = []
 joined (items ∷ lists) = items ++ joined lists
 

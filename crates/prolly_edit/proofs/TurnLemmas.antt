@@ -1,6 +1,7 @@
 -- The turns of a walk: a node goes over whole, or is read.
 use Rattle.std.proofs.Common.{◌≡◌, ◌<◌, ◌≤◌, ◌+◌, ◌-◌, ℕ, zero, suc, Bool, true, false, List, [], ◌∷◌, ◌++◌, length, Some, refl, sym, ap, ◌∙◌, subst, append-nil, arith}
 use Rattle.std.specs.List.{AllByRecursion}
+use Rattle.std.specs.Prelude.{◌&&◌, not}
 use Rattle.tuple_codec.specs.Nodes.{Item, Node}
 use Rattle.tuple_codec.specs.Trees.{AreRows}
 use Rattle.tuple_codec.specs.Edits.{edited}
@@ -14,7 +15,7 @@ use Rattle.node_chunker.specs.Subtrees.{CanPushRef, IsSubtree, is_clear}
 use Rattle.tree_laws.specs.Found.{IsEnded, Nodes, UpTo, each_of, items_of, nodes_in, rows_at}
 use Rattle.tree_laws.specs.Standing.{IsFound, IsStored, rows_below}
 use Rattle.tree_laws.proofs.Standing.{trees_have_roots, trees_lead}
-use Rattle.tree_laws.proofs.StandingReads.{items_there, rows_there}
+use Rattle.tree_laws.proofs.StandingReads.{all_map, items_there, reached, rows_there, some_rows}
 use Rattle.prolly_edit.specs.Editing.{CanEdit}
 use Rattle.prolly_edit.specs.Fronts.{AreParts, EndsBefore, Front, IsPart, is_over, load, load_below, on_level, rest, sum_of, weight}
 use Rattle.prolly_edit.specs.Stages.{Awaits, IsBefore, IsGoing, IsRead, IsTurn, is_past}
@@ -63,7 +64,7 @@ module _ (a : List ℕ → List ℕ) (start chunks : Chunks) (nodes : List (List
   others : AreParts a start front
   others = record { each = going.parts.each.1; end = others_end a (nodes_in start) (level, item) front going.parts.end }
 
-  below : List Item
+  abbrev below : List Item
   below = rows_at (nodes_in start) (suc level) item
 
   -- the node is read
@@ -118,7 +119,7 @@ module _ (a : List ℕ → List ℕ) (start chunks : Chunks) (nodes : List (List
 
 module _ (a : List ℕ → List ℕ) (start chunks : Chunks) (nodes : List (List Item)) (level : ℕ) (k : List ℕ) (front : Front) (edits : List Edit) (whole : List Item)
     (is : IsBefore a start chunks nodes level k front edits whole) where
-  pub node : Node
+  abbrev pub node : Node
   node = record { level = level; items = is.items }
 
   pub stored_now : IsStored chunks k (record { level = level; items = is.items })
@@ -169,6 +170,14 @@ module _ (a : List ℕ → List ℕ) (start chunks : Chunks) (nodes : List (List
 none_left : (a : List ℕ → List ℕ) (start : Chunks) → AreParts a start []
 none_left a start = record { each = tt; end = tt }
 
+-- a node below which there is no row has no item
+no_items : (start : Chunks) (level : ℕ) (items : List Item) → AllByRecursion (IsFound start level) items → each_of (rows_at (nodes_in start) level) items ≡ [] → items ≡ []
+no_items start level [] found none = refl
+no_items start level (item ∷ items) found none =
+    let some = some_rows (rows_at (nodes_in start) level) (item ∷ items) (all_map (reached start level) (item ∷ items) found) (omega arith) in
+    let over = ap length none in
+    absurd (omega (arith, some, over))
+
 -- the root's node, and the walk before it is read
 pub record IsBegun (a : List ℕ → List ℕ) (start : Chunks) (nodes : List (List Item)) (k : List ℕ) (edits : List Edit) (rows : List Item) (node : Node) : Type 0 where
   pub stored : IsStored start k node
@@ -178,18 +187,21 @@ pub root_before : (a : List ℕ → List ℕ) (start : Chunks) (nodes : List (Li
     → IsTower a start nodes [] → (node : Node) × IsBegun a start nodes k edits rows node
 root_before a start nodes k edits [] can tower =
     let t = trees_lead a start k [] can.tree in
-    let stored : IsStored start k (record { level = 0; items = [] }) = t.1.opens.stored in (
-      record { level = 0; items = [] },
+    let node = t.0 in
+    let none = no_items start node.level node.items t.1.opens.leads.each t.1.rows_are in
+    let rows_are : each_of (rows_at (nodes_in start) node.level) node.items ++ [] ≡ [] = append-nil (each_of (rows_at (nodes_in start) node.level) node.items) ∙ t.1.rows_are in (
+      node,
       record {
-        stored = stored;
+        stored = t.1.opens.stored;
         before = record {
-          items = [];
-          stored = stored;
-          some = λ inner. absurd (omega (arith, inner));
-          parts = λ below e. none_left a start;
+          items = node.items;
+          stored = t.1.opens.stored;
+          some = t.1.opens.stored.is_node.header.has_item;
+          parts = λ below e. subst (λ l. AreParts a start (on_level below l ++ [])) (sym none) (none_left a start);
           others = none_left a start;
           extends = λ k bytes held. held;
-          awaits = awaits_all a start nodes (edited [] edits) tower (edited_rows [] edits can.tree.are_rows can.are_edits can.few);
+          awaits = awaits_same a start nodes _ _ (edited [] edits) (ap (λ l. edited l edits) (sym rows_are))
+              (awaits_all a start nodes (edited [] edits) tower (edited_rows [] edits can.tree.are_rows can.are_edits can.few));
         };
       },
     )
@@ -217,3 +229,25 @@ root_before a start nodes k edits (first ∷ rows) can tower =
         };
       },
     )
+
+-- ---- tests
+
+pub three_true : (p q r : Bool) → (p && q && r) ≡ true → (p ≡ true) × (q ≡ true) × (r ≡ true)
+three_true true true true e = (refl, refl, refl)
+three_true true true false e = absurd cc
+three_true true false r e = absurd cc
+three_true false q r e = absurd cc
+
+pub not_true : (b : Bool) → not b ≡ true → b ≡ false
+not_true true e = absurd cc
+not_true false e = refl
+
+-- the walk before the root is read, as it is found
+pub root_begins : (a : List ℕ → List ℕ) (start : Chunks) (k : List ℕ) (edits : List Edit) (rows : List Item) → CanEdit a start k edits rows
+    → (tower : List (List Item)) → IsTower a start tower [] → (found : Node) → ((node : Node) → IsStored start k node → found ≡ node)
+    → (level : ℕ) → level ≡ found.level → (path : Front) → path ≡ [] → IsBefore a start start tower level k path edits (edited rows edits)
+root_begins a start k edits rows can tower is found found_is level level_is path none =
+    let b = root_before a start tower k edits rows can is in
+    let same : b.0.level ≡ level = ap (λ (n : Node). n.level) (sym (found_is b.0 b.1.stored)) ∙ sym level_is in
+    subst (λ (f : Front). IsBefore a start start tower level k f edits (edited rows edits)) (sym none)
+    (subst (λ (n : ℕ). IsBefore a start start tower n k [] edits (edited rows edits)) same b.1.before)

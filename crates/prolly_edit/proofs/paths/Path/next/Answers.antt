@@ -1,4 +1,5 @@
-use Rattle.std.proofs.Common.{ap, sym, ◌∙◌, arith}
+use Rattle.std.proofs.Common.{◌∷◌, List, ap, sym, ◌∙◌, arith}
+use Rattle.tuple_codec.specs.Nodes.{Node}
 use Rattle.node_format.specs.Views.{ref_of}
 use Rattle.prolly_edit.specs.Fronts.{front_of}
 use Rattle.prolly_edit.proofs.FrontLemmas.{taken_first, taken_last}
@@ -21,4 +22,4 @@ pub returns : goal.returns
 returns c =
     sym c.self.view_is ∙ ap front_of c.in_ok-step.ensures.items
     ∙ taken_first c.pop.new.self.items c.in_ok-step.step c.next.new.self (ref_of c.in_ok-name.name) c.level-level.result c.in_ok-name.ensures.items c.level-level.ensures c.in_ok-name.ensures.level
-    ∙ ap front_of (sym c.push_reserved.ensures.items)
+    ∙ ap (λ (l : List Node). (c.level-level.result, ref_of c.in_ok-name.name) ∷ front_of l) (sym c.push_reserved.ensures.items)
