@@ -39,11 +39,12 @@ pub put_later : (a : List ℕ → List ℕ) (now later : Chunks) (list : List (L
 put_later a now later [] extends put = tt
 put_later a now later (bytes ∷ list) extends put = ((extends (a bytes) bytes put.0.0, put.0.1), put_later a now later list extends put.1)
 
-module _ (a : List ℕ → List ℕ) (begun : List (List Item)) (named : Item) where
-  pub climb_begins : (chunks : Chunks) → Fits a 1 begun named → IsClimbing a chunks begun named begun 0 named
-  climb_begins chunks fits = record { fits = fits; comes = refl; kept = λ later extends put. put }
+pub climb_begins : (a : List ℕ → List ℕ) (chunks : Chunks) (nodes : List (List Item)) (at : ℕ) (item : Item) → Fits a (suc at) (drop at nodes) item
+    → IsClimbing a chunks (take at nodes ++ pushes a (suc at) (drop at nodes) item) (ended_chunks a (suc at) (drop at nodes) item) nodes at item
+climb_begins a chunks nodes at item fits = record { fits = fits; comes = refl; kept = λ later extends put. put }
 
-  pub climb_low : (chunks : Chunks) (nodes : List (List Item)) (at : ℕ) (item : Item) → IsClimbing a chunks begun named nodes at item → at < 62
+module _ (a : List ℕ → List ℕ) (made : List (List Item)) (written : List (List ℕ)) where
+  pub climb_low : (chunks : Chunks) (nodes : List (List Item)) (at : ℕ) (item : Item) → IsClimbing a chunks made written nodes at item → at < 62
   climb_low chunks nodes at item climbing =
       let few = climbing.fits.few in
       let low = low_level (suc at) item.rows climbing.fits.grown.1 (omega (arith, rows_join (spread (drop at nodes)) (item ∷ []))) in
@@ -53,13 +54,13 @@ module _ (a : List ℕ → List ℕ) (begun : List (List Item)) (named : Item) w
       → drop at nodes ≡ held ∷ drop (suc at) nodes
   here nodes at item held within is = drop-cons nodes at held within ∙ ap (λ h. h ∷ drop (suc at) nodes) (sym is)
 
-  fits_here : (chunks : Chunks) (nodes : List (List Item)) (at : ℕ) (item : Item) (held : List Item) → IsClimbing a chunks begun named nodes at item
+  fits_here : (chunks : Chunks) (nodes : List (List Item)) (at : ℕ) (item : Item) (held : List Item) → IsClimbing a chunks made written nodes at item
       → at < length nodes → held ≡ get_or nodes at held → Fits a (suc at) (held ∷ drop (suc at) nodes) item
   fits_here chunks nodes at item held climbing within is =
       let P : List (List Item) → Type 0 = λ l. Fits a (suc at) l item in
       subst P (here nodes at item held within is) climbing.fits
 
-  pub climb_ready : (chunks : Chunks) (nodes : List (List Item)) (at : ℕ) (item : Item) (held : List Item) → IsClimbing a chunks begun named nodes at item
+  pub climb_ready : (chunks : Chunks) (nodes : List (List Item)) (at : ℕ) (item : Item) (held : List Item) → IsClimbing a chunks made written nodes at item
       → at < length nodes → held ≡ get_or nodes at held → IsWritable (at + 1) (held ++ item ∷ [])
   climb_ready chunks nodes at item held climbing within is =
       let P : ℕ → Type 0 = λ n. IsWritable n (held ++ item ∷ []) in
@@ -67,10 +68,10 @@ module _ (a : List ℕ → List ℕ) (begun : List (List Item)) (named : Item) w
       subst P e (writable_here a (suc at) held (drop (suc at) nodes) item (fits_here chunks nodes at item held climbing within is))
 
   -- the node stays open
-  pub climb_stays : (old new : Chunks) (nodes after : List (List Item)) (at : ℕ) (item : Item) (held now : List Item) → IsClimbing a old begun named nodes at item
+  pub climb_stays : (old new : Chunks) (nodes after : List (List Item)) (at : ℕ) (item : Item) (held now : List Item) → IsClimbing a old made written nodes at item
       → at < length nodes → held ≡ get_or nodes at held → Extends old new
       → (closes a (at + 1) (held ++ item ∷ []) ≡ false) × (now ≡ held ++ item ∷ []) → after ≡ set nodes at now
-      → (after ≡ pushes a 1 begun named) × AreHeld a new (ended_chunks a 1 begun named)
+      → (after ≡ made) × AreHeld a new written
   climb_stays old new nodes after at item held now climbing within is grows stays after_is =
       let e : at + 1 ≡ suc at = omega arith in
       let above = drop (suc at) nodes in
@@ -89,14 +90,14 @@ module _ (a : List ℕ → List ℕ) (begun : List (List Item)) (named : Item) w
       )
 
   -- the node ends, and its name climbs on
-  pub climb_up : (old new : Chunks) (nodes after : List (List Item)) (at : ℕ) (item next : Item) (held now : List Item) → IsClimbing a old begun named nodes at item
+  pub climb_up : (old new : Chunks) (nodes after : List (List Item)) (at : ℕ) (item next : Item) (held now : List Item) → IsClimbing a old made written nodes at item
       → at < length nodes → held ≡ get_or nodes at held → Extends old new
       → (closes a (at + 1) (held ++ item ∷ []) ≡ true) × IsNamed a new (at + 1) (held ++ item ∷ []) now next → after ≡ set nodes at now
-      → IsClimbing a new begun named after (at + 1) next
+      → IsClimbing a new made written after (at + 1) next
   climb_up old new nodes after at item next held now climbing within is grows ended after_is = go (at + 1) (omega arith) ended
     where
       go : (level : ℕ) → level ≡ suc at → (closes a level (held ++ item ∷ []) ≡ true) × IsNamed a new level (held ++ item ∷ []) now next
-          → IsClimbing a new begun named after level next
+          → IsClimbing a new made written after level next
       go level e closed =
           let above = drop (suc at) nodes in
           let node = held ++ item ∷ [] in
@@ -118,7 +119,7 @@ module _ (a : List ℕ → List ℕ) (begun : List (List Item)) (named : Item) w
           let up = fits_up a (suc at) held above item (fits_here old nodes at item held climbing within is) over mine.put.0.1 in
           let F : Item → Type 0 = λ n. Fits a (suc (suc at)) above n in
           let G : List (List Item) → Type 0 = λ l. Fits a (suc (suc at)) l next in
-          let P : ℕ → Type 0 = λ n. IsClimbing a new begun named after n next in
+          let P : ℕ → Type 0 = λ n. IsClimbing a new made written after n next in
           subst P (sym e) (record {
             fits = subst G (sym dropped) (subst F (sym mine.named_is) up);
             comes = ap (λ l. take (suc at) after ++ pushes a (suc (suc at)) l next) dropped
@@ -133,16 +134,16 @@ module _ (a : List ℕ → List ℕ) (begun : List (List Item)) (named : Item) w
           })
 
   -- past the last level the name begins one
-  pub climb_item : (chunks : Chunks) (nodes : List (List Item)) (at : ℕ) (item : Item) → IsClimbing a chunks begun named nodes at item → IsItem 1 item
+  pub climb_item : (chunks : Chunks) (nodes : List (List Item)) (at : ℕ) (item : Item) → IsClimbing a chunks made written nodes at item → IsItem 1 item
   climb_item chunks nodes at item climbing =
       let few = climbing.fits.few in
       let entry = climbing.fits.grown.0 in
       let key = entry.0 in
       (omega arith, entry.1, entry.2, omega (arith, rows_join (spread (drop at nodes)) (item ∷ [])))
 
-  pub climb_ends : (old : Chunks) (nodes after : List (List Item)) (at : ℕ) (item : Item) (node : List Item) → IsClimbing a old begun named nodes at item
+  pub climb_ends : (old : Chunks) (nodes after : List (List Item)) (at : ℕ) (item : Item) (node : List Item) → IsClimbing a old made written nodes at item
       → length nodes ≤ at → node ≡ item ∷ [] → after ≡ nodes ++ node ∷ []
-      → (after ≡ pushes a 1 begun named) × AreHeld a old (ended_chunks a 1 begun named)
+      → (after ≡ made) × AreHeld a old written
   climb_ends old nodes after at item node climbing past node_is after_is =
       let none : drop at nodes ≡ [] = drop_of_length-le nodes {i = at} past in
       let P : List (List ℕ) → Type 0 = AreHeld a old in (

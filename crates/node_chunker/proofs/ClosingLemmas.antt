@@ -41,7 +41,7 @@ module _ (a : List ℕ → List ℕ) where
       let e : suc level + length above ≡ level + length (next ∷ above) = omega arith in
       subst P e (omega (arith, rows_join (spread (next ∷ above)) held))
 
-  lower : (held : List Item) (above : List (List Item)) → IsTopped (held ∷ above) → IsTopped above
+  pub lower : (held : List Item) (above : List (List Item)) → IsTopped (held ∷ above) → IsTopped above
   lower held [] topped = tt
   lower held (next ∷ above) topped = topped
 

@@ -222,19 +222,25 @@ module _ (a : List ℕ → List ℕ) where
       more_writable a level held x (entries level held fits.are_open.0) fits.grown.0 fits.are_open.1
       (rise_alone (last_after None (spread above)) (held ++ x ∷ []) parts.1) rows (omega arith)
 
+  -- the name of a node that ends
+  pub name_grown : (level : ℕ) (held : List Item) (x : Item) → AllByRecursion (IsGrown level) held → IsGrown level x
+      → closes a level (held ++ x ∷ []) ≡ true → length (a (bytes_of level (held ++ x ∷ []))) ≡ 20 → IsGrown (suc level) (name a level (held ++ x ∷ []))
+  name_grown level held x each grown over named =
+      let node = held ++ x ∷ [] in
+      let more = grown_up level held x each grown (some_before a level held x over) in
+      let rows = name_rows a level node in
+      let many : 0 < rows_in node = omega (arith, rows_join held (x ∷ []), entry_rows level x grown.0) in
+      let P : List ℕ → Type 0 = λ k. length k ≤ 4096 in
+      ((subst P (sym (name_key a level node ∙ last_is held x)) (entry_key level x grown.0), ap length (name_body a level node) ∙ named, omega arith), omega arith)
+
   pub fits_up : (level : ℕ) (held : List Item) (above : List (List Item)) (x : Item) → Fits a level (held ∷ above) x
       → closes a level (held ++ x ∷ []) ≡ true → length (a (bytes_of level (held ++ x ∷ []))) ≡ 20
       → Fits a (suc level) above (name a level (held ++ x ∷ []))
   fits_up level held above x fits over named =
-      let node = held ++ x ∷ [] in
-      let grown = grown_up level held x fits.are_open.0 fits.grown (some_before a level held x over) in
-      let rows = name_rows a level node in
-      let many : 0 < rows_in node = omega (arith, rows_join held (x ∷ []), entry_rows level x fits.grown.0) in
       let P : ℕ → Type 0 = λ n. n < 2 ^ 63 in
-      let Q : List ℕ → Type 0 = λ k. length k ≤ 4096 in
       record {
         are_open = fits.are_open.2;
-        grown = ((subst Q (sym (name_key a level node ∙ last_is held x)) (entry_key level x fits.grown.0), ap length (name_body a level node) ∙ named, omega arith), omega arith);
+        grown = name_grown level held x fits.are_open.0 fits.grown over named;
         rises = rise_up level held above x fits.rises;
         few = subst P (sym (rows_up level held above x)) fits.few;
       }
@@ -287,7 +293,7 @@ module _ (a : List ℕ → List ℕ) where
   not_empty [] x = refl
   not_empty (first ∷ held) x = refl
 
-  one_lower : (nodes : List (List Item)) → IsTopped nodes → is_empty nodes ≡ false → IsTopped ([] ∷ nodes)
+  pub one_lower : (nodes : List (List Item)) → IsTopped nodes → is_empty nodes ≡ false → IsTopped ([] ∷ nodes)
   one_lower [] topped some = absurd cc
   one_lower (held ∷ above) topped some = topped
 
@@ -345,7 +351,7 @@ module _ (a : List ℕ → List ℕ) where
         | false ↦ topped
       ]
 
-  found_named : (chunks : Chunks) (list : List (List ℕ)) → AreHeld a chunks list → AreNamed list
+  pub found_named : (chunks : Chunks) (list : List (List ℕ)) → AreHeld a chunks list → AreNamed list
   found_named chunks [] put = tt
   found_named chunks (bytes ∷ list) put = (put.0.1, found_named chunks list put.1)
 

@@ -6,3 +6,4 @@ pub mod ClimbLemmas
 mod NumberedLemmas
 mod Vectors
 pub mod RefLemmas
+pub mod SubtreeLemmas

@@ -8,6 +8,7 @@ use Rattle.tree_laws.proofs.Cuts.{closes_one, cut_apart, names_apart}
 use Rattle.std.proofs.lemmas.List.{append_assoc, map-append}
 use Rattle.chunk_store.specs.Chunks.{Chunks}
 use Rattle.chunk_store.specs.Standing.{AreHeld, IsThere}
+use Rattle.node_chunker.specs.Subtrees.{lift_chunks}
 use Rattle.node_chunker.specs.Towers.{is_empty, is_single, first_of, is_root, after, chunks_after, row_top, after_rows, pushes, ended_chunks}
 use Rattle.node_chunker.proofs.TowerLemmas.{all_join, all_split, never_empty, skip_left, after_push, held_push}
 
@@ -20,12 +21,7 @@ abbrev pub up : ℕ → ℕ → ℕ
 up zero level = level
 up (suc rise) level = up rise (suc level)
 
--- the bytes of the nodes on so many levels
-abbrev pub lift_chunks : (List ℕ → List ℕ) → ℕ → ℕ → List Item → List (List ℕ)
-lift_chunks a zero level items = []
-lift_chunks a (suc rise) level items = map (bytes_of level) (cut a level items) ++ lift_chunks a rise (suc level) (names a level (cut a level items))
-
-some_under : (rise : ℕ) (nodes : List (List Item)) → is_empty nodes ≡ false → is_empty (under rise nodes) ≡ false
+pub some_under : (rise : ℕ) (nodes : List (List Item)) → is_empty nodes ≡ false → is_empty (under rise nodes) ≡ false
 some_under zero nodes some = some
 some_under (suc rise) nodes some = refl
 
@@ -51,12 +47,12 @@ module _ (a : List ℕ → List ℕ) where
       (some_under rise over (never_empty a (up rise (suc level)) nodes x)))
 
   -- a list that ended has two items or more
-  ended_many : (level : ℕ) (items more : List Item) → 0 < length items → left a level [] items ≡ [] → is_single (items ++ more) ≡ false
+  pub ended_many : (level : ℕ) (items more : List Item) → 0 < length items → left a level [] items ≡ [] → is_single (items ++ more) ≡ false
   ended_many level [] more some over = absurd (omega arith)
   ended_many level (x ∷ []) more some over = absurd (cc (ap (λ b. cond b [] (x ∷ [])) (closes_one a level x), over))
   ended_many level (x ∷ y ∷ items) more some over = refl
 
-  some_lifted : (rise level : ℕ) (x : Item) (items : List Item) → lift a rise level items ≡ x ∷ [] → 0 < length items
+  pub some_lifted : (rise level : ℕ) (x : Item) (items : List Item) → lift a rise level items ≡ x ∷ [] → 0 < length items
   some_lifted rise level x [] lifted = absurd (cc (nothing rise level, lifted))
     where
       nothing : (r l : ℕ) → lift a r l [] ≡ []
@@ -75,7 +71,7 @@ module _ (a : List ℕ → List ℕ) where
   top_blank level (x ∷ []) some many = absurd (cc many)
   top_blank level (x ∷ y ∷ items) some many = refl
 
-  joined_some : (items more : List Item) → 0 < length items → 0 < length (items ++ more)
+  pub joined_some : (items more : List Item) → 0 < length items → 0 < length (items ++ more)
   joined_some [] more some = absurd (omega arith)
   joined_some (x ∷ items) more some = omega arith
 

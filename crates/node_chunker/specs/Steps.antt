@@ -25,9 +25,16 @@ IsClosed address chunks level held None = held ≡ []
 IsClosed address chunks level held (Some named) =
     (is_empty held ≡ false) × (named ≡ name address level held) × AreHeld address chunks (bytes_of level held ∷ [])
 
--- a name that was pushed at level 1 has climbed to the node at this place among the inner levels
-pub record IsClimbing (address : List ℕ → List ℕ) (chunks : Chunks) (begun : List (List Item)) (named : Item) (nodes : List (List Item)) (at : ℕ) (item : Item) : Type 0 where
+-- A name that was pushed has climbed to the node at this place among the inner levels; the push makes these nodes, and puts these
+-- chunks.
+pub record IsClimbing (address : List ℕ → List ℕ) (chunks : Chunks) (made : List (List Item)) (written : List (List ℕ)) (nodes : List (List Item)) (at : ℕ) (item : Item) : Type 0 where
   pub fits : Fits address (suc at) (drop at nodes) item
-  pub comes : take at nodes ++ pushes address (suc at) (drop at nodes) item ≡ pushes address 1 begun named
+  pub comes : take at nodes ++ pushes address (suc at) (drop at nodes) item ≡ made
   pub kept : (later : Chunks) → Extends chunks later → AreHeld address later (ended_chunks address (suc at) (drop at nodes) item)
-      → AreHeld address later (ended_chunks address 1 begun named)
+      → AreHeld address later written
+
+-- a name was pushed at this place among the inner levels
+abbrev pub IsPushedAt : (List ℕ → List ℕ) → Chunks → ℕ → List (List Item) → Item → List (List Item) → Type 0
+IsPushedAt address chunks place nodes item now =
+    (now ≡ take place nodes ++ pushes address (suc place) (drop place nodes) item)
+    × AreHeld address chunks (ended_chunks address (suc place) (drop place nodes) item)

@@ -37,6 +37,15 @@ impl Model for OpenInner {
 }
 
 impl OpenInner {
+    pub(crate) fn new(alloc: Global) -> OpenInner
+        ensures { result ≡ [] }
+    {
+        OpenInner {
+            items: Vec::new(alloc),
+            size: 4,
+        }
+    }
+
     /// The node with one name.
     pub(crate) fn begun(alloc: Global, item: RefItem) -> Result<OpenInner, AllocError>
         requires { IsItem 1 (ref_of item) }

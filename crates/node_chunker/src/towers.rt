@@ -1,15 +1,18 @@
 //! A tower: a tree that grows row by row.
 
-ghost use Rattle.std.specs.Prelude.{◌≡◌, ◌++◌, ℕ, List, [], ◌∷◌, IfOk, IfErr, OnOk};
+ghost use Rattle.std.specs.Prelude.{◌≡◌, ◌≤◌, ◌<◌, ◌-◌, ◌++◌, suc, ℕ, List, [], ◌∷◌, drop, length, replicate, take, IfOk, IfErr, OnOk};
+ghost use Rattle.std.specs.List.{list_all};
 ghost use Rattle.tuple_codec.specs.Nodes.{IsItem, Item, leaf_item};
 ghost use Rattle.tuple_codec.specs.Trees.{AreRows};
 ghost use Rattle.node_format.specs.Views.{leaf_of, ref_of};
 ghost use Rattle.chunk_store.specs.Chunks.{Chunks};
 ghost use Rattle.chunk_store.specs.Drafts.{Longer, chunks_of};
-ghost use Rattle.chunk_store.specs.Standing.{AreHeld, IsTree};
+ghost use Rattle.chunk_store.specs.Standing.{IsTree};
 ghost use Rattle.node_chunker.specs.Faults.{IsReason};
 ghost use Rattle.node_chunker.specs.Growth.{CanPush, Fits, IsTower, WasPushed};
-ghost use Rattle.node_chunker.specs.Towers.{ended_chunks, pushes};
+ghost use Rattle.node_chunker.specs.Steps.{IsPushedAt};
+ghost use Rattle.node_chunker.specs.Subtrees.{CanPushRef, IsSubtree, is_clear};
+ghost use Rattle.node_chunker.specs.Towers.{is_empty};
 
 use crate::closings::close_levels;
 use crate::inners::OpenInner;
@@ -68,8 +71,38 @@ impl Tower {
         let row = copy_of(*self.inner.allocator(), key, value)?;
         match self.leaf.push(draft, row)? {
             None => Ok(()),
-            Some(named) => push_name(&mut self.inner, draft, named),
+            Some(named) => push_name(&mut self.inner, draft, 0, named),
         }
+    }
+
+    /// Whether no level below this one has an item, so that a subtree may be pushed at it.
+    pub fn is_clear(&self, level: u8) -> bool
+        requires { 0 < level }
+        ensures { result ≡ is_clear level self.now }
+    {
+        self.leaf.is_empty() && are_empty(&self.inner, level as usize - 1)
+    }
+
+    /// Pushes the rows below an item of this level at once, without reading them, where no lower level has an item.
+    ///
+    /// The node that the item names is left as it is, and so is each node below it.
+    pub fn push_ref<D: Digester>(
+        &mut self,
+        draft: &mut Draft<D>,
+        level: u8,
+        item: &RefItem,
+    ) -> Result<(), PutFault>
+        requires { CanPushRef D.address (chunks_of draft.old.chunks) self.old level (ref_of item.now) }
+        ensures ok { (rows below : List Item) → IsTower D.address (chunks_of draft.old.chunks) self.old rows
+            → IsSubtree D.address (chunks_of draft.old.chunks) level (ref_of item.now) below → AreRows (rows ++ below)
+            → OnOk result (IsTower D.address (chunks_of draft.new.chunks) self.new (rows ++ below)) }
+        ensures longer { Longer draft.old.chunks draft.new.chunks }
+        ensures cause { IfErr result (IsReason D.address (chunks_of draft.new.chunks)) }
+    {
+        let place = level as usize - 1;
+        let named = copy_of_name(*self.inner.allocator(), item)?;
+        open_levels(&mut self.inner, place)?;
+        push_name(&mut self.inner, draft, place, named)
     }
 
     /// Puts what is left into the draft: the root's address.
@@ -99,20 +132,49 @@ fn copy_of(alloc: Global, key: &[u8], value: &[u8]) -> Result<LeafItem, AllocErr
     })
 }
 
-/// Pushes the name of a leaf onto the levels above: each node that ends names itself one level up.
+fn copy_of_name(alloc: Global, item: &RefItem) -> Result<RefItem, AllocError>
+    ensures { IfOk result (λ named. ref_of named ≡ ref_of item.now) }
+{
+    Ok(RefItem {
+        key: Blob::from_vec(Vec::from_slice(alloc, item.key.as_slice())?),
+        address: item.address,
+        rows: item.rows,
+    })
+}
+
+/// Whether no node of the first so many has a name.
+fn are_empty(nodes: &[OpenInner], count: usize) -> bool
+    ensures { result ≡ list_all is_empty (take count nodes.now) }
+{
+    nodes.iter().take(count).all(|node| node.is_empty())
+}
+
+/// Opens empty levels until there are so many.
+fn open_levels(inner: &mut Vec<OpenInner>, count: usize) -> Result<(), AllocError>
+    ensures { OnOk result (inner.new.items ≡ inner.old.items ++ replicate (count - length inner.old.items) []) }
+{
+    'levels: while inner.len() < count {
+        let node = OpenInner::new(*inner.allocator());
+        inner.push(node)?;
+    }
+    Ok(())
+}
+
+/// Pushes the name of a node at this place among the inner levels: each node that ends names itself one level up.
 fn push_name<D: Digester>(
     inner: &mut Vec<OpenInner>,
     draft: &mut Draft<D>,
+    place: usize,
     named: RefItem,
 ) -> Result<(), PutFault>
-    requires { Fits D.address 1 inner.old.items (ref_of named) }
-    ensures ok { OnOk result ((inner.new.items ≡ pushes D.address 1 inner.old.items (ref_of named))
-        × AreHeld D.address (chunks_of draft.new.chunks) (ended_chunks D.address 1 inner.old.items (ref_of named))) }
+    requires place { place ≤ length inner.old.items }
+    requires fits { Fits D.address (suc place) (drop place inner.old.items) (ref_of named) }
+    ensures ok { OnOk result (IsPushedAt D.address (chunks_of draft.new.chunks) place inner.old.items (ref_of named) inner.new.items) }
     ensures longer { Longer draft.old.chunks draft.new.chunks }
     ensures cause { IfErr result (IsReason D.address (chunks_of draft.new.chunks)) }
 {
     let mut item = named;
-    let mut at = 0;
+    let mut at = place;
     'levels: while at < inner.len() {
         let level = at as u8 + 1;
         match inner[at].push(draft, level, item)? {

@@ -7,7 +7,7 @@ mod scans;
 mod steps;
 mod walks;
 
-pub use nodes::{count, get};
+pub use nodes::{count, get, node_at};
 pub use scans::{Scan, scan_from};
 pub use steps::Head;
 pub use walks::Walk;

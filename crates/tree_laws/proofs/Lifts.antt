@@ -55,7 +55,7 @@ module _ (a : List ℕ → List ℕ) where
       all_end (item ∷ items) canonical ended =
           ended_join a level 0 (rows_at nodes level item) (each_of (rows_at nodes level) items) (ends item canonical.0 ended.0) (all_end items canonical.1 ended.1)
 
-      all_lift : (items : List Item) → ButLast (IsCanonical a nodes level) (IsEnded a nodes level) items
+      pub all_lift : (items : List Item) → ButLast (IsCanonical a nodes level) (IsEnded a nodes level) items
           → lift a level 0 (each_of (rows_at nodes level) items) ≡ items
       all_lift [] each = nothing_lifts level 0
       all_lift (item ∷ []) each = ap (lift a level 0) (append-nil (rows_at nodes level item)) ∙ lifts item each

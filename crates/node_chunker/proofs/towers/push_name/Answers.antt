@@ -11,16 +11,16 @@ use Rattle.node_chunker.proofs.towers.push_name.Goals as goal
 
 pub overflow_cast-level : goal.overflow_cast-level
 overflow_cast-level g c =
-    omega (arith, climb_low g.D.Digester.address c.args.inner.now.items (ref_of c.args.named) (chunks_of c.levels.draft.chunks) c.levels.inner.items c.levels.at (ref_of c.levels.item) c.levels.invariant.1)
+    omega (arith, climb_low g.D.Digester.address _ _ (chunks_of c.levels.draft.chunks) c.levels.inner.items c.levels.at (ref_of c.levels.item) c.levels.invariant.1)
 
 pub overflow_add-level : goal.overflow_add-level
 overflow_add-level g c =
-    omega (arith, climb_low g.D.Digester.address c.args.inner.now.items (ref_of c.args.named) (chunks_of c.levels.draft.chunks) c.levels.inner.items c.levels.at (ref_of c.levels.item) c.levels.invariant.1)
+    omega (arith, climb_low g.D.Digester.address _ _ (chunks_of c.levels.draft.chunks) c.levels.inner.items c.levels.at (ref_of c.levels.item) c.levels.invariant.1)
 
 pub push-requires-clause-fits : goal.push-requires-clause-fits
 push-requires-clause-fits g c κs live =
     let within : c.levels.at < length c.levels.inner.items = omega arith in
-    climb_ready g.D.Digester.address c.args.inner.now.items (ref_of c.args.named) (chunks_of c.levels.draft.chunks) c.levels.inner.items c.levels.at (ref_of c.levels.item)
+    climb_ready g.D.Digester.address _ _ (chunks_of c.levels.draft.chunks) c.levels.inner.items c.levels.at (ref_of c.levels.item)
     c.index_mut.result.now c.levels.invariant.1 within c.index_mut.ensures.value
 
 pub returns-in-None-clause-ok : goal.returns-in-None-clause-ok
@@ -29,7 +29,7 @@ returns-in-None-clause-ok g c =
     let within : c.levels.at < length c.levels.inner.items = omega arith in
     let new = chunks_of c.push.new.draft.chunks in
     let P : Option RefItem → Type 0 = λ o. IsPushed a new (c.levels.at + 1) c.index_mut.result.now (ref_of c.levels.item) c.push.new.self (option_map ref_of o) in
-    climb_stays a c.args.inner.now.items (ref_of c.args.named) (chunks_of c.levels.draft.chunks) new c.levels.inner.items
+    climb_stays a _ _ (chunks_of c.levels.draft.chunks) new c.levels.inner.items
     (set c.levels.inner.items c.levels.at c.push.new.self) c.levels.at (ref_of c.levels.item) c.index_mut.result.now c.push.new.self c.levels.invariant.1 within
     c.index_mut.ensures.value (grows c.levels.draft.chunks c.push.new.draft.chunks c.in_ok-push.ensures.longer) (subst P c.in-None.is c.in_ok-push.ensures.ok) refl
 
@@ -40,7 +40,7 @@ levels-preserved g c =
     let new = chunks_of c.push.new.draft.chunks in
     let P : Option RefItem → Type 0 = λ o. IsPushed a new (c.levels.at + 1) c.index_mut.result.now (ref_of c.levels.item) c.push.new.self (option_map ref_of o) in (
       omega (arith, length-set c.levels.inner.items c.levels.at c.push.new.self),
-      climb_up a c.args.inner.now.items (ref_of c.args.named) (chunks_of c.levels.draft.chunks) new c.levels.inner.items
+      climb_up a _ _ (chunks_of c.levels.draft.chunks) new c.levels.inner.items
           (set c.levels.inner.items c.levels.at c.push.new.self) c.levels.at (ref_of c.levels.item) (ref_of c.in-Some.named) c.index_mut.result.now c.push.new.self c.levels.invariant.1 within
           c.index_mut.ensures.value (grows c.levels.draft.chunks c.push.new.draft.chunks c.in_ok-push.ensures.longer) (subst P c.in-Some.is c.in_ok-push.ensures.ok) refl,
       drafts_follow.in_steps c.args.draft.now.chunks c.levels.draft.chunks c.push.new.draft.chunks c.levels.invariant.2 c.in_ok-push.ensures.longer,
@@ -49,5 +49,5 @@ levels-preserved g c =
 pub returns-clause-ok : goal.returns-clause-ok
 returns-clause-ok g c =
     let past : length c.levels.inner.items ≤ c.levels.at = omega arith in
-    climb_ends g.D.Digester.address c.args.inner.now.items (ref_of c.args.named) (chunks_of c.levels.draft.chunks) c.levels.inner.items c.begin_level.new.inner.items
+    climb_ends g.D.Digester.address _ _ (chunks_of c.levels.draft.chunks) c.levels.inner.items c.begin_level.new.inner.items
     c.levels.at (ref_of c.levels.item) (ref_of c.levels.item ∷ []) c.levels.invariant.1 past refl c.in_ok-begin_level.ensures

@@ -22,8 +22,8 @@ push-requires-after_bounds g c κs live =
     c.self.view_is c.in_ok-row.ensures c.requires in
     writable_here a 0 leaf inner (leaf_of c.in_ok-row.row) fits
 
-pub push_name-requires-after_bounds : goal.push_name-requires-after_bounds
-push_name-requires-after_bounds g c κs live =
+pub push_name-requires-clause-fits : goal.push_name-requires-clause-fits
+push_name-requires-clause-fits g c κs live =
     let a = g.D.Digester.address in
     let leaf = c.self.inside.leaf in
     let inner = c.self.inside.inner.items in

@@ -1,0 +1,5 @@
+pub mod EditLemmas
+pub mod StageLemmas
+pub mod FrontLemmas
+pub mod SubtreeLaws
+pub mod TurnLemmas

@@ -1,0 +1,114 @@
+use Rattle.std.proofs.Common.{◌<◌, ◌^◌, List, length, sym, subst}
+use Rattle.tuple_codec.specs.Nodes.{Item}
+use Rattle.tuple_codec.specs.Edits.{edited}
+use Rattle.chunk_store.specs.Drafts.{chunks_of}
+use Rattle.chunk_store.proofs.FollowLemmas.{drafts_follow}
+use Rattle.tree_laws.specs.Found.{nodes_in}
+use Rattle.tree_laws.proofs.Standing.{trees_lead}
+use Rattle.prolly_edit.specs.Editing.{CanEdit}
+use Rattle.prolly_edit.specs.Fronts.{Front, load, rest}
+use Rattle.prolly_edit.specs.Stages.{Awaits, IsGoing}
+use Rattle.prolly_edit.proofs.StageLemmas.{awaits_none}
+use Rattle.prolly_edit.proofs.TurnLemmas.{root_begins, same_rows}
+use Rattle.prolly_edit.proofs.applying.apply.Goals as goal
+
+pub node_at-requires-after_bounds : goal.node_at-requires-after_bounds
+node_at-requires-after_bounds g c κs within =
+    let t = trees_lead g.D.Digester.address (chunks_of c.args.draft.now.chunks) c.args.root.now.0 c.requires.0 c.requires.1.tree in
+    (t.0, t.1.opens.stored)
+
+pub read-requires-after_bounds : goal.read-requires-after_bounds
+read-requires-after_bounds g c κs within =
+    let start = chunks_of c.args.draft.now.chunks in
+    let edits = c.args.edits.now in (
+      start,
+      edited c.requires.0 edits,
+      root_begins g.D.Digester.address start c.args.root.now.0 edits c.requires.0 c.requires.1 c.in_ok-tower.tower (c.in_ok-tower.ensures g.D.Digester.address start)
+          c.node_at.result c.node_at.ensures c.level-level.result c.level-level.ensures.level c.new-path.result c.new-path.ensures,
+    )
+
+pub parts-init : goal.parts-init
+parts-init g c =
+    let start = chunks_of c.args.draft.now.chunks in
+    let edits = c.args.edits.now in
+    record {
+      longer = c.in_ok-left.ensures.longer;
+      going = λ rows can.
+          (c.in_ok-left.ensures.ok start (edited rows edits)
+          (root_begins g.D.Digester.address start c.args.root.now.0 edits rows can c.in_ok-tower.tower (c.in_ok-tower.ensures g.D.Digester.address start)
+          c.node_at.result c.node_at.ensures c.level-level.result c.level-level.ensures.level c.new-path.result c.new-path.ensures)).going;
+    }
+
+pub turn-requires-after_bounds : goal.turn-requires-after_bounds
+turn-requires-after_bounds g c κs within =
+    let start = chunks_of c.args.draft.now.chunks in
+    let whole = edited c.requires.0 c.args.edits.now in (
+      start,
+      whole,
+      subst (λ (f : Front). IsGoing g.D.Digester.address start (chunks_of c.parts.draft.chunks) c.parts.tower f c.parts.left.now whole) c.in-Some.ensures
+          (c.parts.invariant.going c.requires.0 c.requires.1),
+    )
+
+pub parts-preserved : goal.parts-preserved
+parts-preserved g c =
+    let start = chunks_of c.args.draft.now.chunks in
+    record {
+      longer = drafts_follow.in_steps c.args.draft.now.chunks c.parts.draft.chunks c.turn.new.draft.chunks c.parts.invariant.longer c.in_ok-left-2.ensures.longer;
+      going = λ rows can.
+          let whole = edited rows c.args.edits.now in
+          (c.in_ok-left-2.ensures.ok start whole
+          (subst (λ (f : Front). IsGoing g.D.Digester.address start (chunks_of c.parts.draft.chunks) c.parts.tower f c.parts.left.now whole) c.in-Some.ensures
+          (c.parts.invariant.going rows can))).going;
+    }
+
+pub parts-smaller : goal.parts-smaller
+parts-smaller g c =
+    let start = chunks_of c.args.draft.now.chunks in
+    let whole = edited c.requires.0 c.args.edits.now in
+    let is = c.in_ok-left-2.ensures.ok start whole
+    (subst (λ (f : Front). IsGoing g.D.Digester.address start (chunks_of c.parts.draft.chunks) c.parts.tower f c.parts.left.now whole) c.in-Some.ensures
+    (c.parts.invariant.going c.requires.0 c.requires.1)) in
+    subst (λ (f : Front). load (nodes_in start) c.turn.new.path < load (nodes_in start) f) (sym c.in-Some.ensures) is.less
+
+pub put_edits-requires-after_bounds : goal.put_edits-requires-after_bounds
+put_edits-requires-after_bounds g c κs within =
+    let start = chunks_of c.args.draft.now.chunks in
+    let whole = edited c.requires.0 c.args.edits.now in (
+      whole,
+      subst (λ (f : Front). Awaits g.D.Digester.address (chunks_of c.parts.draft.chunks) c.parts.tower (edited (rest (nodes_in start) f) c.parts.left.now) whole) c.in_default.ensures
+          (c.parts.invariant.going c.requires.0 c.requires.1).awaits,
+    )
+
+pub finish-requires-after_bounds : goal.finish-requires-after_bounds
+finish-requires-after_bounds g c κs within =
+    let start = chunks_of c.args.draft.now.chunks in
+    let whole = edited c.requires.0 c.args.edits.now in (
+      whole,
+      awaits_none g.D.Digester.address (chunks_of c.put_edits.new.draft.chunks) c.put_edits.new.tower whole
+          (c.in_ok-put_edits.ensures.ok whole
+          (subst (λ (f : Front). Awaits g.D.Digester.address (chunks_of c.parts.draft.chunks) c.parts.tower (edited (rest (nodes_in start) f) c.parts.left.now) whole) c.in_default.ensures
+          (c.parts.invariant.going c.requires.0 c.requires.1).awaits)),
+    )
+
+pub returns-clause-ok : goal.returns-clause-ok
+returns-clause-ok g c rows tree =
+    let a = g.D.Digester.address in
+    let start = chunks_of c.args.draft.now.chunks in
+    let edits = c.args.edits.now in
+    let whole = edited rows edits in
+    let can : CanEdit a start c.args.root.now.0 edits rows = record {
+      tree = tree;
+      are_edits = c.requires.1.are_edits;
+      few = subst (λ (l : List Item). length (edited l edits) < 2 ^ 63) (same_rows a start c.args.root.now.0 c.requires.0 rows c.requires.1.tree tree) c.requires.1.few;
+    } in
+    c.finish.ensures.ok whole
+    (awaits_none a (chunks_of c.put_edits.new.draft.chunks) c.put_edits.new.tower whole
+    (c.in_ok-put_edits.ensures.ok whole
+    (subst (λ (f : Front). Awaits a (chunks_of c.parts.draft.chunks) c.parts.tower (edited (rest (nodes_in start) f) c.parts.left.now) whole) c.in_default.ensures
+    (c.parts.invariant.going rows can).awaits)))
+
+pub returns-clause-longer : goal.returns-clause-longer
+returns-clause-longer g c =
+    drafts_follow.in_steps c.args.draft.now.chunks c.put_edits.new.draft.chunks c.finish.new.draft.chunks
+    (drafts_follow.in_steps c.args.draft.now.chunks c.parts.draft.chunks c.put_edits.new.draft.chunks c.parts.invariant.longer c.in_ok-put_edits.ensures.longer)
+    c.finish.ensures.longer

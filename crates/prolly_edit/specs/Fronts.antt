@@ -1,0 +1,69 @@
+-- What a walk has left of a tree: nodes in order, each as the item that names it.
+use Rattle.std.specs.Prelude.{◌≡◌, ◌<◌, ℕ, zero, suc, ◌+◌, Bool, true, false, List, [], ◌∷◌, ◌++◌, length}
+use Rattle.std.specs.List.{AllByRecursion}
+use Rattle.tuple_codec.specs.Nodes.{Item, Node}
+use Rattle.tree_laws.specs.Found.{IsCanonical, IsEnded, IsOrdered, Nodes, items_of, nodes_in, rows_at}
+use Rattle.tree_laws.specs.Standing.{Chunks, IsFound}
+
+-- nodes that aren't read yet: the level of each, and the item that names it
+abbrev pub Front : Type 0
+Front = List (ℕ × Item)
+
+-- nodes of one level
+abbrev pub on_level : ℕ → List Item → Front
+on_level level [] = []
+on_level level (item ∷ items) = (level, item) ∷ on_level level items
+
+-- those of a path, whose steps each have names of nodes of a level, the last step first
+abbrev pub front_of : List Node → Front
+front_of [] = []
+front_of (step ∷ steps) = front_of steps ++ on_level step.level step.items
+
+-- each step has a name left
+abbrev pub HaveNames : List Node → Type 0
+HaveNames steps = AllByRecursion (λ step. 0 < length step.items) steps
+
+-- the rows below
+abbrev pub rest : Nodes → Front → List Item
+rest nodes [] = []
+rest nodes (part ∷ front) = rows_at nodes (suc part.0) part.1 ++ rest nodes front
+
+abbrev pub sum_of : (Item → ℕ) → List Item → ℕ
+sum_of f [] = 0
+sum_of f (item ∷ items) = f item + sum_of f items
+
+-- how many nodes are at or below an item
+abbrev pub weight : Nodes → ℕ → Item → ℕ
+weight nodes zero item = 0
+weight nodes (suc level) item = suc (sum_of (weight nodes level) (items_of (nodes level item.body)))
+
+-- how many nodes a walk may still read
+abbrev pub load : Nodes → Front → ℕ
+load nodes [] = 0
+load nodes (part ∷ front) = weight nodes (suc part.0) part.1 + load nodes front
+
+-- how many nodes are below the one of this level at this address
+abbrev pub load_below : Nodes → ℕ → List ℕ → ℕ
+load_below nodes level k = sum_of (weight nodes level) (items_of (nodes level k))
+
+abbrev pub is_over : Front → Bool
+is_over [] = true
+is_over (part ∷ front) = false
+
+-- a node of a tree that stands
+pub record IsPart (address : List ℕ → List ℕ) (chunks : Chunks) (level : ℕ) (item : Item) : Type 0 where
+  pub low : level < 255
+  pub found : IsFound chunks (suc level) item
+  pub canonical : IsCanonical address (nodes_in chunks) (suc level) item
+  pub ordered : IsOrdered (nodes_in chunks) (suc level) item
+
+-- each ended by the boundary rule, but for the last
+abbrev pub EndsBefore : (List ℕ → List ℕ) → Nodes → Front → Type 0
+EndsBefore address nodes [] = Unit {0}
+EndsBefore address nodes (part ∷ []) = Unit {0}
+EndsBefore address nodes (part ∷ other ∷ front) = IsEnded address nodes (suc part.0) part.1 × EndsBefore address nodes (other ∷ front)
+
+-- what is left of a tree that stands
+pub record AreParts (address : List ℕ → List ℕ) (chunks : Chunks) (front : Front) : Type 0 where
+  pub each : AllByRecursion (λ part. IsPart address chunks part.0 part.1) front
+  pub end : EndsBefore address (nodes_in chunks) front

@@ -1,0 +1,3 @@
+pub mod Editing
+pub mod Fronts
+pub mod Stages

@@ -1,0 +1,147 @@
+//! Edits of a tree: the walk through the old tree while the new one grows.
+
+ghost use Rattle.std.specs.Prelude.{◌≡◌, ◌<◌, ◌∷◌, ◌++◌, ◌-◌, ◌&&◌, suc, List, length, IfOk, IfErr, OnOk, not};
+ghost use Rattle.tuple_codec.specs.Nodes.{Item, Node};
+ghost use Rattle.tuple_codec.specs.Edits.{edited};
+ghost use Rattle.node_format.specs.Views.{ref_of};
+ghost use Rattle.chunk_store.specs.Chunks.{Chunks};
+ghost use Rattle.chunk_store.specs.Drafts.{Longer, chunks_of};
+ghost use Rattle.chunk_store.specs.Standing.{IsTree};
+ghost use Rattle.node_chunker.specs.Faults.{IsReason};
+ghost use Rattle.node_chunker.specs.Subtrees.{is_clear};
+ghost use Rattle.prolly_edit.specs.Editing.{CanEdit};
+ghost use Rattle.tree_laws.specs.Standing.{IsStored};
+ghost use Rattle.prolly_edit.specs.Fronts.{is_over, on_level};
+ghost use Rattle.prolly_edit.specs.Stages.{Awaits, IsBefore, IsGoing, IsRead, IsTurn, is_past};
+
+use crate::merging::{edit_rows, is_past, put_edits};
+use crate::paths::Path;
+use crate::reading::{bytes_at, node_of, step_at};
+use chunk_store::{Draft, PutFault};
+use node_chunker::Tower;
+use node_format::RefItem;
+use prolly_tree::node_at;
+use std::alloc::{AllocError, Global};
+use tuple_codec::{Address, Digester, Edit};
+
+/// Edits a tree: the address of the root of the tree of the edited rows. Edits come by rising key; one puts its value
+/// at its key, in place of the one there if there is one, or removes the key.
+///
+/// It reads the paths to the edits, the last node of each level, and after each edit the few nodes up to where the old
+/// and the new tree end a node at the same key. All else goes over as names of whole subtrees, and only nodes that
+/// aren't there yet are put.
+pub fn apply<D: Digester>(
+    alloc: Global,
+    draft: &mut Draft<D>,
+    root: &Address,
+    edits: &[Edit],
+) -> Result<Address, PutFault>
+    requires { (rows : List Item) × CanEdit D.address (chunks_of draft.old.chunks) root.now.0 edits.now rows }
+    ensures ok { (rows : List Item) → IsTree D.address (chunks_of draft.old.chunks) root.now.0 rows
+        → IfOk result (λ root. IsTree D.address (chunks_of draft.new.chunks) root.0 (edited rows edits.now)) }
+    ensures longer { Longer draft.old.chunks draft.new.chunks }
+    ensures cause { IfErr result (IsReason D.address (chunks_of draft.new.chunks)) }
+{
+    let mut tower = Tower::new(alloc)?;
+    let mut path = Path::new(alloc);
+    let level = node_at(draft, root).level();
+    let mut left = read(alloc, draft, &mut tower, &mut path, edits, level, root)?;
+    'parts: while let Some((level, item)) = path.next() {
+        left = turn(alloc, draft, &mut tower, &mut path, left, level, &item)?;
+    }
+    put_edits(&mut tower, draft, left)?;
+    tower.finish(draft)
+}
+
+/// Pushes the rows below a node that comes before all others, or reads it; the edits that are left.
+fn turn<'a, D: Digester>(
+    alloc: Global,
+    draft: &mut Draft<D>,
+    tower: &mut Tower,
+    path: &mut Path,
+    edits: &'a [Edit],
+    level: u8,
+    item: &RefItem,
+) -> Result<&'a [Edit], PutFault>
+    requires { (start : Chunks) × (whole : List Item) × IsGoing D.address start (chunks_of draft.old.chunks) tower.old ((level, ref_of item.now) ∷ path.old) edits.now whole }
+    ensures ok { (start : Chunks) (whole : List Item) → IsGoing D.address start (chunks_of draft.old.chunks) tower.old ((level, ref_of item.now) ∷ path.old) edits.now whole
+        → IfOk result (λ left. IsTurn D.address start (chunks_of draft.new.chunks) tower.new ((level, ref_of item.now) ∷ path.old) path.new left.now whole) }
+    ensures longer { Longer draft.old.chunks draft.new.chunks }
+    ensures cause { IfErr result (IsReason D.address (chunks_of draft.new.chunks)) }
+{
+    if stays(tower, path, edits, level, item) {
+        tower.push_ref(draft, level + 1, item)?;
+        return Ok(edits);
+    }
+    read(alloc, draft, tower, path, edits, level, &item.address)
+}
+
+/// Whether a node's subtree is pushed whole: no edit comes before its end, it ended by the boundary rule since something
+/// follows, and the tower begins a node of its level and of each below it just there.
+fn stays(tower: &Tower, path: &Path, edits: &[Edit], level: u8, item: &RefItem) -> bool
+    requires { level < 255 }
+    ensures { result ≡ (is_past item.now.key edits.now && not (is_over path.now) && is_clear (suc level) tower.now) }
+{
+    is_past(edits, item.key.as_slice()) && !path.is_empty() && tower.is_clear(level + 1)
+}
+
+/// Reads the node of this level at an address, which comes before all others: its rows are pushed, or the nodes that it
+/// names come first; the edits that are left.
+fn read<'a, D: Digester>(
+    alloc: Global,
+    draft: &mut Draft<D>,
+    tower: &mut Tower,
+    path: &mut Path,
+    edits: &'a [Edit],
+    level: u8,
+    address: &Address,
+) -> Result<&'a [Edit], PutFault>
+    requires { (start : Chunks) × (whole : List Item) × IsBefore D.address start (chunks_of draft.old.chunks) tower.old level address.now.0 path.old edits.now whole }
+    ensures ok { (start : Chunks) (whole : List Item) → IsBefore D.address start (chunks_of draft.old.chunks) tower.old level address.now.0 path.old edits.now whole
+        → IfOk result (λ left. IsRead D.address start (chunks_of draft.new.chunks) tower.new level address.now.0 path.old path.new left.now whole) }
+    ensures longer { Longer draft.old.chunks draft.new.chunks }
+    ensures cause { IfErr result (IsReason D.address (chunks_of draft.new.chunks)) }
+{
+    if level > 0 {
+        read_names(alloc, draft, path, address)?;
+        Ok(edits)
+    } else {
+        read_rows(alloc, draft, tower, edits, address)
+    }
+}
+
+/// Puts the nodes that an inner node names before all others.
+fn read_names<D: Digester>(
+    alloc: Global,
+    draft: &Draft<D>,
+    path: &mut Path,
+    address: &Address,
+) -> Result<(), AllocError>
+    requires { (node : Node) × IsStored (chunks_of draft.now.chunks) address.now.0 node × (0 < node.level) × (0 < length node.items) }
+    ensures { (node : Node) → IsStored (chunks_of draft.now.chunks) address.now.0 node → 0 < node.level
+        → OnOk result (path.new ≡ on_level (node.level - 1) node.items ++ path.old) }
+{
+    let step = step_at(alloc, draft, address)?;
+    path.push(step)
+}
+
+/// Pushes the rows of a leaf with the edits up to its last key; the edits that are left.
+fn read_rows<'a, D: Digester>(
+    alloc: Global,
+    draft: &mut Draft<D>,
+    tower: &mut Tower,
+    edits: &'a [Edit],
+    address: &Address,
+) -> Result<&'a [Edit], PutFault>
+    requires { (node : Node) × (more whole : List Item) × IsStored (chunks_of draft.old.chunks) address.now.0 node × (node.level ≡ 0)
+        × Awaits D.address (chunks_of draft.old.chunks) tower.old (edited (node.items ++ more) edits.now) whole }
+    ensures ok { (node : Node) (more whole : List Item) → IsStored (chunks_of draft.old.chunks) address.now.0 node → node.level ≡ 0
+        → Awaits D.address (chunks_of draft.old.chunks) tower.old (edited (node.items ++ more) edits.now) whole
+        → IfOk result (λ left. Awaits D.address (chunks_of draft.new.chunks) tower.new (edited more left.now) whole) }
+    ensures longer { Longer draft.old.chunks draft.new.chunks }
+    ensures cause { IfErr result (IsReason D.address (chunks_of draft.new.chunks)) }
+{
+    let bytes = bytes_at(alloc, draft, address)?;
+    let leaf = node_of(&bytes);
+    edit_rows(tower, draft, edits, &leaf)
+}

@@ -1,0 +1,186 @@
+//! Rows and edits, merged by key and pushed onto a tower.
+
+ghost use Rattle.std.specs.Prelude.{◌≡◌, ◌++◌, ◌∷◌, [], ℕ, List, true, MatchOption, IfOk, IfErr, OnOk};
+ghost use Rattle.std.specs.Ordering.{is_lt};
+ghost use Rattle.tuple_codec.specs.Nodes.{Item, leaf_item};
+ghost use Rattle.tuple_codec.specs.Edits.{edited, order, putting, puts};
+ghost use Rattle.chunk_store.specs.Drafts.{Longer, chunks_of};
+ghost use Rattle.node_chunker.specs.Faults.{IsReason};
+ghost use Rattle.prolly_edit.specs.Stages.{Awaits, IsFirstAt, IsFirstBefore, are_not_before, is_past};
+
+use chunk_store::{Draft, PutFault};
+use node_chunker::Tower;
+use node_format::NodeRef;
+use tuple_codec::{Digester, Edit};
+
+/// Pushes a row.
+fn push<D: Digester>(
+    tower: &mut Tower,
+    draft: &mut Draft<D>,
+    key: &[u8],
+    value: &[u8],
+) -> Result<(), PutFault>
+    requires { (later whole : List Item) × Awaits D.address (chunks_of draft.old.chunks) tower.old (leaf_item key.now value.now ∷ later) whole }
+    ensures ok { (later whole : List Item) → Awaits D.address (chunks_of draft.old.chunks) tower.old (leaf_item key.now value.now ∷ later) whole
+        → OnOk result (Awaits D.address (chunks_of draft.new.chunks) tower.new later whole) }
+    ensures longer { Longer draft.old.chunks draft.new.chunks }
+    ensures cause { IfErr result (IsReason D.address (chunks_of draft.new.chunks)) }
+{
+    tower.push_row(draft, key, value)
+}
+
+/// Pushes what an edit puts.
+fn put_edit<D: Digester>(
+    tower: &mut Tower,
+    draft: &mut Draft<D>,
+    edit: &Edit,
+) -> Result<(), PutFault>
+    requires { (later whole : List Item) × Awaits D.address (chunks_of draft.old.chunks) tower.old (putting edit.now.key edit.now.value later) whole }
+    ensures ok { (later whole : List Item) → Awaits D.address (chunks_of draft.old.chunks) tower.old (putting edit.now.key edit.now.value later) whole
+        → OnOk result (Awaits D.address (chunks_of draft.new.chunks) tower.new later whole) }
+    ensures longer { Longer draft.old.chunks draft.new.chunks }
+    ensures cause { IfErr result (IsReason D.address (chunks_of draft.new.chunks)) }
+{
+    match &edit.value {
+        Some(value) => push(tower, draft, edit.key.as_slice(), value.as_slice()),
+        None => Ok(()),
+    }
+}
+
+/// Pushes what edits put behind all rows.
+pub(crate) fn put_edits<D: Digester>(
+    tower: &mut Tower,
+    draft: &mut Draft<D>,
+    edits: &[Edit],
+) -> Result<(), PutFault>
+    requires { (whole : List Item) × Awaits D.address (chunks_of draft.old.chunks) tower.old (puts edits.now) whole }
+    ensures ok { (whole : List Item) → Awaits D.address (chunks_of draft.old.chunks) tower.old (puts edits.now) whole
+        → OnOk result (Awaits D.address (chunks_of draft.new.chunks) tower.new [] whole) }
+    ensures longer { Longer draft.old.chunks draft.new.chunks }
+    ensures cause { IfErr result (IsReason D.address (chunks_of draft.new.chunks)) }
+{
+    for edit in edits {
+        put_edit(tower, draft, edit)?;
+    }
+    Ok(())
+}
+
+fn is_below(some: &[u8], other: &[u8]) -> bool
+    ensures { result ≡ is_lt (order some.now other.now) }
+{
+    some.cmp(other).is_lt()
+}
+
+/// The first edit and those after it, if its key is below this one.
+fn first_before<'a>(edits: &'a [Edit], key: &[u8]) -> Option<(&'a Edit, &'a [Edit])>
+    ensures { MatchOption result (are_not_before key.now edits.entry.now ≡ true) (λ p. IsFirstBefore key.now edits.entry.now p.0.now p.1.now) }
+{
+    match edits.split_first() {
+        None => None,
+        Some((edit, others)) => {
+            if is_below(edit.key.as_slice(), key) {
+                Some((edit, others))
+            } else {
+                None
+            }
+        }
+    }
+}
+
+/// The first edit and those after it, if its key is this one; else the first key, if there is one, is another.
+fn first_at<'a>(edits: &'a [Edit], key: &[u8]) -> Option<(&'a Edit, &'a [Edit])>
+    requires { are_not_before key.now edits.now ≡ true }
+    ensures { MatchOption result (is_past key.now edits.entry.now ≡ true) (λ p. IsFirstAt key.now edits.entry.now p.0.now p.1.now) }
+{
+    match edits.split_first() {
+        None => None,
+        Some((edit, others)) => {
+            if edit.key.as_slice() == key {
+                Some((edit, others))
+            } else {
+                None
+            }
+        }
+    }
+}
+
+/// Whether no edit is of this key or of one below it.
+pub(crate) fn is_past(edits: &[Edit], key: &[u8]) -> bool
+    ensures { result ≡ is_past key.now edits.now }
+{
+    match edits.split_first() {
+        None => true,
+        Some((edit, _)) => is_below(key, edit.key.as_slice()),
+    }
+}
+
+/// Pushes what the edits put below a key; those that are left.
+fn put_before<'a, D: Digester>(
+    tower: &mut Tower,
+    draft: &mut Draft<D>,
+    edits: &'a [Edit],
+    key: &[u8],
+) -> Result<&'a [Edit], PutFault>
+    requires { (row : Item) × (rows whole : List Item) × (row.key ≡ key.now) × Awaits D.address (chunks_of draft.old.chunks) tower.old (edited (row ∷ rows) edits.now) whole }
+    ensures ok { (row : Item) (rows whole : List Item) → row.key ≡ key.now → Awaits D.address (chunks_of draft.old.chunks) tower.old (edited (row ∷ rows) edits.now) whole
+        → IfOk result (λ left. Awaits D.address (chunks_of draft.new.chunks) tower.new (edited (row ∷ rows) left.now) whole) }
+    ensures first { IfOk result (λ left. are_not_before key.now left.now ≡ true) }
+    ensures longer { Longer draft.old.chunks draft.new.chunks }
+    ensures cause { IfErr result (IsReason D.address (chunks_of draft.new.chunks)) }
+{
+    let mut left = edits;
+    'lower: while let Some((edit, others)) = first_before(left, key) {
+        put_edit(tower, draft, edit)?;
+        left = others;
+    }
+    Ok(left)
+}
+
+/// Pushes a row with the edits up to its key; the edits that are left.
+fn edit_row<'a, D: Digester>(
+    tower: &mut Tower,
+    draft: &mut Draft<D>,
+    edits: &'a [Edit],
+    key: &[u8],
+    value: &[u8],
+) -> Result<&'a [Edit], PutFault>
+    requires { (rows whole : List Item) × Awaits D.address (chunks_of draft.old.chunks) tower.old (edited (leaf_item key.now value.now ∷ rows) edits.now) whole }
+    ensures ok { (rows whole : List Item) → Awaits D.address (chunks_of draft.old.chunks) tower.old (edited (leaf_item key.now value.now ∷ rows) edits.now) whole
+        → IfOk result (λ left. Awaits D.address (chunks_of draft.new.chunks) tower.new (edited rows left.now) whole) }
+    ensures longer { Longer draft.old.chunks draft.new.chunks }
+    ensures cause { IfErr result (IsReason D.address (chunks_of draft.new.chunks)) }
+{
+    let left = put_before(tower, draft, edits, key)?;
+    match first_at(left, key) {
+        Some((edit, others)) => {
+            put_edit(tower, draft, edit)?;
+            Ok(others)
+        }
+        None => {
+            push(tower, draft, key, value)?;
+            Ok(left)
+        }
+    }
+}
+
+/// Pushes the rows of a leaf with the edits up to its last key; the edits that are left.
+pub(crate) fn edit_rows<'a, D: Digester>(
+    tower: &mut Tower,
+    draft: &mut Draft<D>,
+    edits: &'a [Edit],
+    leaf: &NodeRef<'_>,
+) -> Result<&'a [Edit], PutFault>
+    requires leaf { leaf.now.level ≡ 0 }
+    requires awaits { (more whole : List Item) × Awaits D.address (chunks_of draft.old.chunks) tower.old (edited (leaf.now.items ++ more) edits.now) whole }
+    ensures ok { (more whole : List Item) → Awaits D.address (chunks_of draft.old.chunks) tower.old (edited (leaf.now.items ++ more) edits.now) whole
+        → IfOk result (λ left. Awaits D.address (chunks_of draft.new.chunks) tower.new (edited more left.now) whole) }
+    ensures longer { Longer draft.old.chunks draft.new.chunks }
+    ensures cause { IfErr result (IsReason D.address (chunks_of draft.new.chunks)) }
+{
+    let mut left = edits;
+    for at in 0..leaf.count() {
+        let (key, value) = leaf.leaf_item(at);
+        left = edit_row(tower, draft, left, key, value)?;
+    }
+    Ok(left)
+}

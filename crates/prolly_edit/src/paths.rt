@@ -1,0 +1,125 @@
+//! What a walk through a tree has left, apart from the draft that changes meanwhile.
+
+ghost use Rattle.std.specs.Prelude.{◌≡◌, ◌<◌, ◌∷◌, ◌++◌, [], ℕ, List, MatchOption, OnOk, length, map, reverse};
+ghost use Rattle.tuple_codec.specs.Nodes.{Item, Node};
+ghost use Rattle.node_format.specs.Views.{ref_of};
+ghost use Rattle.prolly_edit.specs.Fronts.{front_of, is_over, on_level};
+
+use node_format::RefItem;
+use smallvec::SmallVec;
+use std::alloc::{AllocError, Global};
+use std::default::MadeWith;
+use std::marker::Model;
+
+/// The names of nodes of one level, which stand in one node: the last comes first.
+#[derive(Debug, Drop)]
+pub(crate) struct Step {
+    level: u8,
+    names: Vec<RefItem>,
+}
+
+impl Model for Step {
+    ghost use Rattle.std.specs.Prelude.{map, reverse};
+    ghost use Rattle.tuple_codec.specs.Nodes.{Node};
+    ghost use Rattle.node_format.specs.Views.{ref_of};
+
+    ghost Value = { Node };
+
+    ghost view = { λ s. record { level = s.level; items = reverse (map ref_of s.names.items) } };
+}
+
+/// A step that has nothing left.
+impl MadeWith<Global> for Step {
+    fn made_with(alloc: Global) -> Step {
+        Step {
+            level: 0,
+            names: Vec::new(alloc),
+        }
+    }
+}
+
+impl Step {
+    /// The names of nodes of this level, given from the last to the first.
+    pub(crate) fn new(level: u8, names: Vec<RefItem>) -> Step
+        ensures { result ≡ record { level = level; items = reverse (map ref_of names.items) } }
+    {
+        Step { level, names }
+    }
+
+    fn level(&self) -> u8
+        ensures { result ≡ self.now.level }
+    {
+        self.level
+    }
+
+    fn is_empty(&self) -> bool
+        ensures { result ≡ is_over (on_level self.now.level self.now.items) }
+    {
+        self.names.is_empty()
+    }
+
+    /// Takes the first name.
+    fn next(&mut self) -> Option<RefItem>
+        ensures level { self.new.level ≡ self.old.level }
+        ensures items { MatchOption result (self.old.items ≡ []) (λ name. self.old.items ≡ ref_of name ∷ self.new.items) }
+    {
+        self.names.pop()
+    }
+}
+
+/// The nodes that a walk hasn't read yet, in the order of their keys; each step has a name.
+#[derive(Drop)]
+pub(crate) struct Path {
+    steps: SmallVec<Step, 4>,
+}
+
+impl Model for Path {
+    ghost use Rattle.prolly_edit.specs.Fronts.{Front, HaveNames, front_of};
+
+    ghost Value = { Front };
+
+    ghost view = { λ p. front_of p.steps.items };
+
+    ghost invariant = { λ p. HaveNames p.steps.items };
+}
+
+impl Path {
+    pub(crate) fn new(alloc: Global) -> Path
+        ensures { result ≡ [] }
+    {
+        Path {
+            steps: SmallVec::new(alloc),
+        }
+    }
+
+    pub(crate) fn is_empty(&self) -> bool
+        ensures { result ≡ is_over self.now }
+    {
+        self.steps.is_empty()
+    }
+
+    /// Puts nodes before all others.
+    pub(crate) fn push(&mut self, step: Step) -> Result<(), AllocError>
+        requires { 0 < length step.items }
+        ensures { OnOk result (self.new ≡ on_level step.level step.items ++ self.old) }
+    {
+        self.steps.push(step)?;
+        Ok(())
+    }
+
+    /// Takes the first node: its level, and the item that names it.
+    pub(crate) fn next(&mut self) -> Option<(u8, RefItem)>
+        ensures { MatchOption result (self.old ≡ []) (λ part. self.old ≡ (part.0, ref_of part.1) ∷ self.new) }
+    {
+        // a length is within the capacity, so a step that was taken out has room when it is put back
+        let _depth = self.steps.len();
+        let mut step = self.steps.pop()?;
+        let level = step.level();
+        let name = step.next()?;
+        if step.is_empty() {
+            return Some((level, name));
+        }
+        self.steps.push_reserved(step);
+        Some((level, name))
+    }
+}
