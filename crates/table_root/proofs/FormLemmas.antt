@@ -1,11 +1,10 @@
 -- What is written is read again, so each form has one spelling.
-use Rattle.std.proofs.Common.{◌≡◌, ℕ, zero, suc, ◌+◌, ◌*◌, ◌^◌, ◌<◌, ◌≤◌, Bool, true, false, cond, eqb, ltb, List, [], ◌∷◌, ◌++◌, length, map, take, drop, Option, Some, None, refl, sym, ap, subst, ◌∙◌, append_assoc, append-nil, arith}
+use Rattle.std.proofs.Common.{◌≡◌, ℕ, suc, ◌^◌, ◌<◌, Bool, true, List, [], ◌∷◌, ◌++◌, length, map, Option, Some, None, refl, sym, ap, subst, ◌∙◌, append_assoc, append-nil}
 use Rattle.std.specs.Prelude.{◌&&◌}
 use Rattle.std.specs.List.{flat_map, list_all}
 use Rattle.std.specs.Option.{option_map}
-use Rattle.std.specs.Int.{w16, w32, from_be_bytes, to_be_bytes}
+use Rattle.std.specs.Int.{w16, w32, to_be_bytes}
 use Rattle.std.proofs.lemmas.Bool.{and_parts, and_from, eqb-true}
-use Rattle.std.proofs.lemmas.List.{length-map}
 use Rattle.std.proofs.lemmas.List.Folds.{flat_map-map}
 use Rattle.std.proofs.lemmas.Nat.{from_be_bytes-to_be_bytes_2, from_be_bytes-to_be_bytes_4}
 use Rattle.tuple_codec.specs.declared.addresses.Address.{Address}
@@ -18,7 +17,7 @@ use Rattle.schema_model.specs.declared.schemas.Schema.{Schema}
 use Rattle.schema_model.proofs.PartLemmas.{IsReader, Takes, Takes-then, bind_some, bytes_again, bytes_takes, items_again, map_some, short_again, short_reader, some_is, takes}
 use Rattle.table_root.specs.Branches.{IsBranch, is_address_or_none}
 use Rattle.table_root.specs.Databases.{IsDatabase, entry_of, fits_name, has_address, named_bytes, written_database}
-use Rattle.table_root.specs.Reading.{address_at, after_kind, as_address, as_four, as_two, branch_of, database_of, four_at, merging_of, named_at, schema_text, table_of, two_at}
+use Rattle.table_root.specs.Reading.{address_at, as_address, as_four, as_two, branch_of, database_of, four_at, merging_of, named_at, schema_text, table_of, two_at}
 use Rattle.table_root.specs.Tables.{IsTable, is_address, written_table}
 use Rattle.table_root.specs.declared.records.NamedTable.{NamedTable}
 use Rattle.table_root.specs.declared.records.Table.{Table}

@@ -1,6 +1,5 @@
 -- What is found where an address stands for a plain table or database.
-use Rattle.std.proofs.Common.{◌≡◌, ℕ, suc, ◌+◌, ◌*◌, ◌^◌, ◌<◌, ◌≤◌, Bool, true, eqb, ltb, eq-eqb, List, [], ◌∷◌, ◌++◌, length, map, Option, Some, None, refl, sym, ap, subst, ◌∙◌, arith}
-use Rattle.std.specs.Prelude.{◌&&◌}
+use Rattle.std.proofs.Common.{◌≡◌, ℕ, suc, ◌^◌, ◌<◌, true, ltb, eq-eqb, List, [], ◌∷◌, length, map, Some, refl, sym, ap, subst, ◌∙◌}
 use Rattle.std.specs.List.{AllByRecursion, list_all}
 use Rattle.std.specs.Ordering.{nat_cmp, is_lt}
 use Rattle.std.specs.Cmp.Lexicographic.{slice_cmp}
@@ -22,9 +21,8 @@ use Rattle.chunk_store.specs.Standing.{AreHeld, IsThere, IsTree}
 use Rattle.tree_laws.proofs.Standing.{trees_lead}
 use Rattle.table_root.specs.Databases.{IsDatabaseFound, entry_of, fits_name, has_address, names_rise, written_database}
 use Rattle.table_root.specs.Standing.{DatabasesStand, HasTrees, IsDatabaseAt, IsTableAt, TablesStand, named_tables, table_of_lists}
-use Rattle.table_root.specs.Tables.{HasRoots, IsTableFound, is_address, written_table}
+use Rattle.table_root.specs.Tables.{IsTableFound, is_address, written_table}
 use Rattle.table_root.specs.declared.records.NamedTable as stored
-use Rattle.table_root.specs.declared.records.Table.{Table}
 use Rattle.table_root.proofs.FormLemmas.{databases_one}
 use Rattle.table_root.proofs.ReadLemmas.{tables_one}
 use Rattle.schema_model.proofs.PartLemmas.{some_is}

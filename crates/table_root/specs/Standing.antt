@@ -2,7 +2,6 @@
 use Rattle.std.specs.Prelude.{◌≡◌, ◌<◌, ◌^◌, ℕ, List, length, map}
 use Rattle.std.specs.List.{AllByRecursion}
 use Rattle.tuple_codec.specs.Trees.{root}
-use Rattle.tuple_codec.specs.declared.addresses.Address.{Address}
 use Rattle.schema_model.specs.PlainTables as plain
 use Rattle.schema_model.specs.PlainTables.{PlainDatabase, PlainTable, conflict_items, index_items, row_items, violation_items}
 use Rattle.schema_model.specs.SchemaBytes.{schema_bytes}

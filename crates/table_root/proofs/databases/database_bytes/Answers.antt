@@ -1,4 +1,4 @@
-use Rattle.std.proofs.Common.{◌≤◌, List, ℕ, length, refl, subst, sym, arith}
+use Rattle.std.proofs.Common.{◌≤◌, List, ℕ, length, subst, sym, arith}
 use Rattle.table_root.proofs.WriteLemmas.{database_join, database_size, short_fits}
 use Rattle.table_root.proofs.databases.database_bytes.Goals as goal
 

@@ -1,4 +1,4 @@
-use Rattle.std.proofs.Common.{◌≡◌, List, ◌∙◌, sym, ap, subst}
+use Rattle.std.proofs.Common.{List, ◌∙◌, sym, ap, subst}
 use Rattle.chunk_store.specs.Drafts.{chunks_of}
 use Rattle.schema_model.proofs.PartLemmas.{some_is}
 use Rattle.table_root.specs.Databases.{IsDatabaseFound, written_database}
