@@ -62,8 +62,8 @@ begin_goes address parts old new reads c b = record {
       let a = begin_alike (nodes_of parts) reads c.old_walk.front c.new_walk.front node other (b.old_items node is_old) (b.new_items other is_new) alike in (
         subst (λ (p : DraftParts). AreAligned (nodes_of p) c.old_walk.front c.new_walk.front) (sym b.old_parts) a.0,
         ap (λ (p : DraftParts). counted c.reads (2 * differing_ahead (nodes_of p) c.old_walk.front c.new_walk.front)) b.old_parts
-        ∙ ap (λ (n : ℕ). counted n (2 * differing_ahead (nodes_of parts) c.old_walk.front c.new_walk.front)) b.reads_are
-        ∙ a.1,
+            ∙ ap (λ (n : ℕ). counted n (2 * differing_ahead (nodes_of parts) c.old_walk.front c.new_walk.front)) b.reads_are
+            ∙ a.1,
       );
   few = let two = b.reads_are in omega (arith, two);
 }

@@ -9,8 +9,8 @@ ghost use Rattle.prolly_tree.specs.Lists.{StandsForRows, from_key, pair_of};
 ghost use Rattle.prolly_tree.specs.Walks.{CanScan, scan_rest};
 
 use crate::nodes::{node_at, place_of};
-use crate::steps::{Head, Step};
 use crate::paths::Path;
+use crate::steps::{Head, Step};
 use chunk_store::Draft;
 use smallvec::SmallVec;
 use std::alloc::{AllocError, Global};

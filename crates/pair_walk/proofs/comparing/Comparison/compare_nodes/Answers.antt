@@ -34,7 +34,7 @@ returns-in-Equal-2 g c =
     let second : c.args.self.now.new_walk.front ≡ (suc c.args.old.0, c.requires.new.0) ∷ drop 1 c.args.self.now.new_walk.front =
     subst (λ (n : ℕ). c.args.self.now.new_walk.front ≡ (suc n, c.requires.new.0) ∷ drop 1 c.args.self.now.new_walk.front) (sym level) c.requires.new.2 in
     let both = c.open_new-in-Equal-2.ensures
-        ∙ ap (λ (s : Compared). record { old_walk = s.old_walk; new_walk = descended s.new_walk; found = s.found; reads = counted s.reads 1 }) c.open_old-in-Equal-2.ensures in
+    ∙ ap (λ (s : Compared). record { old_walk = s.old_walk; new_walk = descended s.new_walk; found = s.found; reads = counted s.reads 1 }) c.open_old-in-Equal-2.ensures in
     subst (IsTurn c.args.self.now) (sym both)
     (turn_both_opened c.args.self.now c.args.old.0 c.requires.old.0 c.requires.new.0 c.requires.parts c.requires.old.2 second
     (ap (λ (a : List ℕ). bytes_eq a c.requires.new.0.body) c.requires.old.1 ∙ ap (bytes_eq c.args.old.1.0) c.requires.new.1 ∙ sym c.eq.ensures ∙ c.if-eq.false))
