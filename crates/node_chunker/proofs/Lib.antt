@@ -3,7 +3,7 @@ pub mod GrowthLemmas
 pub mod NodeLemmas
 pub mod ClosingLemmas
 pub mod ClimbLemmas
-mod NumberedLemmas
+pub mod NumberedLemmas
 mod Vectors
 pub mod RefLemmas
 pub mod SubtreeLemmas
