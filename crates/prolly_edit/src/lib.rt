@@ -9,3 +9,6 @@ mod paths;
 mod reading;
 
 pub use applying::apply;
+
+#[cfg(test)]
+mod tests;
