@@ -7,3 +7,6 @@ mod reads;
 pub use comparing::changes;
 pub use reads::Reads;
 pub use tuple_codec::Change;
+
+#[cfg(test)]
+mod tests;
