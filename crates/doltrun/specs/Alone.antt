@@ -4,10 +4,11 @@ use Rattle.std.specs.Option.{option_and_then}
 use Rattle.std.specs.List.{list_all, IsDistinct}
 use Rattle.std.specs.Str.{bytes_eq}
 use Rattle.script_text.specs.Input.{most_statements}
-use Rattle.script_text.specs.Output.{Shortage, AtOnce, AfterStart, shortage}
+use Rattle.chunk_store.specs.declared.faults.Clash.{Clash}
+use Rattle.script_text.specs.Output.{Shortage, AtOnce, AfterStart, Clashes, shortage}
 use Rattle.script_text.specs.Shown.{is_printable_reply, is_shown_name, is_shown_reply}
 use Rattle.script_text.specs.declared.replies.Reply.{Reply}
-use Rattle.script_text.specs.declared.replies.Reply.TheVariants.{Refused}
+use Rattle.script_text.specs.declared.replies.Reply.TheVariants.{Refused, Collided}
 use Rattle.script_text.specs.declared.scripts.Line.{Line}
 use Rattle.script_text.specs.declared.scripts.Moment.{Moment}
 use Rattle.script_text.specs.declared.scripts.Script.{Script}
@@ -39,6 +40,11 @@ abbrev pub served_by : Tables → Option Statement → Served
 served_by database None = stays 9013 0 database
 served_by database (Some statement) = performed database (effect database statement)
 
+-- two byte strings of one address were met: the start of a statement is in the order, and nothing else of it
+abbrev pub collided_by : Clash → Tables → Option Statement → Served
+collided_by clash database None = record { reply = Collided clash; moments = 0; database = database }
+collided_by clash database (Some statement) = record { reply = Collided clash; moments = 1; database = database }
+
 abbrev pub starved_by : Tables → Option Statement → Option Served
 starved_by database None = None
 starved_by database (Some statement) = Some (stays 2 1 database)
@@ -48,6 +54,7 @@ abbrev pub served : Option Shortage → Tables → List ℕ → Option Served
 served None database text = Some (served_by database (read text))
 served (Some AtOnce) database text = Some (stays 1 0 database)
 served (Some AfterStart) database text = starved_by database (read text)
+served (Some (Clashes clash)) database text = Some (collided_by clash database (read text))
 
 -- a session that has answered so many statements, before its next one
 abbrev pub session_after : ℕ → Session
@@ -64,7 +71,7 @@ resting answers lines place (replies ∷ spoken) = runner_of answers lines place
 abbrev pub state_before : Shortages → List Line → Tables → List (List Reply) → State
 state_before answers lines database spoken = record { shared = record { working = database }; runners = resting answers lines 0 spoken }
 
--- the wants of memory are those that the replies tell
+-- the wants of memory and collisions are those that the replies tell
 abbrev pub Agrees : Shortages → List (List Reply) → Type 0
 Agrees answers spoken = (place at : ℕ) (replies : List Reply) → slice_get spoken place ≡ Some replies → at < length replies
     → answers place (at + 1) ≡ option_and_then shortage (slice_get replies at)

@@ -3,13 +3,17 @@ use Rattle.std.specs.Prelude.{◌≡◌, ℕ, pos, ◌+◌, Bool, false, List, [
 use Rattle.std.specs.Str.{bytes_eq}
 use Rattle.std.specs.Fmt.{decimal}
 use Rattle.std.specs.Io.KnownBytes.{Appends, IsAtEnd}
+use Rattle.chunk_store.specs.declared.faults.Clash.{Clash}
+use Rattle.schema_model.specs.WrittenForms.{commit_bytes, database_bytes}
+use Rattle.script_text.specs.Collisions.{AllTellTruly, IsCollision}
 use Rattle.script_text.specs.Input.{script, most_bytes}
-use Rattle.script_text.specs.Output.{newline, text}
+use Rattle.script_text.specs.Output.{clash_text, newline, text}
 use Rattle.script_text.specs.Shown.{IsShown}
 use Rattle.script_text.specs.declared.faults.BadScript.{BadScript}
 use Rattle.script_text.specs.declared.outputs.RunText.{RunText}
 use Rattle.script_text.specs.declared.scripts.Script.{Script}
 use Rattle.plain_model.specs.Machine.{IsPlainRun, IsTextOrder}
+use Rattle.plain_model.specs.PlainViews.{first_commit}
 
 -- the bytes of the words
 abbrev pub spelled : {A : Type 0} → List (String A) → List (List ℕ)
@@ -28,6 +32,16 @@ usage_line = codes "usage: doltrun ordered|threads|replay [--epoch N] | load --s
 abbrev pub fault_line : BadScript → List ℕ
 fault_line bad = codes "script line " ++ decimal bad.line ++ codes " rule " ++ decimal bad.rule ++ newline
 
+-- the line that two chunks of one address are told by
+abbrev pub collision_line : Clash → List ℕ
+collision_line clash = codes "collision" ++ clash_text clash ++ newline
+
+-- the two chunks that a database is opened with, the empty database and the first commit, have one address
+pub record IsOpeningClash (address : List ℕ → List ℕ) (clash : Clash) : Type 0 where
+  pub collision : IsCollision address clash
+  pub database : clash.first ≡ database_bytes address []
+  pub commit : clash.second ≡ commit_bytes (first_commit address (pos 0))
+
 -- no more bytes than these are taken from a source: one above the longest script's
 abbrev pub most_taken : ℕ
 most_taken = most_bytes + 1
@@ -38,21 +52,23 @@ HasScript None read = Unit {0}
 HasScript (Some input) read = script input ≡ read
 
 -- The text that was written is that of a run which is the plain machine's run of the script, along the order and with
--- the wants of memory that the text shows; the order is the script's own; and the text shows no other run.
-pub record IsAnswer (read : Result Script BadScript) (written : List ℕ) : Type 0 where
+-- the wants of memory and collisions that the text shows; the order is the script's own; each collision is one of two byte
+-- strings of that address; and the text shows no other run.
+pub record IsAnswer (address : List ℕ → List ℕ) (read : Result Script BadScript) (written : List ℕ) : Type 0 where
   pub script : Script
   pub run : RunText
   pub reads : read ≡ Ok script
-  pub runs : IsPlainRun (pos 0) script run
+  pub runs : IsPlainRun address (pos 0) script run
+  pub truly : AllTellTruly address run.replies
   pub ordered : IsTextOrder script run.order
   pub shown : IsShown run
   pub prints : written ≡ text run
 
 -- the whole input was read, and the whole answer to its script was appended
-pub record WritesAnswer (told left old new : Option (List ℕ)) : Type 0 where
+pub record WritesAnswer (address : List ℕ → List ℕ) (told left old new : Option (List ℕ)) : Type 0 where
   pub read : Result Script BadScript
   pub script : HasScript told read
   pub ended : IsAtEnd left
   pub written : List ℕ
-  pub answers : IsAnswer read written
+  pub answers : IsAnswer address read written
   pub writes : Appends old new written

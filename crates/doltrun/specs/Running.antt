@@ -1,19 +1,26 @@
 -- A run under way in the program.
-use Rattle.std.specs.Prelude.{◌≡◌, ℕ, ◌*◌, ◌≤◌, true, List, length, map, vec_capacity}
+use Rattle.std.specs.Prelude.{◌≡◌, ℕ, ◌*◌, ◌≤◌, true, List, [], length, map, vec_capacity}
 use Rattle.std.specs.List.{All}
+use Rattle.chunk_store.specs.Drafts.{chunks_of}
+use Rattle.script_text.specs.Collisions.{AllTellTruly}
 use Rattle.script_text.specs.declared.replies.Reply.{Reply}
 use Rattle.script_text.specs.declared.scripts.Script.{Script}
-use Rattle.plain_model.specs.Sound.{is_sound_database}
+use Rattle.plain_model.specs.Tables.{Tables}
+use Rattle.table_statements.specs.Keeping.{AreTablesAt, IsNamed}
 use Rattle.doltrun.specs.Alone.{IsRunTo}
 use Rattle.doltrun.specs.declared.running.Running.{Running}
 
 -- the replies so far, by session
-abbrev pub spoken : Running → List (List Reply)
+abbrev pub spoken : {D : Type 0} → Running D → List (List Reply)
 spoken running = map (λ replies. replies.items) running.replies.items
 
--- the first lines of the script were run, and there is room for what the others answer
-pub record IsRunningAt (script : Script) (count : ℕ) (running : Running) : Type 0 where
-  pub run : IsRunTo script count running.order.items running.database (spoken running)
-  pub sound : is_sound_database running.database ≡ true
+-- the first lines of the script were run, the working address stands for the database that they made, and there is room
+-- for what the others answer
+pub record IsRunningAt {D : Type 0} (address : List ℕ → List ℕ) (script : Script) (count : ℕ) (running : Running D) : Type 0 where
+  pub tables : Tables
+  pub run : IsRunTo script count running.order.items tables (spoken running)
+  pub stands : AreTablesAt address (chunks_of running.draft.chunks) running.working.0 tables
+  pub named : IsNamed address running.draft.chunks
+  pub truly : AllTellTruly address (spoken running)
   pub replies_room : All (λ replies. length script.lines ≤ vec_capacity replies) running.replies.items
   pub order_room : 2 * length script.lines ≤ vec_capacity running.order

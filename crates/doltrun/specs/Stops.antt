@@ -3,11 +3,12 @@ use Rattle.std.specs.Prelude.{◌≡◌, ◌⊎◌, ℕ, ◌<◌, true, false, L
 use Rattle.std.specs.Io.KnownBytes.{Appends}
 use Rattle.script_text.specs.Input.{script}
 use Rattle.script_text.specs.declared.faults.BadScript.{BadScript}
-use Rattle.script_text.specs.declared.faults.ScriptFault.{ScriptFault}
-use Rattle.script_text.specs.declared.faults.ScriptFault.TheVariants as fault
+use Rattle.chunk_store.specs.declared.faults.Clash.{Clash}
 use Rattle.script_text.specs.declared.scripts.Script.{Script}
 use Rattle.wire_io.specs.Moves.{AppendsFront}
-use Rattle.doltrun.specs.Headline.{HasScript, IsAnswer, fault_line, is_form, usage_line}
+use Rattle.doltrun.specs.Headline.{HasScript, IsAnswer, IsOpeningClash, collision_line, fault_line, is_form, usage_line}
+use Rattle.doltrun.specs.declared.answering.NoAnswer.{NoAnswer}
+use Rattle.doltrun.specs.declared.answering.NoAnswer.TheVariants as fault
 use Rattle.doltrun.specs.declared.status.Status.{Status}
 use Rattle.doltrun.specs.declared.status.Status.TheVariants as status
 
@@ -17,24 +18,34 @@ pub record WritesFault (told old new : Option (List ℕ)) : Type 0 where
   pub breaks : HasScript told (Err bad)
   pub writes : Appends old new (fault_line bad)
 
+-- the script was read, and the two chunks that a database is opened with, which have one address, were appended
+pub record WritesCollision (address : List ℕ → List ℕ) (told old new : Option (List ℕ)) : Type 0 where
+  pub script : Script
+  pub reads : HasScript told (Ok script)
+  pub clash : Clash
+  pub opens : IsOpeningClash address clash
+  pub writes : Appends old new (collision_line clash)
+
 -- a text that is written whole where the sink doesn't fail
-pub data IsToWrite (words : List (List ℕ)) (told : Option (List ℕ)) (written : List ℕ) : Type 0 where
-  Answers : (read : Result Script BadScript) → is_form words ≡ true → HasScript told read → IsAnswer read written → IsToWrite words told written
-  Faults : (bad : BadScript) → is_form words ≡ true → HasScript told (Err bad) → written ≡ fault_line bad → IsToWrite words told written
-  Uses : is_form words ≡ false → written ≡ usage_line → IsToWrite words told written
+pub data IsToWrite (address : List ℕ → List ℕ) (words : List (List ℕ)) (told : Option (List ℕ)) (written : List ℕ) : Type 0 where
+  Answers : (read : Result Script BadScript) → is_form words ≡ true → HasScript told read → IsAnswer address read written → IsToWrite address words told written
+  Faults : (bad : BadScript) → is_form words ≡ true → HasScript told (Err bad) → written ≡ fault_line bad → IsToWrite address words told written
+  Collides : (script : Script) (clash : Clash) → is_form words ≡ true → HasScript told (Ok script) → IsOpeningClash address clash → written ≡ collision_line clash → IsToWrite address words told written
+  Uses : is_form words ≡ false → written ≡ usage_line → IsToWrite address words told written
 
 -- a part of such a text was appended, and the sink promised no room for the whole of it
-pub record FallsShort (words : List (List ℕ)) (told old new : Option (List ℕ)) (room : ℕ) : Type 0 where
+pub record FallsShort (address : List ℕ → List ℕ) (words : List (List ℕ)) (told old new : Option (List ℕ)) (room : ℕ) : Type 0 where
   pub written : List ℕ
-  pub wanted : IsToWrite words told written
+  pub wanted : IsToWrite address words told written
   pub wider : room < length written
   pub writes : AppendsFront old new written
 
 -- what bytes come to: the answer to their script, or the fault of it
-abbrev pub Comes : List ℕ → Result (List ℕ) ScriptFault → Type 0
-Comes bytes (Ok written) = IsAnswer (script bytes) written
-Comes bytes (Err fault.Memory) = Unit {0}
-Comes bytes (Err (fault.Bad bad)) = script bytes ≡ Err bad
+abbrev pub Comes : (List ℕ → List ℕ) → List ℕ → Result (List ℕ) NoAnswer → Type 0
+Comes address bytes (Ok written) = IsAnswer address (script bytes) written
+Comes address bytes (Err fault.Memory) = Unit {0}
+Comes address bytes (Err (fault.Bad bad)) = script bytes ≡ Err bad
+Comes address bytes (Err (fault.Collision clash)) = ((read : Script) × (script bytes ≡ Ok read)) × IsOpeningClash address clash
 
 -- the told input has a line that breaks a rule
 abbrev pub IsTold : Option (List ℕ) → BadScript → Type 0
@@ -46,14 +57,20 @@ abbrev pub StopsThere : Status → Type 0
 StopsThere result = (result ≡ status.Script) ⊎ (result ≡ status.Read) ⊎ (result ≡ status.Write) ⊎ (result ≡ status.Memory)
 
 -- the answer to the script of these bytes was appended
-pub record AnswersAll (bytes : List ℕ) (old new : Option (List ℕ)) : Type 0 where
+pub record AnswersAll (address : List ℕ → List ℕ) (bytes : List ℕ) (old new : Option (List ℕ)) : Type 0 where
   pub written : List ℕ
-  pub answers : IsAnswer (script bytes) written
+  pub answers : IsAnswer address (script bytes) written
   pub writes : Appends old new written
 
--- a part was appended of what these bytes come to
-pub record AnswersPart (bytes : List ℕ) (old new : Option (List ℕ)) (room : ℕ) : Type 0 where
+-- what these bytes come to: an answer, a fault, or a collision
+pub data IsWanted (address : List ℕ → List ℕ) (bytes written : List ℕ) : Type 0 where
+  Answer : IsAnswer address (script bytes) written → IsWanted address bytes written
+  Fault : (bad : BadScript) → script bytes ≡ Err bad → written ≡ fault_line bad → IsWanted address bytes written
+  Clash : (read : Script) (clash : Clash) → script bytes ≡ Ok read → IsOpeningClash address clash → written ≡ collision_line clash → IsWanted address bytes written
+
+-- a part was appended of it
+pub record AnswersPart (address : List ℕ → List ℕ) (bytes : List ℕ) (old new : Option (List ℕ)) (room : ℕ) : Type 0 where
   pub written : List ℕ
-  pub wanted : IsAnswer (script bytes) written ⊎ ((bad : BadScript) × (script bytes ≡ Err bad) × (written ≡ fault_line bad))
+  pub wanted : IsWanted address bytes written
   pub wider : room < length written
   pub writes : AppendsFront old new written

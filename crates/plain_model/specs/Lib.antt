@@ -2,6 +2,7 @@ pub mod Stops
 pub mod Tokens
 pub mod Language
 pub mod Tables
+pub mod PlainViews
 pub mod Effects
 pub mod Machine
 pub mod Sound

@@ -3,15 +3,17 @@ use Rattle.std.specs.Prelude.{◌≡◌, ℕ, ℤ, Bool, true, false, ◌==◌, 
 use Rattle.std.specs.Prelude.{slice_get, slice_set}
 use Rattle.std.specs.Option.{option_map, option_map_or, option_and_then}
 use Rattle.std.specs.List.{list_all}
-use Rattle.script_text.specs.Output.{Shortage, AtOnce, AfterStart, shortages_in}
+use Rattle.chunk_store.specs.declared.faults.Clash.{Clash}
+use Rattle.script_text.specs.Output.{Shortage, AtOnce, AfterStart, Clashes, shortages_in}
 use Rattle.script_text.specs.declared.outputs.RunText.{RunText}
 use Rattle.script_text.specs.declared.replies.Reply.{Reply}
-use Rattle.script_text.specs.declared.replies.Reply.TheVariants.{Done, Count, Rows, Refused}
+use Rattle.script_text.specs.declared.replies.Reply.TheVariants.{Done, Count, Rows, Refused, Collided}
 use Rattle.script_text.specs.declared.scripts.Line.{Line}
 use Rattle.script_text.specs.declared.scripts.Moment.{Moment}
 use Rattle.script_text.specs.declared.scripts.Script.{Script}
 use Rattle.plain_model.specs.Effects.{Effect, effect}
 use Rattle.plain_model.specs.Language.{read}
+use Rattle.plain_model.specs.PlainViews.{main_branch}
 use Rattle.plain_model.specs.Tables.{Tables, is_same_database}
 use Rattle.plain_model.specs.declared.statements.Statement.{Statement}
 
@@ -45,7 +47,7 @@ pub record State : Type 0 where
   pub shared : Shared
   pub runners : List Runner
 
--- which statements find no memory, by session and by the statement's number
+-- which statements find no memory or meet two byte strings of one address, by session and by the statement's number
 abbrev pub Shortages : Type 0
 Shortages = ℕ → ℕ → Option Shortage
 
@@ -67,6 +69,7 @@ is_refusal Done = false
 is_refusal (Count rows) = false
 is_refusal (Rows answer) = false
 is_refusal (Refused number) = true
+is_refusal (Collided clash) = true
 
 -- the next statement comes
 abbrev pub past : ℕ → Said → Said
@@ -83,6 +86,7 @@ abbrev pub alone_by : Option Shortage → Session → List ℕ → Option Said
 alone_by None session text = effect_alone session text
 alone_by (Some AtOnce) session text = Some (session, Refused 1)
 alone_by (Some AfterStart) session text = None
+alone_by (Some (Clashes clash)) session text = option_map_or (λ statement. None) (read text) (Some (session, Collided clash))
 
 abbrev pub alone : Option Shortage → Session → List ℕ → Option Said
 alone answer session text = option_map (past session.statement) (if is_before_statement session.place then alone_by answer session text else None)
@@ -98,6 +102,7 @@ abbrev pub start_by : Option Shortage → Shared → Session → Statement → O
 start_by None shared session statement = Some (shared, started session shared.working (effect shared.working statement))
 start_by (Some AtOnce) shared session statement = None
 start_by (Some AfterStart) shared session statement = Some (shared, Past (session, Refused 2))
+start_by (Some (Clashes clash)) shared session statement = Some (shared, Past (session, Collided clash))
 
 -- a decision: where the database is the one at the start, it becomes the transaction's own. (Where another session
 -- changed it in between, a merge would decide; no session of a script with one name meets that, and the machine is
@@ -179,17 +184,23 @@ runners_of answers lines place (name ∷ names) = advance (answers place) (state
 abbrev pub opening : Shortages → Script → State
 opening answers script = record { shared = record { working = [] }; runners = runners_of answers script.lines 0 script.names }
 
-abbrev pub shown : Script → List Moment → State → RunText
-shown script order state = record { names = script.names; replies = map (λ runner. runner.replies) state.runners; order = order }
+-- what a state shows: its replies, and its branches with the addresses of what they hold
+abbrev pub shown : (List ℕ → List ℕ) → ℤ → Script → List Moment → State → RunText
+shown address epoch script order state = record {
+  names = script.names;
+  replies = map (λ runner. runner.replies) state.runners;
+  order = order;
+  branches = main_branch address epoch state.shared.working ∷ [];
+}
 
--- the run of a script along an order, with these wants of memory; none where the order is not one of the script's. Commits
--- would bear the epoch; no statement here makes one.
-abbrev pub plain_run : Script → List Moment → Shortages → ℤ → Option RunText
-plain_run script order answers epoch = option_map (shown script order) (run_along answers order (opening answers script))
+-- the run of a script along an order, with these answers that no rule tells; none where the order is not one of the
+-- script's. The first commit bears the epoch.
+abbrev pub plain_run : (List ℕ → List ℕ) → Script → List Moment → Shortages → ℤ → Option RunText
+plain_run address script order answers epoch = option_map (shown address epoch script order) (run_along answers order (opening answers script))
 
--- what a run shows is the machine's run along the order, and with the wants of memory, that it shows itself
-abbrev pub IsPlainRun : ℤ → Script → RunText → Type 0
-IsPlainRun epoch script run = plain_run script run.order (shortages_in run.replies) epoch ≡ Some run
+-- what a run shows is the machine's run along the order, and with the wants of memory and collisions, that it shows itself
+abbrev pub IsPlainRun : (List ℕ → List ℕ) → ℤ → Script → RunText → Type 0
+IsPlainRun address epoch script run = plain_run address script run.order (shortages_in run.replies) epoch ≡ Some run
 
 -- the line of a session's statement, counted from 0; the number of all lines where there is none
 abbrev pub line_of : ℕ → List Line → ℕ → ℕ → ℕ

@@ -3,3 +3,4 @@ pub mod LineParts
 pub mod Output
 pub mod Reading
 pub mod Shown
+pub mod Collisions

@@ -1,14 +1,19 @@
--- The text of a run: replies by session, then the order of moments.
+-- The text of a run: replies by session, then the order of moments, then the branches.
 use Rattle.std.specs.Prelude.{ℕ, ◌==◌, ◌+◌, ◌-◌, List, [], ◌∷◌, ◌++◌, length, codes, slice_get, slice_index_or, unwrap_or, Option, Some, None, if◌then◌else◌}
 use Rattle.std.specs.List.{join_with_byte, flat_map}
 use Rattle.std.specs.Option.{option_and_then}
 use Rattle.std.specs.Fmt.{decimal}
+use Rattle.hex.specs.Hex.{encode_lower}
+use Rattle.tuple_codec.specs.AddressTexts.{address_text}
+use Rattle.tuple_codec.specs.declared.addresses.Address.{Address}
 use Rattle.tuple_codec.specs.declared.answers.Answer.{Answer}
 use Rattle.tuple_codec.specs.declared.values.SqlType.{SqlType}
 use Rattle.tuple_codec.specs.declared.values.Value.{Value}
+use Rattle.chunk_store.specs.declared.faults.Clash.{Clash}
+use Rattle.script_text.specs.declared.outputs.BranchLine.{BranchLine}
 use Rattle.script_text.specs.declared.outputs.RunText.{RunText}
 use Rattle.script_text.specs.declared.replies.Reply.{Reply}
-use Rattle.script_text.specs.declared.replies.Reply.TheVariants.{Done, Count, Rows, Refused}
+use Rattle.script_text.specs.declared.replies.Reply.TheVariants.{Done, Count, Rows, Refused, Collided}
 use Rattle.script_text.specs.declared.scripts.Moment.{Moment}
 use Rattle.value_text.specs.Values.{row_text}
 
@@ -61,11 +66,16 @@ refusal_text number =
     if number == 9017 then Some (codes "not a fast-forward") else
     None))))))))))))))))))))))))))))))))
 
+-- the address that two byte strings have, and both of them, each behind a space
+abbrev pub clash_text : Clash → List ℕ
+clash_text clash = codes " " ++ address_text clash.address.0 ++ codes " " ++ encode_lower clash.first ++ codes " " ++ encode_lower clash.second
+
 abbrev pub reply_text : Reply → List ℕ
 reply_text Done = codes "ok"
 reply_text (Count rows) = codes "ok " ++ decimal rows
 reply_text (Rows answer) = answer_text answer
 reply_text (Refused number) = codes "refused " ++ decimal number ++ codes " " ++ unwrap_or (refusal_text number) []
+reply_text (Collided clash) = codes "refused 3 collision" ++ clash_text clash
 
 -- the replies of a session, each behind its statement's number
 abbrev pub reply_lines : ℕ → List Reply → List ℕ
@@ -84,13 +94,26 @@ moment_text names moment = codes " " ++ slice_index_or names moment.session [] +
 abbrev pub order_line : List (List ℕ) → List Moment → List ℕ
 order_line names order = codes "order" ++ flat_map (moment_text names) order ++ newline
 
-abbrev pub text : RunText → List ℕ
-text run = session_lines run.names run.replies ++ order_line run.names run.order
+-- the commit of a merge in progress, if there is one
+abbrev pub merging_text : Option Address → List ℕ
+merging_text None = []
+merging_text (Some commit) = codes " merging " ++ address_text commit.0
 
--- a want of memory, as a reply tells it: before the statement took a moment, or after its start
+-- a branch's name, and the addresses of its newest commit, of its working and of its staged database
+abbrev pub branch_line : BranchLine → List ℕ
+branch_line branch =
+    codes "branch " ++ branch.name ++ codes " " ++ address_text branch.rec.head.0 ++ codes " " ++ address_text branch.rec.working.0
+    ++ codes " " ++ address_text branch.rec.staged.0 ++ merging_text branch.rec.merging ++ newline
+
+abbrev pub text : RunText → List ℕ
+text run = session_lines run.names run.replies ++ order_line run.names run.order ++ flat_map branch_line run.branches
+
+-- what a statement met that no rule of SQL tells, as its reply says: a want of memory before it took a moment, one after
+-- its start, or two byte strings of one address
 pub data Shortage : Type 0 where
   AtOnce : Shortage
   AfterStart : Shortage
+  Clashes : Clash → Shortage
 
 abbrev pub shortage_of : ℕ → Option Shortage
 shortage_of number = if number == 1 then Some AtOnce else (if number == 2 then Some AfterStart else None)
@@ -100,7 +123,8 @@ shortage Done = None
 shortage (Count rows) = None
 shortage (Rows answer) = None
 shortage (Refused number) = shortage_of number
+shortage (Collided clash) = Some (Clashes clash)
 
--- which statements were refused for want of memory, by session and by the statement's number
+-- which statements were answered so, by session and by the statement's number
 abbrev pub shortages_in : List (List Reply) → ℕ → ℕ → Option Shortage
 shortages_in replies session statement = option_and_then shortage (slice_get (slice_index_or replies session []) (statement - 1))

@@ -11,7 +11,7 @@ use Rattle.script_text.specs.Input.{is_name_byte, is_name}
 use Rattle.script_text.specs.Output.{reply_text, refusal_text, shortages_in, text}
 use Rattle.script_text.specs.declared.outputs.RunText.{RunText}
 use Rattle.script_text.specs.declared.replies.Reply.{Reply}
-use Rattle.script_text.specs.declared.replies.Reply.TheVariants.{Done, Count, Rows, Refused}
+use Rattle.script_text.specs.declared.replies.Reply.TheVariants.{Done, Count, Rows, Refused, Collided}
 use Rattle.script_text.specs.declared.scripts.Moment.{Moment}
 
 -- a decimal stands only under a type that tells its scale
@@ -35,6 +35,7 @@ is_printable_reply Done = true
 is_printable_reply (Count rows) = true
 is_printable_reply (Rows answer) = is_printable_answer answer
 is_printable_reply (Refused number) = is_some (refusal_text number)
+is_printable_reply (Collided clash) = true
 
 abbrev pub is_printable_moment : ℕ → Moment → Bool
 is_printable_moment sessions moment = nat_lt moment.session sessions
@@ -49,11 +50,19 @@ pub record IsPrintable (run : RunText) : Type 0 where
 abbrev pub is_one_line : List ℕ → Bool
 is_one_line bytes = list_all (λ byte. not (byte == 10)) bytes
 
+abbrev pub are_bytes : List ℕ → Bool
+are_bytes bytes = list_all (λ byte. nat_lt byte 256) bytes
+
+-- twenty bytes
+abbrev pub is_whole_address : List ℕ → Bool
+is_whole_address bytes = length bytes == 20 && are_bytes bytes
+
 abbrev pub is_shown_reply : Reply → Bool
 is_shown_reply Done = true
 is_shown_reply (Count rows) = true
 is_shown_reply (Rows answer) = nat_lt (length answer.rows) (2 ^ 64) && list_all is_one_line answer.names
 is_shown_reply (Refused number) = is_some (refusal_text number)
+is_shown_reply (Collided clash) = is_whole_address clash.address.0 && are_bytes clash.first && are_bytes clash.second
 
 abbrev pub is_shown_name : List ℕ → Bool
 is_shown_name name = is_name name && list_all is_name_byte name
@@ -73,8 +82,8 @@ pub record IsShown (run : RunText) : Type 0 where
 abbrev pub reply_texts : List (List Reply) → List (List (List ℕ))
 reply_texts replies = map (λ session. map reply_text session) replies
 
--- two runs of one text have the same sessions, the same printed replies, the same refusals for want of memory and the
--- same order of moments
+-- two runs of one text have the same sessions, the same printed replies, the same statements refused for want of memory or
+-- for a collision, with the same byte strings, and the same order of moments
 pub record IsSameShown (a b : RunText) : Type 0 where
   pub names : a.names ≡ b.names
   pub replies : reply_texts a.replies ≡ reply_texts b.replies

@@ -20,7 +20,7 @@ mod tests;
 
 pub use faults::{BadScript, ScriptFault};
 pub use law::one_reading;
-pub use outputs::RunText;
+pub use outputs::{BranchLine, RunText};
 pub use printing::print_output;
 pub use reading::read_script;
 pub use replies::Reply;

@@ -1,3 +1,4 @@
+use chunk_store::Clash;
 use tuple_codec::Answer;
 
 /// What a statement answers.
@@ -9,4 +10,6 @@ pub enum Reply {
     Rows(Answer),
     /// The number of the refusal; each has its text.
     Refused(u16),
+    /// Two byte strings of one address were met: number 3.
+    Collided(Clash),
 }

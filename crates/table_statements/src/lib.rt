@@ -1,0 +1,16 @@
+//! Statements on databases that a draft keeps as trees.
+//!
+//! The crates above use the clauses of [`execute`]: it answers and leaves exactly what the plain machine's `effect` says
+//! of the tables that the address stands for.
+#![tactic(auto)]
+
+mod creating;
+mod executing;
+mod inserting;
+mod selecting;
+mod tables;
+
+pub use executing::{Executed, execute};
+
+#[cfg(test)]
+mod tests;
