@@ -2,16 +2,19 @@
 
 ghost use Rattle.std.specs.Prelude.{◌≡◌, ◌++◌, ◌∷◌, IfOk, OnOk, length};
 ghost use Rattle.std.specs.List.{flat_map, join_with_byte};
-ghost use Rattle.script_text.specs.Output.{answer_text, moment_text, order_line, reply_lines, reply_text, row_lines, session_lines, text};
+ghost use Rattle.script_text.specs.Output.{answer_text, branch_line, clash_text, merging_text, moment_text, order_line, reply_lines, reply_text, row_lines, session_lines, text};
+ghost use Rattle.hex.specs.Hex.{encode_lower};
+ghost use Rattle.tuple_codec.specs.AddressTexts.{address_text};
 ghost use Rattle.script_text.specs.Shown.{IsPrintable};
 ghost use Rattle.script_text.specs.declared.replies.Reply.TheVariants.{Refused};
 
-use crate::outputs::RunText;
+use crate::outputs::{BranchLine, RunText};
 use crate::refusals::refusal_words;
 use crate::replies::Reply;
 use crate::scripts::Moment;
+use chunk_store::Clash;
 use std::alloc::{AllocError, Global};
-use tuple_codec::{Answer, Blob, Row, Sequence, SqlType, Text};
+use tuple_codec::{Address, Answer, Blob, Row, Sequence, SqlType, Text};
 use value_text::{push_number, push_row};
 
 /// The text of a run: for each session its name and its replies, and then the order of the moments.
@@ -27,6 +30,7 @@ pub fn print_output(alloc: Global, run: &RunText) -> Result<Blob, AllocError>
         run.replies.as_slice(),
     )?;
     push_order(alloc, &mut out, run.names.as_slice(), run.order.as_slice())?;
+    push_branches(&mut out, run.branches.as_slice())?;
     Ok(Blob::from_vec(out))
 }
 
@@ -73,6 +77,10 @@ fn push_reply(alloc: Global, out: &mut Vec<u8>, reply: &Reply) -> Result<(), All
         }
         Reply::Rows(answer) => push_answer(alloc, out, answer),
         Reply::Refused(number) => push_refusal(alloc, out, *number),
+        Reply::Collided(clash) => {
+            out.extend_from_slice(b"refused 3 collision")?;
+            push_clash(alloc, out, clash)
+        }
     }
 }
 
@@ -84,6 +92,66 @@ fn push_refusal(alloc: Global, out: &mut Vec<u8>, number: u16) -> Result<(), All
     out.extend_from_slice(b" ")?;
     match refusal_words(number) {
         Some(words) => out.extend_from_slice(words.as_bytes()),
+        None => Ok(()),
+    }
+}
+
+/// Writes the address that two byte strings have, and both of them in hex, each behind a space.
+pub fn push_clash(alloc: Global, out: &mut Vec<u8>, clash: &Clash) -> Result<(), AllocError>
+    ensures { OnOk result (out.new.items ≡ out.old.items ++ clash_text clash.now) }
+{
+    push_address(out, &clash.address)?;
+    push_hex(alloc, out, clash.first.as_slice())?;
+    push_hex(alloc, out, clash.second.as_slice())
+}
+
+/// Writes a space and an address.
+fn push_address(out: &mut Vec<u8>, address: &Address) -> Result<(), AllocError>
+    ensures { OnOk result (out.new.items ≡ out.old.items ++ 32 ∷ address_text address.now.0) }
+{
+    out.push(b' ')?;
+    out.extend_from_slice(&address.text())
+}
+
+/// Writes a space and bytes in hex.
+fn push_hex(alloc: Global, out: &mut Vec<u8>, bytes: &[u8]) -> Result<(), AllocError>
+    ensures { OnOk result (out.new.items ≡ out.old.items ++ 32 ∷ encode_lower bytes.now) }
+{
+    out.push(b' ')?;
+    let digits = hex::encode(alloc, bytes)?;
+    out.extend_from_slice(digits.as_bytes())
+}
+
+fn push_branches(out: &mut Vec<u8>, branches: &[BranchLine]) -> Result<(), AllocError>
+    ensures { OnOk result (out.new.items ≡ out.old.items ++ flat_map branch_line branches.now) }
+{
+    for branch in branches {
+        push_branch(out, branch)?;
+    }
+    Ok(())
+}
+
+fn push_branch(out: &mut Vec<u8>, branch: &BranchLine) -> Result<(), AllocError>
+    ensures { OnOk result (out.new.items ≡ out.old.items ++ branch_line branch.now) }
+{
+    out.extend_from_slice(b"branch ")?;
+    out.extend_from_slice(branch.name.as_slice())?;
+    push_address(out, &branch.rec.head)?;
+    push_address(out, &branch.rec.working)?;
+    push_address(out, &branch.rec.staged)?;
+    push_merging(out, &branch.rec.merging)?;
+    out.extend_from_slice(b"\n")
+}
+
+/// Writes the commit of a merge in progress, if there is one.
+fn push_merging(out: &mut Vec<u8>, merging: &Option<Address>) -> Result<(), AllocError>
+    ensures { OnOk result (out.new.items ≡ out.old.items ++ merging_text merging.now) }
+{
+    match merging {
+        Some(commit) => {
+            out.extend_from_slice(b" merging")?;
+            push_address(out, commit)
+        }
         None => Ok(()),
     }
 }

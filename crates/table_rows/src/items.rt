@@ -17,7 +17,7 @@ pub fn row_item(alloc: Global, schema: &Schema, row: &[Value]) -> Result<LeafIte
     requires row { is_row schema.now row.now ≡ true }
     ensures { IfOk result (λ item. leaf_of item ≡ row_item schema.now row.now) }
 {
-    todo!()
+    unreachable!()
 }
 
 /// The row that an item's key and value keep.
@@ -26,5 +26,5 @@ pub fn row_of(alloc: Global, schema: &Schema, key: &[u8], value: &[u8]) -> Resul
     requires row { (row : Cells) × IsRowOf schema.now key.now value.now row }
     ensures { (row : Cells) → IsRowOf schema.now key.now value.now row → IfOk result (λ read. read ≡ row) }
 {
-    todo!()
+    unreachable!()
 }

@@ -23,5 +23,5 @@ pub fn read_rows<D: Digester>(
     ensures { (rows : List Cells) → AreRowsAt D.address (chunks_of draft.now.chunks) root.now.0 schema.now rows
         → IfOk result (λ read. read ≡ rows) }
 {
-    todo!()
+    unreachable!()
 }
