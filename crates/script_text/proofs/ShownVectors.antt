@@ -13,12 +13,13 @@ run = record {
   names = codes "order" ∷ codes "session" ∷ [];
   replies = (Done ∷ Count 2 ∷ Rows (record { names = codes "a,b" ∷ []; kinds = kind.Varchar 20 ∷ []; rows = (cell.Text (codes "2 ok\norder") ∷ []) ∷ [] }) ∷ Refused 1050 ∷ []) ∷ [] ∷ [];
   order = (record { session = 0; statement = 1 }) ∷ (record { session = 0; statement = 3 }) ∷ [];
+  branches = [];
 }
 
 shown : IsShown run
 unfolding run IsDistinct
 shown = record { names = refl; distinct = ((refl, tt), (tt, tt)); lists = refl; replies = refl; moments = refl }
 
-no_session : IsShown (record { names = []; replies = []; order = [] })
+no_session : IsShown (record { names = []; replies = []; order = []; branches = [] })
 unfolding IsDistinct
 no_session = record { names = refl; distinct = tt; lists = refl; replies = refl; moments = refl }

@@ -34,15 +34,16 @@ three_replies : text (record {
     rows = (cell.Int (pos 1) ∷ cell.Text (codes "ada") ∷ []) ∷ (cell.Int (pos 2) ∷ cell.Text (codes "bob") ∷ []) ∷ [];
   }) ∷ []) ∷ [];
   order = (record { session = 0; statement = 1 }) ∷ (record { session = 0; statement = 3 }) ∷ [];
+  branches = [];
 })
     ≡ codes "session alice\n1 ok\n2 ok 2\n3 rows 2\nid,name\n1,'ada'\n2,'bob'\norder alice/1 alice/3\n"
 unfolding digits
 three_replies = refl
 
-refused : text (record { names = codes "a" ∷ []; replies = (Refused 1050 ∷ Refused 9013 ∷ []) ∷ []; order = [] })
+refused : text (record { names = codes "a" ∷ []; replies = (Refused 1050 ∷ Refused 9013 ∷ []) ∷ []; order = []; branches = [] })
     ≡ codes "session a\n1 refused 1050 table exists\n2 refused 9013 outside the subset\norder\n"
 unfolding digits
 refused = refl
 
-nothing : text (record { names = []; replies = []; order = [] }) ≡ codes "order\n"
+nothing : text (record { names = []; replies = []; order = []; branches = [] }) ≡ codes "order\n"
 nothing = refl

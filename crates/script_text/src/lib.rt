@@ -21,7 +21,7 @@ mod tests;
 pub use faults::{BadScript, ScriptFault};
 pub use law::one_reading;
 pub use outputs::{BranchLine, RunText};
-pub use printing::print_output;
+pub use printing::{print_output, push_clash};
 pub use reading::read_script;
 pub use replies::Reply;
 pub use scripts::{Line, Moment, OrderItem, Script};

@@ -96,7 +96,9 @@ fn push_refusal(alloc: Global, out: &mut Vec<u8>, number: u16) -> Result<(), All
     }
 }
 
-/// Writes the address that two byte strings have, and both of them in hex, each behind a space.
+/// Writes behind what `out` holds what follows the word `collision`: the address that two byte strings have, the one that
+/// was held and the one that was brought, each behind a space, the strings in hex. Where memory was wanting, `out` holds a
+/// part of it.
 pub fn push_clash(alloc: Global, out: &mut Vec<u8>, clash: &Clash) -> Result<(), AllocError>
     ensures { OnOk result (out.new.items ≡ out.old.items ++ clash_text clash.now) }
 {

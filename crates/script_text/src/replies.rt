@@ -13,3 +13,18 @@ pub enum Reply {
     /// Two byte strings of one address were met: number 3.
     Collided(Clash),
 }
+
+impl Reply {
+    ghost use Rattle.std.specs.Prelude.{◌≡◌, true};
+    ghost use Rattle.script_text.specs.Shown.{is_shown_reply};
+    ghost use Rattle.script_text.specs.declared.replies.Reply.TheVariants.{Collided};
+
+    /// The reply that tells of a collision, and that what it tells can be read back: its address is whole, and its strings
+    /// are bytes.
+    pub fn collided(clash: Clash) -> Reply
+        ensures value { result ≡ Collided clash }
+        ensures shown { is_shown_reply result ≡ true }
+    {
+        Reply::Collided(clash)
+    }
+}
