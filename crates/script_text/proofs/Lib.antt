@@ -5,5 +5,7 @@ mod Vectors
 mod ShownVectors
 mod TextParts
 mod LineParts
+mod ByteLemmas
+pub mod ClashLemmas
 mod ReplyParts
 mod RunParts

@@ -1,18 +1,21 @@
 -- A reply is read back by its first bytes: a brief one and a refusal end with their line, and rows are counted before they stand.
-use Rattle.std.proofs.Common.{◌≡◌, refl, sym, ap, ◌∙◌, ℕ, ◌<◌, ◌^◌, ◌==◌, Bool, true, List, [], ◌∷◌, ◌++◌, codes, length, not, decimal, append_assoc, None, slice_index, arith, ltb-true}
+use Rattle.std.proofs.Common.{◌≡◌, refl, sym, ap, ◌∙◌, ℕ, ◌<◌, ◌^◌, ◌==◌, Bool, true, List, [], ◌∷◌, ◌++◌, codes, length, not, decimal, append_assoc, Some, None, drop, slice_index, arith, ltb-true}
 use Rattle.std.specs.Option.{unwrap_or}
 use Rattle.std.specs.List.{join_with_byte}
+use Rattle.std.specs.Fmt.{digits}
 use Rattle.std.proofs.lemmas.Bool.{and_parts}
 use Rattle.std.proofs.lemmas.Fmt.{decimal_injective}
 use Rattle.std.proofs.lemmas.List.{append_cancel_left}
+use Rattle.chunk_store.specs.declared.faults.Clash.{Clash}
 use Rattle.tuple_codec.specs.declared.answers.Answer.{Answer}
 use Rattle.tuple_codec.specs.declared.values.SqlType.{SqlType}
 use Rattle.tuple_codec.specs.declared.values.Value.{Value}
 use Rattle.script_text.specs.declared.replies.Reply.{Reply}
-use Rattle.script_text.specs.declared.replies.Reply.TheVariants.{Done, Count, Rows, Refused}
-use Rattle.script_text.specs.Output.{answer_text, refusal_text, reply_text, row_lines, shortage, shortage_of}
+use Rattle.script_text.specs.declared.replies.Reply.TheVariants.{Done, Count, Rows, Refused, Collided}
+use Rattle.script_text.specs.Output.{Clashes, answer_text, clash_text, refusal_text, reply_text, row_lines, shortage, shortage_of}
 use Rattle.script_text.specs.Shown.{is_one_line, is_shown_reply}
 use Rattle.value_text.specs.Values.{row_text}
+use Rattle.script_text.proofs.ClashLemmas.{IsShownClash, clash_in_line, one_clash, shown_clash, told_clash}
 use Rattle.script_text.proofs.TextParts.{Stops, until, is_digit, decimal_in_digits, decimal_in_line, line_append}
 use Rattle.script_text.proofs.LineParts.{joined_in_line, refusal_in_line, refusal_in_range, row_in_line}
 
@@ -67,13 +70,29 @@ pub record IsBrief (reply : Reply) : Type 0 where
   pub line : is_one_line end ≡ true
   pub want : shortage reply ≡ None
 
+-- what a refusal's text tells behind its number: the number's own text, or a collision's address and byte strings
+pub record IsPlain (reply : Reply) (number : ℕ) (end : List ℕ) : Type 0 where
+  pub text : end ≡ unwrap_or (refusal_text number) []
+  pub want : shortage reply ≡ shortage_of number
+
+pub record IsClash (reply : Reply) (number : ℕ) (end : List ℕ) : Type 0 where
+  pub clash : Clash
+  pub shown : IsShownClash clash
+  pub third : number ≡ 3
+  pub text : end ≡ codes "collision" ++ clash_text clash
+  pub want : shortage reply ≡ Some (Clashes clash)
+
+pub data Cause (reply : Reply) (number : ℕ) (end : List ℕ) : Type 0 where
+  plain : IsPlain reply number end → Cause reply number end
+  clashes : IsClash reply number end → Cause reply number end
+
 pub record IsRefusal (reply : Reply) : Type 0 where
   pub number : ℕ
   pub end : List ℕ
   pub small : number < 2 ^ 64
   pub text : reply_text reply ≡ codes "refused " ++ (decimal number ++ (32 ∷ end))
   pub line : is_one_line end ≡ true
-  pub want : shortage reply ≡ shortage_of number
+  pub cause : Cause reply number end
 
 pub record IsTable (reply : Reply) : Type 0 where
   pub answer : Answer
@@ -86,6 +105,10 @@ pub data Shape (reply : Reply) : Type 0 where
   brief : IsBrief reply → Shape reply
   refusal : IsRefusal reply → Shape reply
   table : IsTable reply → Shape reply
+
+third_refusal : (end : List ℕ) → codes "refused 3 " ++ end ≡ codes "refused " ++ (decimal 3 ++ (32 ∷ end))
+unfolding digits
+third_refusal end = refl
 
 -- a new kind of reply is one line here
 shape : (reply : Reply) → is_shown_reply reply ≡ true → Shape reply
@@ -104,10 +127,18 @@ shape (Refused number) shown = refusal (record {
   small = refusal_in_range number shown;
   text = simp append_assoc;
   line = refusal_in_line number;
-  want = refl;
+  cause = plain (record { text = refl; want = refl });
+})
+shape (Collided clash) shown = refusal (record {
+  number = 3;
+  end = codes "collision" ++ clash_text clash;
+  small = omega arith;
+  text = third_refusal (codes "collision" ++ clash_text clash);
+  line = clash_in_line clash;
+  cause = clashes (record { clash = clash; shown = shown_clash clash shown; third = refl; text = refl; want = refl });
 })
 
--- two replies that print the same, and tell of the same want of memory
+-- two replies that print the same, and tell of the same want of memory or the same collision
 pub record SameReply (a b : Reply) : Type 0 where
   pub text : reply_text a ≡ reply_text b
   pub want : shortage a ≡ shortage b
@@ -133,13 +164,26 @@ refusal_more number end x = ap (λ rest. codes "refused " ++ rest) (append_assoc
 at_space : (x : List ℕ) → Stops is_digit (32 ∷ x)
 at_space x = record { byte = 32; rest = x; is = refl; stops = refl }
 
+plain_or_clash : (clash : Clash) (number : ℕ) → number ≡ 3 → unwrap_or (refusal_text number) [] ≡ codes "collision" ++ clash_text clash → ⊥
+plain_or_clash clash number third e = told_clash clash (ap (drop 9) (sym (ap (λ n. unwrap_or (refusal_text n) []) third) ∙ e))
+
+-- what refusals of one number and one text tell is the same
+same_cause : (a b : Reply) (m n : ℕ) (front head : List ℕ) → Cause a m front → Cause b n head → m ≡ n → front ≡ head → shortage a ≡ shortage b
+same_cause a b m n front head (plain left) (plain right) numbers texts = left.want ∙ ap shortage_of numbers ∙ sym right.want
+same_cause a b m n front head (clashes left) (clashes right) numbers texts =
+    let clash = one_clash left.clash right.clash left.shown right.shown (ap (drop 9) (sym left.text ∙ texts ∙ right.text)) in
+    left.want ∙ ap (λ x. Some (Clashes x)) clash ∙ sym right.want
+same_cause a b m n front head (plain left) (clashes right) numbers texts = absurd (plain_or_clash right.clash m (numbers ∙ right.third) (sym left.text ∙ texts ∙ right.text))
+same_cause a b m n front head (clashes left) (plain right) numbers texts = absurd (plain_or_clash left.clash n (sym numbers ∙ left.third) (sym right.text ∙ sym texts ∙ left.text))
+
 refusal_part : (a b : Reply) (x y : List ℕ) → IsRefusal a → IsRefusal b → reply_text a ++ (10 ∷ x) ≡ reply_text b ++ (10 ∷ y) → ReadReply a b x y
 refusal_part a b x y left right e =
     let parts = line_part (reply_text a) (reply_text b) x y (refusal_line a left) (refusal_line b right) e in
     let numbers = number_part left.number right.number (32 ∷ (left.end ++ (10 ∷ x))) (32 ∷ (right.end ++ (10 ∷ y))) left.small right.small (at_space _) (at_space _)
     (append_cancel_left (codes "refused ") _ _
     (sym (refusal_more left.number left.end (10 ∷ x)) ∙ opened (reply_text a) (reply_text b) _ _ (10 ∷ x) (10 ∷ y) left.text right.text e ∙ refusal_more right.number right.end (10 ∷ y))) in
-    record { same = record { text = parts.0; want = left.want ∙ ap shortage_of numbers.0 ∙ sym right.want }; rest = parts.1 }
+    let ends = line_part left.end right.end x y left.line right.line (ap (drop 1) numbers.1) in
+    record { same = record { text = parts.0; want = same_cause a b left.number right.number left.end right.end left.cause right.cause numbers.0 ends.0 }; rest = parts.1 }
 
 answer_more : (answer : Answer) (x : List ℕ)
     → answer_text answer ++ x ≡ codes "rows " ++ (decimal (length answer.rows) ++ (10 ∷ (join_with_byte 44 answer.names ++ (row_lines answer.kinds answer.rows ++ x))))

@@ -8,10 +8,11 @@ use Rattle.std.proofs.lemmas.List.{append_cancel_left}
 use Rattle.std.proofs.lemmas.Map.Keys.{apart_from_distinct}
 use Rattle.std.proofs.lemmas.Option.{slice_get-map}
 use Rattle.std.proofs.lemmas.Slice.Eq.{bytes_eq-Decides}
+use Rattle.script_text.specs.declared.outputs.RunText.{RunText}
 use Rattle.script_text.specs.declared.replies.Reply.{Reply}
 use Rattle.script_text.specs.declared.scripts.Moment.{Moment}
 use Rattle.script_text.specs.Input.{is_name_byte}
-use Rattle.script_text.specs.Output.{Shortage, moment_text, newline, order_line, reply_lines, reply_text, session_lines, shortage, shortages_in}
+use Rattle.script_text.specs.Output.{Shortage, branch_line, moment_text, newline, order_line, reply_lines, reply_text, session_lines, shortage, shortages_in, text}
 use Rattle.script_text.specs.Shown.{HasOneReading, is_shown_moment, is_shown_name, is_shown_reply, reply_texts}
 use Rattle.script_text.proofs.TextParts.{Stops, until, is_digit, no_digit, all_weaker}
 use Rattle.script_text.proofs.ReplyParts.{line_part, number_part, reply_part}
@@ -167,7 +168,7 @@ order_part names (moment ∷ a) (other ∷ b) x y all distinct shown printed e =
     let more = order_part names a b x y all distinct (and_parts _ _ shown).1 (and_parts _ _ printed).1 second.1 in
     (ap₂ ◌∷◌ (same_moment moment other place second.0) more.0, more.1)
 
--- refusals for want of memory, from what the replies tell
+-- refusals for want of memory or for a collision, from what the replies tell
 wants_at : (replies : List (List Reply)) (session : ℕ) → slice_index_or (wants_in replies) session [] ≡ map shortage (slice_index_or replies session [])
 wants_at [] session = refl
 wants_at (session ∷ replies) zero = refl
@@ -190,23 +191,30 @@ same_shortages : (a b : List (List Reply)) → wants_in a ≡ wants_in b → (se
 same_shortages a b same session statement =
     shortages_told a session statement ∙ ap (λ wants. kept (slice_get (slice_index_or wants session []) (statement - 1))) same ∙ sym (shortages_told b session statement)
 
-order_more : (names : List (List ℕ)) (order : List Moment) → order_line names order ≡ codes "order" ++ (flat_map (moment_text names) order ++ (10 ∷ []))
-order_more names order = append_assoc (codes "order") (flat_map (moment_text names) order) newline
+order_more : (names : List (List ℕ)) (order : List Moment) (x : List ℕ) → order_line names order ++ x ≡ codes "order" ++ (flat_map (moment_text names) order ++ (10 ∷ x))
+order_more names order x = simp append_assoc
 
-abbrev order_end : List (List ℕ) → List Moment → List ℕ
-order_end names order = codes "rder" ++ flat_map (moment_text names) order ++ newline
+abbrev order_end : List (List ℕ) → List Moment → List ℕ → List ℕ
+order_end names order x = (codes "rder" ++ flat_map (moment_text names) order ++ newline) ++ x
+
+-- the sessions, the order line, and what follows it
+text_more : (run : RunText) → text run ≡ session_lines run.names run.replies ++ (111 ∷ order_end run.names run.order (flat_map branch_line run.branches))
+text_more run = append_assoc (session_lines run.names run.replies) (order_line run.names run.order) (flat_map branch_line run.branches)
 
 -- one run alone has its text
 pub one_reading : HasOneReading
 one_reading a b left right e =
-    let read = sessions_part a.names a.replies b.names b.replies (order_end a.names a.order) (order_end b.names b.order) left.lists right.lists left.names right.names left.replies right.replies e in
-    let lines : order_line a.names a.order ≡ order_line a.names b.order = read.rest ∙ ap (λ names. order_line names b.order) (sym read.sessions) in
-    let after = append_cancel_left (codes "order") (flat_map (moment_text a.names) a.order ++ (10 ∷ [])) (flat_map (moment_text a.names) b.order ++ (10 ∷ []))
-    (sym (order_more a.names a.order) ∙ lines ∙ order_more a.names b.order) in
+    let x = flat_map branch_line a.branches in
+    let y = flat_map branch_line b.branches in
+    let read = sessions_part a.names a.replies b.names b.replies (order_end a.names a.order x) (order_end b.names b.order y) left.lists right.lists left.names right.names left.replies right.replies
+    (sym (text_more a) ∙ e ∙ text_more b) in
+    let lines : order_line a.names a.order ++ x ≡ order_line a.names b.order ++ y = read.rest ∙ ap (λ names. order_line names b.order ++ y) (sym read.sessions) in
+    let after = append_cancel_left (codes "order") (flat_map (moment_text a.names) a.order ++ (10 ∷ x)) (flat_map (moment_text a.names) b.order ++ (10 ∷ y))
+    (sym (order_more a.names a.order x) ∙ lines ∙ order_more a.names b.order y) in
     let moments : list_all (is_shown_moment (length a.names)) b.order ≡ true = ap (λ names. list_all (is_shown_moment (length names)) b.order) read.sessions ∙ right.moments in
     record {
       names = read.sessions;
       replies = read.texts;
       shortages = same_shortages a.replies b.replies read.wants;
-      order = (order_part a.names a.order b.order [] [] left.names left.distinct left.moments moments after).0;
+      order = (order_part a.names a.order b.order x y left.names left.distinct left.moments moments after).0;
     }

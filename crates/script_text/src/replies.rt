@@ -1,5 +1,8 @@
+ghost use Rattle.std.specs.Prelude.{◌≡◌, true};
+ghost use Rattle.script_text.specs.Shown.{are_bytes, is_whole_address};
+
 use chunk_store::Clash;
-use tuple_codec::Answer;
+use tuple_codec::{Address, Answer};
 
 /// What a statement answers.
 #[derive(Debug, Drop)]
@@ -25,6 +28,21 @@ impl Reply {
         ensures value { result ≡ Collided clash }
         ensures shown { is_shown_reply result ≡ true }
     {
+        know_address(clash.address);
+        know_bytes(clash.first.as_slice());
+        know_bytes(clash.second.as_slice());
         Reply::Collided(clash)
     }
 }
+
+/// An address has twenty bytes.
+fn know_address(address: Address)
+    ensures { is_whole_address address.0 ≡ true }
+{
+    know_bytes(&address.0);
+}
+
+/// What a slice of bytes holds is below 256.
+fn know_bytes(bytes: &[u8])
+    ensures { are_bytes bytes.now ≡ true }
+{}
