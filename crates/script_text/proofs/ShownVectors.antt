@@ -1,17 +1,18 @@
 -- Runs that can be read back: the law of one reading speaks of them.
-use Rattle.std.proofs.Common.{refl, codes, [], ◌∷◌}
+use Rattle.std.proofs.Common.{refl, codes, replicate, [], ◌∷◌}
 use Rattle.std.specs.List.{IsDistinct}
 use Rattle.script_text.specs.Shown.{IsShown}
 use Rattle.script_text.specs.declared.outputs.RunText.{RunText}
-use Rattle.script_text.specs.declared.replies.Reply.TheVariants.{Done, Count, Rows, Refused}
+use Rattle.script_text.specs.declared.replies.Reply.TheVariants.{Done, Count, Rows, Refused, Collided}
 use Rattle.tuple_codec.specs.declared.values.SqlType.TheVariants as kind
 use Rattle.tuple_codec.specs.declared.values.Value.TheVariants as cell
 
--- a session that is named as the line of moments begins, one with no reply, and a column whose name holds a comma
+-- a session that is named as the line of moments begins, one with no reply, a column whose name holds a comma, and a
+-- collision with its byte strings behind one without
 run : RunText
 run = record {
   names = codes "order" ∷ codes "session" ∷ [];
-  replies = (Done ∷ Count 2 ∷ Rows (record { names = codes "a,b" ∷ []; kinds = kind.Varchar 20 ∷ []; rows = (cell.Text (codes "2 ok\norder") ∷ []) ∷ [] }) ∷ Refused 1050 ∷ []) ∷ [] ∷ [];
+  replies = (Done ∷ Count 2 ∷ Rows (record { names = codes "a,b" ∷ []; kinds = kind.Varchar 20 ∷ []; rows = (cell.Text (codes "2 ok\norder") ∷ []) ∷ [] }) ∷ Refused 1050 ∷ Refused 3 ∷ Collided (record { address = record { 0 = replicate 20 255 }; first = codes "hi"; second = 0 ∷ 255 ∷ [] }) ∷ []) ∷ [] ∷ [];
   order = (record { session = 0; statement = 1 }) ∷ (record { session = 0; statement = 3 }) ∷ [];
   branches = [];
 }

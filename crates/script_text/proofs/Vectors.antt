@@ -1,9 +1,11 @@
 -- The definitions, computed on scripts and runs whose texts are known.
-use Rattle.std.proofs.Common.{◌≡◌, refl, codes, [], ◌∷◌, Some, None, Err, pos, map, true, false}
+use Rattle.std.proofs.Common.{◌≡◌, refl, codes, [], ◌∷◌, Some, None, Err, pos, map, replicate, true, false}
 use Rattle.std.specs.Fmt.{digits}
+use Rattle.hex.specs.Hex.{encode_with}
+use Rattle.tuple_codec.specs.AddressTexts.{letter}
 use Rattle.script_text.specs.Input.{add_statement, is_skipped, lines_of, parts_of}
 use Rattle.script_text.specs.Output.{text}
-use Rattle.script_text.specs.declared.replies.Reply.TheVariants.{Done, Count, Rows, Refused}
+use Rattle.script_text.specs.declared.replies.Reply.TheVariants.{Done, Count, Rows, Refused, Collided}
 use Rattle.tuple_codec.specs.declared.values.SqlType.TheVariants as kind
 use Rattle.tuple_codec.specs.declared.values.Value.TheVariants as cell
 
@@ -47,3 +49,15 @@ refused = refl
 
 nothing : text (record { names = []; replies = []; order = []; branches = [] }) ≡ codes "order\n"
 nothing = refl
+
+-- a collision, a branch with a merge in progress, and one without
+collided : text (record {
+  names = codes "a" ∷ [];
+  replies = (Collided (record { address = record { 0 = replicate 20 255 }; first = codes "hi"; second = 0 ∷ 255 ∷ [] }) ∷ []) ∷ [];
+  order = [];
+  branches = (record { name = codes "b"; rec = record { head = record { 0 = replicate 20 0 }; working = record { 0 = replicate 20 1 }; staged = record { 0 = replicate 20 2 }; merging = Some (record { 0 = replicate 20 255 }) } })
+    ∷ (record { name = codes "main"; rec = record { head = record { 0 = replicate 20 2 }; working = record { 0 = replicate 20 0 }; staged = record { 0 = replicate 20 1 }; merging = None } }) ∷ [];
+})
+    ≡ codes "session a\n1 refused 3 collision vvvvvvvvvvvvvvvvvvvvvvvvvvvvvvvv 6869 00ff\norder\nbranch b 00000000000000000000000000000000 040g2081040g2081040g2081040g2081 081040g2081040g2081040g2081040g2 merging vvvvvvvvvvvvvvvvvvvvvvvvvvvvvvvv\nbranch main 081040g2081040g2081040g2081040g2 00000000000000000000000000000000 040g2081040g2081040g2081040g2081\n"
+unfolding digits letter encode_with
+collided = refl

@@ -1,7 +1,7 @@
 //! The script that the program reads and the text that it writes.
 //!
 //! The crates above use two definitions: `Input.script`, the script that bytes hold or the first line that breaks a
-//! rule, and `Output.text`, the bytes that a run's replies and order are printed as; `read_script` and
+//! rule, and `Output.text`, the bytes that a run's replies, order and branches are printed as; `read_script` and
 //! `print_output` are these, and `one_reading` says that a text shows one run alone.
 #![tactic(auto)]
 

@@ -28,6 +28,7 @@ impl Reply {
         ensures value { result ≡ Collided clash }
         ensures shown { is_shown_reply result ≡ true }
     {
+        // each call does nothing, and its contract says what its argument's type holds
         know_address(clash.address);
         know_bytes(clash.first.as_slice());
         know_bytes(clash.second.as_slice());

@@ -2,10 +2,16 @@ ghost use Rattle.std.specs.Prelude.{◌≡◌, ◌∷◌, [], IfOk, true};
 ghost use Rattle.script_text.specs.Shown.{IsPrintable, is_printable_answer, is_printable_row};
 ghost use Rattle.tuple_codec.specs.declared.values.SqlType.TheVariants.{BigInt, Varchar};
 
-use crate::{BadScript, Moment, Reply, RunText, Script, ScriptFault, print_output, read_script};
+use crate::{
+    BadScript, BranchLine, Moment, Reply, RunText, Script, ScriptFault, print_output, push_clash,
+    read_script,
+};
+use chunk_store::Clash;
 use std::alloc::{AllocError, Global};
 use std::test::Fail;
-use tuple_codec::{Answer, Row, Sequence, SqlType, Text, Value};
+use tuple_codec::{
+    Address, Answer, Blob, BranchRecord, Row, Sequence, SqlType, Text, Value,
+};
 
 /// The rule that bytes break and the line where they do, if they break one.
 fn fault(alloc: Global, bytes: &[u8]) -> Option<(u32, u8)> {
@@ -144,6 +150,7 @@ fn first_run(alloc: Global) -> Result<RunText, AllocError>
             moment(2),
             moment(3),
         ]?),
+        branches: Sequence::new(alloc),
     })
 }
 
@@ -217,6 +224,7 @@ fn second_run(alloc: Global) -> Result<RunText, AllocError>
         names: Sequence::from_vec(vec![in alloc; name(alloc)?]?),
         replies: Sequence::from_vec(vec![in alloc; replies]?),
         order: Sequence::new(alloc),
+        branches: Sequence::new(alloc),
     })
 }
 
@@ -227,5 +235,70 @@ fn prints_each_kind_of_value(rt: HostRuntime) -> Result<(), Fail> {
     let want =
         b"session n\n1 rows 1\nn,n,n,n,n,n,n,n\n-12,123.05,-0.05,7,NULL,1,X'ab01','it\\'s \\\\\\n\\r\\0.'\n2 refused 1146 no such table\norder\n";
     assert_eq!(rt; text.as_slice(), want.as_slice());
+    Ok(())
+}
+
+/// Two byte strings of one address, as they are told.
+fn clash(alloc: Global) -> Result<Clash, AllocError> {
+    Ok(Clash {
+        address: Address([
+            0, 1, 2, 3, 4, 5, 6, 7, 8, 9, 10, 11, 12, 13, 14, 15, 16, 17, 18, 19,
+        ]),
+        first: Blob::from_vec(Vec::from_slice(alloc, b"hi")?),
+        second: Blob::from_vec(Vec::from_slice(alloc, &[0, 255])?),
+    })
+}
+
+fn branch(
+    alloc: Global,
+    name: &[u8],
+    merging: Option<Address>,
+) -> Result<BranchLine, AllocError> {
+    Ok(BranchLine {
+        name: Text::from_slice(alloc, name)?,
+        rec: BranchRecord {
+            head: Address([0; 20]),
+            working: Address([1; 20]),
+            staged: Address([2; 20]),
+            merging,
+        },
+    })
+}
+
+/// The run of a session that met a collision, and its branches, a merge in progress on the first.
+fn third_run(alloc: Global) -> Result<RunText, AllocError>
+    ensures { IfOk result (λ run. IsPrintable run) }
+{
+    let replies = Sequence::from_vec(vec![in alloc;
+        Reply::Done,
+        Reply::collided(clash(alloc)?),
+    ]?);
+    Ok(RunText {
+        names: Sequence::from_vec(vec![in alloc; name(alloc)?]?),
+        replies: Sequence::from_vec(vec![in alloc; replies]?),
+        order: Sequence::from_vec(vec![in alloc; moment(1)]?),
+        branches: Sequence::from_vec(vec![in alloc;
+            branch(alloc, b"feature", Some(Address([255; 20])))?,
+            branch(alloc, b"main", None)?,
+        ]?),
+    })
+}
+
+#[test]
+fn prints_collisions_and_branches(rt: HostRuntime) -> Result<(), Fail> {
+    let run = third_run(rt.alloc())?;
+    let text = print_output(rt.alloc(), &run)?;
+    let want =
+        b"session n\n1 ok\n2 refused 3 collision 000g40o40k30e209185go38e1s8124gj 6869 00ff\norder n/1\nbranch feature 00000000000000000000000000000000 040g2081040g2081040g2081040g2081 081040g2081040g2081040g2081040g2 merging vvvvvvvvvvvvvvvvvvvvvvvvvvvvvvvv\nbranch main 00000000000000000000000000000000 040g2081040g2081040g2081040g2081 081040g2081040g2081040g2081040g2\n";
+    assert_eq!(rt; text.as_slice(), want.as_slice());
+    Ok(())
+}
+
+#[test]
+fn prints_a_collision_alone(rt: HostRuntime) -> Result<(), Fail> {
+    let mut line = Vec::from_slice(rt.alloc(), b"collision")?;
+    push_clash(rt.alloc(), &mut line, &clash(rt.alloc())?)?;
+    let want = b"collision 000g40o40k30e209185go38e1s8124gj 6869 00ff";
+    assert_eq!(rt; line.as_slice(), want.as_slice());
     Ok(())
 }
