@@ -1,6 +1,5 @@
 -- What a line tells of a collision is read back: its address, and its two byte strings.
-use Rattle.std.proofs.Common.{◌≡◌, refl, sym, ap, ◌∙◌, ℕ, ◌+◌, ◌==◌, ◌&&◌, Bool, true, false, List, [], ◌∷◌, ◌++◌, codes, drop, not, append_assoc, arith, if◌then◌else◌, nat_lt}
-use Rattle.std.specs.List.{list_all}
+use Rattle.std.proofs.Common.{◌≡◌, refl, sym, ap, ◌∙◌, ℕ, ◌+◌, ◌==◌, Bool, true, List, [], ◌∷◌, ◌++◌, drop, not, append_assoc, arith, nat_lt}
 use Rattle.std.proofs.lemmas.Bool.{and_parts, cond_both, ne_eqb}
 use Rattle.hex.specs.Hex.{encode_lower}
 use Rattle.chunk_store.specs.declared.faults.Clash.{Clash}

@@ -56,7 +56,7 @@ collided : text (record {
   replies = (Collided (record { address = record { 0 = replicate 20 255 }; first = codes "hi"; second = 0 ∷ 255 ∷ [] }) ∷ []) ∷ [];
   order = [];
   branches = (record { name = codes "b"; rec = record { head = record { 0 = replicate 20 0 }; working = record { 0 = replicate 20 1 }; staged = record { 0 = replicate 20 2 }; merging = Some (record { 0 = replicate 20 255 }) } })
-    ∷ (record { name = codes "main"; rec = record { head = record { 0 = replicate 20 2 }; working = record { 0 = replicate 20 0 }; staged = record { 0 = replicate 20 1 }; merging = None } }) ∷ [];
+      ∷ (record { name = codes "main"; rec = record { head = record { 0 = replicate 20 2 }; working = record { 0 = replicate 20 0 }; staged = record { 0 = replicate 20 1 }; merging = None } }) ∷ [];
 })
     ≡ codes "session a\n1 refused 3 collision vvvvvvvvvvvvvvvvvvvvvvvvvvvvvvvv 6869 00ff\norder\nbranch b 00000000000000000000000000000000 040g2081040g2081040g2081040g2081 081040g2081040g2081040g2081040g2 merging vvvvvvvvvvvvvvvvvvvvvvvvvvvvvvvv\nbranch main 081040g2081040g2081040g2081040g2 00000000000000000000000000000000 040g2081040g2081040g2081040g2081\n"
 unfolding digits letter encode_with

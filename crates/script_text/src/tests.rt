@@ -9,9 +9,7 @@ use crate::{
 use chunk_store::Clash;
 use std::alloc::{AllocError, Global};
 use std::test::Fail;
-use tuple_codec::{
-    Address, Answer, Blob, BranchRecord, Row, Sequence, SqlType, Text, Value,
-};
+use tuple_codec::{Address, Answer, Blob, BranchRecord, Row, Sequence, SqlType, Text, Value};
 
 /// The rule that bytes break and the line where they do, if they break one.
 fn fault(alloc: Global, bytes: &[u8]) -> Option<(u32, u8)> {
@@ -249,11 +247,7 @@ fn clash(alloc: Global) -> Result<Clash, AllocError> {
     })
 }
 
-fn branch(
-    alloc: Global,
-    name: &[u8],
-    merging: Option<Address>,
-) -> Result<BranchLine, AllocError> {
+fn branch(alloc: Global, name: &[u8], merging: Option<Address>) -> Result<BranchLine, AllocError> {
     Ok(BranchLine {
         name: Text::from_slice(alloc, name)?,
         rec: BranchRecord {
@@ -269,10 +263,7 @@ fn branch(
 fn third_run(alloc: Global) -> Result<RunText, AllocError>
     ensures { IfOk result (λ run. IsPrintable run) }
 {
-    let replies = Sequence::from_vec(vec![in alloc;
-        Reply::Done,
-        Reply::collided(clash(alloc)?),
-    ]?);
+    let replies = Sequence::from_vec(vec![in alloc; Reply::Done, Reply::collided(clash(alloc)?)]?);
     Ok(RunText {
         names: Sequence::from_vec(vec![in alloc; name(alloc)?]?),
         replies: Sequence::from_vec(vec![in alloc; replies]?),

@@ -1,5 +1,4 @@
-use Rattle.std.proofs.Common.{◌++◌, append_assoc, ap, arith, sym, ◌∙◌, rules}
-use Rattle.std.proofs.lemmas.Result.{on_ok_weaker}
+use Rattle.std.proofs.Common.{rules, append_assoc}
 use Rattle.script_text.proofs.printing.push_branch.Goals as goal
 
 pub returns : goal.returns
