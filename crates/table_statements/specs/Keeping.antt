@@ -24,5 +24,5 @@ IsNamed address draft = AreNamed address draft.base
 
 -- a reply, and an address that stands for the tables after it
 pub record DoesEffect (address : List ℕ → List ℕ) (chunks : Chunks) (made : Effect) (reply : Reply) (k : List ℕ) : Type 0 where
-  pub reply : reply ≡ made.reply
-  pub tables : AreTablesAt address chunks k made.database
+  pub answers : reply ≡ made.reply
+  pub stands : AreTablesAt address chunks k made.database
