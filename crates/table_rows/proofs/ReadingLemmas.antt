@@ -1,0 +1,1 @@
+-- Rows that are read from a scan.
