@@ -1,5 +1,5 @@
 -- Cells of a row that fits fit: those of its key, and the others.
-use Rattle.std.proofs.Common.{◌≡◌, ◌<◌, ℕ, zero, suc, Bool, true, false, cond, ltb, ◌&&◌, List, [], ◌∷◌, ◌++◌, length, map, get_or, Option, Some, None, refl, sym, ap, ◌∙◌, subst, arith}
+use Rattle.std.proofs.Common.{◌≡◌, ◌<◌, ◌+◌, ℕ, zero, suc, Bool, true, false, cond, ltb, ◌&&◌, List, [], ◌∷◌, ◌++◌, length, map, drop, get_or, Option, Some, None, refl, sym, ap, ◌∙◌, subst, append_assoc, drop-cons, arith}
 use Rattle.std.specs.List.{flat_map, list_all, slice_get}
 use Rattle.std.proofs.lemmas.Bool.{and_parts, and_from, ltb-true}
 use Rattle.std.proofs.lemmas.List.Folds.{list_all-append}
@@ -121,3 +121,31 @@ length_by (column ∷ columns) (value ∷ row) h =
 
 pub row_length : (s : Schema) (row : Cells) → is_row s row ≡ true → length row ≡ length s.columns
 row_length s row fit = length_by s.columns row fit
+
+-- ---- going over a key
+
+pub place_below : (columns : List Column) (key : List ℕ) (at : ℕ) → list_all (λ position. ltb position (length columns)) key ≡ true → at < length key
+    → get_or key at 0 < length columns
+place_below columns [] at h below = absurd (omega arith)
+place_below columns (position ∷ key) zero h below = ltb-true position (length columns) (and_parts (ltb position (length columns)) _ h).0
+place_below columns (position ∷ key) (suc at) h below =
+    let below2 : at < length key = omega arith in
+    place_below columns key at (and_parts (ltb position (length columns)) _ h).1 below2
+
+kinds_at : (columns : List Column) (position : ℕ) (d : Column) → position < length columns → kinds (slice_get columns position) ≡ (get_or columns position d).kind ∷ []
+kinds_at [] position d below = absurd (omega arith)
+kinds_at (column ∷ columns) zero d below = refl
+kinds_at (column ∷ columns) (suc position) d below = let below2 : position < length columns = omega arith in kinds_at columns position d below2
+
+-- one more type of the key
+pub kind_step : (columns : List Column) (key : List ℕ) (at : ℕ) (d : Column) (done all : List SqlType) → at < length key → get_or key at 0 < length columns
+    → done ++ flat_map (λ position. kinds (slice_get columns position)) (drop at key) ≡ all
+    → (done ++ (get_or columns (get_or key at 0) d).kind ∷ []) ++ flat_map (λ position. kinds (slice_get columns position)) (drop (at + 1) key) ≡ all
+kind_step columns key at d done all below there e =
+    let f : ℕ → List SqlType = λ position. kinds (slice_get columns position) in
+    let kind = (get_or columns (get_or key at 0) d).kind in
+    let next : suc at ≡ at + 1 = omega arith in
+    let here : flat_map f (drop at key) ≡ kind ∷ flat_map f (drop (at + 1) key) =
+        ap (λ (l : List ℕ). flat_map f l) (drop-cons key at 0 below) ∙ ap (λ (l : List SqlType). l ++ flat_map f (drop (suc at) key)) (kinds_at columns (get_or key at 0) d there)
+        ∙ ap (λ (n : ℕ). kind ∷ flat_map f (drop n key)) next in
+    append_assoc done (kind ∷ []) (flat_map f (drop (at + 1) key)) ∙ ap (λ (l : List SqlType). done ++ l) (sym here) ∙ e

@@ -1,4 +1,4 @@
-mod FitLemmas
-mod PlaceLemmas
-mod RowLemmas
-mod ReadingLemmas
+pub mod FitLemmas
+pub mod PlaceLemmas
+pub mod RowLemmas
+pub mod ReadingLemmas

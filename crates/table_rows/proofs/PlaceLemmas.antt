@@ -1,5 +1,5 @@
 -- A row is put together again from the cells of its key and the others.
-use Rattle.std.proofs.Common.{◌≡◌, ◌<◌, ◌+◌, ℕ, zero, suc, Bool, true, false, cond, not, eqb, ltb, ◌||◌, List, [], ◌∷◌, length, map, get_or, drop, Option, Some, None, refl, sym, ap, ◌∙◌, subst, arith}
+use Rattle.std.proofs.Common.{◌≡◌, ◌<◌, ◌+◌, ◌-◌, ◌++◌, append_assoc, ℕ, zero, suc, Bool, true, false, cond, not, eqb, ltb, ◌||◌, List, [], ◌∷◌, length, map, get_or, drop, Option, Some, None, refl, sym, ap, ◌∙◌, subst, arith}
 use Rattle.std.specs.List.{position_or_len, slice_get}
 use Rattle.std.specs.Option.{option_and_then, option_map}
 use Rattle.std.proofs.lemmas.Bool.{eqb-true, lt-ltb, le-ltb}
@@ -97,3 +97,25 @@ pub same_row : (key : List ℕ) (a b : Cells) → length a ≡ length b → key_
 same_row key a b n cells others =
     sym (joined_is key a (length b) n) ∙ ap (λ (l : Cells). joined_from key l 0 (length b) (unkeyed_from key 0 a)) cells
     ∙ ap (λ (l : Cells). joined_from key (key_of key b) 0 (length b) l) others ∙ joined_is key b (length b) refl
+
+pub joined_at : (key other : List ℕ) (row cells rest : Cells) (count : ℕ) → other ≡ key → cells ≡ key_of key row → count ≡ length row → rest ≡ unkeyed_from key 0 row
+    → joined_from other cells 0 count rest ≡ row
+joined_at key other row cells rest count same is_key is_count is_rest =
+    ap (λ (k : List ℕ). joined_from k cells 0 count rest) same ∙ ap (λ (l : Cells). joined_from key l 0 count rest) is_key
+    ∙ ap (λ (l : Cells). joined_from key (key_of key row) 0 count l) is_rest ∙ joined_is key row count (sym is_count)
+
+-- ---- putting a row together, cell after cell
+
+pub joined_step : (key : List ℕ) (cells : Cells) (place count : ℕ) (done others all : Cells) → place < count
+    → done ++ joined_from key cells place (count - place) others ≡ all
+    → (done ++ cell_or_first (keyed_cell key cells place) others ∷ [])
+      ++ joined_from key cells (place + 1) (count - (place + 1)) (others_after (keyed_cell key cells place) others) ≡ all
+joined_step key cells place count done others all below e =
+    let value = cell_or_first (keyed_cell key cells place) others in
+    let rest = others_after (keyed_cell key cells place) others in
+    let left = count - (place + 1) in
+    let one : suc left ≡ count - place = omega arith in
+    let next : place + 1 ≡ suc place = omega arith in
+    append_assoc done (value ∷ []) (joined_from key cells (place + 1) left rest)
+    ∙ ap (λ (n : ℕ). done ++ (value ∷ joined_from key cells n left rest)) next
+    ∙ ap (λ (n : ℕ). done ++ joined_from key cells place n others) one ∙ e

@@ -1,7 +1,8 @@
 //! The types of a row's cells, as they stand in its item.
 
-ghost use Rattle.std.specs.Prelude.{◌≡◌, IfOk};
+ghost use Rattle.std.specs.Prelude.{◌≡◌, true, IfOk};
 ghost use Rattle.schema_model.specs.PlainTables.{is_keyed, key_types};
+ghost use Rattle.schema_model.specs.Schemas.{is_schema};
 ghost use Rattle.table_rows.specs.Places.{body_types};
 
 use schema_model::Schema;
@@ -17,6 +18,7 @@ pub(crate) struct ItemTypes {
 
 impl ItemTypes {
     pub(crate) fn new(alloc: Global, schema: &Schema) -> Result<ItemTypes, AllocError>
+        requires { is_schema schema.now ≡ true }
         ensures key { IfOk result (λ types. types.key.items ≡ key_types schema.now) }
         ensures body { IfOk result (λ types. types.body.items ≡ body_types schema.now) }
     {
@@ -28,14 +30,13 @@ impl ItemTypes {
 
 /// The types of the primary key, in its order.
 pub(crate) fn key_types(alloc: Global, schema: &Schema) -> Result<Vec<SqlType>, AllocError>
+    requires { is_schema schema.now ≡ true }
     ensures { IfOk result (λ types. types.items ≡ key_types schema.now) }
 {
     let columns = schema.columns.as_slice();
     let mut types = Vec::new(alloc);
     for position in schema.key.as_slice() {
-        if let Some(column) = columns.get(usize::from(*position)) {
-            types.push(column.kind)?;
-        }
+        types.push(columns[usize::from(*position)].kind)?;
     }
     Ok(types)
 }
