@@ -10,4 +10,4 @@ loop-position-preserved c =
     let others = c.in_ok-cell.ensures.others in
     let keyed = c.keyed_cell.ensures in
     let pushed = c.in_ok-push.ensures.ok in
-    ?
+    cc
