@@ -2,3 +2,4 @@ pub mod FitLemmas
 pub mod PlaceLemmas
 pub mod RowLemmas
 pub mod ReadingLemmas
+mod Vectors
