@@ -2,4 +2,5 @@ pub mod FitLemmas
 pub mod PlaceLemmas
 pub mod RowLemmas
 pub mod ReadingLemmas
+pub mod SampleLemmas
 mod Vectors
