@@ -1,15 +1,14 @@
 -- Cells of a row that fits fit: those of its key, and the others.
-use Rattle.std.proofs.Common.{◌≡◌, ◌<◌, ◌+◌, ℕ, zero, suc, Bool, true, false, cond, ltb, ◌&&◌, List, [], ◌∷◌, ◌++◌, length, map, drop, get_or, Option, Some, None, refl, sym, ap, ◌∙◌, subst, append_assoc, drop-cons, arith}
+use Rattle.std.proofs.Common.{◌≡◌, ◌<◌, ◌+◌, ℕ, zero, suc, true, false, cond, ltb, List, [], ◌∷◌, ◌++◌, length, map, drop, get_or, Option, Some, refl, sym, ap, ◌∙◌, subst, append_assoc, drop-cons, arith}
 use Rattle.std.specs.List.{flat_map, list_all, slice_get}
 use Rattle.std.proofs.lemmas.Bool.{and_parts, and_from, ltb-true}
 use Rattle.std.proofs.lemmas.List.Folds.{list_all-append}
 use Rattle.tuple_codec.specs.Rows.{Cells, fits, fits_all, key_of}
 use Rattle.tuple_codec.specs.Limits.{are_types, is_type}
 use Rattle.tuple_codec.specs.declared.values.SqlType.{SqlType}
-use Rattle.tuple_codec.specs.declared.values.Value.{Value}
 use Rattle.tuple_codec.specs.declared.values.Value.TheVariants as cell
-use Rattle.schema_model.specs.PlainTables.{is_keyed, is_row, key_types, kinds, primary_key, types_of, unkeyed_from}
-use Rattle.schema_model.specs.Schemas.{are_columns, are_distinct, are_few, are_positions, is_column, is_empty, is_key, is_schema}
+use Rattle.schema_model.specs.PlainTables.{is_keyed, is_row, key_types, kinds, primary_key, unkeyed_from}
+use Rattle.schema_model.specs.Schemas.{are_columns, are_positions, is_column, is_key, is_schema}
 use Rattle.schema_model.specs.declared.schemas.Column.{Column}
 use Rattle.schema_model.specs.declared.schemas.Schema.{Schema}
 use Rattle.table_rows.specs.Places.{body_types, unkeyed_types}
@@ -88,7 +87,7 @@ key_fits columns row (position ∷ key) h places =
     let value = get_or row position cell.Null in
     let rest = flat_map (λ position. kinds (slice_get columns position)) key in
     subst (λ (o : Option Column). fits_all (kinds o ++ rest) (value ∷ key_of key row) ≡ true) (sym at.1)
-        (and_from (fits at.0.kind value) (fits_all rest (key_of key row)) at.2 (key_fits columns row key h parts.1))
+    (and_from (fits at.0.kind value) (fits_all rest (key_of key row)) at.2 (key_fits columns row key h parts.1))
 
 unkeyed_fits : (key : List ℕ) (place : ℕ) (columns : List Column) (row : Cells) → fits_all (map (λ column. column.kind) columns) row ≡ true
     → fits_all (unkeyed_types key place columns) (unkeyed_from key place row) ≡ true
@@ -146,6 +145,6 @@ kind_step columns key at d done all below there e =
     let kind = (get_or columns (get_or key at 0) d).kind in
     let next : suc at ≡ at + 1 = omega arith in
     let here : flat_map f (drop at key) ≡ kind ∷ flat_map f (drop (at + 1) key) =
-        ap (λ (l : List ℕ). flat_map f l) (drop-cons key at 0 below) ∙ ap (λ (l : List SqlType). l ++ flat_map f (drop (suc at) key)) (kinds_at columns (get_or key at 0) d there)
-        ∙ ap (λ (n : ℕ). kind ∷ flat_map f (drop n key)) next in
+    ap (λ (l : List ℕ). flat_map f l) (drop-cons key at 0 below) ∙ ap (λ (l : List SqlType). l ++ flat_map f (drop (suc at) key)) (kinds_at columns (get_or key at 0) d there)
+    ∙ ap (λ (n : ℕ). kind ∷ flat_map f (drop n key)) next in
     append_assoc done (kind ∷ []) (flat_map f (drop (at + 1) key)) ∙ ap (λ (l : List SqlType). done ++ l) (sym here) ∙ e

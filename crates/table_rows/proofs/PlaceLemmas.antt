@@ -1,5 +1,5 @@
 -- A row is put together again from the cells of its key and the others.
-use Rattle.std.proofs.Common.{◌≡◌, ◌<◌, ◌+◌, ◌-◌, ◌++◌, append_assoc, ℕ, zero, suc, Bool, true, false, cond, not, eqb, ltb, ◌||◌, List, [], ◌∷◌, length, map, get_or, drop, Option, Some, None, refl, sym, ap, ◌∙◌, subst, arith}
+use Rattle.std.proofs.Common.{◌≡◌, ◌<◌, ◌+◌, ◌-◌, ◌++◌, append_assoc, ℕ, zero, suc, Bool, true, false, cond, not, eqb, ◌||◌, List, [], ◌∷◌, length, map, get_or, drop, Option, Some, None, refl, sym, ap, ◌∙◌, subst, arith}
 use Rattle.std.specs.List.{position_or_len, slice_get}
 use Rattle.std.specs.Option.{option_and_then, option_map}
 use Rattle.std.proofs.lemmas.Bool.{eqb-true, lt-ltb, le-ltb}
@@ -77,15 +77,15 @@ joined_again key full place (value ∷ row) e =
     let others = unkeyed_from key (suc place) row in
     let more : joined_from key cells (suc place) (length row) others ≡ row = joined_again key full (suc place) row (tail_at full place value row e) in
     elim (is_keyed key place) as (λ b. is_keyed key place ≡ b
-      → (cell_or_first (keyed_cell key cells place) (cond b others (value ∷ others))
-        ∷ joined_from key cells (suc place) (length row) (others_after (keyed_cell key cells place) (cond b others (value ∷ others)))) ≡ value ∷ row) [
+    → (cell_or_first (keyed_cell key cells place) (cond b others (value ∷ others))
+    ∷ joined_from key cells (suc place) (length row) (others_after (keyed_cell key cells place) (cond b others (value ∷ others)))) ≡ value ∷ row) [
       | true ↦ λ k.
-        let found : keyed_cell key cells place ≡ Some value = keyed_found full key place k ∙ ap (λ (v : Value). Some v) (head_at full place value row e) in
-        subst (λ (o : Option Value). (cell_or_first o others ∷ joined_from key cells (suc place) (length row) (others_after o others)) ≡ value ∷ row) (sym found)
-            (ap (λ (l : Cells). value ∷ l) more)
+          let found : keyed_cell key cells place ≡ Some value = keyed_found full key place k ∙ ap (λ (v : Value). Some v) (head_at full place value row e) in
+          subst (λ (o : Option Value). (cell_or_first o others ∷ joined_from key cells (suc place) (length row) (others_after o others)) ≡ value ∷ row) (sym found)
+          (ap (λ (l : Cells). value ∷ l) more)
       | false ↦ λ k.
-        subst (λ (o : Option Value). (cell_or_first o (value ∷ others) ∷ joined_from key cells (suc place) (length row) (others_after o (value ∷ others))) ≡ value ∷ row)
-            (sym (keyed_none cells key place k)) (ap (λ (l : Cells). value ∷ l) more)
+          subst (λ (o : Option Value). (cell_or_first o (value ∷ others) ∷ joined_from key cells (suc place) (length row) (others_after o (value ∷ others))) ≡ value ∷ row)
+          (sym (keyed_none cells key place k)) (ap (λ (l : Cells). value ∷ l) more)
     ] refl
 
 -- a row is put together from its own parts
@@ -109,7 +109,7 @@ joined_at key other row cells rest count same is_key is_count is_rest =
 pub joined_step : (key : List ℕ) (cells : Cells) (place count : ℕ) (done others all : Cells) → place < count
     → done ++ joined_from key cells place (count - place) others ≡ all
     → (done ++ cell_or_first (keyed_cell key cells place) others ∷ [])
-      ++ joined_from key cells (place + 1) (count - (place + 1)) (others_after (keyed_cell key cells place) others) ≡ all
+    ++ joined_from key cells (place + 1) (count - (place + 1)) (others_after (keyed_cell key cells place) others) ≡ all
 joined_step key cells place count done others all below e =
     let value = cell_or_first (keyed_cell key cells place) others in
     let rest = others_after (keyed_cell key cells place) others in

@@ -1,13 +1,12 @@
 -- Rows as items: one row has one item, and one address stands for one list of rows.
-use Rattle.std.proofs.Common.{◌≡◌, ℕ, suc, true, List, [], ◌∷◌, ◌++◌, length, map, Some, refl, sym, ap, ◌∙◌}
+use Rattle.std.proofs.Common.{◌≡◌, ℕ, true, List, [], ◌∷◌, ◌++◌, map, refl, sym, ap, ◌∙◌}
 use Rattle.std.specs.List.{list_all}
 use Rattle.std.proofs.lemmas.Bool.{and_parts}
-use Rattle.tuple_codec.specs.Rows.{Cells, key_of}
+use Rattle.tuple_codec.specs.Rows.{Cells}
 use Rattle.tuple_codec.specs.KeyBytes.{key_bytes}
 use Rattle.tuple_codec.specs.RowBytes.{row_bytes}
 use Rattle.tuple_codec.specs.Nodes.{Item, Node}
 use Rattle.tuple_codec.specs.Spellings.{IsOneSpelling, KeepsOrder}
-use Rattle.node_format.specs.Faults.{HasOneSpelling}
 use Rattle.schema_model.specs.PlainTables.{body_bytes, is_row, key_types, primary_key, row_item, unkeyed_from}
 use Rattle.schema_model.specs.Schemas.{is_schema}
 use Rattle.schema_model.specs.declared.schemas.Schema.{Schema}
@@ -16,7 +15,7 @@ use Rattle.chunk_store.specs.Standing.{IsTree}
 use Rattle.tree_laws.specs.Standing.{TreesLead, rows_below}
 use Rattle.prolly_tree.proofs.Descents.{one_node}
 use Rattle.table_rows.specs.Places.{body_types}
-use Rattle.table_rows.specs.Rows.{AreRowsAt, RowItemsFollow}
+use Rattle.table_rows.specs.Rows.{RowItemsFollow}
 use Rattle.table_rows.proofs.FitLemmas.{body_fits, body_types_fit, key_types_fit, primary_key_fits, row_length}
 use Rattle.table_rows.proofs.PlaceLemmas.{same_row}
 
@@ -35,7 +34,7 @@ module _ (keys : IsOneSpelling key_bytes) (rows : IsOneSpelling row_bytes) where
   pub one_row : (s : Schema) (a b : Cells) → is_schema s ≡ true → is_row s a ≡ true → is_row s b ≡ true → row_item s a ≡ row_item s b → a ≡ b
   one_row s a b h fa fb e =
       same_row s.key a b (row_length s a fa ∙ sym (row_length s b fb)) (one_key keys s a b h fa fb (ap (λ (i : Item). i.key) e))
-          (one_body rows s a b h fa fb (ap (λ (i : Item). i.body) e))
+      (one_body rows s a b h fa fb (ap (λ (i : Item). i.body) e))
 
   -- the same items are those of the same rows
   pub same_rows : (s : Schema) (some others : List Cells) → is_schema s ≡ true → list_all (is_row s) some ≡ true → list_all (is_row s) others ≡ true

@@ -1,5 +1,5 @@
 -- The trees of tests.
-use Rattle.std.proofs.Common.{◌≡◌, ℕ, List, [], ◌∷◌, length, map, Some, true, refl, ap, ◌∙◌, arith}
+use Rattle.std.proofs.Common.{◌≡◌, ℕ, List, [], ◌∷◌, map, Some, refl, ap, ◌∙◌, arith}
 use Rattle.tuple_codec.specs.Nodes.{Item, ends}
 use Rattle.tuple_codec.specs.Trees.{AreRows, bytes_of, closes, cut}
 use Rattle.schema_model.specs.PlainTables.{row_item}

@@ -1,12 +1,12 @@
 -- The definitions, computed.
-use Rattle.std.proofs.Common.{◌≡◌, ℕ, pos, true, false, List, [], ◌∷◌, Option, None, Some, refl}
+use Rattle.std.proofs.Common.{◌≡◌, pos, [], ◌∷◌, None, Some, refl}
 use Rattle.tuple_codec.specs.Nodes.{leaf_item}
 use Rattle.tuple_codec.specs.Rows.{Cells, key_of}
 use Rattle.tuple_codec.specs.declared.values.SqlType.TheVariants as kind
 use Rattle.tuple_codec.specs.declared.values.Value.TheVariants as cell
-use Rattle.schema_model.specs.PlainTables.{is_row, key_types, row_item, unkeyed_from}
+use Rattle.schema_model.specs.PlainTables.{key_types, row_item, unkeyed_from}
 use Rattle.table_rows.specs.Places.{body_types, joined_from, keyed_cell}
-use Rattle.table_rows.specs.Samples.{id_in_the_middle, row_of, two_rows}
+use Rattle.table_rows.specs.Samples.{id_in_the_middle, row_of}
 
 item_of_a_word : row_item id_in_the_middle (row_of (cell.Text (97 ∷ [])) (pos 1))
     ≡ leaf_item (1 ∷ 128 ∷ 0 ∷ 0 ∷ 0 ∷ 0 ∷ 0 ∷ 0 ∷ 1 ∷ []) (1 ∷ 0 ∷ 1 ∷ 97 ∷ 0 ∷ [])

@@ -1,5 +1,5 @@
 -- How a row is taken apart into its key and its other cells, and put together again.
-use Rattle.std.specs.Prelude.{◌≡◌, ℕ, zero, suc, ◌==◌, if◌then◌else◌, List, [], ◌∷◌, drop, Option, None, Some, position, slice_get}
+use Rattle.std.specs.Prelude.{ℕ, zero, suc, ◌==◌, if◌then◌else◌, List, [], ◌∷◌, drop, Option, None, Some, position, slice_get}
 use Rattle.std.specs.Option.{option_and_then}
 use Rattle.tuple_codec.specs.Rows.{Cells}
 use Rattle.tuple_codec.specs.declared.values.SqlType.{SqlType}

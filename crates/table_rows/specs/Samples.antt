@@ -1,10 +1,9 @@
 -- A schema and rows for tests.
-use Rattle.std.specs.Prelude.{ℕ, ℤ, pos, true, false, List, [], ◌∷◌, None, codes}
+use Rattle.std.specs.Prelude.{ℤ, pos, true, false, List, [], ◌∷◌, None, codes}
 use Rattle.tuple_codec.specs.Rows.{Cells}
 use Rattle.tuple_codec.specs.declared.values.SqlType.TheVariants as kind
 use Rattle.tuple_codec.specs.declared.values.Value.{Value}
 use Rattle.tuple_codec.specs.declared.values.Value.TheVariants as cell
-use Rattle.schema_model.specs.declared.schemas.Column.{Column}
 use Rattle.schema_model.specs.declared.schemas.Schema.{Schema}
 
 -- columns word, id and amount, of which the second is the primary key

@@ -131,11 +131,7 @@ fn leaf_of_two(alloc: Global, schema: &Schema) -> Result<Blob, AllocError>
 }
 
 /// The address of the tree of two rows, all in one leaf.
-fn plant_two(
-    draft: &mut Draft<ByLength>,
-    alloc: Global,
-    schema: &Schema,
-) -> Result<Address, Fail>
+fn plant_two(draft: &mut Draft<ByLength>, alloc: Global, schema: &Schema) -> Result<Address, Fail>
     requires schema { is_schema schema.now ≡ true }
     requires sample { schema.now ≡ id_in_the_middle }
     ensures { IfOk result (λ root. AreRowsAt by_length (chunks_of draft.new.chunks) root.0 id_in_the_middle two_rows) }

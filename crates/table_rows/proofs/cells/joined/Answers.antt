@@ -1,4 +1,3 @@
-use Rattle.std.proofs.Common.{◌≡◌}
 use Rattle.std.specs.Vec.Iter.{into_iter_items}
 use Rattle.table_rows.proofs.PlaceLemmas.{joined_step}
 use Rattle.table_rows.proofs.cells.joined.Goals as goal

@@ -18,4 +18,4 @@ encode_row-requires-clause-fit c =
     let types : c.as_slice-2.result.now ≡ body_types schema = c.as_slice-2.ensures.value ∙ c.in_ok-types.ensures in
     let cells : c.in_ok-cells.cells ≡ unkeyed_from schema.key 0 row = subst (λ k. c.in_ok-cells.cells ≡ unkeyed_from k 0 row) c.as_slice.ensures c.in_ok-cells.ensures in
     subst (λ (l : List SqlType). fits_all l c.in_ok-cells.cells ≡ true) (sym types)
-        (subst (λ (l : Cells). fits_all (body_types schema) l ≡ true) (sym cells) (body_fits schema row c.requires.row))
+    (subst (λ (l : Cells). fits_all (body_types schema) l ≡ true) (sym cells) (body_fits schema row c.requires.row))

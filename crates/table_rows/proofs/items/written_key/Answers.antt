@@ -17,4 +17,4 @@ encode_key-requires-clause-fit c =
     let types : c.as_slice-2.result.now ≡ key_types schema = c.as_slice-2.ensures.value ∙ c.in_ok-types.ensures in
     let cells : c.in_ok-cells.cells ≡ primary_key schema row = subst (λ k. c.in_ok-cells.cells ≡ key_of k row) c.as_slice.ensures c.in_ok-cells.ensures in
     subst (λ (l : List SqlType). fits_all l c.in_ok-cells.cells ≡ true) (sym types)
-        (subst (λ (l : Cells). fits_all (key_types schema) l ≡ true) (sym cells) (primary_key_fits schema row c.requires.schema c.requires.row))
+    (subst (λ (l : Cells). fits_all (key_types schema) l ≡ true) (sym cells) (primary_key_fits schema row c.requires.schema c.requires.row))

@@ -1,4 +1,4 @@
-use Rattle.std.proofs.Common.{◌≡◌, ℕ, List, [], ◌∷◌, ◌++◌, map, sym, ap, ◌∙◌, subst}
+use Rattle.std.proofs.Common.{List, [], ◌∷◌, ◌++◌, map, sym, ap, ◌∙◌, subst}
 use Rattle.prolly_tree.specs.Walks.{scan_rest}
 use Rattle.schema_model.specs.PlainTables.{row_item}
 use Rattle.tuple_codec.specs.Rows.{Cells}
@@ -11,14 +11,14 @@ rows-init g c = record {
   reading = λ rows at.
       let schema = c.args.schema.now in
       subst (λ (l : List Cells). IsReading schema l (scan_rest c.in_ok-scan.scan) rows) (sym c.new-rows.ensures)
-          (begins schema rows (scan_rest c.in_ok-scan.scan) at.fit (c.in_ok-scan.ensures.rows (map (row_item schema) rows) at.tree));
+      (begins schema rows (scan_rest c.in_ok-scan.scan) at.fit (c.in_ok-scan.ensures.rows (map (row_item schema) rows) at.tree));
 }
 
 pub read_row-requires-clause-row : goal.read_row-requires-clause-row
 read_row-requires-clause-row g c =
     let rows = c.requires.tree.0 in
     let f = first c.args.schema.now c.rows.rows rows (scan_rest c.rows.scan) (scan_rest c.next.new.self) (c.in-Some.key.now, c.in-Some.value.now)
-        (c.rows.invariant.reading rows c.requires.tree.1) c.in-Some.ensures.gives in
+    (c.rows.invariant.reading rows c.requires.tree.1) c.in-Some.ensures.gives in
     (f.row, f.is)
 
 pub rows-preserved : goal.rows-preserved

@@ -1,4 +1,4 @@
-use Rattle.std.proofs.Common.{◌≡◌, List, length}
+use Rattle.std.proofs.Common.{List, length}
 use Rattle.chunk_store.specs.Drafts.{chunks_of}
 use Rattle.prolly_tree.specs.Walks.{CanScan, scan_rest}
 use Rattle.tuple_codec.specs.Rows.{Cells}

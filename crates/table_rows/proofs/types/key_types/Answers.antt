@@ -1,4 +1,4 @@
-use Rattle.std.proofs.Common.{◌≡◌, ◌<◌, ℕ, List, length, get_or, ltb, true, sym, subst}
+use Rattle.std.proofs.Common.{◌≡◌, ℕ, List, length, ltb, true, sym, subst}
 use Rattle.std.specs.List.{list_all}
 use Rattle.schema_model.specs.declared.schemas.Column.{Column}
 use Rattle.table_rows.proofs.FitLemmas.{form_of, kind_step, place_below}
@@ -11,7 +11,7 @@ loop-position-preserved c =
     let key = c.as_slice-position-items.result.now in
     let at = c.loop-position.position-index in
     let places = subst (λ (l : List ℕ). list_all (λ position. ltb position (length columns)) l ≡ true) (sym c.as_slice-position-items.ensures)
-        (subst (λ (l : List Column). list_all (λ position. ltb position (length l)) schema.key ≡ true) (sym c.as_slice-columns.ensures) (form_of schema c.requires).places) in
+    (subst (λ (l : List Column). list_all (λ position. ltb position (length l)) schema.key ≡ true) (sym c.as_slice-columns.ensures) (form_of schema c.requires).places) in
     let there = place_below columns key at places c.loop-position-test.true in
     let step = kind_step columns key at c.index-columns-from.result c.loop-position.types.items _ c.loop-position-test.true there c.loop-position.invariant in
     let column = c.index-columns-from.is in
