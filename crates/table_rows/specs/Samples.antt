@@ -19,8 +19,8 @@ id_in_the_middle = record {
 }
 
 -- a word, an id, and no amount
-abbrev pub row_of : Value → ℤ → Cells
-row_of word id = word ∷ cell.Int id ∷ cell.Null ∷ []
+abbrev pub sample_row : Value → ℤ → Cells
+sample_row word id = word ∷ cell.Int id ∷ cell.Null ∷ []
 
 abbrev pub two_rows : List Cells
-two_rows = row_of cell.Null (pos 1) ∷ row_of cell.Null (pos 2) ∷ []
+two_rows = sample_row cell.Null (pos 1) ∷ sample_row cell.Null (pos 2) ∷ []

@@ -5,7 +5,7 @@ ghost use Rattle.schema_model.specs.Schemas.{is_schema};
 ghost use Rattle.chunk_store.specs.Drafts.{chunks_of};
 ghost use Rattle.prolly_tree.specs.Samples.{by_length};
 ghost use Rattle.table_rows.specs.Rows.{AreRowsAt};
-ghost use Rattle.table_rows.specs.Samples.{id_in_the_middle, row_of, two_rows};
+ghost use Rattle.table_rows.specs.Samples.{id_in_the_middle, sample_row, two_rows};
 
 use super::*;
 use chunk_region::PagePool;
@@ -47,7 +47,7 @@ fn id_in_the_middle(alloc: Global) -> Result<Schema, AllocError>
 }
 
 fn sample_row(alloc: Global, word: Value, id: i64) -> Result<Row, AllocError>
-    ensures { IfOk result (λ row. row ≡ row_of word id) }
+    ensures { IfOk result (λ row. row ≡ sample_row word id) }
 {
     let mut row = Row::new(alloc);
     row.push(word)?;
