@@ -22,10 +22,10 @@ abbrev pub HasRowsAt : (List ℕ → List ℕ) → Chunks → List ℕ → Schem
 HasRowsAt address chunks k schema = (rows : List Cells) × AreRowsAt address chunks k schema rows
 
 -- the row whose item has this key and this value
-pub record IsRowOf (schema : Schema) (key value : List ℕ) (row : Cells) : Type 0 where
+pub record IsRowOf (schema : Schema) (item_key item_value : List ℕ) (row : Cells) : Type 0 where
   pub fits : is_row schema row ≡ true
-  pub has_key : key_bytes (primary_key schema row) ≡ key
-  pub has_value : body_bytes schema row ≡ value
+  pub key : key_bytes (primary_key schema row) ≡ item_key
+  pub value : body_bytes schema row ≡ item_value
 
 -- rows as items of a tree: their keys have the rows' order, a row has one item of its own, rows within these limits are
 -- rows of a tree, and an address stands for one list of rows

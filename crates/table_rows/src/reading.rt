@@ -6,7 +6,10 @@ ghost use Rattle.schema_model.specs.Schemas.{is_schema};
 ghost use Rattle.tuple_codec.specs.Rows.{Cells};
 ghost use Rattle.table_rows.specs.Rows.{AreRowsAt, HasRowsAt};
 
+use crate::items::read_row;
+use crate::types::ItemTypes;
 use chunk_store::Draft;
+use prolly_tree::scan_from;
 use schema_model::Schema;
 use std::alloc::{AllocError, Global};
 use tuple_codec::{Address, Digester, Row, Sequence};
@@ -23,5 +26,11 @@ pub fn read_rows<D: Digester>(
     ensures { (rows : List Cells) → AreRowsAt D.address (chunks_of draft.now.chunks) root.now.0 schema.now rows
         → IfOk result (λ read. read ≡ rows) }
 {
-    unreachable!()
+    let types = ItemTypes::new(alloc, schema)?;
+    let mut rows = Sequence::new(alloc);
+    let mut scan = scan_from(alloc, draft, root, &[])?;
+    'rows: while let Some((key, value)) = scan.next() {
+        rows.push(read_row(alloc, schema, &types, key, value)?)?;
+    }
+    Ok(rows)
 }
