@@ -44,7 +44,7 @@ pub skip_below : (n : ℕ) (rows : List Item) → suc n < 2 ^ 32 → AreBelow n 
 skip_below n rows few below =
     one_on (λ m. AreBelow m rows) n (record { are = below.are; short = omega (arith, below.short); next = further (last_after None rows) n few below.next })
 
-row_below : (n : ℕ) (rows : List Item) (x : Item) → suc n < 2 ^ 32 → x.key ≡ to_be_bytes w64 n → length x.body ≡ 30 → x.rows ≡ 1 → AreBelow n rows → AreBelow (suc n) (rows ++ x ∷ [])
+row_below : (n : ℕ) (rows : List Item) (x : Item) → suc n < 2 ^ 32 → x.key ≡ to_be_bytes w64 n → length x.body ≡ 300 → x.rows ≡ 1 → AreBelow n rows → AreBelow (suc n) (rows ++ x ∷ [])
 row_below n rows x few key body one below =
     let P : Option (List ℕ) → Type 0 = λ k. is_after k (to_be_bytes w64 (suc n)) ≡ true in
     let after : is_after (last_after None rows) x.key ≡ true = subst (λ k. is_after (last_after None rows) k ≡ true) (sym key) below.next in
@@ -60,7 +60,7 @@ row_below n rows x few key body one below =
       next = subst P (sym (last_join None rows (x ∷ []) ∙ ap (λ k. Some k) key)) (rises n few);
     }
 
-pub push_below : (old new : List LeafItem) (x : LeafItem) (n : ℕ) → new ≡ old ++ x ∷ [] → x.key ≡ to_be_bytes w64 n → length {A = ℕ} x.value ≡ 30 → suc n < 2 ^ 32
+pub push_below : (old new : List LeafItem) (x : LeafItem) (n : ℕ) → new ≡ old ++ x ∷ [] → x.key ≡ to_be_bytes w64 n → length {A = ℕ} x.value ≡ 300 → suc n < 2 ^ 32
     → AreBelow n (map leaf_of old) → AreBelow (n + 1) (map leaf_of new)
 push_below old new x n new_is key value few below =
     one_on (λ m. AreBelow m (map leaf_of new)) n (subst (AreBelow (suc n)) (sym (ap (map leaf_of) new_is ∙ map-append leaf_of old (x ∷ []))) (row_below n (map leaf_of old) (leaf_of x) few key value refl below))

@@ -37,7 +37,7 @@ pub record AreEditsBelow (number : ℕ) (edits : List Edit) : Type 0 where
   pub short : length edits ≤ number
   pub next : is_after (last_edit None edits) (to_be_bytes w64 number) ≡ true
 
--- no value, or one of thirty bytes
+-- no value, or one of 300 bytes
 abbrev pub IsFit : Option (List ℕ) → Type 0
 IsFit None = Unit {0}
-IsFit (Some value) = length value ≡ 30
+IsFit (Some value) = length value ≡ 300

@@ -119,9 +119,9 @@ fn key_of(alloc: Global, number: u32) -> Result<Blob, AllocError>
 }
 
 fn value_of(alloc: Global, byte: u8) -> Result<Blob, AllocError>
-    ensures { IfOk result (λ value. length {A = ℕ} value ≡ 30) }
+    ensures { IfOk result (λ value. length {A = ℕ} value ≡ 300) }
 {
-    blob(alloc, &[byte; 30])
+    blob(alloc, &[byte; 300])
 }
 
 fn value_at(alloc: Global, byte: Option<u8>) -> Result<Option<Blob>, AllocError>
@@ -261,5 +261,14 @@ fn edits_of_all_rows_and_of_none(rt: HostRuntime) {
             let same = both_agree(rt.alloc(), count, from, end).expect(&rt, "memory for trees");
             assert!(rt; same, "{count} rows, edits from {from} on");
         }
+    }
+}
+
+// 500 rows are 15 leaves, the last of 12 rows; 5,000 have three levels: the last subtree has 3,870 rows, the last leaf 11
+#[test]
+fn removal_of_all_before_the_last_subtree(rt: HostRuntime) {
+    for (count, before) in [(1, 0), (2, 1), (500, 488), (5_000, 1_130), (5_000, 4_989)] {
+        let same = both_agree(rt.alloc(), count, 0, 2 * before + 1).expect(&rt, "memory for trees");
+        assert!(rt; same, "{count} rows, edits of the first {before}");
     }
 }
