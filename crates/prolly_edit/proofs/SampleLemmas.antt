@@ -34,9 +34,6 @@ further (Some k) n few after = lt_trans k (to_be_bytes w64 n) (to_be_bytes w64 (
 
 -- ---- rows
 
-pub no_rows_below : (n : ℕ) → AreBelow n []
-no_rows_below n = record { are = record { each = tt; rise = tt; few = omega arith }; short = omega arith; next = refl }
-
 one_on : (P : ℕ → Type 0) (n : ℕ) → P (suc n) → P (n + 1)
 one_on P n p = let e : suc n ≡ n + 1 = omega arith in subst P e p
 
@@ -74,9 +71,6 @@ last_edit_join before (x ∷ xs) ys = last_edit_join (Some x.key) xs ys
 edits_join : (before : Option (List ℕ)) (xs ys : List Edit) → EditsRiseAfter before xs → EditsRiseAfter (last_edit before xs) ys → EditsRiseAfter before (xs ++ ys)
 edits_join before [] ys left right = right
 edits_join before (x ∷ xs) ys left right = (left.0, edits_join (Some x.key) xs ys left.1 right)
-
-pub no_edits_below : (n : ℕ) → AreEditsBelow n []
-no_edits_below n = record { are = (record { each = tt; rise = tt }, omega arith); short = omega arith; next = refl }
 
 fit_puts : (key : List ℕ) (value : Option (List ℕ)) → length key ≡ 8 → IsFit value → AllByRecursion IsRow (putting key value [])
 fit_puts key None eight fit = tt
