@@ -3,3 +3,4 @@ pub mod TurnLemmas
 pub mod Arms
 pub mod Comparisons
 mod Vectors
+pub mod SampleLemmas

@@ -1,11 +1,11 @@
 -- The turns of a comparison: what they leave comes to the same, and it is less.
-use Rattle.std.proofs.Common.{◌≡◌, ◌<◌, ◌≤◌, ◌+◌, ◌-◌, ◌*◌, ◌^◌, ℕ, zero, suc, Bool, true, false, cond, List, [], ◌∷◌, ◌++◌, drop, refl, sym, ap, ◌∙◌, subst, append_assoc, append-nil, arith}
+use Rattle.std.proofs.Common.{◌≡◌, ◌<◌, ◌≤◌, ◌+◌, ◌-◌, ◌*◌, ◌^◌, ℕ, zero, suc, Bool, false, cond, List, [], ◌∷◌, ◌++◌, drop, refl, sym, ap, ◌∙◌, subst, append_assoc, arith}
 use Rattle.std.specs.Str.{bytes_eq}
 use Rattle.tuple_codec.specs.Nodes.{Item}
 use Rattle.tuple_codec.specs.Edits.{added, changed, removed}
 use Rattle.tuple_codec.specs.declared.edits.Change.{Change}
 use Rattle.tree_laws.specs.Found.{Nodes, items_of, rows_at}
-use Rattle.prolly_tree.specs.Fronts.{Front, Walking, nodes_of, on_level, opened, rows_ahead, rows_of}
+use Rattle.prolly_tree.specs.Fronts.{Front, nodes_of, on_level, opened, rows_ahead, rows_of}
 use Rattle.prolly_tree.proofs.FrontLemmas.{rows_on}
 use Rattle.pair_walk.specs.Counts.{counted}
 use Rattle.pair_walk.specs.Heads.{descended, skipped}

@@ -2,3 +2,4 @@ pub mod Counts
 pub mod Pairs
 pub mod Turns
 pub mod Heads
+pub mod Samples

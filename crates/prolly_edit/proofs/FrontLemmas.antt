@@ -1,12 +1,12 @@
 -- What is left of a walk, as it takes and opens nodes.
-use Rattle.std.proofs.Common.{◌≡◌, ◌<◌, ◌≤◌, ◌+◌, ℕ, zero, suc, ◌==◌, Bool, true, false, List, [], ◌∷◌, ◌++◌, length, Some, refl, sym, ap, ◌∙◌, subst, append_assoc, append-nil, arith}
+use Rattle.std.proofs.Common.{◌≡◌, ◌<◌, ◌+◌, ℕ, suc, ◌==◌, true, false, List, [], ◌∷◌, ◌++◌, length, Some, refl, sym, ap, ◌∙◌, subst, append_assoc, append-nil, arith}
 use Rattle.std.specs.List.{AllByRecursion}
 use Rattle.std.proofs.Math.Dec.{eqb-suc-zero}
 use Rattle.tuple_codec.specs.Nodes.{Item, Node}
-use Rattle.tree_laws.specs.Found.{ButLast, IsCanonical, IsEnded, IsOrdered, Nodes, each_of, items_of, nodes_in, rows_at}
-use Rattle.tree_laws.specs.Standing.{Chunks, IsFound, IsStored}
+use Rattle.tree_laws.specs.Found.{ButLast, IsCanonical, IsEnded, IsOrdered, Nodes, each_of, nodes_in, rows_at}
+use Rattle.tree_laws.specs.Standing.{Chunks, IsFound}
 use Rattle.tree_laws.proofs.StandingReads.{items_there}
-use Rattle.prolly_edit.specs.Fronts.{AreParts, EndsBefore, Front, HaveNames, IsPart, front_of, is_over, load, load_below, on_level, rest, sum_of, weight}
+use Rattle.prolly_edit.specs.Fronts.{AreParts, EndsBefore, Front, HaveNames, IsPart, front_of, is_over, load, on_level, rest, sum_of, weight}
 
 -- ---- steps of a path
 

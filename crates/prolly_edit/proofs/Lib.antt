@@ -3,3 +3,4 @@ pub mod StageLemmas
 pub mod FrontLemmas
 pub mod SubtreeLaws
 pub mod TurnLemmas
+pub mod SampleLemmas

@@ -1,12 +1,12 @@
 -- A tower on its way to a whole list.
-use Rattle.std.proofs.Common.{◌≡◌, ◌<◌, ◌≤◌, ◌+◌, ℕ, zero, suc, drop, Some, List, [], ◌∷◌, ◌++◌, length, None, refl, sym, ap, ◌∙◌, subst, append_assoc, append-nil, arith}
+use Rattle.std.proofs.Common.{◌≡◌, ◌+◌, ℕ, suc, drop, Some, List, [], ◌∷◌, ◌++◌, None, refl, sym, ap, ◌∙◌, subst, append_assoc, append-nil, arith}
 use Rattle.std.specs.List.{AllByRecursion}
 use Rattle.std.specs.Prelude.{slice_get}
 use Rattle.std.proofs.lemmas.List.{length-append}
 use Rattle.tuple_codec.specs.Nodes.{Item}
 use Rattle.tuple_codec.specs.Trees.{AreRows, IsRow}
 use Rattle.chunk_store.specs.Chunks.{Chunks}
-use Rattle.node_chunker.specs.Growth.{CanPush, IsTower, WasPushed}
+use Rattle.node_chunker.specs.Growth.{IsTower}
 use Rattle.tree_laws.proofs.StandingOrder.{rise_left}
 use Rattle.prolly_tree.proofs.Descents.{drop_get}
 use Rattle.prolly_edit.specs.Stages.{Awaits}

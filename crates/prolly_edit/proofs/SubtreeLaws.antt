@@ -1,5 +1,5 @@
 -- A node of a tree that stands, if it ended by the boundary rule, is a subtree that a tower takes whole.
-use Rattle.std.proofs.Common.{◌≡◌, ◌<◌, ◌+◌, ℕ, zero, suc, Bool, true, false, cond, List, [], ◌∷◌, ◌++◌, length, map, Some, refl, sym, ap, ◌∙◌, subst, append_assoc, append-nil, arith}
+use Rattle.std.proofs.Common.{◌≡◌, ◌+◌, ℕ, zero, suc, true, false, cond, List, [], ◌∷◌, ◌++◌, length, map, Some, refl, sym, ap, ◌∙◌, subst, append_assoc, append-nil, arith}
 use Rattle.std.specs.List.{AllByRecursion}
 use Rattle.std.proofs.lemmas.List.{map-append}
 use Rattle.tuple_codec.specs.Nodes.{Item}
@@ -9,8 +9,8 @@ use Rattle.chunk_store.specs.Standing.{AreHeld, IsThere}
 use Rattle.node_chunker.specs.Subtrees.{IsSubtree, lift_chunks}
 use Rattle.node_chunker.proofs.GrowthLemmas.{name_body}
 use Rattle.node_chunker.proofs.TowerLemmas.{all_join, all_split, held_later}
-use Rattle.tree_laws.specs.Found.{ButLast, Ended, IsCanonical, IsEnded, each_of, left, lift, nodes_in, rows_at}
-use Rattle.tree_laws.specs.Standing.{IsFound, IsStored}
+use Rattle.tree_laws.specs.Found.{ButLast, Ended, IsCanonical, IsEnded, each_of, lift, nodes_in, rows_at}
+use Rattle.tree_laws.specs.Standing.{IsFound}
 use Rattle.tree_laws.proofs.Cuts.{cut_apart, names_apart}
 use Rattle.tree_laws.proofs.Lifts.{all_lift, ends, lifts}
 use Rattle.tree_laws.proofs.StandingReads.{items_there, rows_there}

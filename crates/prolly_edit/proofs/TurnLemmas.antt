@@ -1,5 +1,5 @@
 -- The turns of a walk: a node goes over whole, or is read.
-use Rattle.std.proofs.Common.{◌≡◌, ◌<◌, ◌≤◌, ◌+◌, ◌-◌, ℕ, zero, suc, Bool, true, false, List, [], ◌∷◌, ◌++◌, length, Some, refl, sym, ap, ◌∙◌, subst, append-nil, arith}
+use Rattle.std.proofs.Common.{◌≡◌, ◌<◌, ◌+◌, ◌-◌, ℕ, suc, Bool, true, false, List, [], ◌∷◌, ◌++◌, length, refl, sym, ap, ◌∙◌, subst, append-nil, arith}
 use Rattle.std.specs.List.{AllByRecursion}
 use Rattle.std.specs.Prelude.{◌&&◌, not}
 use Rattle.tuple_codec.specs.Nodes.{Item, Node}
@@ -12,7 +12,7 @@ use Rattle.chunk_store.specs.Chunks.{Chunks, Extends}
 use Rattle.chunk_store.specs.Standing.{IsTree}
 use Rattle.node_chunker.specs.Growth.{IsTower}
 use Rattle.node_chunker.specs.Subtrees.{CanPushRef, IsSubtree, is_clear}
-use Rattle.tree_laws.specs.Found.{IsEnded, Nodes, UpTo, each_of, items_of, nodes_in, rows_at}
+use Rattle.tree_laws.specs.Found.{IsEnded, Nodes, each_of, items_of, nodes_in, rows_at}
 use Rattle.tree_laws.specs.Standing.{IsFound, IsStored, rows_below}
 use Rattle.tree_laws.proofs.Standing.{trees_have_roots, trees_lead}
 use Rattle.tree_laws.proofs.StandingReads.{all_map, items_there, reached, rows_there, some_rows}

@@ -1,5 +1,5 @@
 -- Which edits a tree takes.
-use Rattle.std.specs.Prelude.{◌≡◌, ◌<◌, ◌^◌, ℕ, List, [], length, None}
+use Rattle.std.specs.Prelude.{◌<◌, ◌^◌, ℕ, List, [], length, None}
 use Rattle.std.specs.List.{AllByRecursion}
 use Rattle.tuple_codec.specs.Nodes.{Item}
 use Rattle.tuple_codec.specs.Trees.{IsRow}

@@ -1,5 +1,5 @@
 -- What a walk has left of a tree: nodes in order, each as the item that names it.
-use Rattle.std.specs.Prelude.{◌≡◌, ◌<◌, ℕ, zero, suc, ◌+◌, Bool, true, false, List, [], ◌∷◌, ◌++◌, length}
+use Rattle.std.specs.Prelude.{◌<◌, ℕ, zero, suc, ◌+◌, Bool, true, false, List, [], ◌∷◌, ◌++◌, length}
 use Rattle.std.specs.List.{AllByRecursion}
 use Rattle.tuple_codec.specs.Nodes.{Item, Node}
 use Rattle.tree_laws.specs.Found.{IsCanonical, IsEnded, IsOrdered, Nodes, items_of, nodes_in, rows_at}

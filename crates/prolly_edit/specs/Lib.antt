@@ -1,3 +1,4 @@
 pub mod Editing
 pub mod Fronts
 pub mod Stages
+pub mod Samples

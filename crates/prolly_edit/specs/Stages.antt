@@ -1,13 +1,13 @@
 -- How far an edit has come: what a tower has taken, and what it is still to take.
 use Rattle.std.specs.Prelude.{◌≡◌, ◌<◌, ◌≤◌, ℕ, suc, ◌+◌, Bool, true, not, List, [], ◌∷◌, ◌++◌, length}
 use Rattle.std.specs.Ordering.{is_lt}
-use Rattle.tuple_codec.specs.Nodes.{Item, Node}
+use Rattle.tuple_codec.specs.Nodes.{Item}
 use Rattle.tuple_codec.specs.Trees.{AreRows}
 use Rattle.tuple_codec.specs.Edits.{edited, order}
 use Rattle.tuple_codec.specs.declared.edits.Edit.{Edit}
 use Rattle.chunk_store.specs.Chunks.{Chunks, Extends}
 use Rattle.node_chunker.specs.Growth.{IsTower}
-use Rattle.tree_laws.specs.Found.{IsEnded, each_of, nodes_in, rows_at}
+use Rattle.tree_laws.specs.Found.{each_of, nodes_in, rows_at}
 use Rattle.tree_laws.specs.Standing.{IsStored}
 use Rattle.prolly_edit.specs.Fronts.{AreParts, Front, load, load_below, on_level, rest}
 

@@ -1,10 +1,12 @@
-ghost use Rattle.std.specs.Prelude.{◌≡◌, IfOk, None, Some};
+ghost use Rattle.std.specs.Prelude.{◌≡◌, ◌<◌, ◌+◌, ◌-◌, ◌^◌, ℕ, map, length, IfOk, OnOk, None, Some};
+ghost use Rattle.std.specs.Int.{w64, to_be_bytes};
 ghost use Rattle.tuple_codec.specs.Nodes.{leaf_item};
 ghost use Rattle.node_format.specs.Views.{leaf_of};
 ghost use Rattle.chunk_store.specs.Digests.{cut_address};
 ghost use Rattle.chunk_store.specs.Drafts.{chunks_of};
 ghost use Rattle.chunk_store.specs.Standing.{IsTree};
 ghost use Rattle.prolly_tree.specs.Samples.{two_rows};
+ghost use Rattle.prolly_edit.specs.Samples.{AreBelow, AreEditsBelow, AreFewEdits, AreFewRows, IsFit, StandsForFew};
 
 use super::*;
 use chunk_region::PagePool;
@@ -79,4 +81,194 @@ fn an_edited_tree_is_the_tree_of_the_edited_rows(rt: HostRuntime) -> Result<(), 
     let built = new_root(rt.alloc(), &mut draft)?;
     assert_eq!(rt; edited, built);
     Ok(())
+}
+
+/// How many rows the trees of the table have.
+const COUNTS: [u16; 5] = [0, 1, 2, 500, 5_000];
+
+/// What is done at each number from one up to another: a value of this byte is put there, or the row is removed.
+#[derive(Clone, Copy)]
+struct Span {
+    from: u32,
+    to: u32,
+    byte: Option<u8>,
+}
+
+const NOWHERE: Span = Span {
+    from: 0,
+    to: 0,
+    byte: None,
+};
+
+/// The byte of the value at a number, where it has a row: so many even numbers from 2 on have one, but for the edits.
+fn byte_at(count: u16, span: Span, number: u32) -> Option<u8> {
+    if span.from <= number && number < span.to {
+        return span.byte;
+    }
+    if number > 0 && number % 2 == 0 && number <= 2 * count as u32 {
+        Some(7)
+    } else {
+        None
+    }
+}
+
+fn key_of(alloc: Global, number: u32) -> Result<Blob, AllocError>
+    ensures { IfOk result (λ key. key ≡ to_be_bytes w64 number) }
+{
+    blob(alloc, &(number as u64).to_be_bytes())
+}
+
+fn value_of(alloc: Global, byte: u8) -> Result<Blob, AllocError>
+    ensures { IfOk result (λ value. length {A = ℕ} value ≡ 300) }
+{
+    blob(alloc, &[byte; 300])
+}
+
+fn value_at(alloc: Global, byte: Option<u8>) -> Result<Option<Blob>, AllocError>
+    ensures { IfOk result (λ value. IsFit value) }
+{
+    match byte {
+        None => Ok(None),
+        Some(byte) => Ok(Some(value_of(alloc, byte)?)),
+    }
+}
+
+fn add_row(
+    alloc: Global,
+    rows: &mut Vec<LeafItem>,
+    number: u32,
+    byte: Option<u8>,
+) -> Result<(), AllocError>
+    requires few { number < 2 ^ 32 - 1 }
+    requires are { AreBelow number (map leaf_of rows.old.items) }
+    ensures { OnOk result (AreBelow (number + 1) (map leaf_of rows.new.items)) }
+{
+    if let Some(byte) = byte {
+        let key = key_of(alloc, number)?;
+        let value = value_of(alloc, byte)?;
+        rows.push(LeafItem { key, value })?;
+    }
+    Ok(())
+}
+
+/// So many rows, after the edits of a span.
+fn rows_of(alloc: Global, count: u16, span: Span) -> Result<Vec<LeafItem>, AllocError>
+    ensures { IfOk result (λ rows. AreFewRows (map leaf_of rows.items)) }
+{
+    let end = span.to.max(2 * count as u32 + 1);
+    let mut rows = Vec::new(alloc);
+    for number in 0..end {
+        add_row(alloc, &mut rows, number, byte_at(count, span, number))?;
+    }
+    Ok(rows)
+}
+
+fn add_edit(
+    alloc: Global,
+    edits: &mut Vec<Edit>,
+    number: u32,
+    byte: Option<u8>,
+) -> Result<(), AllocError>
+    requires few { number < 2 ^ 32 - 1 }
+    requires are { AreEditsBelow number edits.old.items }
+    ensures { OnOk result (AreEditsBelow (number + 1) edits.new.items) }
+{
+    let key = key_of(alloc, number)?;
+    let value = value_at(alloc, byte)?;
+    edits.push(Edit { key, value })?;
+    Ok(())
+}
+
+fn edits_of(alloc: Global, span: Span) -> Result<Vec<Edit>, AllocError>
+    ensures { IfOk result (λ edits. AreFewEdits edits.items) }
+{
+    let mut edits = Vec::new(alloc);
+    for number in span.from..span.to {
+        add_edit(alloc, &mut edits, number, span.byte)?;
+    }
+    Ok(edits)
+}
+
+/// The root of the tree of so many rows, after the edits of a span.
+fn built(
+    alloc: Global,
+    draft: &mut Draft<Sha512Cut>,
+    count: u16,
+    span: Span,
+) -> Result<Address, PutFault>
+    ensures { IfOk result (λ root. StandsForFew (chunks_of draft.new.chunks) root.0) }
+{
+    let rows = rows_of(alloc, count, span)?;
+    build(alloc, draft, &rows)
+}
+
+/// Whether the tree of so many rows, edited, has the address of the tree that is built of the edited rows.
+fn agrees(alloc: Global, count: u16, span: Span) -> Result<bool, PutFault> {
+    let pool = PagePool::with_pages(alloc, 1)?;
+    let mut draft: Draft<Sha512Cut> = Draft::new(Store::new(alloc), pool);
+    let edits = edits_of(alloc, span)?;
+    let root = built(alloc, &mut draft, count, NOWHERE)?;
+    let edited = apply(alloc, &mut draft, &root, &edits)?;
+    Ok(edited == built(alloc, &mut draft, count, span)?)
+}
+
+/// The same where values are put at the numbers from one up to another, and where they are removed.
+fn both_agree(alloc: Global, count: u16, from: u32, to: u32) -> Result<bool, PutFault> {
+    let byte = Some(9);
+    let put = agrees(alloc, count, Span { from, to, byte })?;
+    let byte = None;
+    let removed = agrees(alloc, count, Span { from, to, byte })?;
+    Ok(put && removed)
+}
+
+#[test]
+fn edits_at_the_front(rt: HostRuntime) {
+    for count in COUNTS {
+        for at in [0, 2] {
+            let same = both_agree(rt.alloc(), count, at, at + 1).expect(&rt, "memory for trees");
+            assert!(rt; same, "{count} rows, an edit at {at}");
+        }
+    }
+}
+
+#[test]
+fn edits_in_the_middle(rt: HostRuntime) {
+    for count in COUNTS {
+        let middle = count as u32;
+        for at in [middle, middle + 1] {
+            let same = both_agree(rt.alloc(), count, at, at + 1).expect(&rt, "memory for trees");
+            assert!(rt; same, "{count} rows, an edit at {at}");
+        }
+    }
+}
+
+#[test]
+fn edits_at_the_end(rt: HostRuntime) {
+    for count in COUNTS {
+        let last = 2 * count as u32;
+        for at in [last, last + 1] {
+            let same = both_agree(rt.alloc(), count, at, at + 1).expect(&rt, "memory for trees");
+            assert!(rt; same, "{count} rows, an edit at {at}");
+        }
+    }
+}
+
+#[test]
+fn edits_of_all_rows_and_of_none(rt: HostRuntime) {
+    for count in COUNTS {
+        let end = 2 * count as u32 + 1;
+        for from in [0, end] {
+            let same = both_agree(rt.alloc(), count, from, end).expect(&rt, "memory for trees");
+            assert!(rt; same, "{count} rows, edits from {from} on");
+        }
+    }
+}
+
+// 500 rows are 15 leaves, the last of 12 rows; 5,000 have three levels: the last subtree has 3,870 rows, the last leaf 11
+#[test]
+fn removal_of_all_before_the_last_subtree(rt: HostRuntime) {
+    for (count, before) in [(1, 0), (2, 1), (500, 488), (5_000, 1_130), (5_000, 4_989)] {
+        let same = both_agree(rt.alloc(), count, 0, 2 * before + 1).expect(&rt, "memory for trees");
+        assert!(rt; same, "{count} rows, edits of the first {before}");
+    }
 }

@@ -1,4 +1,4 @@
-use Rattle.std.proofs.Common.{List, map, Result}
+use Rattle.std.proofs.Common.{List, Result}
 use Rattle.std.specs.Prelude.{IfOk}
 use Rattle.std.proofs.lemmas.Result.{IfOk-weaker}
 use Rattle.tuple_codec.specs.Nodes.{Item}

@@ -1,10 +1,7 @@
-use Rattle.std.proofs.Common.{◌≡◌, ◌+◌, ◌∷◌, ◌++◌, ℕ, suc, List, true, ap, sym, subst, ◌∙◌, arith}
+use Rattle.std.proofs.Common.{◌≡◌, ◌+◌, ◌∷◌, suc, sym, subst, ◌∙◌, arith}
 use Rattle.std.proofs.lemmas.Result.{IfOk-weaker}
-use Rattle.tuple_codec.specs.Nodes.{Item}
-use Rattle.tuple_codec.specs.Trees.{AreRows}
 use Rattle.node_format.specs.Views.{ref_of}
 use Rattle.chunk_store.specs.Drafts.{chunks_of}
-use Rattle.node_chunker.specs.Growth.{IsTower}
 use Rattle.node_chunker.specs.Subtrees.{CanPushRef, IsSubtree, is_clear}
 use Rattle.node_chunker.proofs.ClimbLemmas.{grows}
 use Rattle.node_chunker.proofs.TowerLemmas.{extends_both}

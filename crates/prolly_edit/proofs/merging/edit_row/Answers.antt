@@ -1,4 +1,4 @@
-use Rattle.std.proofs.Common.{◌≡◌, ◌∷◌, ℕ, List, ap, refl, sym, subst, ◌∙◌}
+use Rattle.std.proofs.Common.{◌≡◌, ◌∷◌, List, ap, refl, subst, ◌∙◌}
 use Rattle.tuple_codec.specs.Nodes.{Item, leaf_item}
 use Rattle.tuple_codec.specs.Edits.{edited, putting}
 use Rattle.tuple_codec.specs.declared.edits.Edit.{Edit}

@@ -1,6 +1,5 @@
-use Rattle.std.proofs.Common.{◌≡◌, ◌∷◌, ◌++◌, ◌+◌, ℕ, zero, suc, List, [], length, drop, Some, ap, refl, sym, subst, ◌∙◌, arith}
-use Rattle.std.specs.Prelude.{slice_get}
-use Rattle.tuple_codec.specs.Nodes.{Item, leaf_item}
+use Rattle.std.proofs.Common.{◌++◌, ◌+◌, List, drop, subst}
+use Rattle.tuple_codec.specs.Nodes.{Item}
 use Rattle.tuple_codec.specs.Edits.{edited}
 use Rattle.chunk_store.specs.Drafts.{chunks_of}
 use Rattle.chunk_store.proofs.FollowLemmas.{drafts_follow}

@@ -1,6 +1,6 @@
 use Rattle.std.proofs.Common.{◌++◌, ◌∷◌, []}
 use Rattle.std.proofs.lemmas.Result.{IfOk-weaker}
-use Rattle.tuple_codec.specs.Nodes.{Item, leaf_item}
+use Rattle.tuple_codec.specs.Nodes.{leaf_item}
 use Rattle.chunk_store.specs.Drafts.{chunks_of}
 use Rattle.node_chunker.specs.Growth.{IsTower}
 use Rattle.prolly_edit.specs.Stages.{Awaits}

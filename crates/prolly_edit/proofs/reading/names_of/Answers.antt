@@ -1,6 +1,5 @@
-use Rattle.std.proofs.Common.{◌≡◌, ◌≤◌, ◌-◌, ◌∷◌, ◌++◌, ℕ, suc, List, [], length, map, drop, reverse, ap, sym, ◌∙◌, arith}
+use Rattle.std.proofs.Common.{◌≡◌, ◌-◌, ◌∷◌, suc, [], map, drop, reverse, ap, sym, ◌∙◌, arith}
 use Rattle.std.proofs.lemmas.List.{map-append, reverse-append}
-use Rattle.tuple_codec.specs.Nodes.{Item}
 use Rattle.node_format.specs.Views.{ref_of}
 use Rattle.prolly_tree.proofs.Descents.{drop_get}
 use Rattle.prolly_edit.proofs.reading.names_of.Goals as goal

@@ -1,4 +1,4 @@
-use Rattle.std.proofs.Common.{◌≡◌, ap, sym, subst}
+use Rattle.std.proofs.Common.{ap, sym, subst}
 use Rattle.prolly_tree.specs.Heads.{level_of}
 use Rattle.pair_walk.specs.Turns.{IsTurn}
 use Rattle.pair_walk.proofs.Arms.{head_old_last}
