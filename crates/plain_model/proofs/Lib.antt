@@ -4,3 +4,4 @@ mod WordTokens
 mod ReadSoundness
 pub mod RowLemmas
 pub mod TableLemmas
+pub mod EffectLemmas

@@ -1,11 +1,12 @@
--- Each word and each name in backquotes that is read holds letters, digits and `_` alone.
-use Rattle.std.proofs.Common.{◌≡◌, refl, sym, ap, ◌∙◌, ◌++◌, ◌||◌, Bool, true, ◌==◌, ℕ, List, [], ◌∷◌, Option, Some, None, arith}
+-- Each word and each name in backquotes that is read holds letters, digits and `_` alone, and at least one of them.
+use Rattle.std.proofs.Common.{◌≡◌, refl, sym, ap, ◌∙◌, ◌++◌, ◌||◌, Bool, true, ◌==◌, ℕ, ◌&&◌, nat_le, List, [], ◌∷◌, length, length-append, Option, Some, None, arith}
+use Rattle.std.proofs.lemmas.Bool.{le-leb}
 use Rattle.std.proofs.lemmas.Bool.Decides.{nat_tests}
 use Rattle.std.proofs.lemmas.List.Folds.{list_all-append}
 use Rattle.std.specs.List.{list_all}
 use Rattle.std.specs.Option.{option_and_then, option_map}
 use Rattle.script_text.specs.Input.{is_blank}
-use Rattle.plain_model.proofs.Each.{Each, both, given, nothing, tested}
+use Rattle.plain_model.proofs.Each.{Each, both, given, left_of, nothing, tested}
 use Rattle.plain_model.specs.Sound.{is_word_text}
 use Rattle.plain_model.specs.Tokens.{after_quote, begin, begin_quote, closed, finish, in_name, in_string, in_whole, in_word, is_digit, is_word_byte, is_word_start, lower, name_start, nothing_read, sign_at, step, tokens, tokens_from}
 use Rattle.plain_model.specs.declared.lexer.Reading.{Reading}
@@ -15,16 +16,19 @@ use Rattle.plain_model.specs.declared.tokens.Sign.{Sign}
 use Rattle.plain_model.specs.declared.tokens.Token.{Token}
 use Rattle.plain_model.specs.declared.tokens.Token.TheVariants as token
 
+abbrev pub is_whole_word : List ℕ → Bool
+is_whole_word word = is_word_text word && nat_le 1 (length word)
+
 abbrev pub is_word_token : Token → Bool
-is_word_token (token.Word word) = is_word_text word
-is_word_token (token.Quoted word) = is_word_text word
+is_word_token (token.Word word) = is_whole_word word
+is_word_token (token.Quoted word) = is_whole_word word
 is_word_token (token.Quotation text) = true
 is_word_token (token.Whole number) = true
 is_word_token (token.Sign sign) = true
 
 abbrev is_held_word : Place → List ℕ → Bool
-is_held_word InWord held = is_word_text held
-is_held_word InName held = is_word_text held
+is_held_word InWord held = is_whole_word held
+is_held_word InName held = is_whole_word held
 is_held_word Between held = true
 is_held_word InWhole held = true
 is_held_word NameStart held = true
@@ -43,8 +47,10 @@ Leads next = Each HoldsWords next
 one_more_token : (tokens : List Token) (read : Token) → list_all is_word_token tokens ≡ true → is_word_token read ≡ true → list_all is_word_token (tokens ++ read ∷ []) ≡ true
 one_more_token tokens read h k = list_all-append is_word_token tokens (read ∷ []) ∙ both _ _ h (both _ _ k refl)
 
-one_more_byte : (held : List ℕ) (byte : ℕ) → is_word_text held ≡ true → is_word_byte byte ≡ true → is_word_text (held ++ byte ∷ []) ≡ true
-one_more_byte held byte h k = list_all-append is_word_byte held (byte ∷ []) ∙ both _ _ h (both _ _ k refl)
+one_more_byte : (held : List ℕ) (byte : ℕ) → is_whole_word held ≡ true → is_word_byte byte ≡ true → is_whole_word (held ++ byte ∷ []) ≡ true
+one_more_byte held byte h k =
+    both _ _ (list_all-append is_word_byte held (byte ∷ []) ∙ both _ _ (left_of _ _ h) (both _ _ k refl))
+    (let more = length-append held (byte ∷ []) in le-leb 1 (length (held ++ byte ∷ [])) (omega (arith, more)))
 
 lower_word : (byte : ℕ) → is_word_byte byte ≡ true → is_word_byte (lower byte) ≡ true
 lower_word byte h = grind (arith, nat_tests)
@@ -68,11 +74,11 @@ quote_words byte reading h =
 begin_words : (byte : ℕ) (reading : Reading) → HoldsWords reading → Leads (begin byte reading)
 begin_words byte reading h =
     tested (is_blank byte) _ _ (λ _. given _ h) (λ _.
-    tested (is_word_start byte) _ _ (λ k. given _ (record { done = h.done; held = both _ _ (lower_start byte k) refl })) (λ _.
+    tested (is_word_start byte) _ _ (λ k. given _ (record { done = h.done; held = both _ _ (both _ _ (lower_start byte k) refl) refl })) (λ _.
     tested (is_digit byte) _ _ (λ _. given _ (record { done = h.done; held = refl })) (λ _.
     quote_words byte reading h)))
 
-word_words : (byte : ℕ) (reading : Reading) → list_all is_word_token reading.done ≡ true → is_word_text reading.held ≡ true → reading.place ≡ InWord → Leads (in_word byte reading)
+word_words : (byte : ℕ) (reading : Reading) → list_all is_word_token reading.done ≡ true → is_whole_word reading.held ≡ true → reading.place ≡ InWord → Leads (in_word byte reading)
 word_words byte reading done held at =
     tested (is_word_byte byte) _ _
     (λ k. given _ (record { done = done; held = ap (λ (place : Place). is_held_word place (reading.held ++ lower byte ∷ [])) at ∙ one_more_byte reading.held (lower byte) held (lower_word byte k) }))
@@ -84,9 +90,9 @@ whole_words byte reading h =
 
 start_words : (byte : ℕ) (reading : Reading) → HoldsWords reading → Leads (name_start byte reading)
 start_words byte reading h =
-    tested (is_word_start byte) _ _ (λ k. given _ (record { done = h.done; held = both _ _ (lower_start byte k) refl })) (λ _. nothing)
+    tested (is_word_start byte) _ _ (λ k. given _ (record { done = h.done; held = both _ _ (both _ _ (lower_start byte k) refl) refl })) (λ _. nothing)
 
-name_words : (byte : ℕ) (reading : Reading) → list_all is_word_token reading.done ≡ true → is_word_text reading.held ≡ true → reading.place ≡ InName → Leads (in_name byte reading)
+name_words : (byte : ℕ) (reading : Reading) → list_all is_word_token reading.done ≡ true → is_whole_word reading.held ≡ true → reading.place ≡ InName → Leads (in_name byte reading)
 name_words byte reading done held at =
     tested (is_word_byte byte) _ _
     (λ k. given _ (record { done = done; held = ap (λ (place : Place). is_held_word place (reading.held ++ lower byte ∷ [])) at ∙ one_more_byte reading.held (lower byte) held (lower_word byte k) }))

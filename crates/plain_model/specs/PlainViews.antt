@@ -1,6 +1,5 @@
 -- The tables of these statements as plain tables, and the addresses of what they make.
-use Rattle.std.specs.Prelude.{ℕ, ℤ, suc, false, List, [], ◌∷◌, map, codes, None}
-use Rattle.tuple_codec.specs.declared.addresses.Address.{Address}
+use Rattle.std.specs.Prelude.{ℕ, ℤ, suc, List, [], ◌∷◌, map, codes, None}
 use Rattle.schema_model.specs.PlainTables as plain
 use Rattle.schema_model.specs.PlainTables.{PlainDatabase, PlainTable, is_keyed}
 use Rattle.schema_model.specs.WrittenForms.{CommitParts, commit_bytes, database_address}

@@ -16,8 +16,6 @@ mod reading;
 mod statements;
 mod stops;
 mod tables;
-#[cfg(test)]
-mod tests;
 mod tokens;
 mod tuples;
 

@@ -11,7 +11,8 @@ use std::alloc::{AllocError, Global};
 
 /// The statement of a text, or none where it has none of the three forms.
 ///
-/// A statement that is read is sound: its columns' names are words, and its key is among its columns.
+/// A statement that is read is sound: the names of a new table and of its columns are words of 1 to 64 bytes, and its
+/// columns make a schema where there are no more than the limits allow.
 pub fn read_statement(alloc: Global, text: &[u8]) -> Result<Option<Statement>, AllocError>
     ensures reads { IfOk result (λ statement. statement ≡ read text.now) }
     ensures sound { IfOk result (λ statement. IfSome statement (λ s. is_sound_statement s ≡ true)) }
