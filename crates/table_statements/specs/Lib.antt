@@ -1,2 +1,4 @@
 pub mod Keeping
 pub mod Filling
+pub mod Judging
+pub mod Placing

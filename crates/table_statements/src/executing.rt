@@ -37,5 +37,5 @@ pub fn execute<D: Digester>(
     ensures longer { Longer draft.old.chunks draft.new.chunks }
     ensures fault { IfErr result (IsFault D.address) }
 {
-    unreachable!()
+    Err(PutFault::Memory)
 }

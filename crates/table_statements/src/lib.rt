@@ -4,13 +4,9 @@
 //! of the tables that the address stands for.
 #![tactic(auto)]
 
-mod creating;
 mod executing;
 mod inserting;
-mod selecting;
-mod tables;
+mod judging;
+mod ordering;
 
 pub use executing::{Executed, execute};
-
-#[cfg(test)]
-mod tests;

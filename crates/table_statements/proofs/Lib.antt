@@ -1,0 +1,5 @@
+mod SortLemmas
+mod JudgeLemmas
+mod InsertLemmas
+mod PlaceLemmas
+mod FillLemmas
