@@ -1,5 +1,5 @@
 -- A run from its opening to its end, line by line.
-use Rattle.std.proofs.Common.{◌≡◌, refl, sym, ◌∙◌, ap, subst, ℕ, ℤ, zero, suc, ◌+◌, ◌-◌, ◌*◌, ◌<◌, ◌≤◌, ◌^◌, true, false, ◌==◌, nat_lt, nat_le, List, [], ◌∷◌, ◌++◌, length, map, take, drop, replicate, Some, None, slice_get, arith, if◌then◌else◌}
+use Rattle.std.proofs.Common.{◌≡◌, pos, refl, sym, ◌∙◌, ap, subst, ℕ, ℤ, zero, suc, ◌+◌, ◌-◌, ◌*◌, ◌<◌, ◌≤◌, ◌^◌, true, false, ◌==◌, nat_lt, nat_le, List, [], ◌∷◌, ◌++◌, length, map, take, drop, replicate, Some, None, slice_get, arith, if◌then◌else◌}
 use Rattle.std.specs.Option.{option_map, option_and_then}
 use Rattle.std.specs.List.{list_all}
 use Rattle.std.specs.Prelude.{slice_index_or}
@@ -8,13 +8,19 @@ use Rattle.std.proofs.lemmas.Option.{get_or_from_slice_get, slice_get_within}
 use Rattle.std.proofs.lemmas.Bool.Decides.{nat_tests}
 use Rattle.script_text.specs.Output.{shortage, shortages_in}
 use Rattle.script_text.specs.Shown.{IsPrintable, IsShown, is_printable_moment, is_printable_reply, is_shown_moment, is_shown_reply}
+use Rattle.script_text.specs.declared.outputs.BranchLine.{BranchLine}
 use Rattle.script_text.specs.declared.outputs.RunText.{RunText}
 use Rattle.script_text.specs.declared.replies.Reply.{Reply}
 use Rattle.script_text.specs.declared.scripts.Line.{Line}
 use Rattle.script_text.specs.declared.scripts.Moment.{Moment}
 use Rattle.script_text.specs.declared.scripts.Script.{Script}
 use Rattle.plain_model.specs.Machine.{IsPlainRun, IsTextOrder, Runner, Shortages, is_over, line_of, opening, shown, statements_of, steps_along}
+use Rattle.plain_model.specs.PlainViews.{first_commit, main_branch, plain_database}
 use Rattle.plain_model.specs.Tables.{Tables}
+use Rattle.tuple_codec.specs.declared.addresses.Address.{Address}
+use Rattle.schema_model.specs.WrittenForms.{commit_bytes, database_address}
+use Rattle.doltrun.specs.Opening.{IsFirst}
+use Rattle.doltrun.specs.Running.{branch_at}
 use Rattle.doltrun.specs.Alone.{Agrees, AreCounted, IsRunTo, IsSoundScript, Served, is_behind, is_sound_reply, is_within, resting, served, state_before}
 use Rattle.doltrun.proofs.AloneLemmas.{here, more_replies, first_runners}
 use Rattle.doltrun.proofs.ListLemmas.{both, join, all_weaker, all_append, all_replicated, all_put, all_at, take_at_get}
@@ -103,20 +109,33 @@ all_said answers place [] = refl
 all_said answers place (replies ∷ spoken) = ap (λ more. replies ∷ more) (all_said answers (place + 1) spoken)
 
 -- what a run of all lines shows
-abbrev pub shown_by : Script → List Moment → List (List Reply) → RunText
-shown_by script order spoken = record { names = script.names; replies = spoken; order = order }
+abbrev pub shown_by : Script → List Moment → List (List Reply) → List BranchLine → RunText
+shown_by script order spoken branches = record { names = script.names; replies = spoken; order = order; branches = branches }
 
-pub plain_at_end : (script : Script) (epoch : ℤ) (order : List Moment) (database : Tables) (spoken : List (List Reply)) → IsRunTo script (length script.lines) order database spoken
-    → IsPlainRun epoch script (shown_by script order spoken)
-plain_at_end script epoch order database spoken done =
+-- the branch that was made is the one of these tables
+pub branches_are : (address : List ℕ → List ℕ) (tables : Tables) (head working staged : Address) (branches : List BranchLine) → IsFirst address head.0 → database_address address (plain_database tables) ≡ working.0
+    → staged.0 ≡ database_address address [] → branches ≡ branch_at head working staged ∷ [] → branches ≡ main_branch address (pos 0) tables ∷ []
+unfolding main_branch
+branches_are address tables head working staged branches is_head is_working is_staged is =
+    let as_address : List ℕ → Address = λ k. record { 0 = k } in
+    is
+    ∙ ap (λ a. branch_at a working staged ∷ []) (ap as_address is_head)
+    ∙ ap (λ a. branch_at (as_address (address (commit_bytes (first_commit address (pos 0))))) a staged ∷ []) (ap as_address (sym is_working))
+    ∙ ap (λ a. branch_at (as_address (address (commit_bytes (first_commit address (pos 0))))) (as_address (database_address address (plain_database tables))) a ∷ []) (ap as_address is_staged)
+
+pub plain_at_end : (address : List ℕ → List ℕ) (script : Script) (epoch : ℤ) (order : List Moment) (database : Tables) (spoken : List (List Reply)) (branches : List BranchLine)
+    → branches ≡ main_branch address epoch database ∷ [] → IsRunTo script (length script.lines) order database spoken
+    → IsPlainRun address epoch script (shown_by script order spoken branches)
+plain_at_end address script epoch order database spoken branches is done =
     let answers : Shortages = shortages_in spoken in
     let none : drop (length script.lines) script.lines ≡ [] = drop_all (length script.lines) script.lines (omega arith) in
     let stepped : steps_along answers order (opening answers script) ≡ Some (state_before answers [] database spoken)
     = ap (λ moments. steps_along answers moments (opening answers script)) (sym (append-nil order))
     ∙ done.run answers [] (agrees_self spoken) ∙ ap (λ rest. Some (state_before answers rest database spoken)) none in
-    ap (λ found. option_map (shown script order) (option_and_then (λ last. if list_all is_over last.runners then Some last else None) found)) stepped
-    ∙ ap (λ test. option_map (shown script order) (if test then Some (state_before answers [] database spoken) else None)) (all_over answers 0 spoken)
-    ∙ ap (λ replies. Some (record { names = script.names; replies = replies; order = order })) (all_said answers 0 spoken)
+    ap (λ found. option_map (shown address epoch script order) (option_and_then (λ last. if list_all is_over last.runners then Some last else None) found)) stepped
+    ∙ ap (λ test. option_map (shown address epoch script order) (if test then Some (state_before answers [] database spoken) else None)) (all_over answers 0 spoken)
+    ∙ ap (λ replies. Some (shown_by script order replies (main_branch address epoch database ∷ []))) (all_said answers 0 spoken)
+    ∙ ap (λ made. Some (shown_by script order spoken made)) (sym is)
 
 pub text_order_at_end : (script : Script) (order : List Moment) (database : Tables) (spoken : List (List Reply)) → IsRunTo script (length script.lines) order database spoken
     → IsTextOrder script order
@@ -128,17 +147,17 @@ printable_reply reply h = (both (is_printable_reply reply) (is_shown_reply reply
 shown_reply : (reply : Reply) → is_sound_reply reply ≡ true → is_shown_reply reply ≡ true
 shown_reply reply h = (both (is_printable_reply reply) (is_shown_reply reply) h).1
 
-pub printable_at_end : (script : Script) (order : List Moment) (database : Tables) (spoken : List (List Reply)) → IsRunTo script (length script.lines) order database spoken
-    → IsPrintable (shown_by script order spoken)
-printable_at_end script order database spoken done = record {
+pub printable_at_end : (script : Script) (order : List Moment) (database : Tables) (spoken : List (List Reply)) (branches : List BranchLine) → IsRunTo script (length script.lines) order database spoken
+    → IsPrintable (shown_by script order spoken branches)
+printable_at_end script order database spoken branches done = record {
   lists = done.lists;
   replies = all_weaker (list_all is_sound_reply) (list_all is_printable_reply) (λ replies h. all_weaker is_sound_reply is_printable_reply printable_reply replies h) spoken done.sound;
   moments = all_weaker (is_within script) (is_printable_moment (length script.names)) (λ moment h. (both (nat_lt moment.session (length script.names)) (nat_le moment.statement (length script.lines)) h).0) order done.within;
 }
 
-pub shown_at_end : (script : Script) (order : List Moment) (database : Tables) (spoken : List (List Reply)) → IsSoundScript script → IsRunTo script (length script.lines) order database spoken
-    → IsShown (shown_by script order spoken)
-shown_at_end script order database spoken sound done = record {
+pub shown_at_end : (script : Script) (order : List Moment) (database : Tables) (spoken : List (List Reply)) (branches : List BranchLine) → IsSoundScript script → IsRunTo script (length script.lines) order database spoken
+    → IsShown (shown_by script order spoken branches)
+shown_at_end script order database spoken branches sound done = record {
   names = sound.names;
   distinct = sound.distinct;
   lists = done.lists;
@@ -158,13 +177,12 @@ replicated : (names : List (List ℕ)) → unsaid names ≡ replicate (length na
 replicated [] = refl
 replicated (name ∷ names) = ap (λ more. [] ∷ more) (replicated names)
 
-pub run_opened : (script : Script) (order : List Moment) (database : Tables) (spoken : List (List Reply)) (sessions : ℕ) → order ≡ [] → database ≡ [] → spoken ≡ replicate sessions []
-    → sessions ≡ length script.names → IsRunTo script 0 order database spoken
-run_opened script order database spoken sessions no_order no_table no_reply all =
+pub run_opened : (script : Script) (order : List Moment) (spoken : List (List Reply)) (sessions : ℕ) → order ≡ [] → spoken ≡ replicate sessions []
+    → sessions ≡ length script.names → IsRunTo script 0 order [] spoken
+run_opened script order spoken sessions no_order no_reply all =
     let silent : spoken ≡ unsaid script.names = no_reply ∙ ap (λ n. replicate n []) all ∙ sym (replicated script.names) in
-    subst (λ (o : List Moment). IsRunTo script 0 o database spoken) (sym no_order)
-    (subst (λ (d : Tables). IsRunTo script 0 [] d spoken) (sym no_table)
-    (subst (λ (s : List (List Reply)). IsRunTo script 0 [] [] s) (sym silent) (run_first script)))
+    subst (λ (o : List Moment). IsRunTo script 0 o [] spoken) (sym no_order)
+    (subst (λ (s : List (List Reply)). IsRunTo script 0 [] [] s) (sym silent) (run_first script))
 
 -- a session has answered no more statements than lines were run
 pub replies_within : (script : Script) (count : ℕ) (order : List Moment) (database : Tables) (spoken : List (List Reply)) (session : ℕ) (replies : List Reply) → IsRunTo script count order database spoken

@@ -1,10 +1,13 @@
 pub mod AloneLemmas
+pub mod AnswerLemmas
 pub mod EndLemmas
 pub mod LineLemmas
 pub mod ListLemmas
+pub mod OpeningLemmas
 pub mod RunLemmas
 pub mod RunningLemmas
 pub mod SameLemmas
 pub mod ScriptLemmas
 pub mod ServingLemmas
 pub mod TopLemmas
+pub mod TruthLemmas

@@ -1,23 +1,26 @@
 -- What the machine makes of one line is what the statement makes by itself.
-use Rattle.std.proofs.Common.{◌≡◌, refl, sym, ◌∙◌, ap, subst, ◌+◌, Bool, true, false, not, is_some, List, [], ◌∷◌, ◌++◌, length, replicate, Option, Some, None, slice_get, if◌then◌else◌}
+use Rattle.std.proofs.Common.{◌≡◌, refl, sym, ◌∙◌, ap, subst, ℕ, ◌+◌, Bool, nat_lt, true, false, not, is_some, List, [], ◌∷◌, ◌++◌, length, replicate, Option, Some, None, slice_get, if◌then◌else◌}
 use Rattle.std.specs.Option.{option_map, option_map_or, option_and_then}
 use Rattle.std.specs.List.{list_all}
-use Rattle.tuple_codec.specs.Rows.{fits_all}
-use Rattle.script_text.specs.Output.{Shortage, AtOnce, AfterStart}
+use Rattle.tuple_codec.specs.Rows.{Cells}
+use Rattle.chunk_store.specs.declared.faults.Clash.{Clash}
+use Rattle.schema_model.specs.Limits.{is_within_limits}
+use Rattle.script_text.specs.Output.{Shortage, AtOnce, AfterStart, Clashes}
 use Rattle.script_text.specs.declared.replies.Reply.{Reply}
-use Rattle.script_text.specs.declared.replies.Reply.TheVariants.{Done, Count, Refused}
+use Rattle.script_text.specs.declared.replies.Reply.TheVariants.{Done, Count, Refused, Collided}
 use Rattle.script_text.specs.declared.scripts.Line.{Line}
 use Rattle.script_text.specs.declared.scripts.Moment.{Moment}
-use Rattle.plain_model.specs.Effects.{Effect, effect, created, inserted, selected, refuses}
+use Rattle.plain_model.specs.Effects.{Effect, effect, are_of_kinds, created, filled, inserted, most_rows, most_tables, refuses, rows_refusal, selected}
 use Rattle.plain_model.specs.Language.{read}
 use Rattle.plain_model.specs.Machine.{Past, Still, Between, Place, Shared, Transaction, Session, Shortages, alone, alone_by, awaiting, is_refusal, moment_at, over, past, past_moment, start_by, started, step, steps_along}
+use Rattle.plain_model.specs.PlainViews.{plain_schema}
 use Rattle.plain_model.specs.Tables.{Tables, table_in, with_table, in_key_order, has_repeated_key, kinds_of, is_same_database}
 use Rattle.plain_model.specs.declared.statements.Create.{Create}
 use Rattle.plain_model.specs.declared.statements.Insert.{Insert}
 use Rattle.plain_model.specs.declared.statements.Statement.{Statement}
 use Rattle.plain_model.specs.declared.statements.Statement.TheVariants as form
 use Rattle.plain_model.specs.declared.tables.Table.{Table}
-use Rattle.doltrun.specs.Alone.{Served, stays, performed, served, served_by, session_after, starved_by, state_before}
+use Rattle.doltrun.specs.Alone.{Served, stays, collided_by, performed, served, served_by, session_after, starved_by, state_before}
 use Rattle.doltrun.proofs.AloneLemmas.{here, more_replies, by_itself, by_moment, by_moments}
 use Rattle.doltrun.proofs.SameLemmas.{database_decides}
 
@@ -27,25 +30,38 @@ kept_if : (b : Bool) (database : Tables) (x y : Effect) → (is_refusal x.reply 
 kept_if true database x y hx hy h = hx h
 kept_if false database x y hx hy h = hy h
 
-kept_at : (found : Option Table) (database : Tables) (f : Table → Effect) (y : Effect) → ((t : Table) → is_refusal (f t).reply ≡ true → (f t).database ≡ database) → (is_refusal y.reply ≡ true → y.database ≡ database)
+kept_at : {X : Type 0} (found : Option X) (database : Tables) (f : X → Effect) (y : Effect) → ((x : X) → is_refusal (f x).reply ≡ true → (f x).database ≡ database) → (is_refusal y.reply ≡ true → y.database ≡ database)
     → is_refusal (option_map_or f found y).reply ≡ true → (option_map_or f found y).database ≡ database
 kept_at None database f y hf hy h = hy h
-kept_at (Some t) database f y hf hy h = hf t h
+kept_at (Some x) database f y hf hy h = hf x h
 
 keeps_created : (database : Tables) (create : Create) → is_refusal (created database create).reply ≡ true → (created database create).database ≡ database
 keeps_created database create h =
-    kept_if (is_some (table_in database create.name)) database (refuses 1050 database) (record { reply = Done; database = with_table create.name (record { schema = create.schema; rows = [] }) database })
-    (λ _. refl) (λ (e : false ≡ true). cc) h
+    let made : Tables = with_table create.name (record { schema = create.schema; rows = [] }) database in
+    let done : Effect = record { reply = Done; database = made } in
+    let many : Bool = nat_lt most_tables (length made) in
+    let wide : Bool = not (is_within_limits (plain_schema create.schema)) in
+    let within : Effect = if many then refuses 9010 database else done in
+    kept_if (is_some (table_in database create.name)) database (refuses 1050 database) (if wide then refuses 9010 database else within) (λ _. refl)
+    (λ e. kept_if wide database (refuses 9010 database) within (λ _. refl) (λ d. kept_if many database (refuses 9010 database) done (λ _. refl) (λ (f : false ≡ true). cc) d) e) h
+
+keeps_filled : (database : Tables) (insert : Insert) (table : Table) (rows : List Cells) → is_refusal (filled database insert table rows).reply ≡ true → (filled database insert table rows).database ≡ database
+keeps_filled database insert table rows h =
+    let grown : Effect = record {
+      reply = Count (length insert.rows);
+      database = with_table insert.name (record { schema = table.schema; rows = in_key_order table.schema.key rows }) database;
+    } in
+    let many : Bool = nat_lt most_rows (length rows) in
+    kept_if (has_repeated_key table.schema.key rows) database (refuses 1062 database) (if many then refuses 9010 database else grown) (λ _. refl)
+    (λ e. kept_if many database (refuses 9010 database) grown (λ _. refl) (λ (d : false ≡ true). cc) e) h
 
 keeps_inserted : (database : Tables) (insert : Insert) (table : Table) → is_refusal (inserted database insert table).reply ≡ true → (inserted database insert table).database ≡ database
 keeps_inserted database insert table h =
-    let grown : Effect = record {
-      reply = Count (length insert.rows);
-      database = with_table insert.name (record { schema = table.schema; rows = in_key_order table.schema.key (table.rows ++ insert.rows) }) database;
-    } in
-    let repeated : Bool = has_repeated_key table.schema.key (table.rows ++ insert.rows) in
-    kept_if (not (list_all (fits_all (kinds_of table.schema)) insert.rows)) database (refuses 9013 database) (if repeated then refuses 1062 database else grown)
-    (λ _. refl) (λ e. kept_if repeated database (refuses 1062 database) grown (λ _. refl) (λ (d : false ≡ true). cc) e) h
+    let rows : List Cells = table.rows ++ insert.rows in
+    let refused : Option ℕ = rows_refusal table.schema insert.rows in
+    kept_if (not (list_all (are_of_kinds (kinds_of table.schema)) insert.rows)) database (refuses 9013 database)
+    (option_map_or (λ number. refuses number database) refused (filled database insert table rows)) (λ _. refl)
+    (λ e. kept_at refused database (λ number. refuses number database) (filled database insert table rows) (λ number _. refl) (keeps_filled database insert table rows) e) h
 
 -- a refused statement leaves the database
 refused_keeps : (database : Tables) (statement : Statement) → is_refusal (effect database statement).reply ≡ true → (effect database statement).database ≡ database
@@ -186,6 +202,23 @@ goes_starved answers line lines database spoken replies out h memory (Some state
     (ap (λ answer. option_map (past_moment (length replies + 1)) (option_and_then (start_by answer shared session) (read line.statement))) memory
     ∙ ap (λ found. option_map (past_moment (length replies + 1)) (option_and_then (start_by (Some AfterStart) shared session) found)) is_read))
 
+goes_collided : (answers : Shortages) (line : Line) (lines : List Line) (database : Tables) (spoken : List (List Reply)) (replies : List Reply) (clash : Clash)
+    → slice_get spoken line.session ≡ Some replies → answers line.session (length replies + 1) ≡ Some (Clashes clash) → (statement : Option Statement) → read line.statement ≡ statement
+    → Goes answers line lines database spoken replies (collided_by clash database statement)
+goes_collided answers line lines database spoken replies clash h memory None is_read = λ more.
+    ap (steps_along answers more) (by_itself answers line lines database spoken replies (Collided clash) h
+    (ap (λ answer. option_map (past (length replies + 1)) (alone_by answer (session_after (length replies)) line.statement)) memory
+    ∙ ap (λ found. option_map (past (length replies + 1)) (option_map_or (λ (statement : Statement). None) found (Some (session_after (length replies), Collided clash)))) is_read))
+goes_collided answers line lines database spoken replies clash h memory (Some statement) is_read =
+    let session : Session = session_after (length replies) in
+    let shared : Shared = record { working = database } in
+    one_moment answers line lines database spoken replies (collided_by clash database (Some statement)) h
+    (ap (λ answer. option_map (past (length replies + 1)) (alone_by answer session line.statement)) memory
+    ∙ ap (λ found. option_map (past (length replies + 1)) (option_map_or (λ (statement : Statement). None) found (Some (session, Collided clash)))) is_read)
+    refl
+    (ap (λ answer. option_map (past_moment (length replies + 1)) (option_and_then (start_by answer shared session) (read line.statement))) memory
+    ∙ ap (λ found. option_map (past_moment (length replies + 1)) (option_and_then (start_by (Some (Clashes clash)) shared session) found)) is_read)
+
 pub goes : (answers : Shortages) (line : Line) (lines : List Line) (database : Tables) (spoken : List (List Reply)) (replies : List Reply) (out : Served)
     → slice_get spoken line.session ≡ Some replies → (answer : Option Shortage) → answers line.session (length replies + 1) ≡ answer
     → served answer database line.statement ≡ Some out
@@ -201,3 +234,7 @@ goes answers line lines database spoken replies out h (Some AtOnce) memory is_ou
     (ap (λ answer. option_map (past (length replies + 1)) (alone_by answer (session_after (length replies)) line.statement)) memory)))
 goes answers line lines database spoken replies out h (Some AfterStart) memory is_out =
     goes_starved answers line lines database spoken replies out h memory (read line.statement) refl is_out
+goes answers line lines database spoken replies out h (Some (Clashes clash)) memory is_out =
+    let same : collided_by clash database (read line.statement) ≡ out = cc in
+    subst (λ (served : Served). Goes answers line lines database spoken replies served) same
+    (goes_collided answers line lines database spoken replies clash h memory (read line.statement) refl)

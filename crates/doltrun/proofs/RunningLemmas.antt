@@ -7,6 +7,7 @@ use Rattle.std.proofs.lemmas.List.Elements.{All-set}
 use Rattle.std.proofs.lemmas.Bool.Decides.{nat_tests}
 use Rattle.std.specs.List.{All}
 use Rattle.std.proofs.lemmas.Option.{slice_get-map, slice_get_read}
+use Rattle.script_text.specs.Collisions.{AllTellTruly, TellsTruly}
 use Rattle.script_text.specs.Output.{shortage}
 use Rattle.script_text.specs.declared.replies.Reply.{Reply}
 use Rattle.script_text.specs.declared.scripts.Line.{Line}
@@ -16,6 +17,7 @@ use Rattle.plain_model.specs.Tables.{Tables}
 use Rattle.doltrun.specs.Alone.{IsRunTo, IsSoundScript, is_line_within, is_sound_reply, served}
 use Rattle.doltrun.proofs.ListLemmas.{all_at}
 use Rattle.doltrun.proofs.EndLemmas.{replies_within, run_to_next}
+use Rattle.doltrun.proofs.TruthLemmas.{truly_put}
 
 said_at : {Z : Type 0} (replies : List (Vec Reply Z)) (session : ℕ) (own : Vec Reply Z) → session < length replies → own ≡ slice_index_or replies session own
     → slice_get (map (λ (r : Vec Reply Z). r.items) replies) session ≡ Some own.items
@@ -71,3 +73,13 @@ run_as script at order next_order database spoken next_spoken same_order same_sp
 pub room_kept : {Z : Type 0} (room : ℕ) (replies : List (Vec Reply Z)) (session : ℕ) (next : Vec Reply Z) → room ≤ vec_capacity next → All (λ (r : Vec Reply Z). room ≤ vec_capacity r) replies
     → All (λ (r : Vec Reply Z). room ≤ vec_capacity r) (slice_set replies session next)
 room_kept {Z} room replies session next h all = All-set (λ (r : Vec Reply Z). room ≤ vec_capacity r) replies session next h all
+
+-- one more reply that tells truly
+pub truly_run : {Z : Type 0} (address : List ℕ → List ℕ) (replies : List (Vec Reply Z)) (session : ℕ) (own next : Vec Reply Z) (reply : Reply)
+    → session < length replies → own ≡ slice_index_or replies session own → next.items ≡ own.items ++ reply ∷ [] → TellsTruly address reply
+    → AllTellTruly address (map (λ (r : Vec Reply Z). r.items) replies) → AllTellTruly address (map (λ (r : Vec Reply Z). r.items) (slice_set replies session next))
+truly_run {Z} address replies session own next reply h e grown one all =
+    let spoken : List (List Reply) = map (λ (r : Vec Reply Z). r.items) replies in
+    let put : slice_set spoken session (own.items ++ reply ∷ []) ≡ map (λ (r : Vec Reply Z). r.items) (slice_set replies session next)
+    = ap (slice_set spoken session) (sym grown) ∙ sym (map-set (λ (r : Vec Reply Z). r.items) replies session next) in
+    subst (λ (s : List (List Reply)). AllTellTruly address s) put (truly_put address spoken session own.items reply (said_at replies session own h e) one all)

@@ -7,7 +7,7 @@ use Rattle.script_text.specs.Input.{bad, lines_of, most_bytes, no_script, script
 use Rattle.script_text.specs.declared.faults.BadScript.{BadScript}
 use Rattle.script_text.specs.declared.scripts.Script.{Script}
 use Rattle.doltrun.specs.Headline.{HasScript, WritesAnswer, fault_line, is_form}
-use Rattle.doltrun.specs.Stops.{Answers, AnswersAll, AnswersPart, FallsShort, Faults, IsTold, StopsThere, WritesFault}
+use Rattle.doltrun.specs.Stops.{Answer, Answers, AnswersAll, AnswersPart, Collides, Collision, FallsShort, Fault, Faults, IsToWrite, IsTold, IsWanted, StopsThere, WritesCollision, WritesFault}
 use Rattle.doltrun.specs.declared.status.Status.{Status}
 use Rattle.doltrun.specs.declared.status.Status.TheVariants as status
 use Rattle.doltrun.proofs.AloneLemmas.{if_true}
@@ -50,8 +50,8 @@ ended told left bytes read taken is =
       | false ↦ λ test. let short : length bytes ≤ 16777216 = grind (arith, nat_tests) in taken.ended short
     ] refl
 
-pub answers_whole : (told left old new : Option (List ℕ)) (bytes : List ℕ) → IsRead told left bytes → AnswersAll bytes old new → WritesAnswer told left old new
-answers_whole told left old new bytes read all = record {
+pub answers_whole : (address : List ℕ → List ℕ) (told left old new : Option (List ℕ)) (bytes : List ℕ) → IsRead told left bytes → AnswersAll address bytes old new → WritesAnswer address told left old new
+answers_whole address told left old new bytes read all = record {
   read = script bytes;
   script = whole_script told left bytes read;
   ended = ended told left bytes all.answers.script read all.answers.reads;
@@ -67,14 +67,29 @@ pub faults_whole : (told left old new : Option (List ℕ)) (bytes : List ℕ) �
     → (fault : BadScript) × (script bytes ≡ Err fault) × Appends old new (fault_line fault) → WritesFault told old new
 faults_whole told left old new bytes read wrote = record { bad = wrote.0; breaks = told_fault told left bytes wrote.0 read wrote.1; writes = wrote.2 }
 
-pub falls_whole : (words : List (List ℕ)) (told left old new : Option (List ℕ)) (bytes : List ℕ) (room : ℕ) → is_form words ≡ true → IsRead told left bytes
-    → AnswersPart bytes old new room → FallsShort words told old new room
-falls_whole words told left old new bytes room form read part = record {
+told_script : (told left : Option (List ℕ)) (bytes : List ℕ) (read : Script) → IsRead told left bytes → script bytes ≡ Ok read → HasScript told (Ok read)
+told_script told left bytes read taken is = subst (λ (r : Result Script BadScript). HasScript told r) is (whole_script told left bytes taken)
+
+pub collides_whole : (address : List ℕ → List ℕ) (told left old new : Option (List ℕ)) (bytes : List ℕ) → IsRead told left bytes → WritesCollision address (Some bytes) old new → WritesCollision address told old new
+collides_whole address told left old new bytes read wrote = record {
+  script = wrote.script;
+  reads = told_script told left bytes wrote.script read wrote.reads;
+  clash = wrote.clash;
+  opens = wrote.opens;
+  writes = wrote.writes;
+}
+
+wanted_whole : (address : List ℕ → List ℕ) (words : List (List ℕ)) (told left : Option (List ℕ)) (bytes written : List ℕ) → is_form words ≡ true → IsRead told left bytes
+    → IsWanted address bytes written → IsToWrite address words told written
+wanted_whole address words told left bytes written form read (Answer answer) = Answers (script bytes) form (whole_script told left bytes read) answer
+wanted_whole address words told left bytes written form read (Fault bad is line) = Faults bad form (told_fault told left bytes bad read is) line
+wanted_whole address words told left bytes written form read (Collision said clash is opens line) = Collides said clash form (told_script told left bytes said read is) opens line
+
+pub falls_whole : (address : List ℕ → List ℕ) (words : List (List ℕ)) (told left old new : Option (List ℕ)) (bytes : List ℕ) (room : ℕ) → is_form words ≡ true → IsRead told left bytes
+    → AnswersPart address bytes old new room → FallsShort address words told old new room
+falls_whole address words told left old new bytes room form read part = record {
   written = part.written;
-  wanted = elim part.wanted [
-    | inl answer ↦ Answers (script bytes) form (whole_script told left bytes read) answer
-    | inr fault ↦ Faults fault.0 form (told_fault told left bytes fault.0 read fault.1) fault.2
-  ];
+  wanted = wanted_whole address words told left bytes part.written form read part.wanted;
   wider = part.wider;
   writes = part.writes;
 }
@@ -84,15 +99,18 @@ told_of : (told left : Option (List ℕ)) (bytes : List ℕ) (fault : BadScript)
 told_of None left bytes fault read is = absurd is
 told_of (Some input) left bytes fault read is = sym (whole_script (Some input) left bytes read) ∙ is
 
-stops_by : (result : Status) → result ≢ status.Done → result ≢ status.Usage → StopsThere result
-stops_by status.Done done usage = absurd (done refl)
-stops_by status.Usage done usage = absurd (usage refl)
-stops_by status.Script done usage = inl refl
-stops_by status.Read done usage = inr (inl refl)
-stops_by status.Write done usage = inr (inr (inl refl))
-stops_by status.Memory done usage = inr (inr (inr refl))
+stops_by : (result : Status) → result ≢ status.Done → result ≢ status.Collision → result ≢ status.Usage → StopsThere result
+stops_by status.Done done collision usage = absurd (done refl)
+stops_by status.Usage done collision usage = absurd (usage refl)
+stops_by status.Collision done collision usage = absurd (collision refl)
+stops_by status.Script done collision usage = inl refl
+stops_by status.Read done collision usage = inr (inl refl)
+stops_by status.Write done collision usage = inr (inr (inl refl))
+stops_by status.Memory done collision usage = inr (inr (inr refl))
 
 pub stops_told : (told left : Option (List ℕ)) (bytes : List ℕ) (result : Status) → IsRead told left bytes
-    → ((fault : BadScript) → script bytes ≡ Err fault → result ≢ status.Done) → result ≢ status.Usage
+    → ((fault : BadScript) → script bytes ≡ Err fault → (result ≢ status.Done) × (result ≢ status.Collision)) → result ≢ status.Usage
     → (fault : BadScript) → IsTold told fault → StopsThere result
-stops_told told left bytes result read done usage fault is = stops_by result (done fault (told_of told left bytes fault read is)) usage
+stops_told told left bytes result read apart usage fault is =
+    let others = apart fault (told_of told left bytes fault read is) in
+    stops_by result others.0 others.1 usage

@@ -1,5 +1,8 @@
 pub mod Alone
+pub mod Answers
 pub mod Headline
+pub mod Opening
 pub mod Running
+pub mod Serving
 pub mod Statuses
 pub mod Stops

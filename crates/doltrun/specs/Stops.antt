@@ -66,7 +66,7 @@ pub record AnswersAll (address : List ℕ → List ℕ) (bytes : List ℕ) (old 
 pub data IsWanted (address : List ℕ → List ℕ) (bytes written : List ℕ) : Type 0 where
   Answer : IsAnswer address (script bytes) written → IsWanted address bytes written
   Fault : (bad : BadScript) → script bytes ≡ Err bad → written ≡ fault_line bad → IsWanted address bytes written
-  Clash : (read : Script) (clash : Clash) → script bytes ≡ Ok read → IsOpeningClash address clash → written ≡ collision_line clash → IsWanted address bytes written
+  Collision : (read : Script) (clash : Clash) → script bytes ≡ Ok read → IsOpeningClash address clash → written ≡ collision_line clash → IsWanted address bytes written
 
 -- a part was appended of it
 pub record AnswersPart (address : List ℕ → List ℕ) (bytes : List ℕ) (old new : Option (List ℕ)) (room : ℕ) : Type 0 where

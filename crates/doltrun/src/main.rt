@@ -1,11 +1,12 @@
 //! The program `doltrun`: it reads a script of SQL statements from standard input, runs them one after another, and writes what
-//! each answered and the order of the moments at which they met the database.
+//! each answered, the order of the moments at which they met the database, and the addresses that its branch has at the end.
 //!
 //! What it promises stands on `run`, which takes any source and sink. `main` gives it the standard streams.
 #![tactic(auto)]
 
 mod answering;
 mod lines;
+mod opening;
 mod room;
 mod running;
 mod serving;
@@ -21,7 +22,7 @@ use std::env;
 use std::io::{self, ErrorKind};
 use std::process::ExitCode;
 use std::rt::Env;
-pub use top::run;
+pub use top::{run, run_with};
 use wire_io::{NoPace, StdSink, StdSource};
 
 fn main(rt: HostRuntime) -> ExitCode {

@@ -16,6 +16,8 @@ pub enum Status {
     Write,
     /// There was no memory for the input, the run's room or the text. Nothing was written.
     Memory,
+    /// The two chunks that a database is opened with have one address; it and both byte strings were written.
+    Collision,
 }
 
 impl Status {
@@ -30,6 +32,7 @@ impl Status {
             Status::Read => 3,
             Status::Write => 4,
             Status::Memory => 5,
+            Status::Collision => 7,
         }
     }
 }

@@ -1,8 +1,9 @@
-use crate::{Status, run};
+use crate::{Status, run, run_with};
 use std::alloc::{AllocError, Global};
 use std::sync::Wait;
 use std::test::Fail;
 use std::thread::Threads;
+use tuple_codec::{Address, Digester};
 use wire_io::{MemorySink, MemorySource, NoPace};
 
 const ROOM: usize = 4_194_304;
@@ -43,16 +44,19 @@ fn a_table_is_made_filled_and_shown_by_rising_key(rt: HostRuntime) -> Result<(),
     let (status, written) = ended(&rt, rt.alloc(), Some("ordered"), script)?;
     assert_eq!(rt; status, Status::Done);
     let wanted = b"session alice\n1 ok\n2 ok 2\n3 rows 2\nid,name\n1,'ada'\n2,'bob'
-order alice/1 alice/1 alice/2 alice/2 alice/3\n";
+order alice/1 alice/1 alice/2 alice/2 alice/3
+branch main gj1enah2hu7oj7neve7uiuqo5geo87mk 8lo6ctq3d8k9atalppe3numo8qqm2goa 9srqt76ersimhc5b156ea1tnkcjnq9it\n";
     assert_eq!(rt; written.as_slice(), wanted.as_slice());
     Ok(())
 }
 
 #[test]
-fn an_empty_input_has_an_order_without_moments(rt: HostRuntime) -> Result<(), Fail> {
+fn an_empty_input_has_an_order_without_moments_and_a_branch(rt: HostRuntime) -> Result<(), Fail> {
     let (status, written) = ended(&rt, rt.alloc(), Some("ordered"), b"")?;
     assert_eq!(rt; status, Status::Done);
-    assert_eq!(rt; written.as_slice(), b"order\n".as_slice());
+    let wanted = b"order
+branch main gj1enah2hu7oj7neve7uiuqo5geo87mk 9srqt76ersimhc5b156ea1tnkcjnq9it 9srqt76ersimhc5b156ea1tnkcjnq9it\n";
+    assert_eq!(rt; written.as_slice(), wanted.as_slice());
     Ok(())
 }
 
@@ -73,6 +77,7 @@ fn refusals_are_told_each_by_its_number_and_text(rt: HostRuntime) -> Result<(), 
 4 refused 1146 no such table
 5 refused 9013 outside the subset
 order a/1 a/1 a/2 a/3 a/4
+branch main gj1enah2hu7oj7neve7uiuqo5geo87mk 1ofqoa6ch04j1tm93q1d2t0er4ecrtd3 9srqt76ersimhc5b156ea1tnkcjnq9it
 ";
     assert_eq!(rt; written.as_slice(), wanted.as_slice());
     Ok(())
@@ -136,4 +141,102 @@ fn a_failing_sink_holds_what_was_written_before(rt: HostRuntime) -> Result<(), F
     assert_eq!(rt; status, Status::Write);
     assert_eq!(rt; output.bytes(), b"session ".as_slice());
     Ok(())
+}
+
+/// Names all bytes alike.
+struct OneForAll;
+
+impl Digester for OneForAll {
+    ghost use Rattle.std.specs.Prelude.{replicate};
+
+    ghost address = { λ _. replicate 20 0 };
+
+    fn address_of(_bytes: &[u8]) -> Address {
+        Address([0; 20])
+    }
+}
+
+/// The status of a run of the one form over memory, where all bytes have one address, and what it wrote.
+fn ended_alike<R: Threads + Wait + Sync>(
+    rt: &R,
+    alloc: Global,
+    script: &[u8],
+) -> Result<(Status, Vec<u8>), AllocError> {
+    let mut words = Vec::new(alloc);
+    words.push(String::from_str(alloc, "ordered")?)?;
+    let mut input = MemorySource::steady(Vec::from_slice(alloc, script)?);
+    let mut output = MemorySink::steady(alloc, ROOM)?;
+    let status = run_with::<OneForAll, R, MemorySource, MemorySink, NoPace>(
+        rt,
+        alloc,
+        words.as_slice(),
+        &mut input,
+        &mut output,
+        &NoPace,
+    );
+    Ok((status, Vec::from_slice(alloc, output.bytes())?))
+}
+
+#[test]
+fn two_chunks_of_one_address_are_told(rt: HostRuntime) -> Result<(), Fail> {
+    let (status, written) = ended_alike(&rt, rt.alloc(), b"@a SELECT * FROM t;\n")?;
+    assert_eq!(rt; status.number(), 7);
+    let wanted =
+        b"collision 00000000000000000000000000000000 040000 05000000000000000000000000000000000000000000000000000000000100000000000000000007646f6c7472756e001a496e697469616c697a652064617461207265706f7369746f7279\n";
+    assert_eq!(rt; written.as_slice(), wanted.as_slice());
+    Ok(())
+}
+
+#[test]
+fn a_rule_is_told_before_a_collision(rt: HostRuntime) -> Result<(), Fail> {
+    let (status, written) = ended_alike(&rt, rt.alloc(), b"@a SELECT 1")?;
+    assert_eq!(rt; status, Status::Script);
+    assert_eq!(rt; written.as_slice(), b"script line 1 rule 3\n".as_slice());
+    Ok(())
+}
+
+/// Names bytes by the first of them, so that the databases of a run are alike, and nothing else.
+struct ByFirst;
+
+impl Digester for ByFirst {
+    ghost use Rattle.std.specs.Prelude.{replicate, slice_index_or};
+
+    ghost address = { λ bytes. replicate 20 (slice_index_or bytes 0 0) };
+
+    fn address_of(bytes: &[u8]) -> Address {
+        let first = if bytes.is_empty() { 0 } else { bytes[0] };
+        Address([first; 20])
+    }
+}
+
+#[test]
+fn a_collision_in_a_statement_is_its_reply(rt: HostRuntime) -> Result<(), Fail> {
+    let alloc = rt.alloc();
+    let script = b"@a CREATE TABLE t (id BIGINT PRIMARY KEY);\n@a SELECT * FROM t;\n";
+    let mut words = Vec::new(alloc);
+    words.push(String::from_str(alloc, "ordered")?)?;
+    let mut input = MemorySource::steady(Vec::from_slice(alloc, script)?);
+    let mut output = MemorySink::steady(alloc, ROOM)?;
+    let status = ended_by_first(&rt, alloc, words.as_slice(), &mut input, &mut output);
+    assert_eq!(rt; status, Status::Done);
+    let wanted = b"session a
+1 refused 3 collision 0g2081040g2081040g2081040g208104 040000 04000101740303030303030303030303030303030303030303
+2 refused 1146 no such table
+order a/1 a/2
+branch main 0k2ga1850k2ga1850k2ga1850k2ga185 0g2081040g2081040g2081040g208104 0g2081040g2081040g2081040g208104
+";
+    assert_eq!(rt; output.bytes(), wanted.as_slice());
+    Ok(())
+}
+
+fn ended_by_first<R: Threads + Wait + Sync>(
+    rt: &R,
+    alloc: Global,
+    words: &[String],
+    input: &mut MemorySource,
+    output: &mut MemorySink,
+) -> Status {
+    run_with::<ByFirst, R, MemorySource, MemorySink, NoPace>(
+        rt, alloc, words, input, output, &NoPace,
+    )
 }

@@ -1,40 +1,44 @@
-ghost use Rattle.std.specs.Prelude.{◌≡◌, ◌≢◌, ◌<◌, ◌≤◌, Err, length};
+ghost use Rattle.std.specs.Prelude.{◌≡◌, ◌≢◌, ◌<◌, ◌≤◌, Err, Some, length};
 ghost use Rattle.std.specs.Io.KnownBytes.{Appends};
 ghost use Rattle.wire_io.specs.Causes.{Rose};
 ghost use Rattle.wire_io.specs.Moves.{AppendsFront};
 ghost use Rattle.script_text.specs.Input.{script};
 ghost use Rattle.script_text.specs.declared.faults.BadScript.{BadScript};
-ghost use Rattle.doltrun.specs.Headline.{fault_line};
-ghost use Rattle.doltrun.specs.Stops.{AnswersAll, AnswersPart};
+ghost use Rattle.doltrun.specs.Headline.{collision_line, fault_line};
+ghost use Rattle.doltrun.specs.Stops.{AnswersAll, AnswersPart, WritesCollision};
 
-use crate::answering::{answer, fault_text};
+use crate::answering::{NoAnswer, answer, collision_text, fault_text};
 use crate::status::Status;
-use script_text::{BadScript, ScriptFault};
+use chunk_store::Clash;
+use script_text::BadScript;
 use std::alloc::Global;
+use tuple_codec::Digester;
 use wire_io::{Pacer, Sink, write_whole};
 
-/// Writes the answer to the script in these bytes, or the line of the rule that it breaks.
-pub fn write_answer<K: Sink, P: Pacer>(
+/// Writes the answer to the script in these bytes, or the line of the rule that it breaks, or that of a collision.
+pub fn write_answer<D: Digester, K: Sink, P: Pacer>(
     alloc: Global,
     pacer: &P,
     bytes: &[u8],
     output: &mut K,
 ) -> Status
-    ensures done { result ≡ Status.Done → AnswersAll bytes.now (K.held output.old) (K.held output.new) }
+    ensures done { result ≡ Status.Done → AnswersAll D.address bytes.now (K.held output.old) (K.held output.new) }
     ensures script { result ≡ Status.Script
         → (bad : BadScript) × (script bytes.now ≡ Err bad) × Appends (K.held output.old) (K.held output.new) (fault_line bad) }
-    ensures faulty { (bad : BadScript) → script bytes.now ≡ Err bad → result ≢ Status.Done }
-    ensures part { result ≡ Status.Write → AnswersPart bytes.now (K.held output.old) (K.held output.new) (K.room output.old) }
+    ensures collision { result ≡ Status.Collision → WritesCollision D.address (Some bytes.now) (K.held output.old) (K.held output.new) }
+    ensures faulty { (bad : BadScript) → script bytes.now ≡ Err bad → (result ≢ Status.Done) × (result ≢ Status.Collision) }
+    ensures part { result ≡ Status.Write → AnswersPart D.address bytes.now (K.held output.old) (K.held output.new) (K.room output.old) }
     ensures rose { result ≡ Status.Write → Rose (K.faults output.old) (K.faults output.new) }
     ensures later { K.faults output.old ≤ K.faults output.new }
     ensures memory { result ≡ Status.Memory → output.new ≡ output.old }
     ensures words { result ≢ Status.Usage }
     ensures source { result ≢ Status.Read }
 {
-    match answer(alloc, pacer, bytes) {
+    match answer::<D, P>(alloc, pacer, bytes) {
         Ok(text) => write_last(output, text.as_slice(), Status::Done),
-        Err(ScriptFault::Bad(bad)) => write_fault(alloc, bad, output),
-        Err(ScriptFault::Memory) => Status::Memory,
+        Err(NoAnswer::Bad(bad)) => write_fault(alloc, bad, output),
+        Err(NoAnswer::Collision(clash)) => write_clash(alloc, &clash, output),
+        Err(NoAnswer::Memory) => Status::Memory,
     }
 }
 
@@ -47,10 +51,27 @@ fn write_fault<K: Sink>(alloc: Global, bad: BadScript, output: &mut K) -> Status
     ensures memory { result ≡ Status.Memory → output.new ≡ output.old }
     ensures words { result ≢ Status.Usage }
     ensures source { result ≢ Status.Read }
-    ensures done { result ≢ Status.Done }
+    ensures done { (result ≢ Status.Done) × (result ≢ Status.Collision) }
 {
     match fault_text(alloc, bad) {
         Ok(text) => write_last(output, text.as_bytes(), Status::Script),
+        Err(_) => Status::Memory,
+    }
+}
+
+fn write_clash<K: Sink>(alloc: Global, clash: &Clash, output: &mut K) -> Status
+    ensures collision { result ≡ Status.Collision → Appends (K.held output.old) (K.held output.new) (collision_line clash.now) }
+    ensures part { result ≡ Status.Write → AppendsFront (K.held output.old) (K.held output.new) (collision_line clash.now) }
+    ensures wider { result ≡ Status.Write → K.room output.old < length (collision_line clash.now) }
+    ensures rose { result ≡ Status.Write → Rose (K.faults output.old) (K.faults output.new) }
+    ensures later { K.faults output.old ≤ K.faults output.new }
+    ensures memory { result ≡ Status.Memory → output.new ≡ output.old }
+    ensures words { result ≢ Status.Usage }
+    ensures source { result ≢ Status.Read }
+    ensures done { (result ≢ Status.Done) × (result ≢ Status.Script) }
+{
+    match collision_text(alloc, clash) {
+        Ok(text) => write_last(output, text.as_slice(), Status::Collision),
         Err(_) => Status::Memory,
     }
 }

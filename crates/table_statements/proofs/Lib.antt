@@ -3,3 +3,11 @@ mod JudgeLemmas
 mod InsertLemmas
 mod PlaceLemmas
 mod FillLemmas
+pub mod FaultLemmas
+mod DoneLemmas
+mod EntryLemmas
+mod KeepingLemmas
+mod LimitLemmas
+mod ComingLemmas
+mod CreateLemmas
+mod InsertEffects

@@ -4,9 +4,14 @@
 //! of the tables that the address stands for.
 #![tactic(auto)]
 
+mod adding;
+mod creating;
 mod executing;
 mod inserting;
 mod judging;
+mod laws;
 mod ordering;
+mod selecting;
+mod tables;
 
 pub use executing::{Executed, execute};
