@@ -1,1 +1,3 @@
+pub mod BranchLemmas
+pub mod SchemaLemmas
 pub mod StoreLemmas

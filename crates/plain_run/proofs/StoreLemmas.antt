@@ -1,27 +1,31 @@
--- What is true of the tables and the reply that a statement makes.
-use Rattle.std.proofs.Common.{◌≡◌, ◌∙◌, ◌^◌, ◌==◌, ◌≤◌, ◌-◌, sym, ap, true, cond, ℕ, suc, List, [], ◌∷◌, None, length, take, take_all, drop, get_or, nat_lt, arith}
+-- What a statement finds, and where a session stands.
+use Rattle.std.proofs.Common.{◌≡◌, ◌∙◌, ◌==◌, ◌≤◌, ◌-◌, arith, sym, ap, Bool, true, false, cond, ℕ, suc, List, [], ◌∷◌, Option, None, Some, length, take, take_all, drop, get_or}
+use Rattle.std.specs.Str.{bytes_eq}
+use Rattle.std.specs.List.{list_all}
+use Rattle.std.proofs.lemmas.Bool.{and_parts}
 use Rattle.plain_model.specs.Machine.{step_of}
+use Rattle.plain_model.specs.Sound.{is_sound_named, is_sound_table, is_table_name}
+use Rattle.plain_model.specs.Tables.{Tables, table_in}
+use Rattle.plain_model.specs.declared.tables.Table.{Table}
+use Rattle.script_text.specs.declared.replies.Reply.{Reply}
 use Rattle.plain_run.specs.Seats.{moved, session_of, shared}
 use Rattle.plain_run.specs.declared.seats.Standing.{Standing}
-use Rattle.script_text.specs.Shown.{is_printable_answer}
-use Rattle.script_text.specs.declared.replies.Reply.{Reply}
-use Rattle.tuple_codec.specs.declared.answers.Answer.{Answer}
-use Rattle.plain_model.specs.Effects.{effect}
-use Rattle.plain_model.specs.Sound.{is_sound_database, is_sound_statement, is_sound_table}
-use Rattle.plain_model.specs.Tables.{Tables, kinds_of, names_of}
-use Rattle.plain_model.specs.declared.statements.Statement.{Statement}
-use Rattle.plain_model.specs.declared.tables.Table.{Table}
-use Rattle.plain_model.proofs.TableLemmas.{effect_sound, rows_shown}
 
-pub rows_print : (table : Table) (answer : Answer) → is_sound_table table ≡ true
-    → answer ≡ record { names = names_of table.schema; kinds = kinds_of table.schema; rows = table.rows }
-    → nat_lt (length answer.rows) (2 ^ 64) ≡ true → is_printable_answer answer ≡ true
-rows_print table answer s e n =
-    ap is_printable_answer e ∙ (rows_shown table s (ap (λ a. nat_lt (length a.rows) (2 ^ 64)) (sym e) ∙ n)).0
+abbrev sound_in : Option Table → Bool
+sound_in None = true
+sound_in (Some table) = is_sound_table table
 
-pub sound_after : (db after : Tables) (reply : Reply) (statement : Statement) → is_sound_database db ≡ true → is_sound_statement statement ≡ true
-    → effect db statement ≡ record { reply = reply; database = after } → is_sound_database after ≡ true
-sound_after db after reply statement s t e = ap (λ made. is_sound_database made.database) (sym e) ∙ effect_sound db statement s t
+-- a table that is found among sound ones
+pub found_sound : (tables : Tables) (name : List ℕ) (table : Table) → list_all is_sound_named tables ≡ true → table_in tables name ≡ Some table
+    → is_sound_table table ≡ true
+found_sound [] name table h e = absurd (cc)
+found_sound (first ∷ tables) name table h e =
+    let parts = and_parts (is_sound_named first) _ h in
+    let sound = and_parts (is_table_name first.name) (is_sound_table first.table) parts.0 in
+    elim (bytes_eq first.name name) as (λ b. cond b (Some first.table) (table_in tables name) ≡ Some table → is_sound_table table ≡ true) [
+      | true ↦ λ same. ap sound_in (sym same) ∙ sound.1
+      | false ↦ λ later. found_sound tables name table parts.1 later
+    ] e
 
 -- a session that stands at the statement that is wanted
 pub met : (wanted number : ℕ) (stands : Standing) (tables : Tables) (replies : List Reply) (todo : List (List ℕ)) (text : List ℕ) (later : List (List ℕ))

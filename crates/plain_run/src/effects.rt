@@ -1,18 +1,25 @@
-ghost use Rattle.std.specs.Prelude.{◌≡◌, ◌++◌, [], true, IfOk, IfSome, OnOk};
+ghost use Rattle.std.specs.Prelude.{◌≡◌, ◌++◌, [], true, IfOk, OnOk};
 ghost use Rattle.std.specs.List.{list_all};
 ghost use Rattle.std.specs.Option.{option_map};
-ghost use Rattle.script_text.specs.Shown.{is_printable_reply};
 ghost use Rattle.script_text.specs.declared.replies.Reply.TheVariants.{Rows};
-ghost use Rattle.plain_model.specs.Effects.{created, effect, inserted, selected};
-ghost use Rattle.plain_model.specs.Sound.{is_sound_named, is_sound_table};
+ghost use Rattle.schema_model.specs.Schemas.{is_schema};
+ghost use Rattle.plain_model.specs.Effects.{created, created_as, effect, filled, inserted, rows_refusal, selected};
+ghost use Rattle.plain_model.specs.PlainViews.{plain_schema};
+ghost use Rattle.plain_model.specs.Sound.{is_sound_create, is_sound_named, is_sound_statement, is_sound_table};
 ghost use Rattle.plain_model.specs.Tables.{kinds_of, names_of, table_in, with_table};
 
 use crate::copies::{all_rows, copy_rows, copy_schema, push_rows, push_table, push_tables};
-use crate::rows::{ordered, repeats_key, rows_fit};
-use plain_model::{Create, Insert, NamedTable, Statement, Table};
+use crate::rows::{have_kinds, ordered, repeats_key, row_fits};
+use crate::schemas::{is_large, keeps_limits};
+use plain_model::{Create, Insert, NamedTable, Schema, Statement, Table};
 use script_text::Reply;
 use std::alloc::{AllocError, Global};
-use tuple_codec::{Sequence, Text};
+use tuple_codec::{Row, Sequence, Text};
+
+/// The limits on data: tables in a database, and rows in a table.
+const MOST_TABLES: usize = 256;
+
+const MOST_ROWS: usize = 10_000_000;
 
 /// What a statement answers, and the tables after it.
 #[derive(Drop)]
@@ -22,9 +29,7 @@ pub struct Made {
 }
 
 fn find<'a>(tables: &'a [NamedTable], name: &[u8]) -> Option<&'a Table>
-    requires { list_all is_sound_named tables.now ≡ true }
-    ensures found { table_in tables.now name.now ≡ option_map (λ table. table.now) result }
-    ensures sound { IfSome result (λ table. is_sound_table table.now ≡ true) }
+    ensures { table_in tables.now name.now ≡ option_map (λ table. table.now) result }
 {
     match tables {
         [] => None,
@@ -94,21 +99,83 @@ fn stays(alloc: Global, reply: Reply, tables: &[NamedTable]) -> Result<Made, All
     })
 }
 
+/// A table was made: a database keeps the limit on tables.
+fn created_as(
+    alloc: Global,
+    tables: &[NamedTable],
+    made: Sequence<NamedTable>,
+) -> Result<Made, AllocError>
+    ensures { IfOk result (λ after. created_as tables.now made ≡ record { reply = after.reply; database = after.tables }) }
+{
+    if MOST_TABLES < made.as_slice().len() {
+        return stays(alloc, Reply::Refused(9010), tables);
+    }
+    Ok(Made {
+        reply: Reply::Done,
+        tables: made,
+    })
+}
+
 fn create(alloc: Global, tables: &[NamedTable], create: &Create) -> Result<Made, AllocError>
-    requires { list_all is_sound_named tables.now ≡ true }
-    ensures made { IfOk result (λ made. created tables.now create.now ≡ record { reply = made.reply; database = made.tables }) }
-    ensures shown { IfOk result (λ made. is_printable_reply made.reply ≡ true) }
+    requires { is_sound_create create.now ≡ true }
+    ensures { IfOk result (λ made. created tables.now create.now ≡ record { reply = made.reply; database = made.tables }) }
 {
     if find(tables, create.name.as_slice()).is_some() {
         return stays(alloc, Reply::Refused(1050), tables);
+    }
+    if !keeps_limits(alloc, &create.schema)? {
+        return stays(alloc, Reply::Refused(9010), tables);
     }
     let table = Table {
         schema: copy_schema(alloc, &create.schema)?,
         rows: Sequence::new(alloc),
     };
+    let made = with(alloc, &create.name, table, tables)?;
+    created_as(alloc, tables, made)
+}
+
+/// The first refusal, row by row.
+fn rows_refusal(alloc: Global, schema: &Schema, rows: &[Row]) -> Result<Option<u16>, AllocError>
+    requires { is_schema (plain_schema schema.now) ≡ true }
+    ensures { IfOk result (λ number. number ≡ rows_refusal schema.now rows.now) }
+{
+    match rows {
+        [] => Ok(None),
+        [row, later @ ..] => {
+            if !row_fits(schema.columns.as_slice(), row.as_slice()) {
+                return Ok(Some(9013));
+            }
+            if is_large(alloc, schema, row)? {
+                return Ok(Some(9010));
+            }
+            rows_refusal(alloc, schema, later)
+        }
+    }
+}
+
+/// The table with more rows, of which these are all.
+fn filled(
+    alloc: Global,
+    tables: &[NamedTable],
+    insert: &Insert,
+    table: &Table,
+    rows: &[Row],
+) -> Result<Made, AllocError>
+    ensures { IfOk result (λ made. filled tables.now insert.now table.now rows.now ≡ record { reply = made.reply; database = made.tables }) }
+{
+    let key = table.schema.key.as_slice();
+    if repeats_key(key, rows) {
+        return stays(alloc, Reply::Refused(1062), tables);
+    }
+    if MOST_ROWS < rows.len() {
+        return stays(alloc, Reply::Refused(9010), tables);
+    }
+    let count = insert.rows.as_slice().len();
+    let schema = copy_schema(alloc, &table.schema)?;
+    let rows = ordered(alloc, key, rows)?;
     Ok(Made {
-        reply: Reply::Done,
-        tables: with(alloc, &create.name, table, tables)?,
+        reply: Reply::Count(count as u64),
+        tables: with(alloc, &insert.name, Table { schema, rows }, tables)?,
     })
 }
 
@@ -118,41 +185,33 @@ fn insert(
     insert: &Insert,
     table: &Table,
 ) -> Result<Made, AllocError>
-    ensures made { IfOk result (λ made. inserted tables.now insert.now table.now ≡ record { reply = made.reply; database = made.tables }) }
-    ensures shown { IfOk result (λ made. is_printable_reply made.reply ≡ true) }
+    requires { is_sound_table table.now ≡ true }
+    ensures { IfOk result (λ made. inserted tables.now insert.now table.now ≡ record { reply = made.reply; database = made.tables }) }
 {
-    let key = table.schema.key.as_slice();
-    if !rows_fit(table.schema.columns.as_slice(), insert.rows.as_slice()) {
+    let more = insert.rows.as_slice();
+    if !have_kinds(table.schema.columns.as_slice(), more) {
         return stays(alloc, Reply::Refused(9013), tables);
     }
-    let mut all = copy_rows(alloc, table.rows.as_slice())?;
-    push_rows(alloc, &mut all, insert.rows.as_slice())?;
-    if repeats_key(key, all.as_slice()) {
-        return stays(alloc, Reply::Refused(1062), tables);
+    match rows_refusal(alloc, &table.schema, more)? {
+        Some(number) => stays(alloc, Reply::Refused(number), tables),
+        None => {
+            let mut all = copy_rows(alloc, table.rows.as_slice())?;
+            push_rows(alloc, &mut all, more)?;
+            filled(alloc, tables, insert, table, all.as_slice())
+        }
     }
-    let count = insert.rows.as_slice().len();
-    let schema = copy_schema(alloc, &table.schema)?;
-    let rows = ordered(alloc, key, all.as_slice())?;
-    Ok(Made {
-        reply: Reply::Count(count as u64),
-        tables: with(alloc, &insert.name, Table { schema, rows }, tables)?,
-    })
 }
 
 /// All rows of a table, as a reply.
 fn rows_reply(alloc: Global, table: &Table) -> Result<Reply, AllocError>
-    requires { is_sound_table table.now ≡ true }
-    ensures reply { IfOk result (λ reply. reply ≡ Rows (record { names = names_of table.now.schema; kinds = kinds_of table.now.schema; rows = table.now.rows })) }
-    ensures shown { IfOk result (λ reply. is_printable_reply reply ≡ true) }
+    ensures { IfOk result (λ reply. reply ≡ Rows (record { names = names_of table.now.schema; kinds = kinds_of table.now.schema; rows = table.now.rows })) }
 {
     let answer = all_rows(alloc, table)?;
     Ok(Reply::Rows(answer))
 }
 
 fn select(alloc: Global, tables: &[NamedTable], table: &Table) -> Result<Made, AllocError>
-    requires { is_sound_table table.now ≡ true }
-    ensures made { IfOk result (λ made. selected tables.now table.now ≡ record { reply = made.reply; database = made.tables }) }
-    ensures shown { IfOk result (λ made. is_printable_reply made.reply ≡ true) }
+    ensures { IfOk result (λ made. selected tables.now table.now ≡ record { reply = made.reply; database = made.tables }) }
 {
     let reply = rows_reply(alloc, table)?;
     stays(alloc, reply, tables)
@@ -165,9 +224,9 @@ pub fn effect_of(
     tables: &[NamedTable],
     statement: &Statement,
 ) -> Result<Made, AllocError>
-    requires { list_all is_sound_named tables.now ≡ true }
-    ensures made { IfOk result (λ made. effect tables.now statement.now ≡ record { reply = made.reply; database = made.tables }) }
-    ensures shown { IfOk result (λ made. is_printable_reply made.reply ≡ true) }
+    requires tables { list_all is_sound_named tables.now ≡ true }
+    requires statement { is_sound_statement statement.now ≡ true }
+    ensures { IfOk result (λ made. effect tables.now statement.now ≡ record { reply = made.reply; database = made.tables }) }
 {
     match statement {
         Statement::Create(new) => create(alloc, tables, new),

@@ -4,11 +4,13 @@
 //! a slow reference, for small scripts.
 #![tactic(auto)]
 
+mod branches;
 mod copies;
 mod effects;
 mod rows;
 mod runs;
 mod same;
+mod schemas;
 mod seats;
 mod stores;
 #[cfg(test)]

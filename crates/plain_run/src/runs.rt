@@ -1,14 +1,16 @@
-ghost use Rattle.std.specs.Prelude.{◌≡◌, ◌+◌, ◌++◌, true, None, length, map, nat_lt, IfOk, IfSome, OnOk};
+ghost use Rattle.std.specs.Prelude.{◌≡◌, ◌≤ℤ◌, ◌+◌, ◌++◌, [], ◌∷◌, pos, true, None, length, map, nat_lt, IfOk, IfSome, OnOk};
 ghost use Rattle.std.specs.List.{list_all};
 ghost use Rattle.std.specs.Option.{option_map};
+ghost use Rattle.chunk_store.specs.Digests.{cut_address};
 ghost use Rattle.script_text.specs.Output.{text};
 ghost use Rattle.script_text.specs.Shown.{IsPrintable, is_printable_moment, is_printable_reply};
-ghost use Rattle.plain_model.specs.Machine.{is_over, plain_run, runners_of, statements_of, step as machine_step, steps_along};
+ghost use Rattle.plain_model.specs.Machine.{is_over, plain_run, runners_of, shown, statements_of, step as machine_step, steps_along};
+ghost use Rattle.plain_model.specs.PlainViews.{main_branch};
 ghost use Rattle.plain_run.specs.Seats.{only_if, state_of};
 
 use crate::seats::{Seat, go_on, one_more, push_texts, step_seat};
 use crate::stores::{Store, Told};
-use script_text::{Line, Moment, Reply, RunText, Script, print_output};
+use script_text::{BranchLine, Line, Moment, Reply, RunText, Script, print_output};
 use std::alloc::{AllocError, Global};
 use std::mem;
 use tuple_codec::{Blob, Sequence, Text};
@@ -124,16 +126,33 @@ fn replies_of(alloc: Global, seats: Vec<Seat>) -> Result<Sequence<Sequence<Reply
     Ok(all)
 }
 
+/// The one branch of a run.
+fn branches_of(
+    alloc: Global,
+    working: &Store,
+    epoch: i64,
+) -> Result<Sequence<BranchLine>, AllocError>
+    requires { pos 0 ≤ℤ epoch }
+    ensures { IfOk result (λ branches. branches ≡ main_branch cut_address epoch working.now ∷ []) }
+{
+    let mut branches = Sequence::new(alloc);
+    branches.push(working.branch(alloc, epoch)?)?;
+    Ok(branches)
+}
+
 /// What the run shows.
 fn show(
     alloc: Global,
     script: &Script,
     order: &[Moment],
+    working: &Store,
     seats: Vec<Seat>,
+    epoch: i64,
 ) -> Result<RunText, AllocError>
     requires count { length seats.items ≡ length script.now.names }
     requires within { list_all (is_printable_moment (length seats.items)) order.now ≡ true }
-    ensures run { IfOk result (λ run. run ≡ record { names = script.now.names; replies = map (λ runner. runner.replies) seats.items; order = order.now }) }
+    requires epoch { pos 0 ≤ℤ epoch }
+    ensures run { IfOk result (λ run. run ≡ shown cut_address epoch script.now order.now (state_of working.now seats.items)) }
     ensures printable { IfOk result (λ run. IsPrintable run) }
 {
     let mut names = Sequence::new(alloc);
@@ -142,6 +161,7 @@ fn show(
         names,
         replies: replies_of(alloc, seats)?,
         order: Sequence::from_vec(Vec::from_slice(alloc, order)?),
+        branches: branches_of(alloc, working, epoch)?,
     })
 }
 
@@ -152,10 +172,10 @@ fn run(
     order: &[Moment],
     epoch: i64,
 ) -> Result<Option<RunText>, AllocError>
-    ensures run { IfOk result (λ run. run ≡ plain_run script.now order.now (λ session statement. None) epoch) }
+    requires { pos 0 ≤ℤ epoch }
+    ensures run { IfOk result (λ run. run ≡ plain_run cut_address script.now order.now (λ session statement. None) epoch) }
     ensures printable { IfOk result (λ run. IfSome run (λ shown. IsPrintable shown)) }
 {
-    let _ = epoch;
     let mut working = Store::new(alloc);
     let mut seats = Vec::new(alloc);
     let (lines, names) = (script.lines.as_slice(), script.names.as_slice());
@@ -166,18 +186,21 @@ fn run(
     if !are_over(seats.as_slice()) {
         return Ok(None);
     }
-    Ok(Some(show(alloc, script, order, seats)?))
+    let run = show(alloc, script, order, &working, seats, epoch)?;
+    Ok(Some(run))
 }
 
-/// The text of the plain machine's run of the script along the order, where no statement is refused for want of memory;
-/// none where the order isn't one of the script's. The epoch is the time of commits, which no statement here makes.
+/// The text of the plain machine's run of the script along the order, where no statement is refused for want of memory
+/// and none meets two byte strings of one address; none where the order isn't one of the script's. The epoch, in seconds
+/// since 1970, is the date of the first commit.
 pub fn plain_output(
     alloc: Global,
     script: &Script,
     order: &[Moment],
     epoch: i64,
 ) -> Result<Option<Blob>, AllocError>
-    ensures { IfOk result (λ output. output ≡ option_map text (plain_run script.now order.now (λ session statement. None) epoch)) }
+    requires { pos 0 ≤ℤ epoch }
+    ensures { IfOk result (λ output. output ≡ option_map text (plain_run cut_address script.now order.now (λ session statement. None) epoch)) }
 {
     match run(alloc, script, order, epoch)? {
         Some(run) => Ok(Some(print_output(alloc, &run)?)),

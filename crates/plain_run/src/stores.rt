@@ -1,15 +1,18 @@
-ghost use Rattle.std.specs.Prelude.{◌≡◌, [], true, IfOk};
+ghost use Rattle.std.specs.Prelude.{◌≡◌, ◌≤ℤ◌, [], pos, true, IfOk};
+ghost use Rattle.chunk_store.specs.Digests.{cut_address};
 ghost use Rattle.plain_model.specs.Effects.{effect};
 ghost use Rattle.plain_model.specs.Machine.{is_refusal};
-ghost use Rattle.plain_model.specs.Sound.{is_sound_statement};
+ghost use Rattle.plain_model.specs.PlainViews.{main_branch};
+ghost use Rattle.plain_model.specs.Sound.{EffectsAreSound, is_sound_statement};
 ghost use Rattle.plain_model.specs.Tables.{is_same_database};
 ghost use Rattle.script_text.specs.Shown.{is_printable_reply};
 
+use crate::branches::main_line;
 use crate::copies::push_tables;
 use crate::effects::{Made, effect_of};
 use crate::same::same_tables;
-use plain_model::{NamedTable, Statement};
-use script_text::Reply;
+use plain_model::{NamedTable, Statement, law_of_effects};
+use script_text::{BranchLine, Reply};
 use std::alloc::{AllocError, Global};
 use std::marker::Model;
 use tuple_codec::Sequence;
@@ -44,8 +47,8 @@ impl Told {
         ensures { result ≡ is_refusal self.now }
     {
         match &self.reply {
-            Reply::Refused(_) => true,
-            _ => false,
+            Reply::Refused(_) | Reply::Collided(_) => true,
+            Reply::Done | Reply::Count(_) | Reply::Rows(_) => false,
         }
     }
 
@@ -82,6 +85,13 @@ pub struct Effected {
     pub store: Store,
 }
 
+/// What statements make of sound tables is sound. It does nothing.
+fn effects_are_sound()
+    ensures { EffectsAreSound }
+{
+    law_of_effects();
+}
+
 impl Store {
     /// No tables.
     #[tactic(auto, unfolding(plain_model::specs::Sound::is_sound_database))]
@@ -114,10 +124,19 @@ impl Store {
         requires { is_sound_statement statement.now ≡ true }
         ensures { IfOk result (λ made. effect self.now statement.now ≡ record { reply = made.reply; database = made.store }) }
     {
+        effects_are_sound();
         let Made { reply, tables } = effect_of(alloc, self.tables.as_slice(), statement)?;
         Ok(Effected {
             reply: Told { reply },
             store: Store { tables },
         })
+    }
+
+    /// The branch that every run has, at these tables.
+    pub fn branch(&self, alloc: Global, epoch: i64) -> Result<BranchLine, AllocError>
+        requires { pos 0 ≤ℤ epoch }
+        ensures { IfOk result (λ line. line ≡ main_branch cut_address epoch self.now) }
+    {
+        main_line(alloc, self.tables.as_slice(), epoch)
     }
 }

@@ -63,7 +63,7 @@ fn a_run_along_its_order_and_one_moment_short(rt: HostRuntime) -> Result<(), All
         ],
     )?;
     let text =
-        "session alice\n1 ok\n2 ok 2\n3 rows 2\nid,name\n1,'ada'\n2,'bob'\norder alice/1 alice/1 alice/2 alice/2 alice/3\n";
+        "session alice\n1 ok\n2 ok 2\n3 rows 2\nid,name\n1,'ada'\n2,'bob'\norder alice/1 alice/1 alice/2 alice/2 alice/3\nbranch main gj1enah2hu7oj7neve7uiuqo5geo87mk 8lo6ctq3d8k9atalppe3numo8qqm2goa 9srqt76ersimhc5b156ea1tnkcjnq9it\n";
     let order = [(0, 1), (0, 1), (0, 2), (0, 2), (0, 3)];
     assert!(rt; prints(alloc, &script, &order, Some(text))?);
     assert!(rt; prints(alloc, &script, &order[..4], None)?);
@@ -81,7 +81,8 @@ fn a_decision_wants_the_database_of_its_start(rt: HostRuntime) -> Result<(), All
             (1, "CREATE TABLE u (id BIGINT PRIMARY KEY)"),
         ],
     )?;
-    let text = "session a\n1 ok\nsession b\n1 ok\norder a/1 a/1 b/1 b/1\n";
+    let text =
+        "session a\n1 ok\nsession b\n1 ok\norder a/1 a/1 b/1 b/1\nbranch main gj1enah2hu7oj7neve7uiuqo5geo87mk jnddgeuf3ohml0ln6468no0rk0t1bdml 9srqt76ersimhc5b156ea1tnkcjnq9it\n";
     let turns = [(0, 1), (0, 1), (1, 1), (1, 1)];
     let within = [(0, 1), (1, 1), (1, 1), (0, 1)];
     assert!(rt; prints(alloc, &script, &turns, Some(text))?);
