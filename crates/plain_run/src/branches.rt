@@ -133,25 +133,39 @@ fn head_address<D: Digester>(
     write_commit(alloc, draft, &commit)
 }
 
-/// The branch, by a scratch draft.
+/// What the branch holds, by a scratch draft.
 #[tactic(auto, unfolding(plain_model::specs::PlainViews::main_branch))]
-fn branch_in_draft(alloc: Global, tables: &[NamedTable], epoch: i64) -> Result<BranchLine, PutFault>
+fn record_of(alloc: Global, tables: &[NamedTable], epoch: i64) -> Result<BranchRecord, PutFault>
     requires tables { is_sound_database tables.now ≡ true }
     requires epoch { pos 0 ≤ℤ epoch }
-    ensures { IfOk result (λ line. line ≡ main_branch cut_address epoch tables.now) }
+    ensures { IfOk result (λ rec. rec ≡ (main_branch cut_address epoch tables.now).rec) }
 {
     let pool = PagePool::with_pages(alloc, 0)?;
     let mut draft: Draft<Sha512Cut> = Draft::new(Store::new(alloc), pool);
     let staged = empty_address(alloc, &mut draft)?;
     let head = head_address(alloc, &mut draft, staged, epoch)?;
     let working = working_address(alloc, &mut draft, tables)?;
-    let name = Text::from_slice(alloc, b"main")?;
-    let rec = BranchRecord {
+    Ok(BranchRecord {
         head,
         working,
         staged,
         merging: None,
-    };
+    })
+}
+
+/// The branch of this record, which is that of these tables.
+#[tactic(auto, unfolding(plain_model::specs::PlainViews::main_branch))]
+fn line_of(
+    alloc: Global,
+    tables: &[NamedTable],
+    epoch: i64,
+    rec: BranchRecord,
+) -> Result<BranchLine, AllocError>
+    requires { rec ≡ (main_branch cut_address epoch tables.now).rec }
+    ensures { IfOk result (λ line. line ≡ main_branch cut_address epoch tables.now) }
+{
+    let (_, _) = (tables, epoch);
+    let name = Text::from_slice(alloc, b"main")?;
     Ok(BranchLine { name, rec })
 }
 
@@ -161,8 +175,8 @@ pub fn main_line(alloc: Global, tables: &[NamedTable], epoch: i64) -> Result<Bra
     requires epoch { pos 0 ≤ℤ epoch }
     ensures { IfOk result (λ line. line ≡ main_branch cut_address epoch tables.now) }
 {
-    match branch_in_draft(alloc, tables, epoch) {
-        Ok(line) => Ok(line),
+    match record_of(alloc, tables, epoch) {
+        Ok(rec) => line_of(alloc, tables, epoch, rec),
         Err(_) => Err(AllocError),
     }
 }
