@@ -28,12 +28,14 @@ count_with : (name : List ℕ) (table : Table) (tables : Tables) → table_in ta
 count_with name table [] e = refl
 count_with name table (t ∷ tables) e =
     elim (bytes_eq t.name name) as (λ (b : Bool). cond b (Some t.table) (table_in tables name) ≡ None
-      → length (cond b (named name table ∷ tables) (cond (is_lt (slice_cmp nat_cmp name t.name)) (named name table ∷ t ∷ tables) (t ∷ with_table name table tables))) ≡ suc (suc (length tables))) [
+    → length (cond b (named name table ∷ tables) (cond (is_lt (slice_cmp nat_cmp name t.name)) (named name table ∷ t ∷ tables) (t ∷ with_table name table tables))) ≡ suc (suc (length tables))) [
       | true ↦ λ is. absurd (cc)
       | false ↦ λ is. elim (is_lt (slice_cmp nat_cmp name t.name)) as (λ (b : Bool).
           length (cond b (named name table ∷ t ∷ tables) (t ∷ with_table name table tables)) ≡ suc (suc (length tables))) [
-          | true ↦ refl
-          | false ↦ ap (λ (n : ℕ). suc n) (count_with name table tables is) ] ] e
+            | true ↦ refl
+            | false ↦ ap (λ (n : ℕ). suc n) (count_with name table tables is)
+          ]
+    ] e
 
 later_test : (m n : ℕ) → nat_lt m (suc n) ≡ nat_le m n
 later_test m n = same_bool (nat_lt m (suc n)) (nat_le m n)
@@ -52,13 +54,13 @@ tests_are : (tables : Tables) (create : Create) (found : Option Table) → table
     → created tables create ≡ by_tests tables create (is_some found) (is_small create.schema) (nat_le most_tables (length tables))
 tests_are tables create (Some table) e sound =
     ap (λ (o : Option Table). cond (is_some o) (refuses 1050 tables)
-      (cond (not (is_within_limits (plain_schema create.schema))) (refuses 9010 tables) (created_as tables (with_table create.name (new_table create) tables)))) e
+    (cond (not (is_within_limits (plain_schema create.schema))) (refuses 9010 tables) (created_as tables (with_table create.name (new_table create) tables)))) e
 tests_are tables create None e sound =
     ap (λ (o : Option Table). cond (is_some o) (refuses 1050 tables)
-      (cond (not (is_within_limits (plain_schema create.schema))) (refuses 9010 tables) (created_as tables (with_table create.name (new_table create) tables)))) e
+    (cond (not (is_within_limits (plain_schema create.schema))) (refuses 9010 tables) (created_as tables (with_table create.name (new_table create) tables)))) e
     ∙ ap (λ (b : Bool). cond (not b) (refuses 9010 tables) (created_as tables (with_table create.name (new_table create) tables))) (small_is create sound)
     ∙ ap (λ (n : ℕ). cond (not (is_small create.schema)) (refuses 9010 tables) (cond (nat_lt most_tables n) (refuses 9010 tables) (made_with tables create)))
-      (count_with create.name (new_table create) tables e)
+    (count_with create.name (new_table create) tables e)
     ∙ ap (λ (b : Bool). cond (not (is_small create.schema)) (refuses 9010 tables) (cond b (refuses 9010 tables) (made_with tables create))) (later_test most_tables (length tables))
 
 abbrev refusal_by : Bool → Bool → Bool → Option ℕ
@@ -68,7 +70,7 @@ refusal_is : (address : List ℕ → List ℕ) (tables : Tables) (create : Creat
     → create_refusal (entries address tables) create ≡ refusal_by (is_some (table_in tables create.name)) (is_small create.schema) (nat_le most_tables (length tables))
 refusal_is address tables create =
     ap (λ (b : Bool). refusal_by b (is_small create.schema) (nat_le most_tables (length (entries address tables))))
-      (ap is_some (found_is address tables create.name) ∙ is_some_map (address_of address) (table_in tables create.name))
+    (ap is_some (found_is address tables create.name) ∙ is_some_map (address_of address) (table_in tables create.name))
     ∙ ap (λ (n : ℕ). refusal_by (is_some (table_in tables create.name)) (is_small create.schema) (nat_le most_tables n)) (entries_count address tables)
 
 refused_by : (tables : Tables) (create : Create) (number : ℕ) (there small many : Bool) → refusal_by there small many ≡ Some number → by_tests tables create there small many ≡ refuses number tables

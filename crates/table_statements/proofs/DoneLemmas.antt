@@ -53,7 +53,7 @@ pub found_at : (address : List ℕ → List ℕ) (chunks : Chunks) (tables : Tab
     → AreListed address chunks tables listed → address_in listed name ≡ Some at → FoundAt address chunks tables name at.0
 found_at address chunks tables listed name at are found =
     let some = option_some (address_of address) (table_in tables name) at
-        (sym (found_is address tables name) ∙ ap (λ (l : List NamedTable). address_in l name) (sym are.listed_is) ∙ found) in
+    (sym (found_is address tables name) ∙ ap (λ (l : List NamedTable). address_in l name) (sym are.listed_is) ∙ found) in
     let named : table_address address (plain_table some.0) ≡ at.0 = ap (λ (a : Address). a.0) some.2 in
     record {
       table = some.0;

@@ -109,7 +109,8 @@ count_fits name (first ∷ tables) =
     let more = count_fits name tables in
     elim (is_lt (by_name first.name name)) as (λ (b : Bool). cond b (suc (count_below name tables)) 0 ≤ suc (length tables)) [
       | true ↦ omega (arith, more)
-      | false ↦ omega arith ]
+      | false ↦ omega arith
+    ]
 
 -- ---- the loop that counts
 
@@ -132,7 +133,7 @@ pub stops_at : (name : List ℕ) (tables : List NamedTable) (at : ℕ) (one : Na
     → at + count_below name (drop at tables) ≡ count_below name tables → not (is_lt (by_name one.name name)) ≡ true → at ≡ count_below name tables
 stops_at name tables at one below is e test =
     let step = next_below name tables at (suc at) one refl below is
-        ∙ ap (λ (b : Bool). cond b (suc (count_below name (drop (suc at) tables))) 0) (not_so (is_lt (by_name one.name name)) test) in
+    ∙ ap (λ (b : Bool). cond b (suc (count_below name (drop (suc at) tables))) 0) (not_so (is_lt (by_name one.name name)) test) in
     omega (arith, e, step)
 
 pub goes_on : (name : List ℕ) (tables : List NamedTable) (at : ℕ) (one : NamedTable) → at < length tables → one ≡ get_or tables at one
@@ -140,7 +141,7 @@ pub goes_on : (name : List ℕ) (tables : List NamedTable) (at : ℕ) (one : Nam
     → at + 1 + count_below name (drop (at + 1) tables) ≡ count_below name tables
 goes_on name tables at one below is e test =
     let step = next_below name tables at (at + 1) one (omega arith) below is
-        ∙ ap (λ (b : Bool). cond b (suc (count_below name (drop (at + 1) tables))) 0) (so_not (is_lt (by_name one.name name)) test) in
+    ∙ ap (λ (b : Bool). cond b (suc (count_below name (drop (at + 1) tables))) 0) (so_not (is_lt (by_name one.name name)) test) in
     omega (arith, e, step)
 
 -- ---- the tables' own list
@@ -150,9 +151,10 @@ unfolding plain_database
 found_is address [] name = refl
 found_is address (t ∷ tables) name =
     elim (bytes_eq t.name name) as (λ (b : Bool). cond b (Some (address_of address t.table)) (address_in (entries address tables) name)
-      ≡ option_map (address_of address) (cond b (Some t.table) (table_in tables name))) [
+    ≡ option_map (address_of address) (cond b (Some t.table) (table_in tables name))) [
       | true ↦ refl
-      | false ↦ found_is address tables name ]
+      | false ↦ found_is address tables name
+    ]
 
 abbrev pub named : List ℕ → Table → plain_named.NamedTable
 named name table = record { name = name; table = table }
@@ -166,14 +168,16 @@ put_is address name table (t ∷ tables) =
     let old = entry t.name (address_of address t.table) in
     let more = entries address tables in
     elim (bytes_eq t.name name) as (λ (b : Bool).
-      cond b (new ∷ more) (cond (is_lt (by_name name t.name)) (new ∷ old ∷ more) (old ∷ with_address name (address_of address table) more))
-      ≡ entries address (cond b (named name table ∷ tables) (cond (is_lt (by_name name t.name)) (named name table ∷ t ∷ tables) (t ∷ with_table name table tables)))) [
+    cond b (new ∷ more) (cond (is_lt (by_name name t.name)) (new ∷ old ∷ more) (old ∷ with_address name (address_of address table) more))
+    ≡ entries address (cond b (named name table ∷ tables) (cond (is_lt (by_name name t.name)) (named name table ∷ t ∷ tables) (t ∷ with_table name table tables)))) [
       | true ↦ refl
       | false ↦ elim (is_lt (by_name name t.name)) as (λ (b : Bool).
           cond b (new ∷ old ∷ more) (old ∷ with_address name (address_of address table) more)
           ≡ entries address (cond b (named name table ∷ t ∷ tables) (t ∷ with_table name table tables))) [
-          | true ↦ refl
-          | false ↦ ap (λ (l : List NamedTable). old ∷ l) (put_is address name table tables) ] ]
+            | true ↦ refl
+            | false ↦ ap (λ (l : List NamedTable). old ∷ l) (put_is address name table tables)
+          ]
+    ]
 
 -- what is true of each table is true of each with one more, and of the one
 pub all_with : (P : model.NamedTable → Type 0) (name : List ℕ) (table : Table) (tables : Tables)
@@ -182,11 +186,13 @@ unfolding plain_database
 all_with P name table [] all new = (new, tt)
 all_with P name table (t ∷ tables) all new =
     elim (bytes_eq t.name name) as (λ (b : Bool).
-      AllByRecursion P (map plain_named (cond b (named name table ∷ tables) (cond (is_lt (by_name name t.name)) (named name table ∷ t ∷ tables) (t ∷ with_table name table tables))))) [
+    AllByRecursion P (map plain_named (cond b (named name table ∷ tables) (cond (is_lt (by_name name t.name)) (named name table ∷ t ∷ tables) (t ∷ with_table name table tables))))) [
       | true ↦ (new, all.1)
       | false ↦ elim (is_lt (by_name name t.name)) as (λ (b : Bool). AllByRecursion P (map plain_named (cond b (named name table ∷ t ∷ tables) (t ∷ with_table name table tables)))) [
-          | true ↦ (new, all)
-          | false ↦ (all.0, all_with P name table tables all.1 new) ] ]
+        | true ↦ (new, all)
+        | false ↦ (all.0, all_with P name table tables all.1 new)
+      ]
+    ]
 
 pub one_of : (P : model.NamedTable → Type 0) (name : List ℕ) (table : Table) (tables : Tables)
     → AllByRecursion P (plain_database (with_table name table tables)) → P (plain_named (named name table))
@@ -194,25 +200,29 @@ unfolding plain_database
 one_of P name table [] all = all.0
 one_of P name table (t ∷ tables) all =
     elim (bytes_eq t.name name) as (λ (b : Bool).
-      AllByRecursion P (map plain_named (cond b (named name table ∷ tables) (cond (is_lt (by_name name t.name)) (named name table ∷ t ∷ tables) (t ∷ with_table name table tables))))
-      → P (plain_named (named name table))) [
+    AllByRecursion P (map plain_named (cond b (named name table ∷ tables) (cond (is_lt (by_name name t.name)) (named name table ∷ t ∷ tables) (t ∷ with_table name table tables))))
+    → P (plain_named (named name table))) [
       | true ↦ λ h. h.0
       | false ↦ elim (is_lt (by_name name t.name)) as (λ (b : Bool). AllByRecursion P (map plain_named (cond b (named name table ∷ t ∷ tables) (t ∷ with_table name table tables)))
           → P (plain_named (named name table))) [
-          | true ↦ λ h. h.0
-          | false ↦ λ h. one_of P name table tables h.1 ] ] all
+            | true ↦ λ h. h.0
+            | false ↦ λ h. one_of P name table tables h.1
+          ]
+    ] all
 
 pub passes_of : (p : plain_named.NamedTable → Bool) (name : List ℕ) (table : Table) (tables : Tables) → list_all p (with_table name table tables) ≡ true → p (named name table) ≡ true
 passes_of p name table [] all = (and_parts (p (named name table)) true all).0
 passes_of p name table (t ∷ tables) all =
     elim (bytes_eq t.name name) as (λ (b : Bool).
-      list_all p (cond b (named name table ∷ tables) (cond (is_lt (by_name name t.name)) (named name table ∷ t ∷ tables) (t ∷ with_table name table tables))) ≡ true
-      → p (named name table) ≡ true) [
+    list_all p (cond b (named name table ∷ tables) (cond (is_lt (by_name name t.name)) (named name table ∷ t ∷ tables) (t ∷ with_table name table tables))) ≡ true
+    → p (named name table) ≡ true) [
       | true ↦ λ h. (and_parts (p (named name table)) (list_all p tables) h).0
       | false ↦ elim (is_lt (by_name name t.name)) as (λ (b : Bool). list_all p (cond b (named name table ∷ t ∷ tables) (t ∷ with_table name table tables)) ≡ true
           → p (named name table) ≡ true) [
-          | true ↦ λ h. (and_parts (p (named name table)) (list_all p (t ∷ tables)) h).0
-          | false ↦ λ h. passes_of p name table tables (and_parts (p t) (list_all p (with_table name table tables)) h).1 ] ] all
+            | true ↦ λ h. (and_parts (p (named name table)) (list_all p (t ∷ tables)) h).0
+            | false ↦ λ h. passes_of p name table tables (and_parts (p t) (list_all p (with_table name table tables)) h).1
+          ]
+    ] all
 
 -- ---- sound databases
 
@@ -269,5 +279,6 @@ kept_in address chunks (t ∷ tables) name table stand sound e =
     let both = and_parts (is_sound_named t) (list_all is_sound_named tables) sound in
     elim (bytes_eq t.name name) as (λ (b : Bool). cond b (Some t.table) (table_in tables name) ≡ Some table → IsTableKept address chunks (table_address address (plain_table table)) table) [
       | true ↦ λ is. subst (λ (one : Table). IsTableKept address chunks (table_address address (plain_table one)) one) (some_is t.table table is)
-        (record { sound = (and_parts (is_table_name t.name) (is_sound_table t.table) both.0).1; stands = stand.0 })
-      | false ↦ λ is. kept_in address chunks tables name table stand.1 both.1 is ] e
+          (record { sound = (and_parts (is_table_name t.name) (is_sound_table t.table) both.0).1; stands = stand.0 })
+      | false ↦ λ is. kept_in address chunks tables name table stand.1 both.1 is
+    ] e

@@ -21,26 +21,30 @@ filled_is database insert table all =
     let made : Effect = record { reply = Count (length insert.rows); database = with_table insert.name (record { schema = table.schema; rows = in_key_order table.schema.key all }) database } in
     let after : Fill = record { reply = Count (length insert.rows); rows = in_key_order table.schema.key all } in
     elim (has_repeated_key table.schema.key all) as (λ (b : Bool).
-      cond b (refuses 1062 database) (cond (nat_lt most_rows (length all)) (refuses 9010 database) made)
-      ≡ put (cond b (fill_refuses 1062 table) (cond (nat_lt most_rows (length all)) (fill_refuses 9010 table) after))) [
+    cond b (refuses 1062 database) (cond (nat_lt most_rows (length all)) (refuses 9010 database) made)
+    ≡ put (cond b (fill_refuses 1062 table) (cond (nat_lt most_rows (length all)) (fill_refuses 9010 table) after))) [
       | true ↦ refl
       | false ↦ elim (nat_lt most_rows (length all)) as (λ (b : Bool). cond b (refuses 9010 database) made ≡ put (cond b (fill_refuses 9010 table) after)) [
-          | true ↦ refl
-          | false ↦ refl ] ]
+        | true ↦ refl
+        | false ↦ refl
+      ]
+    ]
 
 pub inserted_is : (database : Tables) (insert : Insert) (table : Table) → inserted database insert table ≡ put_back database insert.name table (fill table insert.rows)
 inserted_is database insert table =
     let put : Fill → Effect = put_back database insert.name table in
     let all = table.rows ++ insert.rows in
     elim (list_all (are_of_kinds (kinds_of table.schema)) insert.rows) as (λ (b : Bool).
-      cond (not b) (refuses 9013 database) (option_map_or (λ (n : ℕ). refuses n database) (rows_refusal table.schema insert.rows) (filled database insert table all))
-      ≡ put (cond (not b) (fill_refuses 9013 table) (option_map_or (λ (n : ℕ). fill_refuses n table) (rows_refusal table.schema insert.rows) (fill_with table insert.rows all)))) [
+    cond (not b) (refuses 9013 database) (option_map_or (λ (n : ℕ). refuses n database) (rows_refusal table.schema insert.rows) (filled database insert table all))
+    ≡ put (cond (not b) (fill_refuses 9013 table) (option_map_or (λ (n : ℕ). fill_refuses n table) (rows_refusal table.schema insert.rows) (fill_with table insert.rows all)))) [
       | true ↦ elim (rows_refusal table.schema insert.rows) as (λ (o : Option ℕ).
           option_map_or (λ (n : ℕ). refuses n database) o (filled database insert table all)
           ≡ put (option_map_or (λ (n : ℕ). fill_refuses n table) o (fill_with table insert.rows all))) [
-          | None ↦ filled_is database insert table all
-          | Some n ↦ refl ]
-      | false ↦ refl ]
+            | None ↦ filled_is database insert table all
+            | Some n ↦ refl
+          ]
+      | false ↦ refl
+    ]
 
 -- an INSERT into a table that isn't there, or is
 pub insert_absent : (database : Tables) (insert : Insert) → table_in database insert.name ≡ None

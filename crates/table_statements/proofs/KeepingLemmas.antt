@@ -42,7 +42,7 @@ pub schema_of : (table : plain.Table) → is_sound_table table ≡ true → Soun
 schema_of table h =
     let sound : is_sound_schema table.schema ≡ true = (and_parts (is_sound_schema table.schema) (are_sound_rows table.schema table.rows && nat_le (length table.rows) most_rows) h).0 in
     let both = and_parts (is_schema (plain_schema table.schema)) (is_within_limits (plain_schema table.schema))
-        (and_parts (list_all is_word_text (names_of table.schema)) (is_schema (plain_schema table.schema) && is_within_limits (plain_schema table.schema)) sound).1 in
+    (and_parts (list_all is_word_text (names_of table.schema)) (is_schema (plain_schema table.schema) && is_within_limits (plain_schema table.schema)) sound).1 in
     record { is_schema = both.0; limits = both.1 }
 
 last_part : (rest last : Bool) → rest && last ≡ true → last ≡ true
@@ -157,10 +157,10 @@ module _ (address : List ℕ → List ℕ) (old first new : Chunks) (tables : Ta
     sound = may.sound;
     database = databases.stands address new at (plain_database (with_table name table tables)) is_database
         (all_with (λ one. IsTableAt address new (table_address address one.table) one.table) name table tables
-          (stand_later address first new further laws (plain_database tables) (stand_later address old first growth laws (plain_database tables) may.others.stand))
-          (laws.later address first new (table_address address (plain_table table)) (plain_table table) further
-            (subst (λ (a : List ℕ). IsTableAt address first a (plain_table table)) (sym new_stands.named) new_stands)))
+        (stand_later address first new further laws (plain_database tables) (stand_later address old first growth laws (plain_database tables) may.others.stand))
+        (laws.later address first new (table_address address (plain_table table)) (plain_table table) further
+        (subst (λ (a : List ℕ). IsTableAt address first a (plain_table table)) (sym new_stands.named) new_stands)))
         (subst (λ (l : List NamedTable). IsHeld address new at (written_database l)) (list_is made e)
-          (subst (λ (a : List ℕ). IsHeld address new a (written_database made)) (sym at_is) found))
+        (subst (λ (a : List ℕ). IsHeld address new a (written_database made)) (sym at_is) found))
         long;
   }

@@ -154,13 +154,13 @@ small_is create sound =
     let names = short_names schema.key 0 schema.columns in
     same_bool (is_within_limits plain) (is_small schema)
     (λ within.
-      let known = parts (nat_le (length plain.columns) 64) _ _ _ (list_all (λ (column : model.Column). is_short_name column.name) plain.columns) _ _ _ (nat_le (length (schema_bytes plain)) 32768) within in
-      and_from (nat_le (length schema.columns) 64) _ (subst (λ (n : ℕ). nat_le n 64 ≡ true) count known.columns)
-      (and_from (nat_lt (length schema.key) 256) (are_short schema.columns) (let key = key_is schema (schema_known create sound within) in key.few) (sym names ∙ known.names)))
+    let known = parts (nat_le (length plain.columns) 64) _ _ _ (list_all (λ (column : model.Column). is_short_name column.name) plain.columns) _ _ _ (nat_le (length (schema_bytes plain)) 32768) within in
+    and_from (nat_le (length schema.columns) 64) _ (subst (λ (n : ℕ). nat_le n 64 ≡ true) count known.columns)
+    (and_from (nat_lt (length schema.key) 256) (are_short schema.columns) (let key = key_is schema (schema_known create sound within) in key.few) (sym names ∙ known.names)))
     (λ small.
-      let first = and_parts (nat_le (length schema.columns) 64) (nat_lt (length schema.key) 256 && are_short schema.columns) small in
-      let second = and_parts (nat_lt (length schema.key) 256) (are_short schema.columns) first.1 in
-      let key = ltb-true (length schema.key) 256 second.0 in
-      from_parts (nat_le (length plain.columns) 64) (list_all (λ (column : model.Column). is_short_name column.name) plain.columns) (nat_le (length (schema_bytes plain)) 32768)
-      (subst (λ (n : ℕ). nat_le n 64 ≡ true) (sym count) first.0) (names ∙ second.1)
-      (le-leb (length (schema_bytes plain)) 32768 (schema_few schema (leb-true (length schema.columns) 64 first.0) (omega (arith, key)) second.1)))
+    let first = and_parts (nat_le (length schema.columns) 64) (nat_lt (length schema.key) 256 && are_short schema.columns) small in
+    let second = and_parts (nat_lt (length schema.key) 256) (are_short schema.columns) first.1 in
+    let key = ltb-true (length schema.key) 256 second.0 in
+    from_parts (nat_le (length plain.columns) 64) (list_all (λ (column : model.Column). is_short_name column.name) plain.columns) (nat_le (length (schema_bytes plain)) 32768)
+    (subst (λ (n : ℕ). nat_le n 64 ≡ true) (sym count) first.0) (names ∙ second.1)
+    (le-leb (length (schema_bytes plain)) 32768 (schema_few schema (leb-true (length schema.columns) 64 first.0) (omega (arith, key)) second.1)))

@@ -63,7 +63,7 @@ put_table-requires-clause-table g c κs within =
     let rows = subst (λ (l : List Cells). AreRowsAt address (chunks_of new) c.in_ok-filled.filled.rows.0 read.schema (fill plain l).rows) c.as_slice.ensures (c.in_ok-filled.ensures.rows plain of) in
     let counts = ap is_count (sym reply) ∙ so_not (is_count c.in_ok-filled.filled.reply) (sym c.is_unfilled.ensures ∙ c.if-is_unfilled.false) in
     let may = may_fill address (chunks_of old) (chunks_of new) c.args.database.now.0 others c.args.tables.items insert c.args.address.now.0 plain read c.in_ok-filled.filled.rows
-        c.laws_of_growth.ensures.tables c.laws_of_statements.ensures growth is (c.in_ok-table.ensures plain kept) rows counts in
+    c.laws_of_growth.ensures.tables c.laws_of_statements.ensures growth is (c.in_ok-table.ensures plain kept) rows counts in
     (others, filled_table plain (fill plain insert.rows), may)
 
 pub returns-clause-done : goal.returns-clause-done
@@ -80,7 +80,7 @@ returns-clause-done g c = λ others plain is.
     let rows = subst (λ (l : List Cells). AreRowsAt address (chunks_of new) c.in_ok-filled.filled.rows.0 read.schema (fill plain l).rows) c.as_slice.ensures (c.in_ok-filled.ensures.rows plain of) in
     let counts = ap is_count (sym reply) ∙ so_not (is_count c.in_ok-filled.filled.reply) (sym c.is_unfilled.ensures ∙ c.if-is_unfilled.false) in
     let may = may_fill address (chunks_of old) (chunks_of new) c.args.database.now.0 others c.args.tables.items insert c.args.address.now.0 plain read c.in_ok-filled.filled.rows
-        c.laws_of_growth.ensures.tables c.laws_of_statements.ensures growth is (c.in_ok-table.ensures plain kept) rows counts in
+    c.laws_of_growth.ensures.tables c.laws_of_statements.ensures growth is (c.in_ok-table.ensures plain kept) rows counts in
     record {
       answers = reply;
       stands = subst (λ (t : Tables). AreTablesAt address (chunks_of c.put_table.new.draft.chunks) c.in_ok-made.made.0 t)

@@ -22,7 +22,7 @@ put_table-requires-clause-table g c κs within =
       others,
       new_table c.args.create,
       may_make address (chunks_of old) (chunks_of new) others c.args.create c.args.tables.items c.in_ok-schema.schema c.in_ok-empty.empty c.new.result
-        c.laws_of_growth.ensures.tables c.laws_of_statements.ensures growth c.requires.sound c.requires.accepted c.requires.tables.1 c.in_ok-schema.ensures c.new.ensures c.in_ok-empty.ensures.tree,
+          c.laws_of_growth.ensures.tables c.laws_of_statements.ensures growth c.requires.sound c.requires.accepted c.requires.tables.1 c.in_ok-schema.ensures c.new.ensures c.in_ok-empty.ensures.tree,
     )
 
 pub returns-clause-done : goal.returns-clause-done
@@ -32,7 +32,7 @@ returns-clause-done g c = λ others are.
     let new = c.empty_tree.new.draft.chunks in
     let growth : Extends (chunks_of old) (chunks_of new) = c.laws_of_growth.ensures.drafts.longer_extends old new c.empty_tree.ensures.longer in
     let may = may_make address (chunks_of old) (chunks_of new) others c.args.create c.args.tables.items c.in_ok-schema.schema c.in_ok-empty.empty c.new.result
-        c.laws_of_growth.ensures.tables c.laws_of_statements.ensures growth c.requires.sound c.requires.accepted are c.in_ok-schema.ensures c.new.ensures c.in_ok-empty.ensures.tree in
+    c.laws_of_growth.ensures.tables c.laws_of_statements.ensures growth c.requires.sound c.requires.accepted are c.in_ok-schema.ensures c.new.ensures c.in_ok-empty.ensures.tree in
     done_is address (chunks_of c.put_table.new.draft.chunks) (created others c.args.create) (made_with others c.args.create) Done c.in_ok-database.database.0
     (created_made address others c.args.create c.requires.sound (refusal_here address (chunks_of old) others c.args.create c.args.tables.items are c.requires.accepted)) refl
     (c.in_ok-database.ensures.stands others (new_table c.args.create) may)

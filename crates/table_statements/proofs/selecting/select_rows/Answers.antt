@@ -32,7 +32,7 @@ returns-in-Some g c = λ tables at.
     join_two c.answered.result (λ (done : Executed). done.reply ≡ Rows (answer_of there.table)) (λ (done : Executed). done.database ≡ c.args.database.now)
     (λ (done : Executed). DoesEffect address chunks asked done.reply done.database.0)
     (λ (done : Executed) reply same. done_is address chunks asked (selected tables there.table) done.reply done.database.0 (select_found tables c.args.name.now there.table there.found) reply
-      (subst (λ (a : Address). AreTablesAt address chunks a.0 tables) (sym same) at))
+    (subst (λ (a : Address). AreTablesAt address chunks a.0 tables) (sym same) at))
     (c.answered.ensures.reply there.table there.kept) c.answered.ensures.database
 
 pub returns : goal.returns

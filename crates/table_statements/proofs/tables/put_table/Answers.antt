@@ -44,7 +44,7 @@ keep_database-requires-clause-few g c κs within =
     let may = c.requires.table.2 in
     let list : c.as_slice.result.now ≡ entries address (with_table c.args.name plain others) = c.as_slice.ensures.value
     ∙ list_is address (chunks_of old) (chunks_of first) (chunks_of first) others c.args.name plain c.args.tables.items c.args.table.now c.laws_of_growth.ensures.tables c.laws_of_statements.ensures may
-      c.in_ok-address.address.0 growth c.in_ok-address.ensures.twenty c.in_ok-address.ensures.address c.in_ok-address.ensures.held c.put_address.new.tables.items c.in_ok-put_address.ensures in
+    c.in_ok-address.address.0 growth c.in_ok-address.ensures.twenty c.in_ok-address.ensures.address c.in_ok-address.ensures.held c.put_address.new.tables.items c.in_ok-put_address.ensures in
     subst (λ (l : List NamedTable). length l ≤ 256) (sym list) (entries_few address (with_table c.args.name plain others) may.sound)
 
 pub keep_database-requires-clause-names : goal.keep_database-requires-clause-names
@@ -58,7 +58,7 @@ keep_database-requires-clause-names g c κs within =
     let may = c.requires.table.2 in
     let list : c.as_slice.result.now ≡ entries address (with_table c.args.name plain others) = c.as_slice.ensures.value
     ∙ list_is address (chunks_of old) (chunks_of first) (chunks_of first) others c.args.name plain c.args.tables.items c.args.table.now c.laws_of_growth.ensures.tables c.laws_of_statements.ensures may
-      c.in_ok-address.address.0 growth c.in_ok-address.ensures.twenty c.in_ok-address.ensures.address c.in_ok-address.ensures.held c.put_address.new.tables.items c.in_ok-put_address.ensures in
+    c.in_ok-address.address.0 growth c.in_ok-address.ensures.twenty c.in_ok-address.ensures.address c.in_ok-address.ensures.held c.put_address.new.tables.items c.in_ok-put_address.ensures in
     subst (λ (l : List NamedTable). list_all has_short_name l ≡ true) (sym list) (entries_short address (with_table c.args.name plain others) may.sound)
 
 pub keep_database-requires-clause-rise : goal.keep_database-requires-clause-rise
@@ -72,7 +72,7 @@ keep_database-requires-clause-rise g c κs within =
     let may = c.requires.table.2 in
     let list : c.as_slice.result.now ≡ entries address (with_table c.args.name plain others) = c.as_slice.ensures.value
     ∙ list_is address (chunks_of old) (chunks_of first) (chunks_of first) others c.args.name plain c.args.tables.items c.args.table.now c.laws_of_growth.ensures.tables c.laws_of_statements.ensures may
-      c.in_ok-address.address.0 growth c.in_ok-address.ensures.twenty c.in_ok-address.ensures.address c.in_ok-address.ensures.held c.put_address.new.tables.items c.in_ok-put_address.ensures in
+    c.in_ok-address.address.0 growth c.in_ok-address.ensures.twenty c.in_ok-address.ensures.address c.in_ok-address.ensures.held c.put_address.new.tables.items c.in_ok-put_address.ensures in
     subst (λ (l : List NamedTable). names_rise l ≡ true) (sym list) (entries_rise address (with_table c.args.name plain others) may.sound)
 
 pub returns-clause-longer : goal.returns-clause-longer
@@ -92,6 +92,6 @@ returns-clause-stands g c = λ others plain may.
     (λ (at : Address). AreTablesAt address (chunks_of new) at.0 (with_table c.args.name plain others))
     (IsHeld address (chunks_of new) (address (written_database made)) (written_database made))
     (λ (at : Address) at_is long found. made_stands address (chunks_of old) (chunks_of first) (chunks_of new) others c.args.name plain c.args.tables.items c.args.table.now
-      c.laws_of_growth.ensures.tables c.laws_of_statements.ensures may c.in_ok-address.address.0 growth c.in_ok-address.ensures.twenty c.in_ok-address.ensures.address c.in_ok-address.ensures.held
-      c.laws_of_growth.ensures.databases made (c.as_slice.ensures.value ∙ c.in_ok-put_address.ensures) at.0 further long at_is found)
+    c.laws_of_growth.ensures.tables c.laws_of_statements.ensures may c.in_ok-address.address.0 growth c.in_ok-address.ensures.twenty c.in_ok-address.ensures.address c.in_ok-address.ensures.held
+    c.laws_of_growth.ensures.databases made (c.as_slice.ensures.value ∙ c.in_ok-put_address.ensures) at.0 further long at_is found)
     c.keep_database.ensures.address c.keep_database.ensures.twenty c.keep_database.ensures.held
