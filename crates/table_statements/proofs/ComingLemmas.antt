@@ -1,23 +1,18 @@
 -- Tables that may come into a database: a new one, and one with more rows.
-use Rattle.std.proofs.Common.{◌≡◌, ℕ, true, List, [], Some, None, refl, sym, ap, ◌∙◌, subst, Result, Ok, Err, IfOk, OnOk}
-use Rattle.std.specs.List.{AllByRecursion}
-use Rattle.tuple_codec.specs.Nodes.{Item}
+use Rattle.std.proofs.Common.{◌≡◌, ℕ, true, List, [], None, refl, sym, ap, ◌∙◌, subst, Result, Ok, Err, IfOk, OnOk}
 use Rattle.tuple_codec.specs.declared.addresses.Address.{Address}
 use Rattle.schema_model.specs.PlainTables.{row_items}
 use Rattle.schema_model.specs.Schemas.{is_schema}
-use Rattle.schema_model.specs.WrittenForms.{table_address}
 use Rattle.schema_model.specs.declared.schemas.Schema as model
 use Rattle.chunk_store.specs.Chunks.{Chunks, Extends}
 use Rattle.chunk_store.specs.Standing.{IsTree}
-use Rattle.script_text.specs.declared.replies.Reply.TheVariants.{Done}
-use Rattle.plain_model.specs.Effects.{created}
 use Rattle.plain_model.specs.PlainViews.{plain_database, plain_schema, plain_table}
 use Rattle.plain_model.specs.Sound.{EffectsAreSound, is_sound_create}
 use Rattle.plain_model.specs.Tables.{Tables}
 use Rattle.plain_model.specs.declared.statements.Create.{Create}
 use Rattle.plain_model.specs.declared.statements.Insert.{Insert}
 use Rattle.plain_model.specs.declared.tables.Table as plain
-use Rattle.table_root.specs.Standing.{HasTrees, TablesStand, table_of_lists}
+use Rattle.table_root.specs.Standing.{TablesStand, table_of_lists}
 use Rattle.table_root.specs.declared.records.NamedTable.{NamedTable}
 use Rattle.table_root.specs.declared.records.Table.{Table}
 use Rattle.table_rows.specs.Rows.{AreRowsAt}

@@ -13,7 +13,7 @@ use Rattle.plain_model.specs.declared.statements.Create.{Create}
 use Rattle.plain_model.specs.declared.statements.Statement.TheVariants as form
 use Rattle.plain_model.specs.declared.tables.Table.{Table}
 use Rattle.table_statements.specs.Creating.{create_refusal, is_small}
-use Rattle.table_statements.specs.Entries.{address_in, address_of, entries}
+use Rattle.table_statements.specs.Entries.{address_of, entries}
 use Rattle.table_statements.proofs.EntryLemmas.{entries_count, found_is, named}
 use Rattle.table_statements.proofs.LimitLemmas.{same_bool, small_is}
 

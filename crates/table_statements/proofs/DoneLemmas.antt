@@ -2,7 +2,7 @@
 use Rattle.std.proofs.Common.{◌≡◌, ℕ, List, [], ◌∷◌, map, suc, Option, None, Some, option_map, refl, sym, ap, ◌∙◌, subst}
 use Rattle.std.specs.Option.{option_map_or}
 use Rattle.script_text.specs.declared.replies.Reply.{Reply}
-use Rattle.script_text.specs.declared.replies.Reply.TheVariants.{Refused, Rows}
+use Rattle.script_text.specs.declared.replies.Reply.TheVariants.{Refused}
 use Rattle.tuple_codec.specs.declared.addresses.Address.{Address}
 use Rattle.tuple_codec.specs.declared.answers.Answer.{Answer}
 use Rattle.tuple_codec.specs.declared.values.SqlType.{SqlType}
@@ -16,7 +16,7 @@ use Rattle.plain_model.specs.Tables.{Tables, kinds_of, names_of, table_in}
 use Rattle.plain_model.specs.declared.tables.Column.{Column}
 use Rattle.plain_model.specs.declared.tables.Table.{Table}
 use Rattle.table_root.specs.declared.records.NamedTable.{NamedTable}
-use Rattle.table_statements.specs.Entries.{AreListed, IsTableKept, address_in, address_of, entries}
+use Rattle.table_statements.specs.Entries.{AreListed, IsTableKept, address_in, address_of}
 use Rattle.table_statements.specs.Keeping.{AreTablesAt, DoesEffect}
 use Rattle.table_statements.proofs.EntryLemmas.{each_sound, found_is, kept_in}
 

@@ -1,5 +1,5 @@
 -- Lists of names and addresses, and the tables that they name.
-use Rattle.std.proofs.Common.{◌≡◌, ℕ, zero, suc, ◌+◌, ◌<◌, ◌≤◌, not, get_or, drop, drop-cons, Bool, true, false, cond, ◌&&◌, nat_le, List, [], ◌∷◌, length, map, insert, slice_get, slice_set, Option, Some, None, option_map, is_some, bytes_eq, nat_cmp, is_lt, is_eq, Less, Equal, Greater, Ordering, refl, sym, ap, ◌∙◌, subst, arith}
+use Rattle.std.proofs.Common.{◌≡◌, ℕ, suc, ◌+◌, ◌<◌, ◌≤◌, not, get_or, drop, drop-cons, Bool, true, false, cond, ◌&&◌, nat_le, List, [], ◌∷◌, length, map, insert, slice_get, slice_set, Some, option_map, bytes_eq, nat_cmp, is_lt, is_eq, Less, Equal, Greater, Ordering, refl, sym, ap, ◌∙◌, subst, arith}
 use Rattle.std.specs.List.{AllByRecursion, list_all}
 use Rattle.std.specs.Ordering.{ordering_reverse}
 use Rattle.std.specs.Cmp.Lexicographic.{slice_cmp, texts_ties}

@@ -1,5 +1,5 @@
 -- Why puts are refused: where all chunks are named, two byte strings have one address.
-use Rattle.std.proofs.Common.{◌≡◌, ℕ, List, [], ◌∷◌, ◌++◌, refl, sym, subst}
+use Rattle.std.proofs.Common.{ℕ, List, [], ◌∷◌, ◌++◌, refl, sym, subst}
 use Rattle.chunk_store.specs.Chunks.{AreNamed, Chunk, bytes_at}
 use Rattle.chunk_store.specs.Clashes.{IsCause}
 use Rattle.chunk_store.specs.Drafts.{DraftParts, IsSound, Longer, chunks_of}

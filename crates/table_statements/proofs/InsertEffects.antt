@@ -1,9 +1,8 @@
 -- What an INSERT makes of a database, by what it makes of its table.
-use Rattle.std.proofs.Common.{◌≡◌, ℕ, Bool, true, false, cond, not, nat_lt, List, ◌++◌, length, Option, Some, None, refl, sym, ap, ◌∙◌, subst}
+use Rattle.std.proofs.Common.{◌≡◌, ℕ, Bool, true, false, cond, not, nat_lt, List, ◌++◌, length, Option, Some, None, refl, ap, ◌∙◌, subst}
 use Rattle.std.specs.List.{list_all}
 use Rattle.std.specs.Option.{option_map_or}
 use Rattle.tuple_codec.specs.Rows.{Cells}
-use Rattle.script_text.specs.declared.replies.Reply.{Reply}
 use Rattle.script_text.specs.declared.replies.Reply.TheVariants.{Count}
 use Rattle.plain_model.specs.Effects.{Effect, are_of_kinds, effect, filled, inserted, most_rows, refuses, rows_refusal}
 use Rattle.plain_model.specs.Sound.{EffectsAreSound, is_sound_database}

@@ -1,11 +1,10 @@
 -- What stands at addresses: read, kept while the draft grows, and put.
-use Rattle.std.proofs.Common.{◌≡◌, ℕ, ◌<◌, ◌≤◌, ◌^◌, Bool, true, ◌&&◌, nat_le, List, [], ◌∷◌, length, map, refl, sym, ap, ◌∙◌, subst, arith, ◌⊎◌, inl, inr}
+use Rattle.std.proofs.Common.{◌≡◌, ℕ, ◌<◌, ◌^◌, Bool, true, ◌&&◌, nat_le, List, [], ◌∷◌, length, refl, sym, ap, ◌∙◌, subst, arith, ◌⊎◌, inl, inr}
 use Rattle.std.specs.List.{AllByRecursion, list_all}
 use Rattle.std.proofs.lemmas.Bool.{and_parts, leb-true}
 use Rattle.std.proofs.lemmas.List.{length-map}
 use Rattle.tuple_codec.specs.Nodes.{Item}
 use Rattle.tuple_codec.specs.Trees.{root, tree_chunks}
-use Rattle.tuple_codec.specs.declared.addresses.Address.{Address}
 use Rattle.schema_model.specs.Limits.{is_within_limits}
 use Rattle.schema_model.specs.PlainTables as model
 use Rattle.schema_model.specs.PlainTables.{PlainDatabase, conflict_items, row_items, violation_items}
@@ -28,7 +27,7 @@ use Rattle.table_root.specs.Standing.{DatabasesStand, HasTrees, IsTableAt, Table
 use Rattle.table_root.specs.Tables.{IsTableFound, written_table}
 use Rattle.table_root.specs.declared.records.NamedTable.{NamedTable}
 use Rattle.table_root.specs.declared.records.Table.{Table}
-use Rattle.table_statements.specs.Entries.{AreListed, IsTableKept, MayCome, address_of, entries, with_address}
+use Rattle.table_statements.specs.Entries.{AreListed, IsTableKept, MayCome, entries, with_address}
 use Rattle.table_statements.specs.Keeping.{AreTablesAt}
 use Rattle.table_statements.proofs.EntryLemmas.{all_with, each_sound, named, one_of, passes_of, put_is, sound_few}
 

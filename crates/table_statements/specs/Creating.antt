@@ -1,5 +1,5 @@
 -- Which CREATE is refused.
-use Rattle.std.specs.Prelude.{ℕ, suc, Bool, ◌&&◌, nat_le, nat_lt, not, is_some, List, length, Option, Some, None, if◌then◌else◌}
+use Rattle.std.specs.Prelude.{ℕ, Bool, ◌&&◌, nat_le, nat_lt, not, is_some, List, length, Option, Some, None, if◌then◌else◌}
 use Rattle.std.specs.List.{list_all}
 use Rattle.schema_model.specs.Limits.{is_short_name}
 use Rattle.plain_model.specs.Effects.{most_tables}

@@ -1,7 +1,7 @@
 -- Databases of the plain machine as addresses in a draft.
 use Rattle.std.specs.Prelude.{◌≡◌, ℕ, true, List}
 use Rattle.chunk_store.specs.Chunks.{Chunks, AreNamed}
-use Rattle.chunk_store.specs.Drafts.{DraftParts, chunks_of}
+use Rattle.chunk_store.specs.Drafts.{DraftParts}
 use Rattle.plain_model.specs.Effects.{Effect}
 use Rattle.plain_model.specs.PlainViews.{plain_database}
 use Rattle.plain_model.specs.Sound.{is_sound_database}

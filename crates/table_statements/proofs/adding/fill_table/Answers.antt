@@ -1,14 +1,12 @@
-use Rattle.std.proofs.Common.{◌≡◌, ℕ, List, sym, ap, ◌∙◌, subst}
+use Rattle.std.proofs.Common.{◌≡◌, List, sym, ap, ◌∙◌, subst}
 use Rattle.tuple_codec.specs.Rows.{Cells}
 use Rattle.chunk_store.specs.Chunks.{Extends}
 use Rattle.chunk_store.specs.Drafts.{chunks_of}
-use Rattle.script_text.specs.declared.replies.Reply.{Reply}
-use Rattle.plain_model.specs.Effects.{Effect}
 use Rattle.plain_model.specs.Tables.{Tables}
 use Rattle.table_rows.specs.Rows.{AreRowsAt}
-use Rattle.table_statements.specs.Filling.{Fill, fill}
+use Rattle.table_statements.specs.Filling.{fill}
 use Rattle.table_statements.specs.Keeping.{AreTablesAt}
-use Rattle.table_statements.specs.Putting.{filled_table, is_count, put_back}
+use Rattle.table_statements.specs.Putting.{filled_table, is_count}
 use Rattle.table_statements.proofs.ComingLemmas.{found_kept, may_fill, table_of}
 use Rattle.table_statements.proofs.EntryLemmas.{not_so, so_not}
 use Rattle.table_statements.proofs.InsertEffects.{put_back_counted, put_back_refused}

@@ -1,10 +1,9 @@
-use Rattle.std.proofs.Common.{◌≡◌, Some, None, List, ℕ, refl, sym, ap, ◌∙◌, subst}
+use Rattle.std.proofs.Common.{sym, ◌∙◌, subst}
 use Rattle.std.proofs.lemmas.Result.{IfOk-weaker}
 use Rattle.std.specs.Option.{option_map_or}
 use Rattle.chunk_store.specs.Drafts.{chunks_of}
 use Rattle.plain_model.specs.Effects.{Effect, inserted, refuses}
 use Rattle.plain_model.specs.Tables.{table_in}
-use Rattle.table_root.specs.declared.records.NamedTable.{NamedTable}
 use Rattle.table_statements.specs.Entries.{address_in}
 use Rattle.table_statements.specs.Filling.{fill}
 use Rattle.table_statements.specs.Keeping.{DoesEffect}

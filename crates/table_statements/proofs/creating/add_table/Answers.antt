@@ -1,4 +1,4 @@
-use Rattle.std.proofs.Common.{◌≡◌, refl, [], ap, sym, ◌∙◌}
+use Rattle.std.proofs.Common.{refl}
 use Rattle.chunk_store.specs.Chunks.{Extends}
 use Rattle.chunk_store.specs.Drafts.{chunks_of}
 use Rattle.script_text.specs.declared.replies.Reply.TheVariants.{Done}

@@ -1,4 +1,4 @@
-use Rattle.std.proofs.Common.{◌≡◌, Some, List, sym, ap, ◌∙◌}
+use Rattle.std.proofs.Common.{List, sym, ap, ◌∙◌}
 use Rattle.chunk_store.specs.Drafts.{chunks_of}
 use Rattle.plain_model.specs.Effects.{created}
 use Rattle.table_root.specs.declared.records.NamedTable.{NamedTable}

@@ -1,4 +1,4 @@
-use Rattle.std.proofs.Common.{◌≡◌, ℕ, List, true, false, not, is_lt, nat_cmp, sym, ap, ◌∙◌}
+use Rattle.std.proofs.Common.{ℕ, List, not, is_lt, nat_cmp, sym, ap, ◌∙◌}
 use Rattle.std.specs.Cmp.Lexicographic.{slice_cmp}
 use Rattle.table_statements.proofs.EntryLemmas.{goes_on, stops_at}
 use Rattle.table_statements.proofs.tables.count_below.Goals as goal

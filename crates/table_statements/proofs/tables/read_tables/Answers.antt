@@ -1,4 +1,3 @@
-use Rattle.std.proofs.Common.{ℕ, List}
 use Rattle.std.proofs.lemmas.Result.{IfOk-weaker}
 use Rattle.chunk_store.specs.Drafts.{chunks_of}
 use Rattle.table_root.specs.Databases.{IsDatabaseFound}
