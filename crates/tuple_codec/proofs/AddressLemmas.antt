@@ -146,3 +146,10 @@ pub one_address : (bytes text : List ℕ) → IsAddress bytes → address_text b
 one_address bytes text h e =
     let b = text_back 4 bytes h.0 h.1 in
     ap address_text (ap address_bytes (sym e) ∙ b.0) ∙ e
+
+-- addresses of one text are the same
+pub one_text : (a b : List ℕ) → IsAddress a → IsAddress b → address_text a ≡ address_text b → a ≡ b
+one_text a b whole full e =
+    let p = text_back 4 a whole.0 whole.1 in
+    let q = text_back 4 b full.0 full.1 in
+    sym p.0 ∙ ap address_bytes e ∙ q.0
