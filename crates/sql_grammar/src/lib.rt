@@ -13,8 +13,6 @@ mod nodes;
 mod pieces;
 mod rules;
 mod stops;
-#[cfg(test)]
-mod tests;
 
 pub use cursors::Cursor;
 pub use grammars::{read_any, read_expression};

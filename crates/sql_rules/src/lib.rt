@@ -12,8 +12,6 @@ mod order_keys;
 mod outside;
 mod selects;
 mod tables;
-#[cfg(test)]
-mod tests;
 mod writes;
 
 pub use misuse::is_misused;
