@@ -9,14 +9,14 @@ use Rattle.tuple_codec.specs.declared.values.Value.{Value}
 use Rattle.tuple_codec.specs.declared.values.Value.TheVariants as cell
 use Rattle.tuple_codec.specs.declared.forms.Form.{Form}
 use Rattle.tuple_codec.specs.declared.forms.Form.TheVariants as form
-use Rattle.tuple_codec.specs.declared.forms.Unread.{Unread}
-use Rattle.tuple_codec.specs.declared.forms.Unread.TheVariants as unread
+use Rattle.tuple_codec.specs.declared.unread.Unread.{Unread}
+use Rattle.tuple_codec.specs.declared.unread.Unread.TheVariants as unread
 
 -- what code found, seen by view, is what reading gives, unless memory ran out
 abbrev pub Gives : {X Y : Type 0} → (X → Y) → Result X Unread → Option Y → Type 0
 Gives view (Ok x) front = front ≡ Some (view x)
 Gives view (Err unread.Memory) front = Unit {0}
-Gives view (Err unread.NoRow) front = front ≡ None
+Gives view (Err unread.Malformed) front = front ≡ None
 
 -- the number of eight bytes, in each form
 abbrev pub number_of : Form → ℕ → ℤ

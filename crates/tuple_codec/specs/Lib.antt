@@ -5,6 +5,7 @@ pub mod KeyBytes
 pub mod RowBytes
 pub mod Spellings
 pub mod Cells
+pub mod Fields
 pub mod Fronts
 pub mod AddressTexts
 pub mod Nodes

@@ -4,9 +4,11 @@ ghost use Rattle.tuple_codec.specs.Cells.{cell_bytes, spelling, text_bytes, is_s
 ghost use Rattle.tuple_codec.specs.Fronts.{Gives, cell_front, cells_front, fitting, value_front, whole};
 
 use crate::bytes::Text;
-use crate::forms::{Form, Unread};
+use crate::fields::push_long;
+use crate::forms::Form;
 use crate::numbers::{bool_front, number_front, push_number};
-use crate::texts::{push_counted, push_escaped, text_front};
+use crate::texts::{push_escaped, text_front};
+use crate::unread::Unread;
 use crate::values::{Blob, Row, SqlType, Value, value_fits};
 use std::alloc::{AllocError, Global};
 
@@ -44,7 +46,7 @@ fn push_text(out: &mut Vec<u8>, form: Form, text: &[u8]) -> Result<(), AllocErro
     out.extend_from_slice(&[1])?;
     match form {
         Form::Key => push_escaped(out, text),
-        Form::Row => push_counted(out, text),
+        Form::Row => push_long(out, text),
     }
 }
 
@@ -62,7 +64,7 @@ pub fn decode(alloc: Global, form: Form, types: &[SqlType], bytes: &[u8]) -> Res
     if rest.is_empty() {
         Ok(Row::from_vec(row))
     } else {
-        Err(Unread::NoRow)
+        Err(Unread::Malformed)
     }
 }
 
@@ -78,7 +80,7 @@ fn cell_front<'a>(
     match bytes {
         [0, rest @ ..] => Ok((Value::Null, rest)),
         [1, rest @ ..] => fitting_front(alloc, form, kind, rest),
-        _ => Err(Unread::NoRow),
+        _ => Err(Unread::Malformed),
     }
 }
 
@@ -95,7 +97,7 @@ fn fitting_front<'a>(
     if value_fits(kind, &value) {
         Ok((value, rest))
     } else {
-        Err(Unread::NoRow)
+        Err(Unread::Malformed)
     }
 }
 

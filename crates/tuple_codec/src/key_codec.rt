@@ -5,7 +5,8 @@ ghost use Rattle.tuple_codec.specs.KeyBytes.{key_bytes};
 ghost use Rattle.tuple_codec.specs.Spellings.{Decodes, IsOneSpelling, KeepsOrder, KeepsOrderBefore};
 
 use crate::cells::{decode, encode};
-use crate::forms::{Form, Unread};
+use crate::forms::Form;
+use crate::unread::Unread;
 use crate::values::{Blob, Row, SqlType};
 use std::alloc::{AllocError, Global};
 
@@ -24,7 +25,7 @@ pub fn decode_key(alloc: Global, types: &[SqlType], bytes: &[u8]) -> Result<Opti
 {
     match decode(alloc, Form::Key, types, bytes) {
         Ok(row) => Ok(Some(row)),
-        Err(Unread::NoRow) => Ok(None),
+        Err(Unread::Malformed) => Ok(None),
         Err(Unread::Memory) => Err(AllocError),
     }
 }

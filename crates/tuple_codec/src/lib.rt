@@ -13,6 +13,7 @@ mod bytes;
 mod cells;
 mod copies;
 mod edits;
+mod fields;
 mod forms;
 mod key_codec;
 mod numbers;
@@ -22,6 +23,7 @@ mod sequences;
 #[cfg(test)]
 mod tests;
 mod texts;
+mod unread;
 mod values;
 
 pub use addresses::{Address, Digester};
@@ -30,8 +32,10 @@ pub use boxed::Boxed;
 pub use bytes::Text;
 pub use copies::{copy_row, copy_value};
 pub use edits::{Change, Edit};
+pub use fields::{bytes_at, long_at, push_long, push_short, short_at};
 pub use key_codec::{decode_key, encode_key, keys_are_one_spelling, keys_keep_order};
 pub use records::BranchRecord;
 pub use row_codec::{decode_row, encode_row, rows_are_one_spelling};
 pub use sequences::Sequence;
+pub use unread::Unread;
 pub use values::{Blob, Row, SqlType, Value, is_text, value_fits};

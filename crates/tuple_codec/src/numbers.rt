@@ -3,7 +3,8 @@ ghost use Rattle.std.specs.Int.{w64, to_be_bytes};
 ghost use Rattle.tuple_codec.specs.Fronts.{Gives, bool_front, number_front, number_of};
 ghost use Rattle.tuple_codec.specs.Cells.{bits_of};
 
-use crate::forms::{Form, Unread};
+use crate::forms::Form;
+use crate::unread::Unread;
 use byteorder::{BigEndian, ByteOrder};
 use std::alloc::{AllocError, Global};
 
@@ -35,7 +36,7 @@ pub fn number_front(form: Form, bytes: &[u8]) -> Result<(i64, &[u8]), Unread>
     ensures { Gives (λ x. (x.0, x.1.now)) result (number_front form bytes.now) }
 {
     if bytes.len() < 8 {
-        return Err(Unread::NoRow);
+        return Err(Unread::Malformed);
     }
     let (front, rest) = bytes.split_at(8);
     let bits = u64::from_be_bytes([
@@ -61,6 +62,6 @@ pub fn bool_front(bytes: &[u8]) -> Result<(bool, &[u8]), Unread>
     match bytes {
         [0, rest @ ..] => Ok((false, rest)),
         [1, rest @ ..] => Ok((true, rest)),
-        _ => Err(Unread::NoRow),
+        _ => Err(Unread::Malformed),
     }
 }

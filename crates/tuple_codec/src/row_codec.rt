@@ -5,7 +5,8 @@ ghost use Rattle.tuple_codec.specs.RowBytes.{row_bytes};
 ghost use Rattle.tuple_codec.specs.Spellings.{Decodes, IsOneSpelling};
 
 use crate::cells::{decode, encode};
-use crate::forms::{Form, Unread};
+use crate::forms::Form;
+use crate::unread::Unread;
 use crate::values::{Blob, Row, SqlType};
 use std::alloc::{AllocError, Global};
 
@@ -24,7 +25,7 @@ pub fn decode_row(alloc: Global, types: &[SqlType], bytes: &[u8]) -> Result<Opti
 {
     match decode(alloc, Form::Row, types, bytes) {
         Ok(row) => Ok(Some(row)),
-        Err(Unread::NoRow) => Ok(None),
+        Err(Unread::Malformed) => Ok(None),
         Err(Unread::Memory) => Err(AllocError),
     }
 }

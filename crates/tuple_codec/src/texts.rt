@@ -1,10 +1,10 @@
-ghost use Rattle.std.specs.Prelude.{◌≡◌, ◌≤◌, ◌<◌, ◌++◌, length, OnOk, false};
+ghost use Rattle.std.specs.Prelude.{◌≡◌, ◌≤◌, ◌++◌, length, OnOk, false};
 ghost use Rattle.tuple_codec.specs.KeyBytes.{escaped};
-ghost use Rattle.tuple_codec.specs.RowBytes.{counted};
 ghost use Rattle.tuple_codec.specs.Fronts.{Gives, text_front, uncounted, unescaped};
 
-use crate::forms::{Form, Unread};
-use byteorder::{BigEndian, ByteOrder};
+use crate::fields::long_at;
+use crate::forms::Form;
+use crate::unread::Unread;
 use std::alloc::{AllocError, Global};
 
 /// Writes a text with its zero bytes escaped.
@@ -20,17 +20,6 @@ pub fn push_escaped(out: &mut Vec<u8>, text: &[u8]) -> Result<(), AllocError>
     out.extend_from_slice(&[0, 0])
 }
 
-/// Writes a text after its length.
-pub fn push_counted(out: &mut Vec<u8>, text: &[u8]) -> Result<(), AllocError>
-    requires { length text.now < 65536 }
-    ensures { OnOk result (out.new.items ≡ out.old.items ++ counted text.now) }
-{
-    let mut size = [0; 2];
-    BigEndian::write_u16(&mut size, text.len() as u16);
-    out.extend_from_slice(&size)?;
-    out.extend_from_slice(text)
-}
-
 /// The text in front of bytes, and what follows it.
 pub fn text_front(alloc: Global, form: Form, bytes: &[u8]) -> Result<(Vec<u8>, &[u8]), Unread>
     ensures { Gives (λ x. (x.0.items, x.1.now)) result (text_front form bytes.now) }
@@ -44,17 +33,8 @@ pub fn text_front(alloc: Global, form: Form, bytes: &[u8]) -> Result<(Vec<u8>, &
 fn counted_front(alloc: Global, bytes: &[u8]) -> Result<(Vec<u8>, &[u8]), Unread>
     ensures { Gives (λ x. (x.0.items, x.1.now)) result (uncounted bytes.now) }
 {
-    match bytes {
-        [high, low, rest @ ..] => {
-            let size = usize::from(u16::from_be_bytes([*high, *low]));
-            if rest.len() < size {
-                return Err(Unread::NoRow);
-            }
-            let (text, rest) = rest.split_at(size);
-            Ok((Vec::from_slice(alloc, text)?, rest))
-        }
-        _ => Err(Unread::NoRow),
-    }
+    let (text, rest) = long_at(bytes)?;
+    Ok((Vec::from_slice(alloc, text)?, rest))
 }
 
 fn escaped_front(alloc: Global, bytes: &[u8]) -> Result<(Vec<u8>, &[u8]), Unread>
@@ -67,7 +47,7 @@ fn escaped_front(alloc: Global, bytes: &[u8]) -> Result<(Vec<u8>, &[u8]), Unread
             match *byte {
                 0 => return Ok((text, &bytes[at + 1..])),
                 255 => text.push(0)?,
-                _ => return Err(Unread::NoRow),
+                _ => return Err(Unread::Malformed),
             }
             after_zero = false;
         } else if *byte == 0 {
@@ -76,7 +56,7 @@ fn escaped_front(alloc: Global, bytes: &[u8]) -> Result<(Vec<u8>, &[u8]), Unread
             text.push(*byte)?;
         }
     }
-    Err(Unread::NoRow)
+    Err(Unread::Malformed)
 }
 
 /// How many bytes stand before the first two zero bytes: at least as many as the text in front has.

@@ -6,5 +6,5 @@ use Rattle.tuple_codec.proofs.key_codec.decode_key.Goals as goal
 pub returns-in-Ok : goal.returns-in-Ok
 returns-in-Ok c = found form.Key c.args.types.now c.args.bytes.now c.in-Ok.row (λ i. omega (arith, c.type_inv.bytes i)) c.in-Ok.ensures
 
-pub returns-in-Err-NoRow : goal.returns-in-Err-NoRow
-returns-in-Err-NoRow c = none form.Key c.args.types.now c.args.bytes.now (rw c.in-Err-NoRow.field-0-is at c.in-Err-NoRow.ensures)
+pub returns-in-Err-Malformed : goal.returns-in-Err-Malformed
+returns-in-Err-Malformed c = none form.Key c.args.types.now c.args.bytes.now (rw c.in-Err-Malformed.field-0-is at c.in-Err-Malformed.ensures)

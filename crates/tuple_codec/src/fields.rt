@@ -1,0 +1,60 @@
+//! Fields at the front of bytes, each with the bytes after it, and how they are written.
+
+ghost use Rattle.std.specs.Prelude.{◌≡◌, ◌<◌, ◌++◌, length, OnOk};
+ghost use Rattle.tuple_codec.specs.Fields.{bytes_at, short, short_at};
+ghost use Rattle.tuple_codec.specs.Fronts.{Gives, uncounted};
+ghost use Rattle.tuple_codec.specs.RowBytes.{counted};
+
+use crate::unread::Unread;
+use byteorder::{BigEndian, ByteOrder};
+use std::alloc::AllocError;
+
+/// So many bytes.
+pub fn bytes_at(count: usize, bytes: &[u8]) -> Result<(&[u8], &[u8]), Unread>
+    ensures { Gives (λ x. (x.0.now, x.1.now)) result (bytes_at count bytes.now) }
+{
+    if bytes.len() < count {
+        return Err(Unread::Malformed);
+    }
+    Ok(bytes.split_at(count))
+}
+
+/// A length in one byte, and that many bytes.
+pub fn short_at(bytes: &[u8]) -> Result<(&[u8], &[u8]), Unread>
+    ensures { Gives (λ x. (x.0.now, x.1.now)) result (short_at bytes.now) }
+{
+    match bytes {
+        [size, rest @ ..] => bytes_at(usize::from(*size), rest),
+        [] => Err(Unread::Malformed),
+    }
+}
+
+/// A length in two bytes, the higher one first, and that many bytes.
+pub fn long_at(bytes: &[u8]) -> Result<(&[u8], &[u8]), Unread>
+    ensures { Gives (λ x. (x.0.now, x.1.now)) result (uncounted bytes.now) }
+{
+    match bytes {
+        [high, low, rest @ ..] => bytes_at(usize::from(u16::from_be_bytes([*high, *low])), rest),
+        _ => Err(Unread::Malformed),
+    }
+}
+
+/// Writes a length in one byte, and the bytes.
+pub fn push_short(out: &mut Vec<u8>, bytes: &[u8]) -> Result<(), AllocError>
+    requires { length bytes.now < 256 }
+    ensures { OnOk result (out.new.items ≡ out.old.items ++ short bytes.now) }
+{
+    out.push(bytes.len() as u8)?;
+    out.extend_from_slice(bytes)
+}
+
+/// Writes a length in two bytes, the higher one first, and the bytes.
+pub fn push_long(out: &mut Vec<u8>, bytes: &[u8]) -> Result<(), AllocError>
+    requires { length bytes.now < 65536 }
+    ensures { OnOk result (out.new.items ≡ out.old.items ++ counted bytes.now) }
+{
+    let mut size = [0; 2];
+    BigEndian::write_u16(&mut size, bytes.len() as u16);
+    out.extend_from_slice(&size)?;
+    out.extend_from_slice(bytes)
+}
