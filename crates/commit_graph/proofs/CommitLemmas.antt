@@ -6,12 +6,13 @@ use Rattle.std.specs.Int.{w64, cast_signed, cast_unsigned, from_be_bytes, to_be_
 use Rattle.std.proofs.lemmas.Bool.{and_parts, eqb-true, le-ltb}
 use Rattle.std.proofs.lemmas.List.{take_at, drop_at, length-append}
 use Rattle.std.proofs.lemmas.Nat.{from_be_bytes-to_be_bytes_8}
+use Rattle.tuple_codec.specs.Fields.{bytes_at}
 use Rattle.tuple_codec.specs.RowBytes.{counted}
 use Rattle.tuple_codec.specs.Fronts.{uncounted}
 use Rattle.tuple_codec.specs.declared.forms.Form.TheVariants as form
 use Rattle.tuple_codec.proofs.NumberLemmas.{bits_fit, number_back}
 use Rattle.tuple_codec.proofs.TextLemmas.{counted_again}
-use Rattle.schema_model.specs.Reading.{◌>>=◌, bytes_at, items_at}
+use Rattle.schema_model.specs.Reading.{◌>>=◌, items_at}
 use Rattle.schema_model.specs.WrittenForms.{CommitParts, commit_bytes}
 use Rattle.schema_model.proofs.PartLemmas.{IsReader, bytes_again, bytes_takes, items_again, nothing, some_is, takes}
 use Rattle.commit_graph.specs.Commits.{HasOneSpelling, IsCommit, is_address, parts_of}

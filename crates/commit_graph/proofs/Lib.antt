@@ -1,3 +1,2 @@
-mod AddressListLemmas
 mod CommitLemmas
 mod Vectors

@@ -1,3 +1,2 @@
 pub mod Commits
-pub mod Gives
 pub mod Reading

@@ -1,8 +1,9 @@
 -- Reading a commit from left to right.
 use Rattle.std.specs.Prelude.{ℕ, ◌==◌, nat_lt, if◌then◌else◌, List, [], ◌∷◌, length, take, drop, Option, None, Some}
 use Rattle.std.specs.Int.{w64, cast_signed, from_be_bytes}
+use Rattle.tuple_codec.specs.Fields.{bytes_at}
 use Rattle.tuple_codec.specs.Fronts.{uncounted}
-use Rattle.schema_model.specs.Reading.{◌>>=◌, bytes_at, items_at}
+use Rattle.schema_model.specs.Reading.{◌>>=◌, items_at}
 use Rattle.schema_model.specs.WrittenForms.{CommitParts}
 
 -- a number in eight bytes

@@ -10,7 +10,6 @@ mod laws;
 mod reading;
 #[cfg(test)]
 mod tests;
-mod unread;
 mod writing;
 
 pub use commits::CommitRecord;

@@ -1,18 +1,17 @@
 //! Commits read from drafts.
 
 ghost use Rattle.std.specs.Prelude.{◌≡◌, map, IfOk};
+ghost use Rattle.tuple_codec.specs.Fronts.{Gives};
 ghost use Rattle.schema_model.specs.Reading.{items_at};
 ghost use Rattle.chunk_store.specs.Drafts.{chunks_of};
 ghost use Rattle.commit_graph.specs.Commits.{HasCommit, IsCommitFound, parts_of};
-ghost use Rattle.commit_graph.specs.Gives.{Gives};
 ghost use Rattle.commit_graph.specs.Reading.{address_at, after_kind, commit_of, parents_at};
 
 use crate::commits::CommitRecord;
-use crate::fields::{address_at, long_at, number_at};
-use crate::unread::Unread;
+use crate::fields::{address_at, number_at};
 use chunk_store::Draft;
 use std::alloc::{AllocError, Global};
-use tuple_codec::{Address, Digester, Sequence, Text};
+use tuple_codec::{Address, Digester, Sequence, Text, Unread, long_at};
 
 /// The commit whose written form is found at the address.
 pub fn read_commit<D: Digester>(
@@ -29,7 +28,7 @@ pub fn read_commit<D: Digester>(
     match commit_of(alloc, bytes) {
         Ok(commit) => Ok(commit),
         Err(Unread::Memory) => Err(AllocError),
-        Err(Unread::NoCommit) => unreachable!(),
+        Err(Unread::Malformed) => unreachable!(),
     }
 }
 
@@ -61,7 +60,7 @@ fn after_kind(bytes: &[u8]) -> Result<&[u8], Unread>
 {
     match bytes {
         [5, rest @ ..] => Ok(rest),
-        _ => Err(Unread::NoCommit),
+        _ => Err(Unread::Malformed),
     }
 }
 
@@ -71,7 +70,7 @@ fn parents_at(alloc: Global, bytes: &[u8]) -> Result<(Sequence<Address>, &[u8]),
 {
     match bytes {
         [count, rest @ ..] => addresses_at(alloc, usize::from(*count), rest),
-        [] => Err(Unread::NoCommit),
+        [] => Err(Unread::Malformed),
     }
 }
 

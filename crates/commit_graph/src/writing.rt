@@ -11,10 +11,10 @@ ghost use Rattle.chunk_store.specs.Drafts.{TakesAtMostOnePage, chunks_of, put_in
 ghost use Rattle.commit_graph.specs.Commits.{IsCommit, IsCommitFound, KeepsLimits, is_address, parts_of};
 
 use crate::commits::CommitRecord;
-use crate::fields::{push_long, push_number};
+use crate::fields::push_number;
 use chunk_store::{Draft, PutFault};
 use std::alloc::{AllocError, Global};
-use tuple_codec::{Address, Blob, Digester, Sequence, Text};
+use tuple_codec::{Address, Blob, Digester, Sequence, Text, push_long};
 
 /// Puts the commit's written form into the draft: the address is the commit's.
 pub fn write_commit<D: Digester>(

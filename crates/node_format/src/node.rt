@@ -107,7 +107,7 @@ impl<'a> NodeRef<'a> {
         ensures { slice_get self.now.items i ≡ Some (record { key = result.0.now; body = result.1.0; rows = result.2 }) }
     {
         match inner_at(self.from_item(i)) {
-            Some((item, _)) => (item.key, address_of(item.body), item.rows),
+            Some((item, _)) => (item.key, Address::from_slice(item.body), item.rows),
             None => unreachable!(),
         }
     }
@@ -122,14 +122,4 @@ impl<'a> NodeRef<'a> {
         let (_, marked) = self.items.split_at(place);
         after_items(self.level, i % self.marks.stride, marked)
     }
-}
-
-/// The address of these 20 bytes.
-fn address_of(bytes: &[u8]) -> Address
-    requires { length bytes.now ≡ 20 }
-    ensures { result.0 ≡ bytes.now }
-{
-    let mut address = [0; 20];
-    address.copy_from_slice(bytes);
-    Address(address)
 }

@@ -3,6 +3,7 @@ use Rattle.std.proofs.Common.{◌≡◌, ◌∙◌, ◌*◌, ◌≤◌, ◌<◌,
 use Rattle.std.specs.List.{list_all, flat_map, AllByRecursion}
 use Rattle.std.proofs.lemmas.List.{length-append, length-map}
 use Rattle.std.proofs.lemmas.Bool.{and_parts, and_from, leb-true, ltb-true, ltb-false, lt-ltb}
+use Rattle.tuple_codec.specs.Fields.{short}
 use Rattle.tuple_codec.specs.KeyBytes.{key_bytes}
 use Rattle.tuple_codec.specs.Nodes.{Rise, RiseAfter}
 use Rattle.tuple_codec.specs.Rows.{Cells, fits_all}
@@ -12,7 +13,7 @@ use Rattle.tuple_codec.specs.declared.values.SqlType.TheVariants as kind
 use Rattle.schema_model.specs.Limits.{is_short_name, is_within_limits}
 use Rattle.schema_model.specs.declared.schemas.Column as plain
 use Rattle.schema_model.specs.PlainTables.{body_bytes, is_keyed, is_row, primary_key, row_item}
-use Rattle.schema_model.specs.SchemaBytes.{column_bytes, flags, listed, schema_bytes, short, type_bytes}
+use Rattle.schema_model.specs.SchemaBytes.{column_bytes, flags, listed, schema_bytes, type_bytes}
 use Rattle.schema_model.specs.Schemas.{are_columns, are_positions, is_key, is_schema}
 use Rattle.table_rows.specs.Rows.{RowItemsFollow}
 use Rattle.plain_model.specs.Effects.{is_too_large, most_rows}

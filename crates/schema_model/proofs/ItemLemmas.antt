@@ -2,9 +2,10 @@
 use Rattle.std.proofs.Common.{◌≡◌, ℕ, suc, ◌+◌, ◌-◌, ◌<◌, ◌≤◌, List, [], ◌∷◌, ◌++◌, length, get_or, drop, Option, Some, None, Err, refl, sym, ap, ◌∙◌, append_assoc, append-nil, arith, drop-cons, add-one, length-append}
 use Rattle.std.specs.List.{flat_map}
 use Rattle.std.specs.Option.{option_map}
-use Rattle.schema_model.specs.Reading.{◌>>=◌, Gives, after_items, items_at}
-use Rattle.schema_model.specs.declared.unread.Unread.{Unread}
-use Rattle.schema_model.specs.declared.unread.Unread.TheVariants.{Memory, NoSchema}
+use Rattle.tuple_codec.specs.Fronts.{Gives}
+use Rattle.schema_model.specs.Reading.{◌>>=◌, after_items, items_at}
+use Rattle.tuple_codec.specs.declared.unread.Unread.{Unread}
+use Rattle.tuple_codec.specs.declared.unread.Unread.TheVariants.{Memory, Malformed}
 
 after_one : {A : Type 0} (items : List A) (x : A) (o : Option (List A × List ℕ)) → after_items items (option_map (λ xs. (x ∷ xs.0, xs.1)) o) ≡ after_items (items ++ x ∷ []) o
 after_one items x None = refl
@@ -46,4 +47,4 @@ left_bytes {A} written items k item below is =
 pub fails : {A X Y : Type 0} (front : List ℕ → Option (A × List ℕ)) (count k : ℕ) (bytes rest : List ℕ) (items : List A) (view : X → A × List ℕ) (all : Y → List A × List ℕ) (e : Unread)
     → items_at front count bytes ≡ after_items items (items_at front (count - k) rest) → k < count → Gives view (Err e) (front rest) → Gives all (Err e) (items_at front count bytes)
 fails front count k bytes rest items view all Memory so_far below gives = tt
-fails front count k bytes rest items view all NoSchema so_far below gives = none_more front count k bytes rest items so_far below gives
+fails front count k bytes rest items view all Malformed so_far below gives = none_more front count k bytes rest items so_far below gives

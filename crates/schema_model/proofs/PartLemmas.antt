@@ -4,14 +4,15 @@ use Rattle.std.specs.List.{flat_map, list_all}
 use Rattle.std.specs.Option.{option_map}
 use Rattle.std.proofs.lemmas.Bool.{and_parts, eqb-true, ltb-false, le-ltb}
 use Rattle.std.proofs.lemmas.List.{take_at, drop_at, take-append-drop, length-append, length-take}
+use Rattle.tuple_codec.specs.Fields.{short, bytes_at, short_at}
 use Rattle.tuple_codec.specs.KeyBytes.{bit}
 use Rattle.tuple_codec.specs.Limits.{is_type}
 use Rattle.tuple_codec.specs.declared.values.SqlType.{SqlType}
 use Rattle.tuple_codec.specs.declared.values.SqlType.TheVariants as kind
 use Rattle.tuple_codec.proofs.NumberLemmas.{AreBytes, AreBytes-after, AreBytes-take, passed}
 use Rattle.tuple_codec.proofs.TextLemmas.{AreBytes-rest}
-use Rattle.schema_model.specs.SchemaBytes.{flags, listed, short, type_bytes}
-use Rattle.schema_model.specs.Reading.{◌>>=◌, allowed, bool_of, byte_at, bytes_at, coded_at, decimal_at, flags_of, items_at, list_at, most_at, short_at, two_at, type_at}
+use Rattle.schema_model.specs.SchemaBytes.{flags, listed, type_bytes}
+use Rattle.schema_model.specs.Reading.{◌>>=◌, allowed, bool_of, byte_at, coded_at, decimal_at, flags_of, items_at, list_at, most_at, two_at, type_at}
 
 -- what a reader took from the front
 pub record Takes (bytes text rest : List ℕ) : Type 0 where

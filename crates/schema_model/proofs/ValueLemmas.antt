@@ -3,6 +3,7 @@ use Rattle.std.proofs.Common.{◌≡◌, ℕ, suc, ◌+◌, ◌*◌, ◌/◌, �
 use Rattle.std.specs.Prelude.{is_some}
 use Rattle.std.specs.Option.{option_map, option_and_then}
 use Rattle.std.proofs.lemmas.Bool.{and_from}
+use Rattle.tuple_codec.specs.Fields.{bytes_at}
 use Rattle.tuple_codec.specs.Rows.{Cells, fits}
 use Rattle.tuple_codec.specs.Limits.{is_type}
 use Rattle.tuple_codec.specs.RowBytes.{row_bytes, row_cell}
@@ -19,7 +20,7 @@ use Rattle.tuple_codec.proofs.NumberLemmas.{AreBytes}
 use Rattle.schema_model.specs.SchemaBytes.{default_bytes}
 use Rattle.schema_model.specs.Schemas.{default_fits}
 use Rattle.schema_model.proofs.PartLemmas.{AreBytes-front, Takes, bind_some, bytes_again, bytes_takes, map_some, some_is, takes}
-use Rattle.schema_model.specs.Reading.{◌>>=◌, bytes_at, cell_size, default_at, only, text_size, value_at, value_of}
+use Rattle.schema_model.specs.Reading.{◌>>=◌, cell_size, default_at, only, text_size, value_at, value_of}
 
 -- what decoding answers is what is in front, since a type within its limits reads each cell in one way
 pub decoded : (type : SqlType) (bytes : List ℕ) (o : Option Cells) → is_type type ≡ true → AreBytes bytes → Decodes row_bytes (type ∷ []) bytes o → whole (cells_front form.Row (type ∷ []) bytes) ≡ o

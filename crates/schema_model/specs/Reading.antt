@@ -3,6 +3,7 @@ use Rattle.std.specs.Prelude.{◌≡◌, ℕ, zero, suc, ◌+◌, ◌*◌, ◌==
 use Rattle.std.specs.Option.{option_map, option_and_then}
 use Rattle.tuple_codec.specs.Rows.{Cells}
 use Rattle.tuple_codec.specs.Limits.{is_type}
+use Rattle.tuple_codec.specs.Fields.{bytes_at, short_at}
 use Rattle.tuple_codec.specs.Fronts.{cells_front, uncounted, whole}
 use Rattle.tuple_codec.specs.declared.forms.Form.TheVariants as form
 use Rattle.tuple_codec.specs.declared.values.SqlType.{SqlType}
@@ -14,28 +15,11 @@ use Rattle.schema_model.specs.declared.schemas.IndexDef.{IndexDef}
 use Rattle.schema_model.specs.declared.schemas.CheckDef.{CheckDef}
 use Rattle.schema_model.specs.declared.schemas.ForeignKey.{ForeignKey}
 use Rattle.schema_model.specs.declared.schemas.Schema.{Schema}
-use Rattle.schema_model.specs.declared.unread.Unread.{Unread}
-use Rattle.schema_model.specs.declared.unread.Unread.TheVariants as unread
 
 infixl 10 ◌>>=◌
 abbrev pub ◌>>=◌ : {A B : Type 0} → Option A → (A → Option B) → Option B
 (Some x) >>= f = f x
 None >>= f = None
-
--- what code found, seen by view, is what reading gives, unless memory ran out
-abbrev pub Gives : {X Y : Type 0} → (X → Y) → Result X Unread → Option Y → Type 0
-Gives view (Ok x) front = front ≡ Some (view x)
-Gives view (Err unread.Memory) front = Unit {0}
-Gives view (Err unread.NoSchema) front = front ≡ None
-
--- so many bytes
-abbrev pub bytes_at : ℕ → List ℕ → Option (List ℕ × List ℕ)
-bytes_at count bytes = if nat_lt (length bytes) count then None else Some (take count bytes, drop count bytes)
-
--- a length in one byte, and that many bytes
-abbrev pub short_at : List ℕ → Option (List ℕ × List ℕ)
-short_at [] = None
-short_at (size ∷ rest) = bytes_at size rest
 
 -- a number in two bytes
 abbrev pub two_at : List ℕ → Option (ℕ × List ℕ)

@@ -1,6 +1,7 @@
 -- Schemas as bytes.
 use Rattle.std.specs.Prelude.{ℕ, ◌+◌, ◌*◌, ◌/◌, ◌%◌, Bool, is_some, List, [], ◌∷◌, ◌++◌, length, Option, None, Some}
 use Rattle.std.specs.List.{flat_map}
+use Rattle.tuple_codec.specs.Fields.{short}
 use Rattle.tuple_codec.specs.KeyBytes.{bit}
 use Rattle.tuple_codec.specs.RowBytes.{counted, row_cell}
 use Rattle.tuple_codec.specs.declared.values.SqlType.{SqlType}
@@ -11,10 +12,6 @@ use Rattle.schema_model.specs.declared.schemas.IndexDef.{IndexDef}
 use Rattle.schema_model.specs.declared.schemas.CheckDef.{CheckDef}
 use Rattle.schema_model.specs.declared.schemas.ForeignKey.{ForeignKey}
 use Rattle.schema_model.specs.declared.schemas.Schema.{Schema}
-
--- a length in one byte, and that many bytes
-abbrev pub short : List ℕ → List ℕ
-short bytes = length bytes ∷ bytes
 
 -- a count in one byte, and the items one after another
 abbrev pub listed : {A : Type 0} → (A → List ℕ) → List A → List ℕ

@@ -2,11 +2,12 @@
 use Rattle.std.specs.Prelude.{ℕ, ℤ, List, [], ◌∷◌, ◌++◌, length, map, Option, None, Some}
 use Rattle.std.specs.List.{flat_map}
 use Rattle.std.specs.Int.{w16, w32, w64, cast_unsigned, to_be_bytes}
+use Rattle.tuple_codec.specs.Fields.{short}
 use Rattle.tuple_codec.specs.RowBytes.{counted}
 use Rattle.tuple_codec.specs.Trees.{root}
 use Rattle.tuple_codec.specs.declared.addresses.Address.{Address}
 use Rattle.tuple_codec.specs.declared.records.BranchRecord.{BranchRecord}
-use Rattle.schema_model.specs.SchemaBytes.{schema_bytes, short}
+use Rattle.schema_model.specs.SchemaBytes.{schema_bytes}
 use Rattle.schema_model.specs.PlainTables.{NamedTable, PlainDatabase, PlainTable, conflict_items, index_items, row_items, violation_items}
 use Rattle.schema_model.specs.declared.schemas.Schema.{Schema}
 

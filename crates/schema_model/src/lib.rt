@@ -17,7 +17,6 @@ mod sizes;
 #[cfg(test)]
 mod tests;
 mod types;
-mod unread;
 mod writing;
 
 pub use laws::law_of_schemas;

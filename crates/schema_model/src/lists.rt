@@ -2,13 +2,13 @@
 
 ghost use Rattle.std.specs.Prelude.{◌≡◌, ◌<◌, ◌^◌, ◌++◌, true, length, OnOk};
 ghost use Rattle.std.specs.List.{flat_map, list_all};
+ghost use Rattle.tuple_codec.specs.Fronts.{Gives};
 ghost use Rattle.schema_model.specs.SchemaBytes.{listed};
-ghost use Rattle.schema_model.specs.Reading.{Gives, items_at, list_at};
+ghost use Rattle.schema_model.specs.Reading.{items_at, list_at};
 
 use crate::parts::Part;
-use crate::unread::Unread;
 use std::alloc::{AllocError, Global};
-use tuple_codec::Sequence;
+use tuple_codec::{Sequence, Unread};
 
 /// A count in one byte, and that many parts.
 pub(crate) fn list_at<P: Part>(alloc: Global, bytes: &[u8]) -> Result<(Sequence<P>, &[u8]), Unread>
@@ -16,7 +16,7 @@ pub(crate) fn list_at<P: Part>(alloc: Global, bytes: &[u8]) -> Result<(Sequence<
 {
     match bytes {
         [count, rest @ ..] => items_at(alloc, usize::from(*count), rest),
-        [] => Err(Unread::NoSchema),
+        [] => Err(Unread::Malformed),
     }
 }
 

@@ -2,17 +2,18 @@
 
 ghost use Rattle.std.specs.Prelude.{◌≡◌, ℕ, ◌<◌, ◌^◌, ◌++◌, ◌&&◌, Bool, true, List, length, nat_lt, Option, OnOk};
 ghost use Rattle.std.specs.List.{list_all};
-ghost use Rattle.schema_model.specs.SchemaBytes.{check_bytes, column_bytes, foreign_bytes, index_bytes, short};
-ghost use Rattle.schema_model.specs.Reading.{Gives, check_at, column_at, foreign_at, index_at, short_at};
+ghost use Rattle.tuple_codec.specs.Fronts.{Gives};
+ghost use Rattle.tuple_codec.specs.Fields.{short, short_at};
+ghost use Rattle.schema_model.specs.SchemaBytes.{check_bytes, column_bytes, foreign_bytes, index_bytes};
+ghost use Rattle.schema_model.specs.Reading.{check_at, column_at, foreign_at, index_at};
 ghost use Rattle.schema_model.specs.Written.{is_written_check, is_written_column, is_written_foreign, is_written_index, is_written_name};
 
-use crate::fields::{bool_at, flags_at, long_at, push_long, push_short, short_at};
+use crate::fields::{bool_at, flags_at};
 use crate::lists::{items_at, items_size, push_items};
 use crate::schemas::{CheckDef, Column, ForeignKey, IndexDef};
 use crate::types::{default_at, default_size, push_default, push_type, type_at, type_size};
-use crate::unread::Unread;
 use std::alloc::{AllocError, Global};
-use tuple_codec::{Sequence, Text};
+use tuple_codec::{Sequence, Text, Unread, long_at, push_long, push_short, short_at};
 
 /// A part of a schema that stands in a list.
 pub(crate) trait Part: Drop {

@@ -1,16 +1,15 @@
 //! Schemas read from left to right.
 
 ghost use Rattle.std.specs.Prelude.{◌≡◌, IfOk};
-ghost use Rattle.schema_model.specs.Reading.{Gives, schema_at, schema_of};
+ghost use Rattle.tuple_codec.specs.Fronts.{Gives};
+ghost use Rattle.schema_model.specs.Reading.{schema_at, schema_of};
 ghost use Rattle.schema_model.specs.Spellings.{Reads};
 
-use crate::fields::short_at;
 use crate::lists::list_at;
 use crate::rules::is_schema;
 use crate::schemas::Schema;
-use crate::unread::Unread;
 use std::alloc::{AllocError, Global};
-use tuple_codec::Sequence;
+use tuple_codec::{Sequence, Unread, short_at};
 
 /// The schema that has these bytes, or None where no schema has them. It takes time for each byte once, and compares
 /// each name, and each position of a list, with those after it.
@@ -19,7 +18,7 @@ pub fn read_schema(alloc: Global, bytes: &[u8]) -> Result<Option<Schema>, AllocE
 {
     match schema_of(alloc, bytes) {
         Ok(schema) => Ok(Some(schema)),
-        Err(Unread::NoSchema) => Ok(None),
+        Err(Unread::Malformed) => Ok(None),
         Err(Unread::Memory) => Err(AllocError),
     }
 }
@@ -32,7 +31,7 @@ fn schema_of(alloc: Global, bytes: &[u8]) -> Result<Schema, Unread>
     if rest.is_empty() && is_schema(&schema) {
         Ok(schema)
     } else {
-        Err(Unread::NoSchema)
+        Err(Unread::Malformed)
     }
 }
 

@@ -1,17 +1,17 @@
 //! Types of columns, and values as defaults.
 
 ghost use Rattle.std.specs.Prelude.{◌≡◌, ◌<◌, ◌^◌, ◌++◌, [], ◌∷◌, length, true, is_some, OnOk, Some};
+ghost use Rattle.tuple_codec.specs.Fronts.{Gives};
 ghost use Rattle.tuple_codec.specs.Limits.{is_type};
 ghost use Rattle.tuple_codec.specs.RowBytes.{row_cell};
 ghost use Rattle.tuple_codec.specs.Rows.{fits};
 ghost use Rattle.schema_model.specs.SchemaBytes.{default_bytes, type_bytes};
 ghost use Rattle.schema_model.specs.Schemas.{default_fits};
-ghost use Rattle.schema_model.specs.Reading.{Gives, cell_size, coded_at, decimal_at, default_at, most_at, only, payload_size, text_size, type_at, value_at, value_of};
+ghost use Rattle.schema_model.specs.Reading.{cell_size, coded_at, decimal_at, default_at, most_at, only, payload_size, text_size, type_at, value_at, value_of};
 
-use crate::fields::{bytes_at, push_two, two_at};
-use crate::unread::Unread;
+use crate::fields::{push_two, two_at};
 use std::alloc::{AllocError, Global};
-use tuple_codec::{Row, SqlType, Value, copy_value, decode_row, encode_row};
+use tuple_codec::{Row, SqlType, Unread, Value, bytes_at, copy_value, decode_row, encode_row};
 
 /// Whether a column may have the type.
 pub(crate) fn is_type(kind: &SqlType) -> bool
@@ -34,10 +34,10 @@ pub(crate) fn type_at(bytes: &[u8]) -> Result<(SqlType, &[u8]), Unread>
             if is_type(&kind) {
                 Ok((kind, rest))
             } else {
-                Err(Unread::NoSchema)
+                Err(Unread::Malformed)
             }
         }
-        [] => Err(Unread::NoSchema),
+        [] => Err(Unread::Malformed),
     }
 }
 
@@ -52,7 +52,7 @@ fn coded_at(code: u8, rest: &[u8]) -> Result<(SqlType, &[u8]), Unread>
         4 => varchar_at(rest),
         5 => varbinary_at(rest),
         6 => decimal_at(rest),
-        _ => Err(Unread::NoSchema),
+        _ => Err(Unread::Malformed),
     }
 }
 
@@ -75,7 +75,7 @@ fn decimal_at(bytes: &[u8]) -> Result<(SqlType, &[u8]), Unread>
 {
     match bytes {
         [digits, scale, rest @ ..] => Ok((SqlType::Decimal(*digits, *scale), rest)),
-        _ => Err(Unread::NoSchema),
+        _ => Err(Unread::Malformed),
     }
 }
 
@@ -86,7 +86,7 @@ fn cell_size(kind: SqlType, bytes: &[u8]) -> Result<usize, Unread>
     match bytes {
         [0, ..] => Ok(1),
         [_, rest @ ..] => payload_size(kind, rest),
-        [] => Err(Unread::NoSchema),
+        [] => Err(Unread::Malformed),
     }
 }
 
@@ -144,7 +144,7 @@ fn value_of(alloc: Global, kind: SqlType, cell: &[u8]) -> Result<Value, Unread>
 {
     match decode_row(alloc, &[kind], cell)? {
         Some(row) => only(row),
-        None => Err(Unread::NoSchema),
+        None => Err(Unread::Malformed),
     }
 }
 
@@ -155,7 +155,7 @@ fn only(row: Row) -> Result<Value, Unread>
     let mut values = row.into_vec();
     match values.pop() {
         Some(value) if values.is_empty() => Ok(value),
-        _ => Err(Unread::NoSchema),
+        _ => Err(Unread::Malformed),
     }
 }
 

@@ -5,12 +5,11 @@ ghost use Rattle.schema_model.specs.SchemaBytes.{schema_bytes};
 ghost use Rattle.schema_model.specs.Schemas.{is_schema};
 ghost use Rattle.schema_model.specs.Limits.{is_within_limits};
 
-use crate::fields::push_short;
 use crate::lists::push_list;
 use crate::schemas::Schema;
 use crate::sizes::schema_size;
 use std::alloc::{AllocError, Global};
-use tuple_codec::Blob;
+use tuple_codec::{Blob, push_short};
 
 /// The schema's bytes.
 pub fn write_schema(alloc: Global, schema: &Schema) -> Result<Blob, AllocError>

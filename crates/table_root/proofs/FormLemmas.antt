@@ -7,11 +7,12 @@ use Rattle.std.specs.Int.{w16, w32, to_be_bytes}
 use Rattle.std.proofs.lemmas.Bool.{and_parts, and_from, eqb-true}
 use Rattle.std.proofs.lemmas.List.Folds.{flat_map-map}
 use Rattle.std.proofs.lemmas.Nat.{from_be_bytes-to_be_bytes_2, from_be_bytes-to_be_bytes_4}
+use Rattle.tuple_codec.specs.Fields.{bytes_at, short_at, short}
 use Rattle.tuple_codec.specs.declared.addresses.Address.{Address}
 use Rattle.tuple_codec.specs.declared.records.BranchRecord.{BranchRecord}
 use Rattle.tuple_codec.proofs.NumberLemmas.{AreBytes}
-use Rattle.schema_model.specs.Reading.{◌>>=◌, bytes_at, items_at, short_at}
-use Rattle.schema_model.specs.SchemaBytes.{schema_bytes, short}
+use Rattle.schema_model.specs.Reading.{◌>>=◌, items_at}
+use Rattle.schema_model.specs.SchemaBytes.{schema_bytes}
 use Rattle.schema_model.specs.WrittenForms.{Entry, branch_bytes, merging_bytes}
 use Rattle.schema_model.specs.declared.schemas.Schema.{Schema}
 use Rattle.schema_model.proofs.PartLemmas.{IsReader, Takes, Takes-then, bind_some, bytes_again, bytes_takes, items_again, map_some, short_again, short_reader, some_is, takes}

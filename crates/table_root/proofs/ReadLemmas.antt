@@ -1,25 +1,18 @@
 -- What code finds where the form of a thing is found.
 use Rattle.std.proofs.Common.{◌≡◌, ℕ, ◌-◌, ◌<◌, true, List, Option, Some, None, Result, Ok, Err, refl, sym, ap, ◌∙◌}
-use Rattle.schema_model.specs.Reading.{after_items, items_at}
+use Rattle.tuple_codec.specs.Fronts.{Gives}
 use Rattle.schema_model.specs.SchemaBytes.{schema_bytes}
 use Rattle.schema_model.specs.Schemas.{is_schema}
 use Rattle.schema_model.specs.Spellings as spelled
 use Rattle.schema_model.specs.declared.schemas.Schema.{Schema}
-use Rattle.schema_model.proofs.ItemLemmas.{none_more}
 use Rattle.schema_model.proofs.PartLemmas.{nothing, some_is}
-use Rattle.table_root.specs.Gives.{Finds, Gives}
+use Rattle.table_root.specs.Finds.{Finds}
 use Rattle.table_root.specs.Reading.{schema_text, table_of}
 use Rattle.table_root.specs.Tables.{IsTable, written_table}
 use Rattle.table_root.specs.declared.records.Table.{Table}
-use Rattle.table_root.specs.declared.unread.Unread.{Unread}
-use Rattle.table_root.specs.declared.unread.Unread.TheVariants.{Memory, NoForm}
+use Rattle.tuple_codec.specs.declared.unread.Unread.{Unread}
+use Rattle.tuple_codec.specs.declared.unread.Unread.TheVariants.{Memory, Malformed}
 use Rattle.table_root.proofs.FormLemmas.{roots_again, roots_bytes, text_again}
-
--- a part that isn't read stops the reading
-pub fails : {A X Y : Type 0} (front : List ℕ → Option (A × List ℕ)) (count k : ℕ) (bytes rest : List ℕ) (items : List A) (view : X → A × List ℕ) (all : Y → List A × List ℕ) (e : Unread)
-    → items_at front count bytes ≡ after_items items (items_at front (count - k) rest) → k < count → Gives view (Err e) (front rest) → Gives all (Err e) (items_at front count bytes)
-fails front count k bytes rest items view all Memory so_far below gives = tt
-fails front count k bytes rest items view all NoForm so_far below gives = none_more front count k bytes rest items so_far below gives
 
 -- what isn't read isn't there
 pub is_there : {X : Type 0} (o : Option X) (x : X) → o ≡ Some x → o ≡ None → ⊥
@@ -29,12 +22,12 @@ is_there o x found none = nothing x (sym none ∙ found)
 pub finds : {X Y : Type 0} (view : X → Y) (read : Result X Unread) (o : Option Y) (y : Y) → Gives view read o → o ≡ Some y → Finds view read y
 finds view (Ok x) o y gives found = some_is (view x) y (sym gives ∙ found)
 finds view (Err Memory) o y gives found = tt
-finds view (Err NoForm) o y gives found = is_there o y found gives
+finds view (Err Malformed) o y gives found = is_there o y found gives
 
 -- where a part isn't read, nothing more is found
 pub finds_none : {X Y Z W : Type 0} (view : X → Y) (other : Z → W) (e : Unread) (o : Option Y) (y : Y) (w : W) → Gives view (Err e) o → o ≡ Some y → Finds other (Err e) w
 finds_none view other Memory o y w gives found = tt
-finds_none view other NoForm o y w gives found = is_there o y found gives
+finds_none view other Malformed o y w gives found = is_there o y found gives
 
 -- ---- tables
 

@@ -5,9 +5,10 @@ use Rattle.std.specs.Int.{w16, w32, to_be_bytes}
 use Rattle.std.proofs.lemmas.Bool.{and_from, and_parts, eqb-true, leb-true, lt-ltb}
 use Rattle.std.proofs.lemmas.List.{length-append}
 use Rattle.std.proofs.lemmas.List.Folds.{flat_map-map}
+use Rattle.tuple_codec.specs.Fields.{short}
 use Rattle.tuple_codec.specs.declared.addresses.Address.{Address}
 use Rattle.schema_model.specs.Limits.{has_short_names, is_short_name, is_within_limits}
-use Rattle.schema_model.specs.SchemaBytes.{schema_bytes, short}
+use Rattle.schema_model.specs.SchemaBytes.{schema_bytes}
 use Rattle.schema_model.specs.declared.schemas.Schema.{Schema}
 use Rattle.table_root.specs.Databases.{fits_name, has_address, has_short_name, named_bytes, written_database}
 use Rattle.table_root.specs.Tables.{IsTable, is_address, written_table}

@@ -3,9 +3,9 @@ use Rattle.std.specs.Prelude.{◌≡◌, ◌<◌, ◌++◌, ◌^◌, ℕ, Bool, 
 use Rattle.std.specs.List.{list_all}
 use Rattle.std.specs.Ordering.{nat_cmp}
 use Rattle.std.specs.Cmp.Lexicographic.{slice_cmp}
+use Rattle.tuple_codec.specs.Fields.{short}
 use Rattle.schema_model.specs.Limits.{is_short_name}
 use Rattle.schema_model.specs.PlainTables.{rises}
-use Rattle.schema_model.specs.SchemaBytes.{short}
 use Rattle.schema_model.specs.WrittenForms.{Entry, database_form}
 use Rattle.chunk_store.specs.Chunks.{Chunks}
 use Rattle.table_root.specs.Tables.{is_address}

@@ -1,19 +1,18 @@
 //! Branch records written into drafts, and read back.
 
 ghost use Rattle.std.specs.Prelude.{◌≡◌, ◌⊎◌, ◌≤◌, ◌++◌, [], ◌∷◌, true, length, OnOk, OnErr, IfOk, IfErr};
+ghost use Rattle.tuple_codec.specs.Fronts.{Gives};
 ghost use Rattle.schema_model.specs.WrittenForms.{branch_bytes, merging_bytes};
 ghost use Rattle.chunk_store.specs.Chunks.{IsHeld, bytes_at};
 ghost use Rattle.chunk_store.specs.Clashes.{IsCause};
 ghost use Rattle.chunk_store.specs.Drafts.{TakesAtMostOnePage, chunks_of, put_in};
 ghost use Rattle.table_root.specs.Branches.{HasBranch, IsBranch, IsBranchFound, is_address_or_none};
-ghost use Rattle.table_root.specs.Gives.{Gives};
 ghost use Rattle.table_root.specs.Reading.{branch_of, merging_of};
 
 use crate::fields::{address_at, after_kind, push_address};
-use crate::unread::Unread;
 use chunk_store::{Draft, PutFault};
 use std::alloc::{AllocError, Global};
-use tuple_codec::{Address, Blob, BranchRecord, Digester};
+use tuple_codec::{Address, Blob, BranchRecord, Digester, Unread};
 
 /// Puts the record's written form into the draft: the address is the record's.
 pub fn write_branch<D: Digester>(
@@ -80,7 +79,7 @@ pub fn read_branch<D: Digester>(
     match branch_of(bytes) {
         Ok(branch) => Ok(branch),
         Err(Unread::Memory) => Err(AllocError),
-        Err(Unread::NoForm) => unreachable!(),
+        Err(Unread::Malformed) => unreachable!(),
     }
 }
 
@@ -112,6 +111,6 @@ fn merging_of(bytes: &[u8]) -> Result<Option<Address>, Unread>
             let (commit, _) = address_at(rest)?;
             Ok(Some(commit))
         }
-        _ => Err(Unread::NoForm),
+        _ => Err(Unread::Malformed),
     }
 }

@@ -3,20 +3,19 @@
 ghost use Rattle.std.specs.Prelude.{◌≡◌, ◌⊎◌, ◌≤◌, ◌++◌, [], ◌∷◌, true, length, OnOk, OnErr, IfOk, IfErr};
 ghost use Rattle.std.specs.Int.{w16, to_be_bytes};
 ghost use Rattle.std.specs.List.{list_all};
+ghost use Rattle.tuple_codec.specs.Fronts.{Gives};
 ghost use Rattle.chunk_store.specs.Chunks.{IsHeld, bytes_at};
 ghost use Rattle.chunk_store.specs.Clashes.{IsCause};
 ghost use Rattle.chunk_store.specs.Drafts.{TakesAtMostOnePage, chunks_of, put_in};
 ghost use Rattle.table_root.specs.Databases.{HasDatabase, IsDatabase, IsDatabaseFound, has_short_name, names_rise, written_database};
-ghost use Rattle.table_root.specs.Gives.{Gives};
 ghost use Rattle.table_root.specs.Reading.{database_of};
 
 use crate::fields::{after_kind, two_at};
 use crate::parts::{items_at, push_items};
 use crate::records::NamedTable;
-use crate::unread::Unread;
 use chunk_store::{Draft, PutFault};
 use std::alloc::{AllocError, Global};
-use tuple_codec::{Address, Blob, Digester};
+use tuple_codec::{Address, Blob, Digester, Unread};
 
 /// Puts the database's written form into the draft: the address is the database's.
 pub fn write_database<D: Digester>(
@@ -80,7 +79,7 @@ pub fn read_database<D: Digester>(
     match database_of(alloc, bytes) {
         Ok(tables) => Ok(tables),
         Err(Unread::Memory) => Err(AllocError),
-        Err(Unread::NoForm) => unreachable!(),
+        Err(Unread::Malformed) => unreachable!(),
     }
 }
 

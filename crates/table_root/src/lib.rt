@@ -15,7 +15,6 @@ mod records;
 mod tables;
 #[cfg(test)]
 mod tests;
-mod unread;
 
 pub use branches::{read_branch, write_branch};
 pub use databases::{read_database, write_database};

@@ -2,14 +2,13 @@
 
 ghost use Rattle.std.specs.Prelude.{◌≡◌, ℕ, ◌++◌, ◌-◌, Bool, true, List, Option, OnOk};
 ghost use Rattle.std.specs.List.{flat_map, list_all};
+ghost use Rattle.tuple_codec.specs.Fronts.{Gives};
 ghost use Rattle.schema_model.specs.Reading.{items_at};
-ghost use Rattle.table_root.specs.Gives.{Gives};
 
-use crate::fields::{address_at, push_address, push_short, short_at};
+use crate::fields::{address_at, push_address};
 use crate::records::NamedTable;
-use crate::unread::Unread;
 use std::alloc::{AllocError, Global};
-use tuple_codec::{Address, Sequence, Text};
+use tuple_codec::{Address, Sequence, Text, Unread, push_short, short_at};
 
 /// A part of a written form.
 pub(crate) trait Part: Drop {

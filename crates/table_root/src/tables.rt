@@ -3,23 +3,23 @@
 ghost use Rattle.std.specs.Prelude.{◌≡◌, ◌⊎◌, ◌<◌, ◌≤◌, ◌^◌, ◌++◌, [], ◌∷◌, true, length, OnOk, OnErr, IfOk, IfErr};
 ghost use Rattle.std.specs.Int.{w32, to_be_bytes};
 ghost use Rattle.std.specs.List.{flat_map};
+ghost use Rattle.tuple_codec.specs.Fronts.{Gives};
 ghost use Rattle.schema_model.specs.Limits.{is_within_limits};
 ghost use Rattle.schema_model.specs.Schemas.{is_schema};
 ghost use Rattle.chunk_store.specs.Chunks.{IsHeld, bytes_at};
 ghost use Rattle.chunk_store.specs.Clashes.{IsCause};
 ghost use Rattle.chunk_store.specs.Drafts.{TakesAtMostOnePage, chunks_of, put_in};
-ghost use Rattle.table_root.specs.Gives.{Finds, Gives};
+ghost use Rattle.table_root.specs.Finds.{Finds};
 ghost use Rattle.table_root.specs.Reading.{schema_text, table_of};
 ghost use Rattle.table_root.specs.Tables.{HasRoots, HasTable, IsTable, IsTableFound, written_table};
 
-use crate::fields::{address_at, after_kind, bytes_at, four_at, push_address};
+use crate::fields::{address_at, after_kind, four_at, push_address};
 use crate::parts::{items_at, push_items};
 use crate::records::Table;
-use crate::unread::Unread;
 use chunk_store::{Draft, PutFault};
 use schema_model::{Schema, law_of_schemas, read_schema, write_schema};
 use std::alloc::{AllocError, Global};
-use tuple_codec::{Address, Blob, Digester};
+use tuple_codec::{Address, Blob, Digester, Unread, bytes_at};
 
 /// Puts the table's written form into the draft: the address is the table's.
 pub fn write_table<D: Digester>(
@@ -96,7 +96,7 @@ pub fn read_table<D: Digester>(
     match table_at(alloc, bytes) {
         Ok(table) => Ok(table),
         Err(Unread::Memory) => Err(AllocError),
-        Err(Unread::NoForm) => unreachable!(),
+        Err(Unread::Malformed) => unreachable!(),
     }
 }
 
@@ -108,7 +108,7 @@ fn table_at(alloc: Global, bytes: &[u8]) -> Result<Table, Unread>
     let (text, roots) = schema_text(bytes)?;
     match read_schema(alloc, text)? {
         Some(schema) => table_of(alloc, schema, roots),
-        None => Err(Unread::NoForm),
+        None => Err(Unread::Malformed),
     }
 }
 

@@ -3,16 +3,15 @@ use Rattle.std.proofs.lemmas.Result.{err_from_is_err_and}
 use Rattle.std.proofs.lemmas.List.{map-append}
 use Rattle.tuple_codec.specs.declared.addresses.Address.{Address}
 use Rattle.schema_model.specs.Reading.{after_items, items_at}
-use Rattle.schema_model.proofs.ItemLemmas.{all_read, one_more}
+use Rattle.schema_model.proofs.ItemLemmas.{all_read, fails, one_more}
 use Rattle.commit_graph.specs.Reading.{address_at}
-use Rattle.commit_graph.proofs.AddressListLemmas.{fails}
 use Rattle.commit_graph.proofs.reading.addresses_at.Goals as goal
 
 pub returns-in_err-address : goal.returns-in_err-address
 returns-in_err-address c =
     let p = err_from_is_err_and c.from_residual.result c.from_residual.ensures.1 in
     rw (p.1, p.2)
-    (fails c.args.count c.loop.counter c.args.bytes.now c.loop.rest.now (map (λ (address : Address). address.0) c.loop.addresses.items)
+    (fails address_at c.args.count c.loop.counter c.args.bytes.now c.loop.rest.now (map (λ (address : Address). address.0) c.loop.addresses.items)
     (λ (x : Address × Bor (List ℕ)). (x.0.0, x.1.now)) (λ (x : List Address × Bor (List ℕ)). (map (λ (address : Address). address.0) x.0, x.1.now))
     c.in_err-address.field-0.0 c.loop.invariant c.loop-test.true c.in_err-address.ensures)
 

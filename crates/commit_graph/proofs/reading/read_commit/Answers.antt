@@ -6,10 +6,10 @@ use Rattle.commit_graph.specs.Commits.{IsCommitFound, parts_of}
 use Rattle.commit_graph.proofs.CommitLemmas.{is_found, read_is}
 use Rattle.commit_graph.proofs.reading.read_commit.Goals as goal
 
-pub unreachable-requires-in-Err-NoCommit : goal.unreachable-requires-in-Err-NoCommit
-unreachable-requires-in-Err-NoCommit g c =
+pub unreachable-requires-in-Err-Malformed : goal.unreachable-requires-in-Err-Malformed
+unreachable-requires-in-Err-Malformed g c =
     let e = some_is c.in-Some.bytes.now (commit_bytes c.requires.0) (c.in-Some.ensures ∙ c.requires.1.held) in
-    is_found c.requires.0 c.in-Some.bytes.now c.requires.1.is_commit e (rw c.in-Err-NoCommit.field-0-is at c.in-Err-NoCommit.ensures)
+    is_found c.requires.0 c.in-Some.bytes.now c.requires.1.is_commit e (rw c.in-Err-Malformed.field-0-is at c.in-Err-Malformed.ensures)
 
 pub returns-in-Ok : goal.returns-in-Ok
 returns-in-Ok g c =

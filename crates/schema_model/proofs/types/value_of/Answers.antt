@@ -1,8 +1,9 @@
 use Rattle.std.proofs.Common.{Option, sym, ap, subst, ◌∙◌, arith}
 use Rattle.std.specs.Option.{option_and_then}
+use Rattle.tuple_codec.specs.Fronts.{Gives}
 use Rattle.tuple_codec.specs.Rows.{Cells}
 use Rattle.tuple_codec.specs.declared.values.Value.{Value}
-use Rattle.schema_model.specs.Reading.{Gives, only}
+use Rattle.schema_model.specs.Reading.{only}
 use Rattle.schema_model.proofs.ValueLemmas.{value_decoded}
 use Rattle.schema_model.proofs.types.value_of.Goals as goal
 

@@ -9,10 +9,10 @@ use Rattle.table_root.proofs.FormLemmas.{branch_again}
 use Rattle.table_root.proofs.ReadLemmas.{is_there}
 use Rattle.table_root.proofs.branches.read_branch.Goals as goal
 
-pub unreachable-requires-in-Err-NoForm : goal.unreachable-requires-in-Err-NoForm
-unreachable-requires-in-Err-NoForm g c =
+pub unreachable-requires-in-Err-Malformed : goal.unreachable-requires-in-Err-Malformed
+unreachable-requires-in-Err-Malformed g c =
     let e = some_is c.in-Some.bytes.now (branch_bytes c.requires.0) (c.in-Some.ensures ∙ c.requires.1.held) in
-    is_there (branch_of c.in-Some.bytes.now) c.requires.0 (ap branch_of e ∙ branch_again c.requires.0 c.requires.1.is_branch) (rw c.in-Err-NoForm.field-0-is at c.in-Err-NoForm.ensures)
+    is_there (branch_of c.in-Some.bytes.now) c.requires.0 (ap branch_of e ∙ branch_again c.requires.0 c.requires.1.is_branch) (rw c.in-Err-Malformed.field-0-is at c.in-Err-Malformed.ensures)
 
 pub returns-in-Ok : goal.returns-in-Ok
 returns-in-Ok g c =

@@ -8,10 +8,10 @@ use Rattle.table_root.proofs.FormLemmas.{database_again}
 use Rattle.table_root.proofs.ReadLemmas.{is_there}
 use Rattle.table_root.proofs.databases.read_database.Goals as goal
 
-pub unreachable-requires-in-Err-NoForm : goal.unreachable-requires-in-Err-NoForm
-unreachable-requires-in-Err-NoForm g c =
+pub unreachable-requires-in-Err-Malformed : goal.unreachable-requires-in-Err-Malformed
+unreachable-requires-in-Err-Malformed g c =
     let e = some_is c.in-Some.bytes.now (written_database c.requires.0) (c.in-Some.ensures ∙ c.requires.1.held) in
-    is_there (database_of c.in-Some.bytes.now) c.requires.0 (ap database_of e ∙ database_again c.requires.0 c.requires.1.is_database) (rw c.in-Err-NoForm.field-0-is at c.in-Err-NoForm.ensures)
+    is_there (database_of c.in-Some.bytes.now) c.requires.0 (ap database_of e ∙ database_again c.requires.0 c.requires.1.is_database) (rw c.in-Err-Malformed.field-0-is at c.in-Err-Malformed.ensures)
 
 pub returns-in-Ok : goal.returns-in-Ok
 returns-in-Ok g c =

@@ -1,8 +1,7 @@
 use Rattle.std.proofs.Common.{◌-◌, ◌+◌, List, ℕ, Some, sym, ap, ◌∙◌, Bor}
 use Rattle.std.proofs.lemmas.Result.{err_from_is_err_and}
 use Rattle.schema_model.specs.Reading.{after_items, items_at}
-use Rattle.schema_model.proofs.ItemLemmas.{all_read, one_more}
-use Rattle.table_root.proofs.ReadLemmas.{fails}
+use Rattle.schema_model.proofs.ItemLemmas.{all_read, fails, one_more}
 use Rattle.table_root.proofs.parts.items_at.Goals as goal
 
 pub returns-in_err-item : goal.returns-in_err-item

@@ -5,10 +5,10 @@ use Rattle.table_root.specs.Tables.{IsTable, IsTableFound, written_table}
 use Rattle.table_root.specs.declared.records.Table.{Table}
 use Rattle.table_root.proofs.tables.read_table.Goals as goal
 
-pub unreachable-requires-in-Err-NoForm : goal.unreachable-requires-in-Err-NoForm
-unreachable-requires-in-Err-NoForm g c =
+pub unreachable-requires-in-Err-Malformed : goal.unreachable-requires-in-Err-Malformed
+unreachable-requires-in-Err-Malformed g c =
     let e = some_is c.in-Some.bytes.now (written_table c.requires.0) (c.in-Some.ensures ∙ c.requires.1.held) in
-    let never : (table : Table) → IsTable table → c.in-Some.bytes.now ≡ written_table table → ⊥ = rw c.in-Err-NoForm.field-0-is at c.in-Err-NoForm.ensures in
+    let never : (table : Table) → IsTable table → c.in-Some.bytes.now ≡ written_table table → ⊥ = rw c.in-Err-Malformed.field-0-is at c.in-Err-Malformed.ensures in
     never c.requires.0 c.requires.1.is_table e
 
 pub returns-in-Ok : goal.returns-in-Ok
