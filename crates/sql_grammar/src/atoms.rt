@@ -13,6 +13,7 @@ use crate::pieces::Piece;
 use crate::stops::Stop;
 use sql_ast::{Expr, Sign};
 use std::alloc::Global;
+use tuple_codec::Boxed;
 
 /// The function that the pieces call, if they begin with a call.
 #[tactic(auto, unfolding(crate::specs::Expressions::called))]
@@ -42,28 +43,28 @@ fn called_by(first: &Piece, rest: &[Piece]) -> Option<Function>
 
 /// A column's name, perhaps with its source.
 #[tactic(auto, unfolding(crate::specs::Expressions::column))]
-fn column(alloc: Global, cursor: &mut Cursor<'_>) -> Result<Expr, Stop>
+fn column(alloc: Global, cursor: &mut Cursor<'_>) -> Result<Boxed<Expr>, Stop>
     ensures { Reads (spec.column cursor.old) result cursor.new }
 {
     let first = cursor.name(alloc)?;
     if cursor.eat(Sign::Point) {
-        Ok(Expr::Qualified(first, cursor.name(alloc)?))
+        Ok(Boxed::new(alloc, Expr::Qualified(first, cursor.name(alloc)?))?)
     } else {
-        Ok(Expr::Name(first))
+        Ok(Boxed::new(alloc, Expr::Name(first))?)
     }
 }
 
 #[tactic(auto, unfolding(crate::specs::Expressions::branch))]
-fn branch(cursor: &mut Cursor<'_>) -> Result<Expr, Stop>
+fn branch(alloc: Global, cursor: &mut Cursor<'_>) -> Result<Boxed<Expr>, Stop>
     ensures { Reads (spec.branch cursor.old) result cursor.new }
 {
     cursor.expect(Sign::CloseParenthesis)?;
-    Ok(Expr::ActiveBranch)
+    Ok(Boxed::new(alloc, Expr::ActiveBranch)?)
 }
 
-impl<F: Fn(Global, &mut Cursor<'_>, usize) -> Result<Expr, Stop>> Grammar<F> {
+impl<F: Fn(Global, &mut Cursor<'_>, usize) -> Result<Boxed<Expr>, Stop>> Grammar<F> {
     #[tactic(auto, unfolding(crate::specs::Expressions::enclosed))]
-    fn enclosed(&self, cursor: &mut Cursor<'_>) -> Result<Expr, Stop>
+    fn enclosed(&self, cursor: &mut Cursor<'_>) -> Result<Boxed<Expr>, Stop>
         requires { Nests self.now.depth (F.pre self.now.expression) (F.post self.now.expression) }
         ensures { Reads (spec.enclosed (spec.expression self.now.depth) cursor.old) result cursor.new }
     {
@@ -73,19 +74,19 @@ impl<F: Fn(Global, &mut Cursor<'_>, usize) -> Result<Expr, Stop>> Grammar<F> {
     }
 
     #[tactic(auto, unfolding(crate::specs::Expressions::count))]
-    fn count(&self, cursor: &mut Cursor<'_>) -> Result<Expr, Stop>
+    fn count(&self, cursor: &mut Cursor<'_>) -> Result<Boxed<Expr>, Stop>
         requires { Nests self.now.depth (F.pre self.now.expression) (F.post self.now.expression) }
         ensures { Reads (spec.count (spec.expression self.now.depth) cursor.old) result cursor.new }
     {
         if cursor.eat(Sign::Star) {
             cursor.expect(Sign::CloseParenthesis)?;
-            return Ok(Expr::CountAll);
+            return Ok(Boxed::new(self.alloc, Expr::CountAll)?);
         }
         Ok(count_of(self.alloc, self.enclosed(cursor)?)?)
     }
 
     #[tactic(auto, unfolding(crate::specs::Expressions::call))]
-    fn call(&self, cursor: &mut Cursor<'_>, function: Function) -> Result<Expr, Stop>
+    fn call(&self, cursor: &mut Cursor<'_>, function: Function) -> Result<Boxed<Expr>, Stop>
         requires { Nests self.now.depth (F.pre self.now.expression) (F.post self.now.expression) }
         ensures { Reads (spec.call (spec.expression self.now.depth) function cursor.old) result cursor.new }
     {
@@ -96,12 +97,12 @@ impl<F: Fn(Global, &mut Cursor<'_>, usize) -> Result<Expr, Stop>> Grammar<F> {
             Function::Sum => Ok(sum_of(self.alloc, self.enclosed(cursor)?)?),
             Function::Min => Ok(min_of(self.alloc, self.enclosed(cursor)?)?),
             Function::Max => Ok(max_of(self.alloc, self.enclosed(cursor)?)?),
-            Function::ActiveBranch => branch(cursor),
+            Function::ActiveBranch => branch(self.alloc, cursor),
         }
     }
 
     #[tactic(auto, unfolding(crate::specs::Expressions::other_atom))]
-    fn other_atom(&self, cursor: &mut Cursor<'_>) -> Result<Expr, Stop>
+    fn other_atom(&self, cursor: &mut Cursor<'_>) -> Result<Boxed<Expr>, Stop>
         requires { Nests self.now.depth (F.pre self.now.expression) (F.post self.now.expression) }
         ensures { Reads (spec.other_atom (spec.expression self.now.depth) cursor.old) result cursor.new }
     {
@@ -109,27 +110,27 @@ impl<F: Fn(Global, &mut Cursor<'_>, usize) -> Result<Expr, Stop>> Grammar<F> {
             return self.enclosed(cursor);
         }
         if cursor.eat(Sign::AtAt) {
-            return Ok(Expr::Variable(cursor.name(self.alloc)?));
+            return Ok(Boxed::new(self.alloc, Expr::Variable(cursor.name(self.alloc)?))?);
         }
         column(self.alloc, cursor)
     }
 
     #[tactic(auto, unfolding(crate::specs::Expressions::plain_atom, crate::specs::Expressions::literal_ahead))]
-    fn plain_atom(&self, cursor: &mut Cursor<'_>) -> Result<Expr, Stop>
+    fn plain_atom(&self, cursor: &mut Cursor<'_>) -> Result<Boxed<Expr>, Stop>
         requires { Nests self.now.depth (F.pre self.now.expression) (F.post self.now.expression) }
         ensures { Reads (spec.plain_atom (spec.expression self.now.depth) cursor.old) result cursor.new }
     {
         match cursor.literal_ahead(self.alloc)? {
             Some(literal) => {
                 cursor.skip();
-                Ok(Expr::Literal(literal))
+                Ok(Boxed::new(self.alloc, Expr::Literal(literal))?)
             }
             None => self.other_atom(cursor),
         }
     }
 
     #[tactic(auto, unfolding(crate::specs::Expressions::atom))]
-    pub fn atom(&self, cursor: &mut Cursor<'_>) -> Result<Expr, Stop>
+    pub fn atom(&self, cursor: &mut Cursor<'_>) -> Result<Boxed<Expr>, Stop>
         requires { Nests self.now.depth (F.pre self.now.expression) (F.post self.now.expression) }
         ensures { Reads (spec.atom (spec.expression self.now.depth) cursor.old) result cursor.new }
     {

@@ -8,6 +8,7 @@ use crate::cursors::Cursor;
 use crate::stops::Stop;
 use sql_ast::Expr;
 use std::alloc::Global;
+use tuple_codec::Boxed;
 
 const MOST_DEPTH: usize = 65;
 
@@ -19,8 +20,8 @@ pub struct Grammar<F> {
     pub expression: F,
 }
 
-impl<F: Fn(Global, &mut Cursor<'_>, usize) -> Result<Expr, Stop>> Grammar<F> {
-    pub fn inner(&self, cursor: &mut Cursor<'_>) -> Result<Expr, Stop>
+impl<F: Fn(Global, &mut Cursor<'_>, usize) -> Result<Boxed<Expr>, Stop>> Grammar<F> {
+    pub fn inner(&self, cursor: &mut Cursor<'_>) -> Result<Boxed<Expr>, Stop>
         requires { Nests self.now.depth (F.pre self.now.expression) (F.post self.now.expression) }
         ensures { Reads (spec.expression self.now.depth cursor.old) result cursor.new }
     {
@@ -28,8 +29,12 @@ impl<F: Fn(Global, &mut Cursor<'_>, usize) -> Result<Expr, Stop>> Grammar<F> {
     }
 }
 
-/// The expression that the pieces begin with, in which fewer than `depth` parentheses are open at any place.
-pub fn read_expression(alloc: Global, cursor: &mut Cursor<'_>, depth: usize) -> Result<Expr, Stop>
+/// The rules hand boxes to one another, so that the stack holds an address for each open parenthesis and no trees.
+fn boxed_expression(
+    alloc: Global,
+    cursor: &mut Cursor<'_>,
+    depth: usize,
+) -> Result<Boxed<Expr>, Stop>
     ensures { Reads (spec.expression depth cursor.old) result cursor.new }
 {
     if depth == 0 {
@@ -38,9 +43,16 @@ pub fn read_expression(alloc: Global, cursor: &mut Cursor<'_>, depth: usize) -> 
     Grammar {
         alloc,
         depth: depth - 1,
-        expression: read_expression,
+        expression: boxed_expression,
     }
     .disjunction(cursor)
+}
+
+/// The expression that the pieces begin with, in which fewer than `depth` parentheses are open at any place.
+pub fn read_expression(alloc: Global, cursor: &mut Cursor<'_>, depth: usize) -> Result<Expr, Stop>
+    ensures { Reads (spec.expression depth cursor.old) result cursor.new }
+{
+    Ok(boxed_expression(alloc, cursor, depth)?.into_inner())
 }
 
 /// The expression that the pieces begin with, with at most 64 open parentheses.

@@ -7,134 +7,158 @@ use sql_ast::{Comparison, Expr, Term};
 use std::alloc::{AllocError, Global};
 use tuple_codec::{Boxed, Sequence};
 
-pub fn disjoined(alloc: Global, first: Expr, rest: Sequence<Expr>) -> Result<Expr, AllocError>
+pub fn disjoined(
+    alloc: Global,
+    first: Boxed<Expr>,
+    rest: Sequence<Expr>,
+) -> Result<Boxed<Expr>, AllocError>
     ensures { IfOk result (λ x. x ≡ spec.chained Expr.Or first rest) }
 {
     if rest.as_slice().is_empty() {
         return Ok(first);
     }
-    Ok(Expr::Or(Boxed::new(alloc, first)?, rest))
+    Boxed::new(alloc, Expr::Or(first, rest))
 }
 
-pub fn conjoined(alloc: Global, first: Expr, rest: Sequence<Expr>) -> Result<Expr, AllocError>
+pub fn conjoined(
+    alloc: Global,
+    first: Boxed<Expr>,
+    rest: Sequence<Expr>,
+) -> Result<Boxed<Expr>, AllocError>
     ensures { IfOk result (λ x. x ≡ spec.chained Expr.And first rest) }
 {
     if rest.as_slice().is_empty() {
         return Ok(first);
     }
-    Ok(Expr::And(Boxed::new(alloc, first)?, rest))
+    Boxed::new(alloc, Expr::And(first, rest))
 }
 
-pub fn not(alloc: Global, operand: Expr) -> Result<Expr, AllocError>
+pub fn not(alloc: Global, operand: Boxed<Expr>) -> Result<Boxed<Expr>, AllocError>
     ensures { IfOk result (λ x. x ≡ Expr.Not operand) }
 {
-    Ok(Expr::Not(Boxed::new(alloc, operand)?))
+    Boxed::new(alloc, Expr::Not(operand))
 }
 
 pub fn compared(
     alloc: Global,
-    left: Expr,
+    left: Boxed<Expr>,
     operator: Comparison,
-    right: Expr,
-) -> Result<Expr, AllocError>
+    right: Boxed<Expr>,
+) -> Result<Boxed<Expr>, AllocError>
     ensures { IfOk result (λ x. x ≡ Expr.Compare left operator right) }
 {
-    Ok(Expr::Compare(
-        Boxed::new(alloc, left)?,
-        operator,
-        Boxed::new(alloc, right)?,
-    ))
+    Boxed::new(alloc, Expr::Compare(left, operator, right))
 }
 
-pub fn null_tested(alloc: Global, operand: Expr, negated: bool) -> Result<Expr, AllocError>
+pub fn null_tested(
+    alloc: Global,
+    operand: Boxed<Expr>,
+    negated: bool,
+) -> Result<Boxed<Expr>, AllocError>
     ensures { IfOk result (λ x. x ≡ (if negated then Expr.IsNotNull operand else Expr.IsNull operand)) }
 {
-    let operand = Boxed::new(alloc, operand)?;
-    if negated {
-        Ok(Expr::IsNotNull(operand))
+    let test = if negated {
+        Expr::IsNotNull(operand)
     } else {
-        Ok(Expr::IsNull(operand))
-    }
+        Expr::IsNull(operand)
+    };
+    Boxed::new(alloc, test)
 }
 
-pub fn among(alloc: Global, left: Expr, items: Sequence<Expr>) -> Result<Expr, AllocError>
+pub fn among(
+    alloc: Global,
+    left: Boxed<Expr>,
+    items: Sequence<Expr>,
+) -> Result<Boxed<Expr>, AllocError>
     ensures { IfOk result (λ x. x ≡ Expr.In left items) }
 {
-    Ok(Expr::In(Boxed::new(alloc, left)?, items))
+    Boxed::new(alloc, Expr::In(left, items))
 }
 
-pub fn not_among(alloc: Global, left: Expr, items: Sequence<Expr>) -> Result<Expr, AllocError>
+pub fn not_among(
+    alloc: Global,
+    left: Boxed<Expr>,
+    items: Sequence<Expr>,
+) -> Result<Boxed<Expr>, AllocError>
     ensures { IfOk result (λ x. x ≡ Expr.NotIn left items) }
 {
-    Ok(Expr::NotIn(Boxed::new(alloc, left)?, items))
+    Boxed::new(alloc, Expr::NotIn(left, items))
 }
 
-pub fn between(alloc: Global, left: Expr, limits: (Expr, Expr)) -> Result<Expr, AllocError>
+pub fn between(
+    alloc: Global,
+    left: Boxed<Expr>,
+    limits: (Boxed<Expr>, Boxed<Expr>),
+) -> Result<Boxed<Expr>, AllocError>
     ensures { IfOk result (λ x. x ≡ spec.between left limits) }
 {
     let (low, high) = limits;
-    Ok(Expr::Between(
-        Boxed::new(alloc, left)?,
-        Boxed::new(alloc, low)?,
-        Boxed::new(alloc, high)?,
-    ))
+    Boxed::new(alloc, Expr::Between(left, low, high))
 }
 
-pub fn not_between(alloc: Global, left: Expr, limits: (Expr, Expr)) -> Result<Expr, AllocError>
+pub fn not_between(
+    alloc: Global,
+    left: Boxed<Expr>,
+    limits: (Boxed<Expr>, Boxed<Expr>),
+) -> Result<Boxed<Expr>, AllocError>
     ensures { IfOk result (λ x. x ≡ spec.not_between left limits) }
 {
     let (low, high) = limits;
-    Ok(Expr::NotBetween(
-        Boxed::new(alloc, left)?,
-        Boxed::new(alloc, low)?,
-        Boxed::new(alloc, high)?,
-    ))
+    Boxed::new(alloc, Expr::NotBetween(left, low, high))
 }
 
-pub fn added(alloc: Global, first: Expr, rest: Sequence<(Term, Expr)>) -> Result<Expr, AllocError>
+pub fn added(
+    alloc: Global,
+    first: Boxed<Expr>,
+    rest: Sequence<(Term, Expr)>,
+) -> Result<Boxed<Expr>, AllocError>
     ensures { IfOk result (λ x. x ≡ spec.chained Expr.Terms first rest) }
 {
     if rest.as_slice().is_empty() {
         return Ok(first);
     }
-    Ok(Expr::Terms(Boxed::new(alloc, first)?, rest))
+    Boxed::new(alloc, Expr::Terms(first, rest))
 }
 
-pub fn multiplied(alloc: Global, first: Expr, rest: Sequence<Expr>) -> Result<Expr, AllocError>
+pub fn multiplied(
+    alloc: Global,
+    first: Boxed<Expr>,
+    rest: Sequence<Expr>,
+) -> Result<Boxed<Expr>, AllocError>
     ensures { IfOk result (λ x. x ≡ spec.chained Expr.Factors first rest) }
 {
     if rest.as_slice().is_empty() {
         return Ok(first);
     }
-    Ok(Expr::Factors(Boxed::new(alloc, first)?, rest))
+    Boxed::new(alloc, Expr::Factors(first, rest))
 }
 
-pub fn negative(alloc: Global, operand: Expr) -> Result<Expr, AllocError>
+pub fn negative(alloc: Global, operand: Boxed<Expr>) -> Result<Boxed<Expr>, AllocError>
     ensures { IfOk result (λ x. x ≡ Expr.Negate operand) }
 {
-    Ok(Expr::Negate(Boxed::new(alloc, operand)?))
+    Boxed::new(alloc, Expr::Negate(operand))
 }
 
-pub fn count_of(alloc: Global, operand: Expr) -> Result<Expr, AllocError>
+pub fn count_of(alloc: Global, operand: Boxed<Expr>) -> Result<Boxed<Expr>, AllocError>
     ensures { IfOk result (λ x. x ≡ Expr.Count operand) }
 {
-    Ok(Expr::Count(Boxed::new(alloc, operand)?))
+    Boxed::new(alloc, Expr::Count(operand))
 }
 
-pub fn sum_of(alloc: Global, operand: Expr) -> Result<Expr, AllocError>
+pub fn sum_of(alloc: Global, operand: Boxed<Expr>) -> Result<Boxed<Expr>, AllocError>
     ensures { IfOk result (λ x. x ≡ Expr.Sum operand) }
 {
-    Ok(Expr::Sum(Boxed::new(alloc, operand)?))
+    Boxed::new(alloc, Expr::Sum(operand))
 }
 
-pub fn min_of(alloc: Global, operand: Expr) -> Result<Expr, AllocError>
+pub fn min_of(alloc: Global, operand: Boxed<Expr>) -> Result<Boxed<Expr>, AllocError>
     ensures { IfOk result (λ x. x ≡ Expr.Min operand) }
 {
-    Ok(Expr::Min(Boxed::new(alloc, operand)?))
+    Boxed::new(alloc, Expr::Min(operand))
 }
 
-pub fn max_of(alloc: Global, operand: Expr) -> Result<Expr, AllocError>
+pub fn max_of(alloc: Global, operand: Boxed<Expr>) -> Result<Boxed<Expr>, AllocError>
     ensures { IfOk result (λ x. x ≡ Expr.Max operand) }
 {
-    Ok(Expr::Max(Boxed::new(alloc, operand)?))
+    Boxed::new(alloc, Expr::Max(operand))
 }

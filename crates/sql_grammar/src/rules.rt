@@ -16,7 +16,7 @@ use crate::nodes::{
 use crate::stops::Stop;
 use sql_ast::{Expr, Keyword, Sign, Term};
 use std::alloc::Global;
-use tuple_codec::Sequence;
+use tuple_codec::{Boxed, Sequence};
 
 #[tactic(auto, unfolding(crate::specs::Expressions::test_ahead))]
 fn test_ahead(cursor: &Cursor<'_>) -> Test
@@ -39,7 +39,7 @@ fn term_ahead(cursor: &Cursor<'_>) -> Option<Term>
 }
 
 #[tactic(auto, unfolding(crate::specs::Expressions::null_test))]
-fn null_test(alloc: Global, cursor: &mut Cursor<'_>, left: Expr) -> Result<Expr, Stop>
+fn null_test(alloc: Global, cursor: &mut Cursor<'_>, left: Boxed<Expr>) -> Result<Boxed<Expr>, Stop>
     ensures { Reads (spec.null_test left cursor.old) result cursor.new }
 {
     let negated = cursor.eat_keyword(Keyword::Not);
@@ -47,9 +47,9 @@ fn null_test(alloc: Global, cursor: &mut Cursor<'_>, left: Expr) -> Result<Expr,
     Ok(null_tested(alloc, left, negated)?)
 }
 
-impl<F: Fn(Global, &mut Cursor<'_>, usize) -> Result<Expr, Stop>> Grammar<F> {
+impl<F: Fn(Global, &mut Cursor<'_>, usize) -> Result<Boxed<Expr>, Stop>> Grammar<F> {
     #[tactic(auto, unfolding(crate::specs::Expressions::unary))]
-    fn unary(&self, cursor: &mut Cursor<'_>) -> Result<Expr, Stop>
+    fn unary(&self, cursor: &mut Cursor<'_>) -> Result<Boxed<Expr>, Stop>
         requires { Nests self.now.depth (F.pre self.now.expression) (F.post self.now.expression) }
         ensures { Reads (spec.unary (spec.expression self.now.depth) cursor.old) result cursor.new }
     {
@@ -69,13 +69,13 @@ impl<F: Fn(Global, &mut Cursor<'_>, usize) -> Result<Expr, Stop>> Grammar<F> {
             if !cursor.eat(Sign::Star) {
                 return Ok(found);
             }
-            found.push(self.unary(cursor)?)?;
+            found.push(self.unary(cursor)?.into_inner())?;
         }
         Ok(found)
     }
 
     #[tactic(auto, unfolding(crate::specs::Expressions::product))]
-    fn product(&self, cursor: &mut Cursor<'_>) -> Result<Expr, Stop>
+    fn product(&self, cursor: &mut Cursor<'_>) -> Result<Boxed<Expr>, Stop>
         requires { Nests self.now.depth (F.pre self.now.expression) (F.post self.now.expression) }
         ensures { Reads (spec.product (spec.expression self.now.depth) cursor.old) result cursor.new }
     {
@@ -92,7 +92,7 @@ impl<F: Fn(Global, &mut Cursor<'_>, usize) -> Result<Expr, Stop>> Grammar<F> {
         match term_ahead(cursor) {
             Some(term) => {
                 cursor.skip();
-                Ok(Some((term, self.product(cursor)?)))
+                Ok(Some((term, self.product(cursor)?.into_inner())))
             }
             None => Ok(None),
         }
@@ -114,7 +114,7 @@ impl<F: Fn(Global, &mut Cursor<'_>, usize) -> Result<Expr, Stop>> Grammar<F> {
     }
 
     #[tactic(auto, unfolding(crate::specs::Expressions::sum))]
-    fn sum(&self, cursor: &mut Cursor<'_>) -> Result<Expr, Stop>
+    fn sum(&self, cursor: &mut Cursor<'_>) -> Result<Boxed<Expr>, Stop>
         requires { Nests self.now.depth (F.pre self.now.expression) (F.post self.now.expression) }
         ensures { Reads (spec.sum (spec.expression self.now.depth) cursor.old) result cursor.new }
     {
@@ -129,12 +129,12 @@ impl<F: Fn(Global, &mut Cursor<'_>, usize) -> Result<Expr, Stop>> Grammar<F> {
         ensures { Reads (reading.list (spec.expression self.now.depth) cursor.old) result cursor.new }
     {
         let mut found = Sequence::new(self.alloc);
-        found.push(self.inner(cursor)?)?;
+        found.push(self.inner(cursor)?.into_inner())?;
         for _turn in 0..cursor.left() {
             if !cursor.eat(Sign::Comma) {
                 return Ok(found);
             }
-            found.push(self.inner(cursor)?)?;
+            found.push(self.inner(cursor)?.into_inner())?;
         }
         Ok(found)
     }
@@ -151,7 +151,7 @@ impl<F: Fn(Global, &mut Cursor<'_>, usize) -> Result<Expr, Stop>> Grammar<F> {
     }
 
     #[tactic(auto, unfolding(crate::specs::Expressions::limits))]
-    fn limits(&self, cursor: &mut Cursor<'_>) -> Result<(Expr, Expr), Stop>
+    fn limits(&self, cursor: &mut Cursor<'_>) -> Result<(Boxed<Expr>, Boxed<Expr>), Stop>
         requires { Nests self.now.depth (F.pre self.now.expression) (F.post self.now.expression) }
         ensures { Reads (spec.limits (spec.expression self.now.depth) cursor.old) result cursor.new }
     {
@@ -162,7 +162,7 @@ impl<F: Fn(Global, &mut Cursor<'_>, usize) -> Result<Expr, Stop>> Grammar<F> {
     }
 
     #[tactic(auto, unfolding(crate::specs::Expressions::negated))]
-    fn negated(&self, cursor: &mut Cursor<'_>, left: Expr) -> Result<Expr, Stop>
+    fn negated(&self, cursor: &mut Cursor<'_>, left: Boxed<Expr>) -> Result<Boxed<Expr>, Stop>
         requires { Nests self.now.depth (F.pre self.now.expression) (F.post self.now.expression) }
         ensures { Reads (spec.negated (spec.expression self.now.depth) left cursor.old) result cursor.new }
     {
@@ -180,7 +180,7 @@ impl<F: Fn(Global, &mut Cursor<'_>, usize) -> Result<Expr, Stop>> Grammar<F> {
     }
 
     #[tactic(auto, unfolding(crate::specs::Expressions::tested))]
-    fn tested(&self, cursor: &mut Cursor<'_>, left: Expr) -> Result<Expr, Stop>
+    fn tested(&self, cursor: &mut Cursor<'_>, left: Boxed<Expr>) -> Result<Boxed<Expr>, Stop>
         requires { Nests self.now.depth (F.pre self.now.expression) (F.post self.now.expression) }
         ensures { Reads (spec.tested (spec.expression self.now.depth) left cursor.old) result cursor.new }
     {
@@ -211,7 +211,7 @@ impl<F: Fn(Global, &mut Cursor<'_>, usize) -> Result<Expr, Stop>> Grammar<F> {
     }
 
     #[tactic(auto, unfolding(crate::specs::Expressions::comparison))]
-    fn comparison(&self, cursor: &mut Cursor<'_>) -> Result<Expr, Stop>
+    fn comparison(&self, cursor: &mut Cursor<'_>) -> Result<Boxed<Expr>, Stop>
         requires { Nests self.now.depth (F.pre self.now.expression) (F.post self.now.expression) }
         ensures { Reads (spec.comparison (spec.expression self.now.depth) cursor.old) result cursor.new }
     {
@@ -220,7 +220,7 @@ impl<F: Fn(Global, &mut Cursor<'_>, usize) -> Result<Expr, Stop>> Grammar<F> {
     }
 
     #[tactic(auto, unfolding(crate::specs::Expressions::negation))]
-    fn negation(&self, cursor: &mut Cursor<'_>) -> Result<Expr, Stop>
+    fn negation(&self, cursor: &mut Cursor<'_>) -> Result<Boxed<Expr>, Stop>
         requires { Nests self.now.depth (F.pre self.now.expression) (F.post self.now.expression) }
         ensures { Reads (spec.negation (spec.expression self.now.depth) cursor.old) result cursor.new }
     {
@@ -240,13 +240,13 @@ impl<F: Fn(Global, &mut Cursor<'_>, usize) -> Result<Expr, Stop>> Grammar<F> {
             if !cursor.eat_keyword(Keyword::And) {
                 return Ok(found);
             }
-            found.push(self.negation(cursor)?)?;
+            found.push(self.negation(cursor)?.into_inner())?;
         }
         Ok(found)
     }
 
     #[tactic(auto, unfolding(crate::specs::Expressions::conjunction))]
-    fn conjunction(&self, cursor: &mut Cursor<'_>) -> Result<Expr, Stop>
+    fn conjunction(&self, cursor: &mut Cursor<'_>) -> Result<Boxed<Expr>, Stop>
         requires { Nests self.now.depth (F.pre self.now.expression) (F.post self.now.expression) }
         ensures { Reads (spec.conjunction (spec.expression self.now.depth) cursor.old) result cursor.new }
     {
@@ -265,13 +265,13 @@ impl<F: Fn(Global, &mut Cursor<'_>, usize) -> Result<Expr, Stop>> Grammar<F> {
             if !cursor.eat_keyword(Keyword::Or) {
                 return Ok(found);
             }
-            found.push(self.conjunction(cursor)?)?;
+            found.push(self.conjunction(cursor)?.into_inner())?;
         }
         Ok(found)
     }
 
     #[tactic(auto, unfolding(crate::specs::Expressions::disjunction))]
-    pub fn disjunction(&self, cursor: &mut Cursor<'_>) -> Result<Expr, Stop>
+    pub fn disjunction(&self, cursor: &mut Cursor<'_>) -> Result<Boxed<Expr>, Stop>
         requires { Nests self.now.depth (F.pre self.now.expression) (F.post self.now.expression) }
         ensures { Reads (spec.disjunction (spec.expression self.now.depth) cursor.old) result cursor.new }
     {

@@ -179,7 +179,7 @@ any_statement = do
   statement_behind word
 
 -- all pieces have to be read
-abbrev pub finished : Statement → List Piece → Result Statement ℕ
+abbrev pub finished : {A : Type 0} → A → List Piece → Result A ℕ
 finished x [] = Ok x
 finished x (t ∷ ts) = Err (length (t ∷ ts))
 

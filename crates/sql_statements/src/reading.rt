@@ -120,6 +120,16 @@ fn any_statement(alloc: Global, cursor: &mut Cursor<'_>) -> Result<Statement, St
     statement_behind(alloc, cursor, word)
 }
 
+/// What was read, where nothing is left behind it. Of any type, so that its proof opens no statement.
+fn finished<T: Drop>(read: T, rest: &[Piece]) -> Result<T, Stop>
+    ensures { ReadsWhole (spec.finished read rest.now) result }
+{
+    match rest {
+        [] => Ok(read),
+        _ => Err(Stop::At(rest.len())),
+    }
+}
+
 /// The statement that the pieces are.
 ///
 /// Where they are none, `Stop::At` has the number of pieces from the first one that goes on with no statement.
@@ -129,8 +139,5 @@ pub fn read_statement(alloc: Global, pieces: &[Piece]) -> Result<Statement, Stop
 {
     let mut cursor = Cursor::new(pieces);
     let statement = any_statement(alloc, &mut cursor)?;
-    match cursor.rest() {
-        [] => Ok(statement),
-        rest => Err(Stop::At(rest.len())),
-    }
+    finished(statement, cursor.rest())
 }

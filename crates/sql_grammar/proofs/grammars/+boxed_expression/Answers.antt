@@ -2,7 +2,7 @@ use Rattle.std.proofs.Common.{◌≡◌, ap, rules, arith}
 use Rattle.std.proofs.lemmas.Grind.{common_steps}
 use Rattle.sql_grammar.specs.Expressions.{expression}
 use Rattle.sql_grammar.proofs.Turns.{deeper}
-use Rattle.sql_grammar.proofs.grammars.+read_expression.Goals as goal
+use Rattle.sql_grammar.proofs.grammars.+boxed_expression.Goals as goal
 
 pub returns-then-depth-eq0 : goal.returns-then-depth-eq0
 unfolding expression
