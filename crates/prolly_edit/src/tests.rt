@@ -1,12 +1,13 @@
-ghost use Rattle.std.specs.Prelude.{◌≡◌, ◌<◌, ◌+◌, ◌-◌, ◌^◌, ℕ, map, length, IfOk, OnOk, None, Some};
+ghost use Rattle.std.specs.Prelude.{◌≡◌, ◌≤◌, ◌<◌, ◌+◌, ◌-◌, ◌^◌, ℕ, map, length, IfOk, OnOk, None, Some};
 ghost use Rattle.std.specs.Int.{w64, to_be_bytes};
 ghost use Rattle.tuple_codec.specs.Nodes.{leaf_item};
 ghost use Rattle.node_format.specs.Views.{leaf_of};
 ghost use Rattle.chunk_store.specs.Digests.{cut_address};
 ghost use Rattle.chunk_store.specs.Drafts.{chunks_of};
 ghost use Rattle.chunk_store.specs.Standing.{IsTree};
+ghost use Rattle.node_chunker.specs.Samples.{AreBelow};
 ghost use Rattle.prolly_tree.specs.Samples.{two_rows};
-ghost use Rattle.prolly_edit.specs.Samples.{AreBelow, AreEditsBelow, AreFewEdits, AreFewRows, IsFit, StandsForFew};
+ghost use Rattle.prolly_edit.specs.Samples.{AreEditsBelow, AreFewEdits, AreFewRows, IsFit, StandsForFew};
 
 use super::*;
 use chunk_region::PagePool;
@@ -119,7 +120,7 @@ fn key_of(alloc: Global, number: u32) -> Result<Blob, AllocError>
 }
 
 fn value_of(alloc: Global, byte: u8) -> Result<Blob, AllocError>
-    ensures { IfOk result (λ value. length {A = ℕ} value ≡ 300) }
+    ensures { IfOk result (λ value. length {A = ℕ} value ≤ 300) }
 {
     blob(alloc, &[byte; 300])
 }
