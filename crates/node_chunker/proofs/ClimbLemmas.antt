@@ -35,10 +35,6 @@ take_set [] i v within = absurd (omega arith)
 take_set (x ∷ xs) zero v within = refl
 take_set (x ∷ xs) (suc i) v within = ap (λ l. x ∷ l) (take_set xs i v (omega arith))
 
-pub put_later : (a : List ℕ → List ℕ) (now later : Chunks) (list : List (List ℕ)) → Extends now later → AreHeld a now list → AreHeld a later list
-put_later a now later [] extends put = tt
-put_later a now later (bytes ∷ list) extends put = ((extends (a bytes) bytes put.0.0, put.0.1), put_later a now later list extends put.1)
-
 pub climb_begins : (a : List ℕ → List ℕ) (chunks : Chunks) (nodes : List (List Item)) (at : ℕ) (item : Item) → Fits a (suc at) (drop at nodes) item
     → IsClimbing a chunks (take at nodes ++ pushes a (suc at) (drop at nodes) item) (ended_chunks a (suc at) (drop at nodes) item) nodes at item
 climb_begins a chunks nodes at item fits = record { fits = fits; comes = refl; kept = λ later extends put. put }

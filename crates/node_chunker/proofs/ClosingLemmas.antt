@@ -15,13 +15,14 @@ use Rattle.node_chunker.proofs.ClimbLemmas.{drop_set}
 use Rattle.tuple_codec.specs.Nodes.{Item, Rise, RiseAfter, is_after, items_bytes}
 use Rattle.tuple_codec.specs.Trees.{AreRows, bytes_of, closes, cut, cut_from, inner_chunks, last_key, name, names, root, rows_in, top, tower, tree_chunks}
 use Rattle.tree_laws.proofs.Cuts.{names_short, top_enough, chunks_enough}
+use Rattle.tree_laws.proofs.Growing.{held_later, tree_later}
 use Rattle.chunk_store.specs.Chunks.{Chunks, Extends}
 use Rattle.chunk_store.specs.Standing.{AreHeld, IsThere, IsTree}
 use Rattle.node_chunker.specs.Towers.{is_empty, is_single, first_of, is_root, after, chunks_after, row_top, row_chunks, after_rows, chunks_after_rows}
 use Rattle.node_chunker.specs.Growth.{IsEntry, IsGrown, AreOpen, IsTopped, spread, last_after, IsWritable, IsTower}
 use Rattle.node_chunker.specs.Steps.{IsClosed, IsNamed}
 use Rattle.node_chunker.specs.Closing.{IsClosing}
-use Rattle.node_chunker.proofs.TowerLemmas.{all_join, all_split, extends_both, held_later}
+use Rattle.node_chunker.proofs.TowerLemmas.{all_join, all_split, extends_both}
 use Rattle.node_chunker.proofs.GrowthLemmas.{name_key, name_body, name_rows, rows_join, entry_key, entry_rows, entries, open_small, more_writable, writable, low_level, rise_split, rise_join, rise_alone, after_less}
 
 module _ (a : List ℕ → List ℕ) where
@@ -331,7 +332,7 @@ module _ (a : List ℕ → List ℕ) where
             (grown.kept later (extends_both old new later grows extends) turns []
             (subst P (ap (λ l. l ++ chunks_after a turns 1 (next ∷ above) carry) (sym bytes)
             ∙ ap (λ l. map (bytes_of 0) (cut_from a 0 leaf []) ++ chunks_after a turns 1 (next ∷ above) l) (sym up))
-            (all_join (IsThere a later) here (chunks_after a turns 1 (next ∷ above) carry) (held_later a new later here extends held) rest)));
+            (all_join (IsThere a later) here (chunks_after a turns 1 (next ∷ above) carry) (held_later a new later extends here held) rest)));
         are_open = grown.are_open.2;
         topped = grown.topped;
         entries = each;
@@ -364,9 +365,6 @@ module _ (a : List ℕ → List ℕ) where
       (omega arith)
 
   -- ---- the level at a place among the inner levels
-
-  tree_later : (old new : Chunks) (k : List ℕ) (rows : List Item) → Extends old new → IsTree a old k rows → IsTree a new k rows
-  tree_later old new k rows grows tree = record { are_rows = tree.are_rows; named = tree.named; held = held_later a old new (tree_chunks a rows) grows tree.held }
 
   opened : (nodes : List (List Item)) (at : ℕ) (held : List Item) → at < length nodes → held ≡ get_or nodes at held → drop at nodes ≡ held ∷ drop (suc at) nodes
   opened nodes at held within is = drop-cons nodes at held within ∙ ap (λ h. h ∷ drop (suc at) nodes) (sym is)
@@ -410,7 +408,7 @@ module _ (a : List ℕ → List ℕ) where
       let none : drop (suc at) nodes ≡ [] = drop_of_length-le nodes {i = suc at} (omega (arith, eqb-true (at + 1) count parts.0)) in
       let P : List (List Item) → Type 0 = λ l. IsClosing a old (suc at) (held ∷ l) carry rows in
       let Q : List ℕ → Type 0 = λ j. IsTree a new j rows in
-      subst Q (sym k_is) (tree_later old new (first_of (held ++ carry)).body rows grows
+      subst Q (sym k_is) (tree_later a old new grows (first_of (held ++ carry)).body rows
       (closing_root old (suc at) held carry rows (subst P none (closing_here old nodes at held carry rows within is closing)) parts.1))
 
   pub level_up : (old new : Chunks) (nodes after : List (List Item)) (at : ℕ) (held now carry rows : List Item) (named : Option Item) (count : ℕ) → count ≡ length nodes

@@ -8,13 +8,14 @@ use Rattle.tuple_codec.specs.Nodes.{Item, Rise, RiseAfter, is_after}
 use Rattle.tuple_codec.specs.Trees.{AreRows, IsRow, bytes_of, closes, cut, cut_from, inner_chunks, last_key, name, names, rows_in, top}
 use Rattle.tree_laws.specs.Found.{left, lift, Ended}
 use Rattle.tree_laws.proofs.Cuts.{closes_none, cut_apart, names_apart}
+use Rattle.tree_laws.proofs.Growing.{held_later}
 use Rattle.chunk_store.specs.Chunks.{Chunks, Extends}
 use Rattle.chunk_store.specs.Standing.{AreHeld, IsThere}
 use Rattle.node_chunker.specs.Towers.{is_empty, is_single, after, chunks_after, row_top, row_chunks, after_rows, chunks_after_rows, pushes, ended_chunks, Continues, IsKept}
 use Rattle.node_chunker.specs.Growth.{IsEntry, IsGrown, AreOpen, IsTopped, spread, last_after, Fits, IsTower}
 use Rattle.node_chunker.specs.Steps.{IsPushedAt}
 use Rattle.node_chunker.specs.Subtrees.{IsSubtree, is_clear, lift_chunks}
-use Rattle.node_chunker.proofs.TowerLemmas.{all_join, all_split, extends_both, held_later, held_push, never_empty, skip_left}
+use Rattle.node_chunker.proofs.TowerLemmas.{all_join, all_split, extends_both, held_push, never_empty, skip_left}
 use Rattle.node_chunker.proofs.GrowthLemmas.{name_key, name_rows, last_is, rows_join, name_grown, after_less, rise_split, rise_join, last_join, one_lower, found_named, AreNamed, open_push, rises_push, last_push, counted_push, topped_push}
 use Rattle.node_chunker.proofs.ClosingLemmas.{lower}
 use Rattle.node_chunker.proofs.RefLemmas.{under, up, some_under, some_lifted, joined_some, ended_many, after_ref, after_first, held_ref}
@@ -298,7 +299,7 @@ module _ (a : List ℕ → List ℕ) where
           → AreHeld a later (map (bytes_of 0) (cut a 0 below)) × AreHeld a later (lift_chunks a place 1 (names a 0 (cut a 0 below)))
       sub_later later extends =
           all_split (IsThere a later) (map (bytes_of 0) (cut a 0 below)) (lift_chunks a place 1 (names a 0 (cut a 0 below)))
-          (held_later a c later (lift_chunks a (suc place) 0 below) (extends_both c new later grow extends) sub.held)
+          (held_later a c later (extends_both c new later grow extends) (lift_chunks a (suc place) 0 below) sub.held)
 
       kept_ref : (nodes : List (List Item)) → is_empty nodes ≡ false → AreHeld a new (ended_chunks a (suc place) nodes x)
           → IsKept a c (under (suc place) nodes) rows → IsKept a new (under (suc place) (pushes a (suc place) nodes x)) (rows ++ below)
@@ -316,7 +317,7 @@ module _ (a : List ℕ → List ℕ) where
           (before later (extends_both c new later grow extends) turns (below ++ more)
           (level_held later 0 below more (chunks_after a turns 1 (under place nodes)) sub.ended.0 mine.0 theirs.0
           (held_ref a later place turns 1 nodes x names_below names_more some sub.ended.1 sub.named mine.1
-          (subst Q e (held_later a new later (ended_chunks a (suc place) nodes x) extends put)) theirs.1)))
+          (subst Q e (held_later a new later extends (ended_chunks a (suc place) nodes x) put)) theirs.1)))
 
       kept_first : IsKept a new (under (suc place) ((x ∷ []) ∷ [])) below
       kept_first later extends turns more rest =

@@ -6,6 +6,7 @@ use Rattle.std.proofs.lemmas.List.{append-nil, append_assoc}
 use Rattle.tuple_codec.specs.Nodes.{Item}
 use Rattle.tuple_codec.specs.Trees.{blank, bytes_of, closes, cut, cut_from, inner_chunks, name, names, top}
 use Rattle.tree_laws.proofs.Cuts.{closes_one, some_before}
+use Rattle.tree_laws.proofs.Growing.{held_later}
 use Rattle.chunk_store.specs.Chunks.{Chunks, Extends}
 use Rattle.chunk_store.specs.Standing.{AreHeld, IsThere}
 use Rattle.node_chunker.specs.Towers.{is_empty, is_single, first_of, is_root, after, chunks_after, row_top, row_chunks, after_rows, chunks_after_rows, pushes, ended_chunks, Continues, IsKept}
@@ -96,10 +97,6 @@ unless : {A : Type 0} (P : A → Type 0) (b : Bool) (xs : List A) → AllByRecur
 unless P true xs all = tt
 unless P false xs all = all
 
-pub held_later : (a : List ℕ → List ℕ) (now later : Chunks) (list : List (List ℕ)) → Extends now later → AreHeld a now list → AreHeld a later list
-held_later a now later [] extends held = tt
-held_later a now later (bytes ∷ list) extends held = ((extends (a bytes) bytes held.0.0, held.0.1), held_later a now later list extends held.1)
-
 pub held_push : (a : List ℕ → List ℕ) (c : Chunks) (turns level : ℕ) (nodes : List (List Item)) (x : Item) (items : List Item)
     → AreHeld a c (ended_chunks a level nodes x) → AreHeld a c (chunks_after a turns level (pushes a level nodes x) items)
     → AreHeld a c (chunks_after a turns level nodes (x ∷ items))
@@ -168,4 +165,4 @@ kept_push a old new held above rows x grows ended before later extends turns mor
     let P : List Item → Type 0 = λ l. AreHeld a later (row_chunks a turns l) in
     subst P (sym (append_assoc rows (x ∷ []) more))
     (before later (extends_both old new later grows extends) turns (x ∷ more)
-    (rows_held a later turns held above x more (held_later a new later (ended_chunks a 0 (held ∷ above) x) extends ended) rest))
+    (rows_held a later turns held above x more (held_later a new later extends (ended_chunks a 0 (held ∷ above) x) ended) rest))

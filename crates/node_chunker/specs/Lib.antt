@@ -4,3 +4,4 @@ pub mod Subtrees
 pub mod Faults
 pub mod Steps
 pub mod Closing
+pub mod Samples

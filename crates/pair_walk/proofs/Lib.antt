@@ -3,4 +3,3 @@ pub mod TurnLemmas
 pub mod Arms
 pub mod Comparisons
 mod Vectors
-pub mod SampleLemmas

@@ -2,4 +2,3 @@ pub mod Counts
 pub mod Pairs
 pub mod Turns
 pub mod Heads
-pub mod Samples

@@ -1,11 +1,11 @@
-ghost use Rattle.std.specs.Prelude.{◌≡◌, ◌<◌, ◌+◌, ◌-◌, ◌^◌, ℕ, map, length, IfOk, OnOk};
+ghost use Rattle.std.specs.Prelude.{◌≡◌, ◌≤◌, ◌<◌, ◌+◌, ◌-◌, ◌^◌, ℕ, map, length, IfOk, OnOk};
 ghost use Rattle.std.specs.Int.{w64, to_be_bytes};
 ghost use Rattle.tuple_codec.specs.Trees.{AreRows};
 ghost use Rattle.node_format.specs.Views.{leaf_of};
 ghost use Rattle.chunk_store.specs.Digests.{cut_address};
 ghost use Rattle.chunk_store.specs.Drafts.{Longer, chunks_of};
+ghost use Rattle.node_chunker.specs.Samples.{AreBelow};
 ghost use Rattle.prolly_tree.specs.Lists.{StandsForRows};
-ghost use Rattle.pair_walk.specs.Samples.{AreBelow};
 
 use super::*;
 use chunk_region::PagePool;
@@ -53,7 +53,7 @@ fn key_of(alloc: Global, number: u32) -> Result<Blob, AllocError>
 }
 
 fn value_of(alloc: Global, byte: u8) -> Result<Blob, AllocError>
-    ensures { IfOk result (λ value. length {A = ℕ} value ≡ 300) }
+    ensures { IfOk result (λ value. length {A = ℕ} value ≤ 300) }
 {
     Ok(Blob::from_vec(Vec::from_slice(alloc, &[byte; 300])?))
 }

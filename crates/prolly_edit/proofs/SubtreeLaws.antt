@@ -8,10 +8,11 @@ use Rattle.chunk_store.specs.Chunks.{Chunks, Extends}
 use Rattle.chunk_store.specs.Standing.{AreHeld, IsThere}
 use Rattle.node_chunker.specs.Subtrees.{IsSubtree, lift_chunks}
 use Rattle.node_chunker.proofs.GrowthLemmas.{name_body}
-use Rattle.node_chunker.proofs.TowerLemmas.{all_join, all_split, held_later}
+use Rattle.node_chunker.proofs.TowerLemmas.{all_join, all_split}
 use Rattle.tree_laws.specs.Found.{ButLast, Ended, IsCanonical, IsEnded, each_of, lift, nodes_in, rows_at}
 use Rattle.tree_laws.specs.Standing.{IsFound}
 use Rattle.tree_laws.proofs.Cuts.{cut_apart, names_apart}
+use Rattle.tree_laws.proofs.Growing.{held_later}
 use Rattle.tree_laws.proofs.Lifts.{all_lift, ends, lifts}
 use Rattle.tree_laws.proofs.StandingReads.{items_there, rows_there}
 
@@ -125,5 +126,5 @@ module _ (a : List ℕ → List ℕ) where
       inner = omega arith;
       named = lifts a (nodes_in c) (suc level) item canonical;
       ended = ends a (nodes_in c) (suc level) item canonical ended;
-      held = held_later a c now (lift_chunks a (suc level) 0 (rows_at (nodes_in c) (suc level) item)) extends (all_there (suc level) item found canonical);
+      held = held_later a c now extends (lift_chunks a (suc level) 0 (rows_at (nodes_in c) (suc level) item)) (all_there (suc level) item found canonical);
     }

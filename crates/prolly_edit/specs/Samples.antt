@@ -1,4 +1,4 @@
--- The rows and edits of the tests, whose keys are numbers.
+-- The edits of the tests, whose keys are numbers, and few rows.
 use Rattle.std.specs.Prelude.{◌≡◌, ◌≤◌, ◌<◌, ◌^◌, ℕ, true, List, [], ◌∷◌, length, Option, None, Some}
 use Rattle.std.specs.Int.{w64, to_be_bytes}
 use Rattle.tuple_codec.specs.Nodes.{Item, is_after}
@@ -7,14 +7,7 @@ use Rattle.tuple_codec.specs.declared.edits.Edit.{Edit}
 use Rattle.chunk_store.specs.Chunks.{Chunks}
 use Rattle.chunk_store.specs.Digests.{cut_address}
 use Rattle.chunk_store.specs.Standing.{IsTree}
-use Rattle.node_chunker.specs.Growth.{last_after}
 use Rattle.prolly_edit.specs.Editing.{AreEdits}
-
--- rows of numbers below this one
-pub record AreBelow (number : ℕ) (rows : List Item) : Type 0 where
-  pub are : AreRows rows
-  pub short : length rows ≤ number
-  pub next : is_after (last_after None rows) (to_be_bytes w64 number) ≡ true
 
 abbrev pub AreFewRows : List Item → Type 0
 AreFewRows rows = AreRows rows × (length rows < 2 ^ 32)
@@ -37,7 +30,7 @@ pub record AreEditsBelow (number : ℕ) (edits : List Edit) : Type 0 where
   pub short : length edits ≤ number
   pub next : is_after (last_edit None edits) (to_be_bytes w64 number) ≡ true
 
--- no value, or one of 300 bytes
+-- no value, or a small one
 abbrev pub IsFit : Option (List ℕ) → Type 0
 IsFit None = Unit {0}
-IsFit (Some value) = length value ≡ 300
+IsFit (Some value) = length value ≤ 300

@@ -1,18 +1,21 @@
-ghost use Rattle.std.specs.Prelude.{◌≡◌, ◌<◌, ◌+◌, ◌-◌, ◌^◌, ℕ, map, length, IfOk, OnOk, None, Some};
+ghost use Rattle.std.specs.Prelude.{◌≡◌, ◌≤◌, ◌<◌, ◌+◌, ◌-◌, ◌^◌, ℕ, map, length, IfOk, OnOk, None, Some};
 ghost use Rattle.std.specs.Int.{w64, to_be_bytes};
 ghost use Rattle.tuple_codec.specs.Nodes.{leaf_item};
 ghost use Rattle.node_format.specs.Views.{leaf_of};
 ghost use Rattle.chunk_store.specs.Digests.{cut_address};
 ghost use Rattle.chunk_store.specs.Drafts.{chunks_of};
 ghost use Rattle.chunk_store.specs.Standing.{IsTree};
+ghost use Rattle.node_chunker.specs.Samples.{AreBelow};
+ghost use Rattle.prolly_tree.specs.Lists.{StandsForRows};
 ghost use Rattle.prolly_tree.specs.Samples.{two_rows};
-ghost use Rattle.prolly_edit.specs.Samples.{AreBelow, AreEditsBelow, AreFewEdits, AreFewRows, IsFit, StandsForFew};
+ghost use Rattle.prolly_edit.specs.Samples.{AreEditsBelow, AreFewEdits, AreFewRows, IsFit, StandsForFew};
 
 use super::*;
 use chunk_region::PagePool;
 use chunk_store::{Draft, PutFault, Sha512Cut, Store};
 use node_chunker::build;
 use node_format::LeafItem;
+use prolly_tree::{count, get};
 use std::alloc::{AllocError, Global};
 use std::test::*;
 use tuple_codec::{Address, Blob, Edit};
@@ -119,7 +122,7 @@ fn key_of(alloc: Global, number: u32) -> Result<Blob, AllocError>
 }
 
 fn value_of(alloc: Global, byte: u8) -> Result<Blob, AllocError>
-    ensures { IfOk result (λ value. length {A = ℕ} value ≡ 300) }
+    ensures { IfOk result (λ value. length {A = ℕ} value ≤ 300) }
 {
     blob(alloc, &[byte; 300])
 }
@@ -271,4 +274,46 @@ fn removal_of_all_before_the_last_subtree(rt: HostRuntime) {
         let same = both_agree(rt.alloc(), count, 0, 2 * before + 1).expect(&rt, "memory for trees");
         assert!(rt; same, "{count} rows, edits of the first {before}");
     }
+}
+
+/// The first byte of the value that is found at a number.
+fn byte_found(
+    alloc: Global,
+    draft: &Draft<Sha512Cut>,
+    root: &Address,
+    number: u32,
+) -> Result<Option<u8>, AllocError>
+    requires { StandsForRows cut_address (chunks_of draft.now.chunks) root.now.0 }
+{
+    let key = key_of(alloc, number)?;
+    match get(draft, root, key.as_slice()) {
+        Some([byte, ..]) => Ok(Some(*byte)),
+        _ => Ok(None),
+    }
+}
+
+// of three levels, with rows at the even numbers from 2 on
+#[test]
+fn rows_are_found_by_key(rt: HostRuntime) -> Result<(), Fail> {
+    let pool = PagePool::with_pages(rt.alloc(), 1)?;
+    let mut draft: Draft<Sha512Cut> = Draft::new(Store::new(rt.alloc()), pool);
+    let middle = Span {
+        from: 5_000,
+        to: 5_001,
+        byte: Some(9),
+    };
+    let root = built(rt.alloc(), &mut draft, 5_000, middle)?;
+    assert_eq!(rt; count(&draft, &root), 5_000);
+    for (number, want) in [
+        (0, None),
+        (2, Some(7)),
+        (5_000, Some(9)),
+        (5_001, None),
+        (10_000, Some(7)),
+        (10_001, None),
+    ] {
+        let found = byte_found(rt.alloc(), &draft, &root, number)?;
+        assert_eq!(rt; found, want, "at {number}");
+    }
+    Ok(())
 }

@@ -6,7 +6,7 @@ use Rattle.std.specs.Cmp.Lexicographic.{slice_cmp}
 use Rattle.std.proofs.lemmas.Bool.{and_parts, and_from}
 use Rattle.tuple_codec.specs.Nodes.{Item}
 use Rattle.tuple_codec.specs.Texts.{is_utf8}
-use Rattle.tuple_codec.specs.Trees.{root, tree_chunks}
+use Rattle.tuple_codec.specs.Trees.{root}
 use Rattle.tuple_codec.specs.declared.addresses.Address.{Address}
 use Rattle.schema_model.specs.PlainTables as plain
 use Rattle.schema_model.specs.PlainTables.{NamedTable, PlainDatabase, PlainTable, conflict_items, index_items, rises, row_items, violation_items}
@@ -17,7 +17,8 @@ use Rattle.schema_model.specs.WrittenForms.{Entry, database_address, database_by
 use Rattle.schema_model.specs.WrittenForms as written
 use Rattle.schema_model.specs.declared.schemas.IndexDef.{IndexDef}
 use Rattle.chunk_store.specs.Chunks.{Chunks, Extends, IsHeld}
-use Rattle.chunk_store.specs.Standing.{AreHeld, IsThere, IsTree}
+use Rattle.chunk_store.specs.Standing.{IsTree}
+use Rattle.tree_laws.proofs.Growing.{there_later, tree_later}
 use Rattle.tree_laws.proofs.Standing.{trees_lead}
 use Rattle.table_root.specs.Databases.{IsDatabaseFound, entry_of, fits_name, has_address, names_rise, written_database}
 use Rattle.table_root.specs.Standing.{DatabasesStand, HasTrees, IsDatabaseAt, IsTableAt, TablesStand, named_tables, table_of_lists}
@@ -142,32 +143,22 @@ module _ (address : List ℕ → List ℕ) (chunks : Chunks) where
 -- ---- what stands, stands when more is found
 
 module _ (address : List ℕ → List ℕ) (old new : Chunks) (more : Extends old new) where
-  there_later : (bytes : List ℕ) → IsThere address old bytes → IsThere address new bytes
-  there_later bytes h = (more (address bytes) bytes h.0, h.1)
-
-  all_later : (list : List (List ℕ)) → AreHeld address old list → AreHeld address new list
-  all_later [] h = tt
-  all_later (bytes ∷ list) h = (there_later bytes h.0, all_later list h.1)
-
-  tree_later : (k : List ℕ) (rows : List Item) → IsTree address old k rows → IsTree address new k rows
-  tree_later k rows h = record { are_rows = h.are_rows; named = h.named; held = all_later (tree_chunks address rows) h.held }
-
   indexes_later : (table : PlainTable) (indexes : List IndexDef)
       → AllByRecursion (λ index. IsTree address old (root address (index_items table index)) (index_items table index)) indexes
       → AllByRecursion (λ index. IsTree address new (root address (index_items table index)) (index_items table index)) indexes
   indexes_later table [] h = tt
-  indexes_later table (index ∷ indexes) h = (tree_later (root address (index_items table index)) (index_items table index) h.0, indexes_later table indexes h.1)
+  indexes_later table (index ∷ indexes) h = (tree_later address old new more (root address (index_items table index)) (index_items table index) h.0, indexes_later table indexes h.1)
 
   table_later : (k : List ℕ) (table : PlainTable) → IsTableAt address old k table → IsTableAt address new k table
   table_later k table h = record {
     is_table = h.is_table;
     named = h.named;
-    there = there_later (table_bytes address table) h.there;
+    there = there_later address old new more (table_bytes address table) h.there;
     trees = record {
-      rows = tree_later (root address (row_items table)) (row_items table) h.trees.rows;
+      rows = tree_later address old new more (root address (row_items table)) (row_items table) h.trees.rows;
       indexes = indexes_later table table.schema.indexes h.trees.indexes;
-      conflicts = tree_later (root address (conflict_items table)) (conflict_items table) h.trees.conflicts;
-      violations = tree_later (root address (violation_items table)) (violation_items table) h.trees.violations;
+      conflicts = tree_later address old new more (root address (conflict_items table)) (conflict_items table) h.trees.conflicts;
+      violations = tree_later address old new more (root address (violation_items table)) (violation_items table) h.trees.violations;
     };
   }
 
@@ -180,7 +171,7 @@ module _ (address : List ℕ → List ℕ) (old new : Chunks) (more : Extends ol
   database_later k database h = record {
     is_database = h.is_database;
     named = h.named;
-    there = there_later (database_bytes address database) h.there;
+    there = there_later address old new more (database_bytes address database) h.there;
     tables = tables_later database h.tables;
   }
 

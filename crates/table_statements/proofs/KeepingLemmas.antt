@@ -4,7 +4,7 @@ use Rattle.std.specs.List.{AllByRecursion, list_all}
 use Rattle.std.proofs.lemmas.Bool.{and_parts, leb-true}
 use Rattle.std.proofs.lemmas.List.{length-map}
 use Rattle.tuple_codec.specs.Nodes.{Item}
-use Rattle.tuple_codec.specs.Trees.{root, tree_chunks}
+use Rattle.tuple_codec.specs.Trees.{root}
 use Rattle.schema_model.specs.Limits.{is_within_limits}
 use Rattle.schema_model.specs.PlainTables as model
 use Rattle.schema_model.specs.PlainTables.{PlainDatabase, conflict_items, row_items, violation_items}
@@ -15,7 +15,7 @@ use Rattle.chunk_store.specs.Chunks.{Chunks, Extends, IsHeld}
 use Rattle.chunk_store.specs.Drafts.{DraftParts, Longer, put_in}
 use Rattle.chunk_store.specs.Laws.{DraftsFollow}
 use Rattle.chunk_store.specs.Standing.{IsTree}
-use Rattle.node_chunker.proofs.TowerLemmas.{held_later}
+use Rattle.tree_laws.proofs.Growing.{tree_later}
 use Rattle.plain_model.specs.PlainViews.{plain_database, plain_named, plain_schema, plain_table}
 use Rattle.plain_model.specs.Effects.{most_rows}
 use Rattle.plain_model.specs.Sound.{EffectsAreSound, are_sound_rows, is_sound_database, is_sound_named, is_sound_schema, is_sound_table, is_table_name, is_word_text}
@@ -59,15 +59,12 @@ longer_steps address bytes old new laws (inl e) = subst (λ (d : DraftParts). Lo
 longer_steps address bytes old new laws (inr e) = subst (λ (d : DraftParts). Longer old d) (sym e) (laws.longer_put address bytes old)
 
 module _ (address : List ℕ → List ℕ) (old new : Chunks) (more : Extends old new) where
-  pub tree_later : (k : List ℕ) (rows : List Item) → IsTree address old k rows → IsTree address new k rows
-  tree_later k rows h = record { are_rows = h.are_rows; named = h.named; held = held_later address old new (tree_chunks address rows) more h.held }
-
   pub trees_later : (table : plain.Table) → HasTrees address old (plain_table table) → HasTrees address new (plain_table table)
   trees_later table h = record {
-    rows = tree_later (root address (row_items (plain_table table))) (row_items (plain_table table)) h.rows;
+    rows = tree_later address old new more (root address (row_items (plain_table table))) (row_items (plain_table table)) h.rows;
     indexes = tt;
-    conflicts = tree_later (root address (conflict_items (plain_table table))) (conflict_items (plain_table table)) h.conflicts;
-    violations = tree_later (root address (violation_items (plain_table table))) (violation_items (plain_table table)) h.violations;
+    conflicts = tree_later address old new more (root address (conflict_items (plain_table table))) (conflict_items (plain_table table)) h.conflicts;
+    violations = tree_later address old new more (root address (violation_items (plain_table table))) (violation_items (plain_table table)) h.violations;
   }
 
   pub stand_later : TablesStand → (database : PlainDatabase) → AllByRecursion (λ named. IsTableAt address old (table_address address named.table) named.table) database

@@ -4,5 +4,6 @@ pub mod StandingCuts
 pub mod StandingNodes
 pub mod StandingLists
 pub mod Standing
+pub mod Growing
 pub mod Cuts
 pub mod Lifts

@@ -1,6 +1,6 @@
 use Rattle.std.proofs.Common.{arith, map}
 use Rattle.node_format.specs.Views.{leaf_of}
-use Rattle.prolly_edit.proofs.SampleLemmas.{push_below, skip_below}
+use Rattle.node_chunker.proofs.SampleLemmas.{push_below, skip_below}
 use Rattle.prolly_edit.proofs.tests.add_row.Goals as goal
 
 pub returns-in_ok-push : goal.returns-in_ok-push

@@ -1,4 +1,4 @@
--- The rows of the tests, whose keys are numbers.
+-- The rows of tests, here and in the crates above: their keys are numbers.
 use Rattle.std.specs.Prelude.{◌≡◌, ◌≤◌, ℕ, true, List, length, None}
 use Rattle.std.specs.Int.{w64, to_be_bytes}
 use Rattle.tuple_codec.specs.Nodes.{Item, is_after}
