@@ -1,5 +1,5 @@
 -- What statements answer and make: sound databases of plain tables, replies that can be shown and tell a change.
-use Rattle.std.proofs.Common.{◌≡◌, refl, sym, ap, ◌∙◌, subst, ℕ, zero, suc, ◌<◌, ◌^◌, Bool, true, false, cond, not, ◌&&◌, ◌==◌, nat_lt, nat_le, List, [], ◌∷◌, ◌++◌, length, map, arith, slice_get, Option, Some, None, option_map, is_some, eq-eqb, insert, nat_cmp, is_lt}
+use Rattle.std.proofs.Common.{◌≡◌, refl, sym, ap, ◌∙◌, subst, ℕ, suc, ◌^◌, Bool, true, false, cond, not, ◌&&◌, ◌==◌, nat_lt, nat_le, List, [], ◌∷◌, ◌++◌, length, map, arith, Option, Some, None, is_some, eq-eqb, insert, nat_cmp, is_lt}
 use Rattle.std.specs.List.{list_all, AllByRecursion}
 use Rattle.std.specs.Option.{option_map_or}
 use Rattle.std.specs.Cmp.Lexicographic.{slice_cmp, pointwise, unequal}
@@ -15,11 +15,10 @@ use Rattle.schema_model.specs.Schemas.{is_name, is_schema}
 use Rattle.script_text.specs.Output.{refusal_text}
 use Rattle.script_text.specs.Shown.{is_one_line, is_printable_row, is_printable_value}
 use Rattle.script_text.specs.declared.replies.Reply.{Reply}
-use Rattle.script_text.specs.declared.replies.Reply.TheVariants.{Done, Count, Rows, Refused}
-use Rattle.plain_model.specs.Effects.{Effect, are_of_kinds, created_as, effect, inserted, is_too_large, most_rows, most_tables, refuses, rows_refusal, selected}
+use Rattle.script_text.specs.declared.replies.Reply.TheVariants.{Done, Count, Rows}
+use Rattle.plain_model.specs.Effects.{Effect, are_of_kinds, effect, inserted, is_too_large, most_rows, most_tables, refuses, rows_refusal, selected}
 use Rattle.plain_model.specs.PlainViews.{plain_columns, plain_database, plain_named, plain_schema, plain_table}
 use Rattle.plain_model.specs.Sound.{EffectsAreSound, IsShowable, are_sound_rows, is_change, is_sound_create, is_sound_database, is_sound_named, is_sound_schema, is_sound_statement, is_sound_table, is_table_name, is_word_text, names_rise, rises}
-use Rattle.plain_model.specs.Steps.{IsGapFor, IsPlaceOf}
 use Rattle.plain_model.specs.Tables.{Tables, has_repeated_key, in_key_order, is_same_database, is_same_row, is_same_table, kinds_of, names_of, table_in, with_table}
 use Rattle.plain_model.specs.Tokens.{is_word_byte}
 use Rattle.plain_model.specs.declared.statements.Create.{Create}
@@ -31,7 +30,7 @@ use Rattle.plain_model.specs.declared.tables.NamedTable.{NamedTable}
 use Rattle.plain_model.specs.declared.tables.Schema.{Schema}
 use Rattle.plain_model.specs.declared.tables.Table.{Table}
 use Rattle.plain_model.proofs.RowLemmas.{two, clash, left_so, right_so, both_so, all_append, merged_none, merged_order, order_all, order_length, order_rises}
-use Rattle.plain_model.proofs.TableLemmas.{database_itself, found_at, length_same, past_if, put_sound, same_more, same_with, schema_itself, sound_each, sound_few, sound_named, sound_names, sound_table, stop_if, table_itself}
+use Rattle.plain_model.proofs.TableLemmas.{database_itself, length_same, put_sound, same_more, same_with, schema_itself, sound_each, sound_few, sound_named, sound_names, sound_table, stop_if, table_itself}
 
 abbrev pub effect_of : Reply → Tables → Effect
 effect_of reply database = record { reply = reply; database = database }
@@ -45,42 +44,6 @@ named name table = record { name = name; table = table }
 -- the table with more rows, in key order
 abbrev pub filled_table : Table → List Cells → Table
 filled_table table rows = record { schema = table.schema; rows = in_key_order table.schema.key (table.rows ++ rows) }
-
--- ---- effects where the table stands, or where it is to stand
-
-pub effect_present : (db : Tables) (create : Create) (place : ℕ) → IsPlaceOf create.name db place → effect db (form.Create create) ≡ effect_of (Refused 1050) db
-unfolding effect
-effect_present db create place p = stop_if (is_some (table_in db create.name)) (refuses 1050 db) _ (ap is_some p.found ∙ among db place p.within)
-  where
-    among : (ts : Tables) (k : ℕ) → k < length ts → is_some (option_map (λ one. one.table) (slice_get ts k)) ≡ true
-    among [] k h = absurd (omega arith)
-    among (t ∷ ts) zero h = refl
-    among (t ∷ ts) (suc k) h = among ts k (omega arith)
-
-pub effect_absent : (db : Tables) (create : Create) (place : ℕ) → IsGapFor create.name db place
-    → effect db (form.Create create) ≡ cond (not (is_within_limits (plain_schema create.schema))) (refuses 9010 db) (created_as db (insert db place (named create.name (new_table create))))
-unfolding effect
-effect_absent db create place p =
-    past_if (is_some (table_in db create.name)) (refuses 1050 db) _ (ap is_some p.absent)
-    ∙ ap (λ made. cond (not (is_within_limits (plain_schema create.schema))) (refuses 9010 db) (created_as db made)) (p.puts (new_table create))
-
-pub effect_no_insert : (db : Tables) (insert : Insert) (place : ℕ) → IsGapFor insert.name db place → effect db (form.Insert insert) ≡ effect_of (Refused 1146) db
-unfolding effect
-effect_no_insert db insert place p = ap (λ found. option_map_or (inserted db insert) found (refuses 1146 db)) p.absent
-
-pub effect_no_select : (db : Tables) (name : List ℕ) (place : ℕ) → IsGapFor name db place → effect db (form.Select name) ≡ effect_of (Refused 1146) db
-unfolding effect
-effect_no_select db name place p = ap (λ found. option_map_or (selected db) found (refuses 1146 db)) p.absent
-
-pub effect_select : (db : Tables) (name : List ℕ) (place : ℕ) (one : NamedTable) → IsPlaceOf name db place → slice_get db place ≡ Some one
-    → effect db (form.Select name) ≡ effect_of (Rows (record { names = names_of one.table.schema; kinds = kinds_of one.table.schema; rows = one.table.rows })) db
-unfolding effect
-effect_select db name place one p e = ap (λ found. option_map_or (selected db) found (refuses 1146 db)) (found_at db name place one p e)
-
-pub effect_insert : (db : Tables) (insert : Insert) (place : ℕ) (one : NamedTable) → IsPlaceOf insert.name db place → slice_get db place ≡ Some one
-    → effect db (form.Insert insert) ≡ inserted db insert one.table
-unfolding effect
-effect_insert db insert place one p e = ap (λ found. option_map_or (inserted db insert) found (refuses 1146 db)) (found_at db insert.name place one p e)
 
 -- ---- each effect is one of a few
 

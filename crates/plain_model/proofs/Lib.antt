@@ -3,5 +3,5 @@ mod Each
 mod WordTokens
 mod ReadSoundness
 pub mod RowLemmas
-pub mod TableLemmas
-pub mod EffectLemmas
+mod TableLemmas
+mod EffectLemmas

@@ -1,18 +1,15 @@
 -- Tables by name, databases of equal contents, and sound databases.
-use Rattle.std.proofs.Common.{◌≡◌, refl, sym, ap, ◌∙◌, subst, ℕ, zero, suc, ◌+◌, ◌<◌, ◌≤◌, Bool, true, false, cond, ◌&&◌, nat_le, List, [], ◌∷◌, length, get_or, arith, slice_get, slice_set, Option, Some, None, option_map, eq-eqb, insert, bytes_eq, HoldsAt, IfOk, IfErr, Result, Ok, Err, nat_cmp, is_lt, is_eq, Less, Equal, Greater, Ordering}
-use Rattle.std.specs.List.{list_all, AllWithin}
-use Rattle.std.specs.List.Sorted.{IsBinarySearchResult, IsSortedBy, IsSearchInRange}
+use Rattle.std.proofs.Common.{◌≡◌, refl, sym, ap, ◌∙◌, subst, ℕ, suc, Bool, true, false, cond, ◌&&◌, nat_le, List, [], ◌∷◌, length, arith, Option, Some, None, eq-eqb, bytes_eq, nat_cmp, is_lt, is_eq, Less, Equal, Greater, Ordering}
+use Rattle.std.specs.List.{list_all}
 use Rattle.std.specs.Ordering.{ordering_reverse}
 use Rattle.std.specs.Cmp.Lexicographic.{slice_cmp, pointwise, texts_ties, bytes_decides, unequal}
-use Rattle.std.proofs.lemmas.Cmp.{nat_list_cmp_total, alike_right, tied_itself}
-use Rattle.std.proofs.lemmas.List.Sorted.{searchable_from_sorted}
+use Rattle.std.proofs.lemmas.Cmp.{nat_list_cmp_total, tied_itself}
 use Rattle.tuple_codec.specs.Rows.{Cells}
 use Rattle.tuple_codec.specs.declared.values.SqlType.{SqlType}
 use Rattle.tuple_codec.specs.declared.values.SqlType.TheVariants as kind
 use Rattle.tuple_codec.proofs.Orders.{key_cmp_total}
 use Rattle.plain_model.specs.Effects.{most_tables}
 use Rattle.plain_model.specs.Sound.{is_sound_database, is_sound_named, is_sound_table, is_table_name, names_rise}
-use Rattle.plain_model.specs.Steps.{IsGapFor, IsPlaceOf}
 use Rattle.plain_model.specs.Tables.{Tables, is_same_column, is_same_database, is_same_kind, is_same_named, is_same_row, is_same_schema, is_same_table, table_in, with_table}
 use Rattle.plain_model.specs.declared.tables.NamedTable.{NamedTable}
 use Rattle.plain_model.specs.declared.tables.Schema.{Schema}
@@ -59,98 +56,13 @@ rise_make t ts h r = rise_cons t ts ∙ both_so h r
 lt_trans_names : (a b c : List ℕ) → is_lt (by_name a b) ≡ true → is_lt (by_name b c) ≡ true → is_lt (by_name a c) ≡ true
 lt_trans_names a b c p q = let o = nat_list_cmp_total in ap is_lt (o.trans a b c (lt_is _ p) (lt_is _ q))
 
-rise_skip : (t u : NamedTable) (ts : Tables) → names_rise (t ∷ u ∷ ts) ≡ true → names_rise (t ∷ ts) ≡ true
-rise_skip t u [] r = refl
-rise_skip t u (v ∷ ts) r = rise_make t (v ∷ ts) (lt_trans_names t.name u.name v.name (rise_head t (u ∷ v ∷ ts) r) (rise_head u (v ∷ ts) (rise_tail t (u ∷ v ∷ ts) r))) (rise_tail u (v ∷ ts) (rise_tail t (u ∷ v ∷ ts) r))
-
--- ---- where a name stands
-
-below : (name : List ℕ) (t d : NamedTable) (ts : Tables) (k : ℕ) → names_rise (t ∷ ts) ≡ true → k < length ts → by_name (get_or ts k d).name name ≡ Equal → by_name t.name name ≡ Less
-below name t d [] k r h e = absurd (omega arith)
-below name t d (u ∷ ts) zero r h e = sym (alike_right nat_list_cmp_total u.name name t.name e) ∙ lt_is _ (rise_head t (u ∷ ts) r)
-below name t d (u ∷ ts) (suc k) r h e = below name t d ts k (rise_skip t u ts r) (omega arith) e
+-- ---- the arm that a test takes
 
 pub past_if : {A : Type 0} (b : Bool) (x y : A) → b ≡ false → cond b x y ≡ y
 past_if b x y e = ap (λ c. cond c x y) e
 
 pub stop_if : {A : Type 0} (b : Bool) (x y : A) → b ≡ true → cond b x y ≡ x
 stop_if b x y e = ap (λ c. cond c x y) e
-
-place_found : (name : List ℕ) (d : NamedTable) (ts : Tables) (k : ℕ) → names_rise ts ≡ true → k < length ts → by_name (get_or ts k d).name name ≡ Equal
-    → table_in ts name ≡ option_map (λ one. one.table) (slice_get ts k)
-place_found name d [] k r h e = absurd (omega arith)
-place_found name d (t ∷ ts) zero r h e = stop_if (bytes_eq t.name name) (Some t.table) (table_in ts name) (name_is t.name name Equal e)
-place_found name d (t ∷ ts) (suc k) r h e =
-    past_if (bytes_eq t.name name) (Some t.table) (table_in ts name) (name_is t.name name Less (below name t d ts k r (omega arith) e))
-    ∙ place_found name d ts k (rise_tail t ts r) (omega arith) e
-
-place_named : (name : List ℕ) (d : NamedTable) (ts : Tables) (k : ℕ) → k < length ts → by_name (get_or ts k d).name name ≡ Equal → option_map (λ one. one.name) (slice_get ts k) ≡ Some name
-place_named name d [] k h e = absurd (omega arith)
-place_named name d (t ∷ ts) zero h e = ap Some (name_same t.name name (name_is t.name name Equal e))
-place_named name d (t ∷ ts) (suc k) h e = place_named name d ts k (omega arith) e
-
-with_past : (name : List ℕ) (table : Table) (t : NamedTable) (ts : Tables) → by_name t.name name ≡ Less → with_table name table (t ∷ ts) ≡ t ∷ with_table name table ts
-with_past name table t ts e =
-    past_if (bytes_eq t.name name) (named name table ∷ ts) _ (name_is t.name name Less e)
-    ∙ past_if (is_lt (by_name name t.name)) (named name table ∷ t ∷ ts) _ (ap is_lt (name_turn t.name name Less e))
-
-place_puts : (name : List ℕ) (table : Table) (d : NamedTable) (ts : Tables) (k : ℕ) → names_rise ts ≡ true → k < length ts → by_name (get_or ts k d).name name ≡ Equal
-    → with_table name table ts ≡ slice_set ts k (named name table)
-place_puts name table d [] k r h e = absurd (omega arith)
-place_puts name table d (t ∷ ts) zero r h e = stop_if (bytes_eq t.name name) (named name table ∷ ts) _ (name_is t.name name Equal e)
-place_puts name table d (t ∷ ts) (suc k) r h e =
-    with_past name table t ts (below name t d ts k r (omega arith) e) ∙ ap (λ more. t ∷ more) (place_puts name table d ts k (rise_tail t ts r) (omega arith) e)
-
-gap_absent : (name : List ℕ) (ts : Tables) (k : ℕ) → k ≤ length ts → AllWithin (λ t. by_name t.name name ≡ Less) ts 0 k → AllWithin (λ t. by_name t.name name ≡ Greater) ts k (length ts) → table_in ts name ≡ None
-gap_absent name [] k h l g = refl
-gap_absent name (t ∷ ts) zero h l g =
-    past_if (bytes_eq t.name name) (Some t.table) (table_in ts name) (name_is t.name name Greater (g 0 t (omega arith) (omega arith)))
-    ∙ gap_absent name ts zero (omega arith) (λ j d a b. absurd (omega arith)) (λ j d a b. g (suc j) d (omega arith) (omega arith))
-gap_absent name (t ∷ ts) (suc k) h l g =
-    past_if (bytes_eq t.name name) (Some t.table) (table_in ts name) (name_is t.name name Less (l 0 t (omega arith) (omega arith)))
-    ∙ gap_absent name ts k (omega arith) (λ j d a b. l (suc j) d (omega arith) (omega arith)) (λ j d a b. g (suc j) d (omega arith) (omega arith))
-
-gap_puts : (name : List ℕ) (table : Table) (ts : Tables) (k : ℕ) → k ≤ length ts → AllWithin (λ t. by_name t.name name ≡ Less) ts 0 k → AllWithin (λ t. by_name t.name name ≡ Greater) ts k (length ts)
-    → with_table name table ts ≡ insert ts k (named name table)
-gap_puts name table [] zero h l g = refl
-gap_puts name table [] (suc k) h l g = absurd (omega arith)
-gap_puts name table (t ∷ ts) zero h l g =
-    let late : by_name t.name name ≡ Greater = g 0 t (omega arith) (omega arith) in
-    past_if (bytes_eq t.name name) (named name table ∷ ts) _ (name_is t.name name Greater late)
-    ∙ stop_if (is_lt (by_name name t.name)) (named name table ∷ t ∷ ts) _ (ap is_lt (name_turn t.name name Greater late))
-gap_puts name table (t ∷ ts) (suc k) h l g =
-    with_past name table t ts (l 0 t (omega arith) (omega arith))
-    ∙ ap (λ more. t ∷ more) (gap_puts name table ts k (omega arith) (λ j d a b. l (suc j) d (omega arith) (omega arith)) (λ j d a b. g (suc j) d (omega arith) (omega arith)))
-
-names_sorted : (ts : Tables) → names_rise ts ≡ true → IsSortedBy (λ a b. is_lt (by_name a.name b.name)) ts
-names_sorted [] r k d l h = absurd (omega arith)
-names_sorted (t ∷ []) r k d l h = absurd (omega arith)
-names_sorted (t ∷ u ∷ ts) r zero d l h = ap is_lt (name_turn t.name u.name Less (lt_is _ (rise_head t (u ∷ ts) r)))
-names_sorted (t ∷ u ∷ ts) r (suc k) d l h =
-    let e : suc (k + 1) ≡ suc k + 1 = omega arith in
-    subst (λ n. is_lt (by_name (get_or (t ∷ u ∷ ts) n d).name (get_or (u ∷ ts) k d).name) ≡ false) e (names_sorted (u ∷ ts) (rise_tail t (u ∷ ts) r) k d (omega arith) (omega arith))
-
-abbrev Search : List ℕ → Tables → Result ℕ ℕ → Type 0
-Search name ts result = IsBinarySearchResult (λ t. by_name t.name name) ts result
-
-place_at : (name : List ℕ) (ts : Tables) (k : ℕ) → names_rise ts ≡ true → k < length ts → HoldsAt (λ t. by_name t.name name ≡ Equal) ts k → IsPlaceOf name ts k
-place_at name [] k r h s = absurd (omega arith)
-place_at name (t ∷ ts) k r h s = record {
-  within = h;
-  named = place_named name t (t ∷ ts) k h (s t);
-  found = place_found name t (t ∷ ts) k r h (s t);
-  puts = λ table. place_puts name table t (t ∷ ts) k r h (s t);
-}
-
-pub place_ok : (name : List ℕ) (ts : Tables) (result : Result ℕ ℕ) → names_rise ts ≡ true → IsSearchInRange result (length ts) → Search name ts result → IfOk result (IsPlaceOf name ts)
-place_ok name ts (Ok k) r h s = place_at name ts k r h s
-place_ok name ts (Err k) r h s = tt
-
-pub place_err : (name : List ℕ) (ts : Tables) (result : Result ℕ ℕ) → names_rise ts ≡ true → IsSearchInRange result (length ts) → Search name ts result → IfErr result (IsGapFor name ts)
-place_err name ts (Ok k) r h s = tt
-place_err name ts (Err k) r h s =
-    let point = s (searchable_from_sorted nat_list_cmp_total (λ t. t.name) ts name (names_sorted ts r)) in
-    record { within = h; absent = gap_absent name ts k h point.0 point.1; puts = λ table. gap_puts name table ts k h point.0 point.1 }
 
 -- ---- equal contents
 
@@ -186,50 +98,6 @@ named_itself one = both_so (bytes_itself one.name) (table_itself one.table)
 pub database_itself : (ts : Tables) → is_same_database ts ts ≡ true
 unfolding is_same_database
 database_itself ts = pointwise_itself is_same_named named_itself ts
-
-pub more_tables : (ts : Tables) (k : ℕ) (one : NamedTable) → k ≤ length ts → is_same_database (insert ts k one) ts ≡ false
-unfolding is_same_database
-more_tables ts k one h = unequal is_same_named (insert ts k one) ts (λ e. absurd (longer ts k one h e))
-  where
-    grown : (ts : Tables) (k : ℕ) (one : NamedTable) → k ≤ length ts → length (insert ts k one) ≡ suc (length ts)
-    grown ts zero one h = refl
-    grown [] (suc k) one h = absurd (omega arith)
-    grown (t ∷ ts) (suc k) one h = ap suc (grown ts k one (omega arith))
-
-    longer : (ts : Tables) (k : ℕ) (one : NamedTable) → k ≤ length ts → length (insert ts k one) ≡ length ts → ⊥
-    longer ts k one h e = let g = grown ts k one h in omega (arith, g, e)
-
--- one table in place of another: the databases are equal where the tables are
-pub set_same : (ts : Tables) (k : ℕ) (old new : NamedTable) → slice_get ts k ≡ Some old → is_same_database (slice_set ts k new) ts ≡ is_same_named new old
-unfolding is_same_database
-set_same [] k old new e = cc
-set_same (t ∷ ts) zero old new e =
-    let same : t ≡ old = cc in
-    (λ i. is_same_named new (same i) && pointwise_itself is_same_named named_itself ts i) ∙ and_true (is_same_named new old)
-  where
-    and_true : (b : Bool) → (b && true) ≡ b
-    and_true true = refl
-    and_true false = refl
-set_same (t ∷ ts) (suc k) old new e = ap (λ b. b && pointwise is_same_named (slice_set ts k new) ts) (named_itself t) ∙ set_same ts k old new e
-
-pub same_named_table : (name : List ℕ) (new old : Table) → is_same_named (named name new) (named name old) ≡ is_same_table new old
-same_named_table name new old = ap (λ b. b && is_same_table new old) (bytes_itself name)
-
-pub set_itself : (ts : Tables) (k : ℕ) (one : NamedTable) → slice_get ts k ≡ Some one → slice_set ts k one ≡ ts
-set_itself [] k one e = cc
-set_itself (t ∷ ts) zero one e = let same : one ≡ t = cc in ap (λ each. each ∷ ts) same
-set_itself (t ∷ ts) (suc k) one e = ap (λ more. t ∷ more) (set_itself ts k one e)
-
-pub found_at : (db : Tables) (name : List ℕ) (place : ℕ) (one : NamedTable) → IsPlaceOf name db place → slice_get db place ≡ Some one → table_in db name ≡ Some one.table
-found_at db name place one p e = p.found ∙ ap (option_map (λ each. each.table)) e
-
-pub name_at : (db : Tables) (name : List ℕ) (place : ℕ) (one : NamedTable) → IsPlaceOf name db place → slice_get db place ≡ Some one → one.name ≡ name
-name_at db name place one p e = let d : Some one.name ≡ Some name = sym (ap (option_map (λ each. each.name)) e) ∙ p.named in cc
-
-pub get_at : (ts : Tables) (k : ℕ) (one : NamedTable) → k < length ts → one ≡ get_or ts k one → slice_get ts k ≡ Some one
-get_at [] k one h e = absurd (omega arith)
-get_at (t ∷ ts) zero one h e = ap Some (sym e)
-get_at (t ∷ ts) (suc k) one h e = get_at ts k one (omega arith) e
 
 with_below : (x name : List ℕ) (table : Table) (ts : Tables) → first_below x ts ≡ true → is_lt (by_name x name) ≡ true → first_below x (with_table name table ts) ≡ true
 with_below x name table [] h l = l
@@ -373,6 +241,3 @@ sound_named name ts table s e = sound_in name ts table (sound_each ts s) e
 
 pub sound_table : (name : List ℕ) (ts : Tables) (table : Table) → is_sound_database ts ≡ true → table_in ts name ≡ Some table → is_sound_table table ≡ true
 sound_table name ts table s e = right_so (is_table_name name) _ (sound_named name ts table s e)
-
-pub sound_at : (db : Tables) (name : List ℕ) (place : ℕ) (one : NamedTable) → is_sound_database db ≡ true → IsPlaceOf name db place → slice_get db place ≡ Some one → is_sound_table one.table ≡ true
-sound_at db name place one s p e = sound_table name db one.table s (found_at db name place one p e)

@@ -30,6 +30,3 @@ fn statement_in(alloc: Global, text: &[u8]) -> Result<Statement, Stop>
     let tokens = tokens_in(alloc, text)?;
     read_form(alloc, tokens.as_slice())
 }
-
-#[cfg(test)]
-mod tests;

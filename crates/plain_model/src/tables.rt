@@ -1,14 +1,14 @@
 use tuple_codec::{Row, Sequence, SqlType, Text};
 
 /// A column of a table.
-#[derive(Clone, Debug, Drop, PartialEq, Eq)]
+#[derive(Debug, Drop)]
 pub struct Column {
     pub name: Text,
     pub kind: SqlType,
 }
 
 /// The columns of a table, and the places among them of its primary key.
-#[derive(Clone, Debug, Drop, PartialEq, Eq)]
+#[derive(Debug, Drop)]
 pub struct Schema {
     pub columns: Sequence<Column>,
     pub key: Sequence<usize>,
