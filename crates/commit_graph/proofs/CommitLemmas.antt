@@ -1,10 +1,10 @@
 -- A commit that was written is read again, and how many bytes it has at most.
-use Rattle.std.proofs.Common.{◌≡◌, ℕ, ℤ, zero, suc, ◌+◌, ◌*◌, ◌^◌, ◌<◌, ◌≤◌, Bool, true, false, cond, eqb, ltb, List, [], ◌∷◌, ◌++◌, length, map, take, drop, Option, Some, None, refl, sym, ap, subst, ◌∙◌, append_assoc, append-nil, arith}
+use Rattle.std.proofs.Common.{◌≡◌, ℕ, ℤ, suc, ◌*◌, ◌^◌, ◌<◌, ◌≤◌, Bool, true, false, cond, ltb, List, [], ◌∷◌, ◌++◌, length, map, take, drop, Option, Some, None, refl, sym, ap, ◌∙◌, append_assoc, append-nil, arith}
 use Rattle.std.specs.List.{flat_map, list_all}
 use Rattle.std.specs.Option.{option_map}
 use Rattle.std.specs.Int.{w64, cast_signed, cast_unsigned, from_be_bytes, to_be_bytes}
-use Rattle.std.proofs.lemmas.Bool.{and_parts, eqb-true, le-ltb}
-use Rattle.std.proofs.lemmas.List.{take_at, drop_at, length-append}
+use Rattle.std.proofs.lemmas.Bool.{and_parts, eqb-true}
+use Rattle.std.proofs.lemmas.List.{length-append}
 use Rattle.std.proofs.lemmas.Nat.{from_be_bytes-to_be_bytes_8}
 use Rattle.tuple_codec.specs.Fields.{bytes_at}
 use Rattle.tuple_codec.specs.RowBytes.{counted}
@@ -12,13 +12,13 @@ use Rattle.tuple_codec.specs.Fronts.{uncounted}
 use Rattle.tuple_codec.specs.declared.forms.Form.TheVariants as form
 use Rattle.tuple_codec.proofs.NumberLemmas.{bits_fit, number_back}
 use Rattle.tuple_codec.proofs.TextLemmas.{counted_again}
-use Rattle.schema_model.specs.Reading.{◌>>=◌, items_at}
+use Rattle.schema_model.specs.Reading.{◌>>=◌}
 use Rattle.schema_model.specs.WrittenForms.{CommitParts, commit_bytes}
 use Rattle.schema_model.proofs.PartLemmas.{IsReader, bytes_again, bytes_takes, items_again, nothing, some_is, takes}
 use Rattle.commit_graph.specs.Commits.{HasOneSpelling, IsCommit, is_address, parts_of}
 use Rattle.commit_graph.specs.declared.commits.CommitRecord.{CommitRecord}
 use Rattle.tuple_codec.specs.declared.addresses.Address.{Address}
-use Rattle.commit_graph.specs.Reading.{address_at, after_kind, commit_of, number_at, parents_at}
+use Rattle.commit_graph.specs.Reading.{address_at, commit_of, number_at, parents_at}
 
 -- ---- addresses
 

@@ -1,5 +1,5 @@
 -- A commit whose bytes are known, read back.
-use Rattle.std.proofs.Common.{◌≡◌, ℕ, pos, List, [], ◌∷◌, ◌++◌, length, replicate, take, Some, None, refl}
+use Rattle.std.proofs.Common.{◌≡◌, ℕ, pos, List, [], ◌∷◌, ◌++◌, replicate, take, Some, None, refl}
 use Rattle.schema_model.specs.Reading as read
 use Rattle.schema_model.specs.WrittenForms.{CommitParts, commit_bytes}
 use Rattle.commit_graph.specs.Reading.{commit_of}

@@ -1,4 +1,4 @@
-use Rattle.std.proofs.Common.{◌≡◌, ◌++◌, ◌-◌, ◌+◌, List, [], ◌∷◌, ℕ, Option, Some, map, sym, ap, ◌∙◌, Bor}
+use Rattle.std.proofs.Common.{◌-◌, ◌+◌, List, [], ◌∷◌, ℕ, Some, map, sym, ap, ◌∙◌, Bor}
 use Rattle.std.proofs.lemmas.Result.{err_from_is_err_and}
 use Rattle.std.proofs.lemmas.List.{map-append}
 use Rattle.tuple_codec.specs.declared.addresses.Address.{Address}
