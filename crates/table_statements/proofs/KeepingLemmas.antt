@@ -1,20 +1,18 @@
 -- What stands at addresses: read, kept while the draft grows, and put.
-use Rattle.std.proofs.Common.{◌≡◌, ℕ, ◌<◌, ◌^◌, Bool, true, ◌&&◌, nat_le, List, [], ◌∷◌, length, refl, sym, ap, ◌∙◌, subst, arith, ◌⊎◌, inl, inr}
+use Rattle.std.proofs.Common.{◌≡◌, ℕ, ◌<◌, ◌^◌, Bool, true, ◌&&◌, nat_le, List, [], ◌∷◌, length, Some, refl, sym, ap, ◌∙◌, subst, arith, ◌⊎◌, inl, inr}
 use Rattle.std.specs.List.{AllByRecursion, list_all}
 use Rattle.std.proofs.lemmas.Bool.{and_parts, leb-true}
 use Rattle.std.proofs.lemmas.List.{length-map}
-use Rattle.tuple_codec.specs.Nodes.{Item}
 use Rattle.tuple_codec.specs.Trees.{root}
 use Rattle.schema_model.specs.Limits.{is_within_limits}
 use Rattle.schema_model.specs.PlainTables as model
 use Rattle.schema_model.specs.PlainTables.{PlainDatabase, conflict_items, row_items, violation_items}
 use Rattle.schema_model.specs.SchemaBytes.{schema_bytes}
 use Rattle.schema_model.specs.Schemas.{is_schema}
-use Rattle.schema_model.specs.WrittenForms.{table_address}
+use Rattle.schema_model.specs.WrittenForms.{database_address, database_bytes, table_address}
 use Rattle.chunk_store.specs.Chunks.{Chunks, Extends, IsHeld}
 use Rattle.chunk_store.specs.Drafts.{DraftParts, Longer, put_in}
 use Rattle.chunk_store.specs.Laws.{DraftsFollow}
-use Rattle.chunk_store.specs.Standing.{IsTree}
 use Rattle.tree_laws.proofs.Growing.{tree_later}
 use Rattle.plain_model.specs.PlainViews.{plain_database, plain_named, plain_schema, plain_table}
 use Rattle.plain_model.specs.Effects.{most_rows}
@@ -77,6 +75,21 @@ module _ (address : List ℕ → List ℕ) (old new : Chunks) (more : Extends ol
 
   pub kept_later : TablesStand → (k : List ℕ) (table : plain.Table) → IsTableKept address old k table → IsTableKept address new k table
   kept_later laws k table h = record { sound = h.sound; stands = laws.later address old new k (plain_table table) more h.stands }
+
+-- ---- the database without a table
+
+pub empty_stands : (address : List ℕ → List ℕ) (chunks : Chunks) (k : List ℕ) → k ≡ database_address address []
+    → chunks (database_address address []) ≡ Some (database_bytes address []) → length k ≡ 20 → AreTablesAt address chunks k []
+unfolding is_sound_database plain_database
+empty_stands address chunks k is held whole = record {
+  sound = refl;
+  database = record {
+    is_database = record { tables = tt; names = refl; rise = refl };
+    named = sym is;
+    there = (held, ap length (sym is) ∙ whole);
+    tables = tt;
+  };
+}
 
 -- ---- what is read
 

@@ -6,7 +6,7 @@ mod FillLemmas
 pub mod FaultLemmas
 mod DoneLemmas
 mod EntryLemmas
-mod KeepingLemmas
+pub mod KeepingLemmas
 mod LimitLemmas
 mod ComingLemmas
 mod CreateLemmas

@@ -15,3 +15,6 @@ mod selecting;
 mod tables;
 
 pub use executing::{Executed, execute};
+
+#[cfg(test)]
+mod tests;

@@ -157,7 +157,7 @@ fn keep_table<D: Digester>(
 }
 
 /// Writes a database.
-fn keep_database<D: Digester>(
+pub(crate) fn keep_database<D: Digester>(
     alloc: Global,
     draft: &mut Draft<D>,
     tables: &[NamedTable],
