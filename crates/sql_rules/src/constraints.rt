@@ -10,7 +10,7 @@ use std::alloc::{AllocError, Global};
 use tuple_codec::Text;
 
 /// The sorts of constraints, whose made names differ in a word.
-#[derive(Clone, Copy, Debug, PartialEq, Eq)]
+#[derive(Clone, Copy)]
 pub enum Sort {
     /// An index.
     Unique,

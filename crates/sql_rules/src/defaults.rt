@@ -14,7 +14,7 @@ use tuple_codec::{Sequence, SqlType, Text, Value};
 const MOST_WHOLE: u64 = (1 << 63) - 1;
 
 /// What a default's literal gives.
-#[derive(Debug, Drop)]
+#[derive(Drop)]
 pub struct Given {
     pub kind: Kind,
     pub value: Value,
@@ -90,7 +90,7 @@ fn names_key_column(element: &Element, name: &Text) -> bool
 fn some_marks_key(attributes: &[Attribute]) -> bool
     ensures { result ≡ list_any is_key_mark attributes.now }
 {
-    attributes.iter().any(|attribute| marks_key(attribute))
+    attributes.iter().any(marks_key)
 }
 
 /// Whether the last NOT NULL or NULL is NOT NULL.

@@ -70,7 +70,7 @@ fn create_has_long(create: &CreateTable) -> bool
 fn some_element_has_long(elements: &[Element]) -> bool
     ensures { result ≡ list_any element_long elements.now }
 {
-    elements.iter().any(|element| element_has_long(element))
+    elements.iter().any(element_has_long)
 }
 
 fn element_has_long(element: &Element) -> bool
@@ -153,7 +153,7 @@ fn some_tuple_has_long(tuples: &[Tuple]) -> bool
 fn some_entry_has_long(entries: &[Entry]) -> bool
     ensures { result ≡ list_any entry_long entries.now }
 {
-    entries.iter().any(|entry| entry_has_long(entry))
+    entries.iter().any(entry_has_long)
 }
 
 fn entry_has_long(entry: &Entry) -> bool
@@ -176,9 +176,7 @@ fn update_has_long(update: &Update) -> bool
 fn some_assignment_has_long(assignments: &[Assignment]) -> bool
     ensures { result ≡ list_any assignment_long assignments.now }
 {
-    assignments
-        .iter()
-        .any(|assignment| assignment_has_long(assignment))
+    assignments.iter().any(assignment_has_long)
 }
 
 fn assignment_has_long(assignment: &Assignment) -> bool
@@ -199,7 +197,7 @@ fn select_has_long(select: &Select) -> bool
 fn some_named_has_long(list: &[NamedExpr]) -> bool
     ensures { result ≡ list_any named_long list.now }
 {
-    list.iter().any(|named| named_has_long(named))
+    list.iter().any(named_has_long)
 }
 
 fn named_has_long(named: &NamedExpr) -> bool
@@ -226,7 +224,7 @@ fn items_have_long(items: &Items) -> bool
 fn some_item_has_long(list: &[Item]) -> bool
     ensures { result ≡ list_any item_long list.now }
 {
-    list.iter().any(|item| item_has_long(item))
+    list.iter().any(item_has_long)
 }
 
 fn item_has_long(item: &Item) -> bool
@@ -247,7 +245,7 @@ fn from_has_long(from: &FromClause) -> bool
 fn some_join_has_long(joins: &[Join]) -> bool
     ensures { result ≡ list_any join_long joins.now }
 {
-    joins.iter().any(|join| join_has_long(join))
+    joins.iter().any(join_has_long)
 }
 
 fn join_has_long(join: &Join) -> bool
@@ -273,7 +271,7 @@ fn clauses_have_long(clauses: &Clauses) -> bool
 fn some_column_has_long(columns: &[ColumnName]) -> bool
     ensures { result ≡ list_any column_long columns.now }
 {
-    columns.iter().any(|column| column_has_long(column))
+    columns.iter().any(column_has_long)
 }
 
 fn column_has_long(column: &ColumnName) -> bool

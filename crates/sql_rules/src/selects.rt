@@ -2,6 +2,7 @@ ghost use Rattle.std.specs.Prelude.{◌≡◌};
 ghost use Rattle.std.specs.List.{list_all, list_any};
 ghost use Rattle.std.specs.Str.{bytes_eq};
 ghost use Rattle.sql_ast.specs.declared.expressions.Expr.{out-Expr};
+ghost use Rattle.sql_ast.specs.declared.selects.ColumnName.TheVariants.{Name, Qualified};
 ghost use Rattle.sql_features.specs.Features.{has};
 ghost use Rattle.sql_rules.specs.Names.{repeats_by};
 ghost use Rattle.sql_features.specs.Nesting.{nests};
@@ -126,7 +127,7 @@ fn some_item_nests(items: &Items) -> bool
 fn some_listed_nests(list: &[Item]) -> bool
     ensures { result ≡ list_any (in_item nests) list.now }
 {
-    list.iter().any(|item| item_nests(item))
+    list.iter().any(item_nests)
 }
 
 fn item_nests(item: &Item) -> bool
@@ -200,10 +201,27 @@ fn is_grouped_by(groups: &[ColumnName], expr: &Expr) -> bool
 fn is_column(expr: &Expr, column: &ColumnName) -> bool
     ensures { result ≡ is_written_as (out-Expr expr.now) column.now }
 {
-    match (expr, column) {
-        (Expr::Name(name), ColumnName::Name(other)) => name.is(other.as_slice()),
-        (Expr::Qualified(source, name), ColumnName::Qualified(other_source, other)) => {
-            source.is(other_source.as_slice()) && name.is(other.as_slice())
+    match column {
+        ColumnName::Name(name) => is_plain_column(expr, name),
+        ColumnName::Qualified(source, name) => is_qualified_column(expr, source, name),
+    }
+}
+
+fn is_plain_column(expr: &Expr, wanted: &Text) -> bool
+    ensures { result ≡ is_written_as (out-Expr expr.now) (Name wanted.now) }
+{
+    match expr {
+        Expr::Name(name) => name.is(wanted.as_slice()),
+        _ => false,
+    }
+}
+
+fn is_qualified_column(expr: &Expr, wanted_source: &Text, wanted: &Text) -> bool
+    ensures { result ≡ is_written_as (out-Expr expr.now) (Qualified wanted_source.now wanted.now) }
+{
+    match expr {
+        Expr::Qualified(source, name) => {
+            source.is(wanted_source.as_slice()) && name.is(wanted.as_slice())
         }
         _ => false,
     }

@@ -1,5 +1,6 @@
 ghost use Rattle.std.specs.Prelude.{◌≡◌, ◌&&◌, nat_le, not, IfOk, IfSome, true};
 ghost use Rattle.std.specs.List.{count_by, list_any, sum_by};
+ghost use Rattle.std.specs.Option.{option_copied};
 ghost use Rattle.std.specs.Str.{bytes_eq};
 ghost use Rattle.tuple_codec.specs.Limits.{is_type};
 ghost use Rattle.sql_rules.specs.Names.{in_given};
@@ -118,21 +119,22 @@ pub fn repeats_constraint_name(elements: &[Element]) -> bool
 fn is_constraint_again(element: &Element, later: &[Element]) -> bool
     ensures { result ≡ in_given (has_named given_name later.now) (given_name element.now) }
 {
-    match element {
-        Element::Unique(name, _) => is_given_again(name, later),
-        Element::Index(name, _) => has_constraint(later, name.as_slice()),
-        Element::Check(name, _) => is_given_again(name, later),
-        Element::ForeignKey(key) => is_given_again(&key.name, later),
-        _ => false,
+    match name_given_to(element) {
+        Some(name) => has_constraint(later, name.as_slice()),
+        None => false,
     }
 }
 
-fn is_given_again(name: &Option<Text>, later: &[Element]) -> bool
-    ensures { result ≡ in_given (has_named given_name later.now) name.now }
+/// The name that a constraint is given, of which an index is one.
+fn name_given_to(element: &Element) -> Option<&Text>
+    ensures { option_copied result ≡ given_name element.now }
 {
-    match name {
-        Some(name) => has_constraint(later, name.as_slice()),
-        None => false,
+    match element {
+        Element::Unique(name, _) => name.as_ref(),
+        Element::Index(name, _) => Some(name),
+        Element::Check(name, _) => name.as_ref(),
+        Element::ForeignKey(key) => key.name.as_ref(),
+        _ => None,
     }
 }
 
@@ -148,19 +150,7 @@ pub fn has_constraint(elements: &[Element], name: &[u8]) -> bool
 fn is_constraint_named(element: &Element, name: &[u8]) -> bool
     ensures { result ≡ in_given (bytes_eq name.now) (given_name element.now) }
 {
-    match element {
-        Element::Unique(given, _) => is_given_name(given, name),
-        Element::Index(given, _) => name == given.as_slice(),
-        Element::Check(given, _) => is_given_name(given, name),
-        Element::ForeignKey(key) => is_given_name(&key.name, name),
-        _ => false,
-    }
-}
-
-fn is_given_name(given: &Option<Text>, name: &[u8]) -> bool
-    ensures { result ≡ in_given (bytes_eq name.now) given.now }
-{
-    match given {
+    match name_given_to(element) {
         Some(given) => name == given.as_slice(),
         None => false,
     }

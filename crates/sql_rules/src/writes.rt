@@ -53,7 +53,7 @@ fn some_tuple_is_outside(tuples: &[Tuple]) -> bool
 fn some_entry_is_outside(entries: &[Entry]) -> bool
     ensures { result ≡ list_any entry_outside entries.now }
 {
-    entries.iter().any(|entry| is_outside_entry(entry))
+    entries.iter().any(is_outside_entry)
 }
 
 fn is_outside_entry(entry: &Entry) -> bool
