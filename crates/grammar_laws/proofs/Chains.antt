@@ -17,6 +17,12 @@ pub no_chain : (A : Type 0) (link : Reader (Option A)) (rest : List Piece) → l
 unfolding chain
 no_chain A link rest none = chain_ends A link rest (length rest) [] none
 
+-- one link alone
+pub one_link : (A : Type 0) (link : Reader (Option A)) (t : Piece) (ts rest : List Piece) (x : A) → link (t ∷ ts) ≡ Ok (Some x, rest) → link rest ≡ Ok (None, rest)
+    → chain link (t ∷ ts) ≡ Ok (x ∷ [], rest)
+unfolding chain chain_from
+one_link A link t ts rest x is none = ap (λ o. and_then o (linked (chain_from link (length ts)) [])) is ∙ chain_ends A link rest (length ts) (x ∷ []) none
+
 -- a link that is spelled so is read as this where what follows can
 abbrev pub Links : (A B : Type 0) → Reader (Option A) → (B → List Piece) → (A → B) → (List Piece → Type 0) → A → Type 0
 Links A B link spell f Good x = (more : List Piece) → Good more → link (spell (f x) ++ more) ≡ Ok (Some x, more)

@@ -32,25 +32,25 @@ IsOther t = (n : ℕ) → open_behind t n ≡ n
 same : (s : List Piece) (k l : ℕ) → Balanced s k → k ≡ l → Balanced s l
 same s k l balanced e = subst (Balanced s) e balanced
 
-none : Balanced [] 0
+pub none : Balanced [] 0
 none n more = omega (arith, deepest_from n more)
 
-behind : (t : Piece) (s : List Piece) (k : ℕ) → IsOther t → Balanced s k → Balanced (t ∷ s) k
+pub behind : (t : Piece) (s : List Piece) (k : ℕ) → IsOther t → Balanced s k → Balanced (t ∷ s) k
 behind t s k other balanced n more =
     ap (λ m. max n (deepest m (s ++ more))) (other n) ∙ omega (arith, balanced n more, deepest_from n more)
 
-joined : (s u : List Piece) (k l : ℕ) → Balanced s k → Balanced u l → Balanced (s ++ u) (max k l)
+pub joined : (s u : List Piece) (k l : ℕ) → Balanced s k → Balanced u l → Balanced (s ++ u) (max k l)
 joined s u k l one two n more =
     ap (deepest n) (append_assoc s u more) ∙ omega (arith, one n (u ++ more), two n more)
 
-in_parentheses : (s : List Piece) (k : ℕ) → Balanced s k → Balanced (enclosed s) (k + 1)
+pub in_parentheses : (s : List Piece) (k : ℕ) → Balanced s k → Balanced (enclosed s) (k + 1)
 in_parentheses s k balanced n more =
     let back : n + 1 - 1 ≡ n = omega arith in
     let closing : deepest (n + 1) (mark sign.CloseParenthesis ∷ more) ≡ max (n + 1) (deepest n more) = ap (λ m. max (n + 1) (deepest m more)) back in
     ap (λ ts. max n (deepest (n + 1) ts)) (append_assoc s (mark sign.CloseParenthesis ∷ []) more)
     ∙ omega (arith, balanced (n + 1) (mark sign.CloseParenthesis ∷ more), closing, deepest_from n more)
 
-led_in : (t : Piece) (s : List Piece) (k : ℕ) → IsOther t → Balanced s k → Balanced (led t s) (k + 1)
+pub led_in : (t : Piece) (s : List Piece) (k : ℕ) → IsOther t → Balanced s k → Balanced (led t s) (k + 1)
 led_in t s k other balanced = behind t (enclosed s) (k + 1) other (in_parentheses s k balanced)
 
 all_balanced : (A B : Type 0) (spell_one : B → List Piece) (f : A → B) (g : A → ℕ) (xs : List A)
@@ -63,7 +63,7 @@ greatest_more : (A : Type 0) (g : A → ℕ) (n : ℕ) (xs : List A) → max (n 
 greatest_more A g n [] = omega arith
 greatest_more A g n (x ∷ xs) = omega (arith, greatest_more A g n xs)
 
-comparison_other : (o : Comparison) → IsOther (mark (comparison_sign o))
+pub comparison_other : (o : Comparison) → IsOther (mark (comparison_sign o))
 comparison_other operator.Equal n = refl
 comparison_other operator.NotEqual n = refl
 comparison_other operator.Less n = refl
@@ -71,7 +71,7 @@ comparison_other operator.AtMost n = refl
 comparison_other operator.Greater n = refl
 comparison_other operator.AtLeast n = refl
 
-literal_other : (x : Literal) → IsOther (literal_piece x)
+pub literal_other : (x : Literal) → IsOther (literal_piece x)
 literal_other (literal.Bool true) n = refl
 literal_other (literal.Bool false) n = refl
 literal_other x n = refl

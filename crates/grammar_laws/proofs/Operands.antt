@@ -1,4 +1,4 @@
--- An operand in parentheses, rule by rule.
+-- An atom, and an operand in parentheses, rule by rule.
 use Rattle.std.proofs.Common.{◌≡◌, ◌∙◌, ap, refl, true, false, List, [], ◌∷◌, ◌++◌, None, Ok}
 use Rattle.std.proofs.lemmas.List.{append_assoc}
 use Rattle.sql_ast.specs.declared.expressions.Expr.{Expr}
@@ -30,6 +30,27 @@ module _ (inner : Reader Expr) where
   pub no_disjunct : (rest : List Piece) → sees_keyword word.Or rest ≡ false → chain (disjunct inner) rest ≡ Ok ([], rest)
   no_disjunct rest other = no_chain Expr (disjunct inner) rest (rw other refl)
 
+  -- from an atom to each looser rule, where what follows is none of that rule's
+  module _ (x : Expr) (ts rest : List Piece) (is : atom inner ts ≡ Ok (x, rest)) (other : sees sign.Minus ts ≡ false) where
+    pub atom_unary : unary inner ts ≡ Ok (x, rest)
+    atom_unary = unary_of_atom inner x ts rest other is
+
+    pub atom_product : sees sign.Star rest ≡ false → product inner ts ≡ Ok (x, rest)
+    atom_product star = product_of_unaries inner x [] ts rest rest atom_unary (no_factor rest star)
+
+    pub atom_sum : sees sign.Star rest ≡ false → term_ahead rest ≡ None → sum inner ts ≡ Ok (x, rest)
+    atom_sum star none = sum_of_products inner x [] ts rest rest (atom_product star) (no_term rest none)
+
+    pub atom_comparison : EndsComparison rest → comparison inner ts ≡ Ok (x, rest)
+    atom_comparison ends = comparison_of_sum inner x x ts rest rest (atom_sum ends.star ends.term) (untested inner x rest ends.test)
+
+    module _ (positive : sees_keyword word.Not ts ≡ false) where
+      pub atom_negation : EndsComparison rest → negation inner ts ≡ Ok (x, rest)
+      atom_negation ends = negation_of_comparison inner x ts rest positive (atom_comparison ends)
+
+      pub atom_conjunction : EndsComparison rest → sees_keyword word.And rest ≡ false → conjunction inner ts ≡ Ok (x, rest)
+      atom_conjunction ends last = conjunction_of_negations inner x [] ts rest rest (atom_negation ends) (no_conjunct rest last)
+
   -- `inner` reads a tree as it is spelled, up to what can't go on
   abbrev pub IsRead : Expr → Type 0
   IsRead x = (rest : List Piece) → ends_expression rest ≡ true → inner (spelled x ++ rest) ≡ Ok (x, rest)
@@ -48,22 +69,24 @@ module _ (inner : Reader Expr) where
 
     pub operand_unary : unary inner (enclosed (spelled x) ++ rest) ≡ Ok (x, rest)
     unfolding sees same_sign
-    operand_unary = unary_of_atom inner x (enclosed (spelled x) ++ rest) rest refl operand_atom
+    operand_unary = atom_unary x (enclosed (spelled x) ++ rest) rest operand_atom refl
 
     pub operand_product : sees sign.Star rest ≡ false → product inner (enclosed (spelled x) ++ rest) ≡ Ok (x, rest)
-    operand_product star = product_of_unaries inner x [] (enclosed (spelled x) ++ rest) rest rest operand_unary (no_factor rest star)
+    unfolding sees same_sign
+    operand_product = atom_product x (enclosed (spelled x) ++ rest) rest operand_atom refl
 
     pub operand_sum : sees sign.Star rest ≡ false → term_ahead rest ≡ None → sum inner (enclosed (spelled x) ++ rest) ≡ Ok (x, rest)
-    operand_sum star none = sum_of_products inner x [] (enclosed (spelled x) ++ rest) rest rest (operand_product star) (no_term rest none)
+    unfolding sees same_sign
+    operand_sum = atom_sum x (enclosed (spelled x) ++ rest) rest operand_atom refl
 
     pub operand_comparison : EndsComparison rest → comparison inner (enclosed (spelled x) ++ rest) ≡ Ok (x, rest)
-    operand_comparison ends =
-        comparison_of_sum inner x x (enclosed (spelled x) ++ rest) rest rest (operand_sum ends.star ends.term) (untested inner x rest ends.test)
+    unfolding sees same_sign
+    operand_comparison = atom_comparison x (enclosed (spelled x) ++ rest) rest operand_atom refl
 
     pub operand_negation : EndsComparison rest → negation inner (enclosed (spelled x) ++ rest) ≡ Ok (x, rest)
-    unfolding sees_keyword
-    operand_negation ends = negation_of_comparison inner x (enclosed (spelled x) ++ rest) rest refl (operand_comparison ends)
+    unfolding sees same_sign sees_keyword
+    operand_negation = atom_negation x (enclosed (spelled x) ++ rest) rest operand_atom refl refl
 
     pub operand_conjunction : EndsComparison rest → sees_keyword word.And rest ≡ false → conjunction inner (enclosed (spelled x) ++ rest) ≡ Ok (x, rest)
-    operand_conjunction ends other =
-        conjunction_of_negations inner x [] (enclosed (spelled x) ++ rest) rest rest (operand_negation ends) (no_conjunct rest other)
+    unfolding sees same_sign sees_keyword
+    operand_conjunction = atom_conjunction x (enclosed (spelled x) ++ rest) rest operand_atom refl refl
