@@ -1,19 +1,19 @@
 -- A tree that stands leads back to its rows: level by level, from the nodes that are held.
-use Rattle.std.proofs.Common.{◌≡◌, ◌<◌, ◌≤◌, ◌+◌, ◌*◌, ◌^◌, ◌⊎◌, inl, inr, ℕ, zero, suc, Bool, true, false, cond, List, [], ◌∷◌, ◌++◌, length, map, Option, None, Some, refl, sym, ap, ◌∙◌, subst, append_assoc, append-nil, arith}
+use Rattle.std.proofs.Common.{◌≡◌, ◌<◌, ◌≤◌, ◌+◌, ◌^◌, ◌⊎◌, inl, inr, ℕ, zero, suc, true, false, cond, List, [], ◌∷◌, ◌++◌, length, map, None, Some, refl, sym, ap, ◌∙◌, subst, append_assoc, append-nil, arith}
 use Rattle.std.specs.List.{AllByRecursion}
 use Rattle.std.proofs.Math.Nat.{pow-succ'}
 use Rattle.std.proofs.Math.Pow.{pow_mono}
 use Rattle.std.proofs.lemmas.Bool.Decides.{leb_tells}
-use Rattle.tuple_codec.specs.Nodes.{Item, Node, IsItem, IsNode, IsHeader, Rise, RiseAfter, items_bytes, node_bytes}
-use Rattle.tuple_codec.specs.Trees.{AreRows, IsRow, bytes_of, closes, cut, cut_from, inner_chunks, last_key, leaves, name, names, root, rows_in, top, tower, tree_chunks}
+use Rattle.tuple_codec.specs.Nodes.{Item, Node, Rise, items_bytes}
+use Rattle.tuple_codec.specs.Trees.{AreRows, IsRow, bytes_of, closes, cut, cut_from, inner_chunks, last_key, name, names, rows_in, top, tower}
 use Rattle.chunk_store.specs.Standing.{AreHeld, IsThere, IsTree}
-use Rattle.tree_laws.specs.Found.{ButLast, IsCanonical, IsCounted, IsEnded, IsOrdered, IsRoot, UpTo, each_of, left, nodes_in, rows_at}
-use Rattle.tree_laws.specs.Standing.{Chunks, IsFound, IsOpen, IsStored, IsTop, Leads, LeadsTo, TreesHaveRoots, TreesLead, rows_below}
-use Rattle.tree_laws.proofs.StandingReads.{IsReached, all_map, items_there, many_rows, reached, rows_there}
+use Rattle.tree_laws.specs.Found.{ButLast, IsCanonical, IsCounted, IsEnded, IsOrdered, UpTo, each_of, left, nodes_in, rows_at}
+use Rattle.tree_laws.specs.Standing.{Chunks, IsFound, IsStored, IsTop, LeadsTo, TreesHaveRoots, TreesLead, rows_below}
+use Rattle.tree_laws.proofs.StandingReads.{all_map, items_there, many_rows, reached, rows_there}
 use Rattle.tree_laws.proofs.StandingOrder.{rise_left, rise_right, upto_last}
 use Rattle.tree_laws.proofs.StandingCuts.{HasNoEnd, IsSmall, cut_ended, cut_last, no_end_more, no_end_yet, small_open, two_closed}
 use Rattle.tree_laws.proofs.StandingNodes.{HasFit, bytes_length, few_each, fit_item, fit_last_key, fit_rows, items_count, node_size, open_size}
-use Rattle.tree_laws.proofs.StandingLists.{all_left, all_right, but_all, but_both, but_cons, but_ended, but_left, but_map, but_right, cut_none, cut_short, cut_some, each_append, length_one, names_length, names_rise, some_last}
+use Rattle.tree_laws.proofs.StandingLists.{all_left, all_right, but_all, but_both, but_cons, but_ended, but_left, but_map, but_right, cut_none, cut_short, cut_some, each_append, names_length, names_rise, some_last}
 
 -- what is known of an item of a level, and of one whose node ended
 record IsLow (address : List ℕ → List ℕ) (chunks : Chunks) (level : ℕ) (item : Item) : Type 0 where

@@ -1,14 +1,9 @@
 -- How a list is cut: each node is cut from its own items alone, ends where the rule says, and has room for its last item.
-use Rattle.std.proofs.Common.{◌≡◌, ◌<◌, ◌≤◌, ◌+◌, ◌*◌, ◌^◌, ◌⊎◌, inl, inr, ℕ, zero, suc, Bool, true, false, cond, ◌&&◌, ◌||◌, leb, List, [], ◌∷◌, ◌++◌, length, refl, sym, ap, ◌∙◌, subst, append_assoc, append-nil, arith}
-use Rattle.std.specs.List.{flat_map}
-use Rattle.std.specs.Int.{w16, w64, to_be_bytes}
-use Rattle.std.proofs.lemmas.Grind.{flat_map-append}
-use Rattle.std.proofs.lemmas.List.{length-append}
+use Rattle.std.proofs.Common.{◌≡◌, ◌<◌, ◌≤◌, ◌+◌, ◌⊎◌, inl, inr, ℕ, Bool, true, false, cond, ◌&&◌, ◌||◌, leb, List, [], ◌∷◌, ◌++◌, length, refl, sym, ap, ◌∙◌, append_assoc, append-nil, arith}
 use Rattle.std.proofs.lemmas.Bool.{leb-false}
 use Rattle.std.proofs.lemmas.Bool.Decides.{leb_tells}
-use Rattle.node_format.proofs.FieldLemmas.{wide16, wide64}
-use Rattle.tuple_codec.specs.Nodes.{Item, IsItem, ends, item_bytes, items_bytes, sized}
-use Rattle.tuple_codec.specs.Trees.{bytes_of, closes, cut, cut_from, last_key, name, names, rows_in}
+use Rattle.tuple_codec.specs.Nodes.{Item, ends, items_bytes}
+use Rattle.tuple_codec.specs.Trees.{closes, cut, cut_from}
 use Rattle.tree_laws.specs.Found.{left}
 
 -- nothing ended within these items

@@ -1,8 +1,8 @@
 -- Lists all of whose items, or all but the last, have something.
-use Rattle.std.proofs.Common.{◌≡◌, ◌<◌, ◌≤◌, ◌+◌, ◌*◌, ◌^◌, ℕ, zero, suc, Bool, true, false, cond, List, [], ◌∷◌, ◌++◌, length, map, Option, None, Some, refl, sym, ap, ◌∙◌, subst, append_assoc, arith}
+use Rattle.std.proofs.Common.{◌≡◌, ◌<◌, ◌≤◌, ◌+◌, ◌*◌, ℕ, true, false, cond, List, [], ◌∷◌, ◌++◌, length, Option, None, Some, refl, sym, ap, ◌∙◌, subst, append_assoc, arith}
 use Rattle.std.specs.List.{AllByRecursion}
 use Rattle.std.specs.Ordering.{is_lt}
-use Rattle.tuple_codec.specs.Nodes.{Item, Rise, RiseAfter, is_after}
+use Rattle.tuple_codec.specs.Nodes.{Item, RiseAfter, is_after}
 use Rattle.tuple_codec.specs.Trees.{closes, cut_from, last_key, name, names}
 use Rattle.tree_laws.specs.Found.{ButLast, each_of}
 use Rattle.tree_laws.proofs.StandingOrder.{lt_trans, order}

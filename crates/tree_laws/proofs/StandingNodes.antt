@@ -1,12 +1,11 @@
 -- The nodes into which a list is cut are nodes as bytes keep them.
-use Rattle.std.proofs.Common.{◌≡◌, ◌<◌, ◌≤◌, ◌+◌, ◌*◌, ◌^◌, ◌⊎◌, inl, inr, ℕ, zero, suc, Bool, true, false, List, [], ◌∷◌, ◌++◌, length, refl, sym, ap, ◌∙◌, subst, arith}
-use Rattle.std.specs.List.{AllByRecursion, flat_map}
+use Rattle.std.proofs.Common.{◌≡◌, ◌<◌, ◌≤◌, ◌+◌, ◌*◌, ◌^◌, inl, inr, ℕ, zero, suc, List, [], ◌∷◌, ◌++◌, length, ap, ◌∙◌, arith}
+use Rattle.std.specs.List.{AllByRecursion}
 use Rattle.std.specs.Int.{w16, w64, to_be_bytes}
-use Rattle.std.proofs.lemmas.Grind.{flat_map-append}
 use Rattle.std.proofs.lemmas.List.Concat.{flat_map-cons}
 use Rattle.std.proofs.lemmas.List.{length-append}
 use Rattle.node_format.proofs.FieldLemmas.{wide16, wide64}
-use Rattle.tuple_codec.specs.Nodes.{Item, IsItem, header_bytes, item_bytes, items_bytes, kind_of, sized}
+use Rattle.tuple_codec.specs.Nodes.{Item, IsItem, header_bytes, item_bytes, items_bytes, sized}
 use Rattle.tuple_codec.specs.Trees.{IsRow, bytes_of, last_key, rows_in}
 use Rattle.tree_laws.proofs.StandingCuts.{IsSmall}
 

@@ -1,11 +1,11 @@
 -- Keys that rise, and lists of items whose keys do.
-use Rattle.std.proofs.Common.{◌≡◌, ◌<◌, ◌≤◌, ◌+◌, ℕ, zero, suc, Bool, true, false, cond, List, [], ◌∷◌, ◌++◌, length, Option, None, Some, refl, sym, ap, ◌∙◌, subst, arith}
-use Rattle.std.specs.Ordering.{nat_cmp, is_lt, is_le, is_gt}
+use Rattle.std.proofs.Common.{◌≡◌, ℕ, true, List, [], ◌∷◌, ◌++◌, Option, Some, refl, sym, ap, ◌∙◌}
+use Rattle.std.specs.Ordering.{nat_cmp, is_lt, is_le}
 use Rattle.std.specs.declared.cmp.Ordering.{Ordering}
 use Rattle.std.specs.declared.cmp.Ordering.TheVariants.{Less, Equal, Greater}
 use Rattle.std.specs.Cmp.Lexicographic.{slice_cmp}
 use Rattle.std.proofs.lemmas.Cmp.{nat_list_cmp_total, alike_right, tied_itself}
-use Rattle.tuple_codec.specs.Nodes.{Item, Rise, RiseAfter, is_after}
+use Rattle.tuple_codec.specs.Nodes.{Item, Rise, RiseAfter}
 use Rattle.tuple_codec.specs.Trees.{last_key}
 use Rattle.tree_laws.specs.Found.{UpTo}
 

@@ -1,9 +1,9 @@
 -- What is read in a tree that stands: an item's rows are reached, end with its key, and are as many as it counts.
-use Rattle.std.proofs.Common.{◌≡◌, ◌<◌, ◌≤◌, ◌+◌, ℕ, zero, suc, Bool, true, false, cond, List, [], ◌∷◌, ◌++◌, length, Option, None, Some, refl, sym, ap, ◌∙◌, subst, append_assoc, append-nil, arith}
+use Rattle.std.proofs.Common.{◌≡◌, ◌<◌, ℕ, zero, suc, List, [], ◌∷◌, ◌++◌, length, Option, Some, refl, sym, ap, ◌∙◌, subst, append-nil, arith}
 use Rattle.std.specs.Option.{option_and_then}
 use Rattle.std.specs.List.{AllByRecursion}
 use Rattle.std.proofs.lemmas.List.{length-append}
-use Rattle.tuple_codec.specs.Nodes.{Item, Node, Rise, RiseAfter}
+use Rattle.tuple_codec.specs.Nodes.{Item}
 use Rattle.tuple_codec.specs.Trees.{last_key, rows_in}
 use Rattle.node_format.specs.Found.{items_in}
 use Rattle.node_format.proofs.NodeLemmas.{items_found}

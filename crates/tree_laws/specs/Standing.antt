@@ -1,5 +1,5 @@
 -- Trees as they are read: each node is found at its address, and leads to the rows below.
-use Rattle.std.specs.Prelude.{◌≡◌, ◌<◌, ◌≤◌, ℕ, zero, suc, List, [], ◌∷◌, length, Option, None, Some}
+use Rattle.std.specs.Prelude.{◌≡◌, ◌<◌, ◌≤◌, ℕ, zero, suc, List, ◌∷◌, length, Option, Some}
 use Rattle.std.specs.List.{AllByRecursion}
 use Rattle.tuple_codec.specs.Nodes.{Item, Node, IsNode, Rise, node_bytes}
 use Rattle.tuple_codec.specs.Trees.{last_key, rows_in}
