@@ -14,4 +14,6 @@ pub mod Decimals
 pub mod Canons
 pub mod ReadBack
 pub mod Depths
+pub mod WrittenNodes
+pub mod Given
 mod Vectors

@@ -13,7 +13,8 @@ use Rattle.sql_grammar.specs.declared.pieces.Piece.{Piece}
 use Rattle.sql_grammar.specs.declared.pieces.Piece.TheVariants as piece
 use Rattle.sql_pieces.specs.Values.{canonical_pieces_of}
 use Rattle.canonical_laws.specs.Canonical.{canonical_at, paired_at}
-use Rattle.canonical_laws.specs.Written.{is_literal, is_name}
+use Rattle.sql_ast.specs.declared.places.Last.TheVariants.{Other}
+use Rattle.canonical_laws.specs.Written.{are_given, is_literal, is_name}
 
 abbrev pieces_by : List ℕ → Result (List Token) Refusal → List Piece
 pieces_by text (Ok found) = canonical_pieces_of text found
@@ -69,3 +70,8 @@ greatest = (refl, refl, refl)
 
 decimals : (is_literal false (literal.Decimal 5 1) ≡ true) × (is_literal false (literal.Decimal 5 0) ≡ false) × (is_literal false (literal.Decimal 5 18) ≡ false)
 decimals = (refl, refl, refl)
+
+-- pieces that a text gives: 2 ^ 63 behind a unary minus alone
+
+given : (are_given Other (pieces (codes "a * - 9223372036854775808")) ≡ true) × (are_given Other (piece.Whole 9223372036854775808 ∷ []) ≡ false) × (are_given Other (piece.Word (codes "A") ∷ []) ≡ false)
+given = (refl, refl, refl)

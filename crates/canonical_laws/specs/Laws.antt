@@ -2,6 +2,7 @@
 use Rattle.std.specs.Prelude.{◌≡◌, ◌≤◌, ℕ, suc, min, true, List, ◌++◌, Some, Ok}
 use Rattle.sql_ast.specs.Tokens.{tokens}
 use Rattle.sql_ast.specs.declared.expressions.Expr.{Expr}
+use Rattle.sql_ast.specs.declared.places.Last.TheVariants.{Other}
 use Rattle.sql_ast.specs.declared.tokens.Token.{Token}
 use Rattle.sql_grammar.specs.declared.pieces.Piece.{Piece}
 use Rattle.sql_grammar.specs.Expressions.{any, expression}
@@ -11,7 +12,7 @@ use Rattle.sql_pieces.specs.Values.{canonical_pieces_of}
 use Rattle.sql_text.specs.Canon.{text}
 use Rattle.grammar_laws.specs.Spelling.{deepest, is_tree}
 use Rattle.canonical_laws.specs.Canonical.{canonical, ends_canonical, paired}
-use Rattle.canonical_laws.specs.Written.{is_written}
+use Rattle.canonical_laws.specs.Written.{are_given, is_written}
 
 -- pieces with at most so many open parentheses are read as what they say, and what can't go on is left
 abbrev pub ReadsPiecesAt : ℕ → Type 0
@@ -42,3 +43,7 @@ SaysOneThing = (x y : Expr) → is_tree x ≡ true → is_tree y ≡ true → is
 -- so many parentheses are open at one place as `sql_features` counts, up to 65
 abbrev pub CountsOpen : Type 0
 CountsOpen = (x : Expr) → min (deepest 0 (canonical x)) 65 ≡ depth x
+
+-- whatever is read of pieces that a text gives is written
+abbrev pub ReadsWritten : Type 0
+ReadsWritten = (depth : ℕ) (pieces rest : List Piece) (x : Expr) → are_given Other pieces ≡ true → expression depth pieces ≡ Ok (x, rest) → is_written x ≡ true

@@ -1,7 +1,7 @@
 //! Laws about canonical texts, for the crates above: call one where a proof needs it. None does anything.
 
 ghost use Rattle.std.specs.Prelude.{ℕ};
-ghost use Rattle.canonical_laws.specs.Laws.{CountsOpen, HasPieces, KeepsText, ReadsPieces, ReadsPiecesAt, ReadsText, SaysOneThing};
+ghost use Rattle.canonical_laws.specs.Laws.{CountsOpen, HasPieces, KeepsText, ReadsPieces, ReadsPiecesAt, ReadsText, ReadsWritten, SaysOneThing};
 
 /// The pieces of an expression's canonical text are read as what the text says, and what follows is left, where no expression goes on
 /// with it and no call begins. At most 64 parentheses may be open at one place, or at each other limit so many.
@@ -29,4 +29,9 @@ pub fn law_of_one_text()
 /// As many parentheses are open at one place of the pieces as `sql_features` counts, up to 65.
 pub fn law_of_open_parentheses()
     ensures { CountsOpen }
+{}
+
+/// Whatever is read of pieces that a text gives has names and literals as a text gives them.
+pub fn law_of_written_pieces()
+    ensures { ReadsWritten }
 {}

@@ -1,0 +1,5 @@
+use Rattle.canonical_laws.proofs.Given.{reads_written}
+use Rattle.canonical_laws.proofs.laws.law_of_written_pieces.Goals as goal
+
+pub returns : goal.returns
+returns c = reads_written
