@@ -29,7 +29,7 @@ impl<F: Fn(Global, &mut Cursor<'_>, usize) -> Result<Boxed<Expr>, Stop>> Grammar
     }
 }
 
-/// As the rules hand it on, in a box: a dozen of their frames stand on the stack for each open parenthesis.
+/// The expression in a box, as the rules hand it on: a dozen of their frames stand on the stack for each open parenthesis.
 fn boxed_expression(
     alloc: Global,
     cursor: &mut Cursor<'_>,

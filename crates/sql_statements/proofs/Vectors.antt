@@ -1,19 +1,18 @@
 -- Statements, computed on pieces whose statements are known.
-use Rattle.std.proofs.Common.{◌≡◌, refl, codes, List, [], ◌∷◌, Ok, Err, Some, None, ℕ, true, false}
+use Rattle.std.proofs.Common.{◌≡◌, refl, codes, [], ◌∷◌, Ok, Err, Some, true, false}
 use Rattle.sql_ast.specs.declared.expressions.Expr.TheVariants as e
 use Rattle.sql_ast.specs.declared.expressions.Literal.TheVariants as literal
 use Rattle.sql_ast.specs.declared.selects.Select.TheVariants as select
 use Rattle.sql_ast.specs.declared.signs.Sign.TheVariants as sign
 use Rattle.sql_ast.specs.declared.statements.Statement.TheVariants as statement
 use Rattle.sql_ast.specs.declared.words.Keyword.TheVariants as word
-use Rattle.sql_grammar.specs.declared.pieces.Piece.{Piece}
-use Rattle.sql_grammar.specs.declared.pieces.Piece.TheVariants.{Keyword, Word, Quoted, Text, Whole, Sign}
+use Rattle.sql_grammar.specs.declared.pieces.Piece.TheVariants.{Keyword, Word, Text, Whole, Sign}
 use Rattle.sql_grammar.specs.Pieces.{same_sign, same_keyword}
-use Rattle.sql_grammar.specs.Reading.{sees, sees_keyword, sees_word, sees_name, name, optional_name, whole, string, list, chain, chain_from}
+use Rattle.sql_grammar.specs.Reading.{sees, sees_keyword, sees_word, sees_name, name, optional_name, string, list, chain, chain_from}
 use Rattle.sql_grammar.specs.Expressions.{column, called, test_ahead, term_ahead, literal_ahead, other_atom, plain_atom, atom, unary, product, term, sum, tested, comparison, negation, conjunction, disjunction, expression, any}
 use Rattle.sql_selects.specs.Selects.{named, begins_all_of, one_item, item, listing_from, listing, items, named_from, alone, selection}
 use Rattle.sql_statements.specs.Heads.{begins_session_point, begins_session}
-use Rattle.sql_tables.specs.Tables.{names, actions, first_action, update_action, referenced, foreign_key, constraint, any_element, element_ahead, element_behind, elements, if_not_exists, create}
+use Rattle.sql_tables.specs.Tables.{names, actions, first_action, update_action, referenced, foreign_key, any_element, element_ahead, element_behind, elements, if_not_exists, create}
 use Rattle.sql_statements.specs.Statements.{scope_behind, scope_word, scope, setting, call, arguments, statement_behind, any_statement, statement_of}
 
 -- SET session = 1: the variable is `session`

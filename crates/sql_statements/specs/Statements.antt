@@ -8,8 +8,7 @@
 --       | SET [SESSION | @@ | @@SESSION .] name = (0 | 1 | ON | OFF | TRUE | FALSE)
 --       | CALL name ( [string {, string}] )
 --     tuple := ( (expr | DEFAULT) {, (expr | DEFAULT)} )
-use Rattle.std.specs.Prelude.{◌≡◌, ℕ, Bool, true, false, if◌then◌else◌, List, [], ◌∷◌, length, Option, Some, None, Result, Ok, Err, codes}
-use Rattle.sql_ast.specs.declared.expressions.Expr.{Expr}
+use Rattle.std.specs.Prelude.{◌≡◌, ℕ, if◌then◌else◌, List, [], ◌∷◌, length, Option, Some, None, Result, Ok, Err, codes}
 use Rattle.sql_ast.specs.declared.signs.Sign.TheVariants as sign
 use Rattle.sql_ast.specs.declared.statements.Assignment.{Assignment}
 use Rattle.sql_ast.specs.declared.statements.Call.{Call}
@@ -21,7 +20,6 @@ use Rattle.sql_ast.specs.declared.statements.Setting.{Setting}
 use Rattle.sql_ast.specs.declared.statements.Statement.{Statement}
 use Rattle.sql_ast.specs.declared.statements.Statement.TheVariants as statement
 use Rattle.sql_ast.specs.declared.statements.Update.{Update}
-use Rattle.sql_ast.specs.declared.statements.Write.{Write}
 use Rattle.sql_ast.specs.declared.statements.Write.TheVariants as write
 use Rattle.sql_ast.specs.declared.words.Keyword.TheVariants as word
 use Rattle.sql_grammar.specs.declared.pieces.Piece.{Piece}
