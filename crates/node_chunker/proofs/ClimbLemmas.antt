@@ -1,11 +1,11 @@
 -- A name climbs from level to level, as far as it ends nodes.
-use Rattle.std.proofs.Common.{◌≡◌, ◌≤◌, ◌<◌, ◌+◌, ◌^◌, ℕ, zero, suc, Bool, true, false, cond, List, [], ◌∷◌, ◌++◌, length, map, take, drop, None, get_or, sym, refl, ap, subst, ◌∙◌, arith}
+use Rattle.std.proofs.Common.{◌≡◌, ◌≤◌, ◌<◌, ◌+◌, ℕ, zero, suc, true, false, cond, List, [], ◌∷◌, ◌++◌, length, map, take, drop, None, get_or, sym, refl, ap, subst, ◌∙◌, arith}
 use Rattle.std.specs.Prelude.{◌==◌}
-use Rattle.std.proofs.lemmas.List.{append-nil, append_assoc, length-append, map-append, take-append-drop, take_all, take_more}
+use Rattle.std.proofs.lemmas.List.{append_assoc, length-append, map-append, take-append-drop, take_all, take_more}
 use Rattle.std.proofs.Math.ListN.{set, drop_of_length-le}
 use Rattle.std.proofs.Math.Seq.{drop-cons}
 use Rattle.tuple_codec.specs.Nodes.{Item, IsItem}
-use Rattle.tuple_codec.specs.Trees.{AreRows, IsRow, bytes_of, closes, name, rows_in}
+use Rattle.tuple_codec.specs.Trees.{AreRows, IsRow, bytes_of, closes, name}
 use Rattle.node_format.specs.declared.items.LeafItem.{LeafItem}
 use Rattle.node_format.specs.Views.{leaf_of}
 use Rattle.chunk_store.specs.Chunks.{Chunks, Extends}

@@ -1,9 +1,8 @@
 -- Finishing a tower: level by level what is left comes to the root of the rows that were pushed.
-use Rattle.std.proofs.Common.{◌≡◌, ◌≤◌, ◌<◌, ◌+◌, ◌*◌, ◌^◌, ℕ, zero, suc, Bool, true, false, cond, List, [], ◌∷◌, ◌++◌, length, map, take, drop, get_or, Option, None, Some, inl, inr, sym, refl, ap, subst, ◌∙◌, arith}
+use Rattle.std.proofs.Common.{◌≡◌, ◌≤◌, ◌<◌, ◌+◌, ◌^◌, ℕ, zero, suc, true, false, cond, List, [], ◌∷◌, ◌++◌, length, map, drop, get_or, Option, None, Some, inl, inr, sym, refl, ap, subst, ◌∙◌, arith}
 use Rattle.std.specs.List.{AllByRecursion}
 use Rattle.std.specs.Option.{option_to_list}
-use Rattle.std.proofs.lemmas.List.{append-nil, append_assoc, length-append, length-drop, length-map}
-use Rattle.std.proofs.lemmas.Grind.{pow_more}
+use Rattle.std.proofs.lemmas.List.{append-nil, append_assoc, length-drop}
 use Rattle.std.proofs.lemmas.Nat.{pow_pos}
 use Rattle.std.specs.Prelude.{nat_eq, ◌&&◌}
 use Rattle.std.proofs.lemmas.Bool.{and_parts, cases_lt}
@@ -12,17 +11,17 @@ use Rattle.std.proofs.lemmas.Bool.{eqb-true}
 use Rattle.std.proofs.Math.ListN.{set, drop_of_length-le}
 use Rattle.std.proofs.Math.Seq.{drop-cons}
 use Rattle.node_chunker.proofs.ClimbLemmas.{drop_set}
-use Rattle.tuple_codec.specs.Nodes.{Item, Rise, RiseAfter, is_after, items_bytes}
-use Rattle.tuple_codec.specs.Trees.{AreRows, bytes_of, closes, cut, cut_from, inner_chunks, last_key, name, names, root, rows_in, top, tower, tree_chunks}
+use Rattle.tuple_codec.specs.Nodes.{Item, Rise, RiseAfter, is_after}
+use Rattle.tuple_codec.specs.Trees.{bytes_of, closes, cut, cut_from, last_key, name, names, rows_in, tower, tree_chunks}
 use Rattle.tree_laws.proofs.Cuts.{names_short, top_enough, chunks_enough}
 use Rattle.tree_laws.proofs.Growing.{held_later, tree_later}
 use Rattle.chunk_store.specs.Chunks.{Chunks, Extends}
 use Rattle.chunk_store.specs.Standing.{AreHeld, IsThere, IsTree}
-use Rattle.node_chunker.specs.Towers.{is_empty, is_single, first_of, is_root, after, chunks_after, row_top, row_chunks, after_rows, chunks_after_rows}
+use Rattle.node_chunker.specs.Towers.{is_empty, is_single, first_of, is_root, after, chunks_after, row_top, row_chunks}
 use Rattle.node_chunker.specs.Growth.{IsEntry, IsGrown, AreOpen, IsTopped, spread, last_after, IsWritable, IsTower}
 use Rattle.node_chunker.specs.Steps.{IsClosed, IsNamed}
 use Rattle.node_chunker.specs.Closing.{IsClosing}
-use Rattle.node_chunker.proofs.TowerLemmas.{all_join, all_split, extends_both}
+use Rattle.node_chunker.proofs.TowerLemmas.{all_join, extends_both}
 use Rattle.node_chunker.proofs.GrowthLemmas.{name_key, name_body, name_rows, rows_join, entry_key, entry_rows, entries, open_small, more_writable, writable, low_level, rise_split, rise_join, rise_alone, after_less}
 
 module _ (a : List ℕ → List ℕ) where

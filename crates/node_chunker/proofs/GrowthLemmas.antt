@@ -1,5 +1,5 @@
 -- Open nodes stay small, in order and counted as items are pushed, and what is written of them is a node.
-use Rattle.std.proofs.Common.{◌≡◌, ◌≤◌, ◌<◌, ◌+◌, ◌*◌, ◌^◌, ℕ, zero, suc, Bool, true, false, cond, List, [], ◌∷◌, ◌++◌, length, Option, None, Some, ◌⊎◌, inl, inr, sym, refl, ap, subst, ◌∙◌, arith}
+use Rattle.std.proofs.Common.{◌≡◌, ◌≤◌, ◌<◌, ◌+◌, ◌*◌, ◌^◌, ℕ, zero, suc, true, false, cond, List, [], ◌∷◌, ◌++◌, length, Option, None, Some, inl, inr, sym, refl, ap, subst, ◌∙◌, arith}
 use Rattle.std.specs.List.{AllByRecursion}
 use Rattle.std.specs.Ordering.{nat_cmp, is_lt}
 use Rattle.std.specs.Int.{w16, w64, to_be_bytes}
@@ -10,9 +10,8 @@ use Rattle.std.proofs.lemmas.Bool.{cases_lt}
 use Rattle.std.proofs.lemmas.Cmp.{nat_list_cmp_total}
 use Rattle.std.proofs.lemmas.List.{append-nil, append_assoc, length-append}
 use Rattle.std.proofs.lemmas.Grind.{flat_map-append, pow_more}
-use Rattle.std.proofs.lemmas.List.Concat.{flat_map-cons}
 use Rattle.std.proofs.Math.Nat.{pow-le-pow_right}
-use Rattle.tuple_codec.specs.Nodes.{Item, IsItem, IsHeader, IsNode, Rise, RiseAfter, is_after, sized, item_bytes, items_bytes, header_bytes}
+use Rattle.tuple_codec.specs.Nodes.{Item, IsItem, Rise, RiseAfter, is_after, sized, item_bytes, items_bytes, header_bytes}
 use Rattle.tuple_codec.specs.Trees.{AreRows, IsRow, bytes_of, closes, last_key, name, rows_in}
 use Rattle.node_format.proofs.FieldLemmas.{wide16, wide64}
 use Rattle.node_format.proofs.EndLemmas as rule

@@ -1,7 +1,5 @@
 -- Open nodes as the code keeps them: their items, and their sizes.
-use Rattle.std.proofs.Common.{◌≡◌, ◌≤◌, ◌<◌, ◌+◌, ◌*◌, ◌^◌, ℕ, zero, suc, Bool, true, false, cond, List, [], ◌∷◌, ◌++◌, length, map, take, drop, get_or, Option, None, Some, sym, refl, ap, subst, ◌∙◌, arith}
-use Rattle.std.specs.Int.{w16}
-use Rattle.std.specs.List.{AllByRecursion}
+use Rattle.std.proofs.Common.{◌≡◌, ◌≤◌, ◌<◌, ◌+◌, ℕ, zero, suc, List, [], ◌∷◌, ◌++◌, length, map, take, drop, get_or, sym, refl, ap, subst, ◌∙◌, arith}
 use Rattle.std.proofs.lemmas.List.{length-append, map-append, length-map, take-append-drop, take_more}
 use Rattle.tuple_codec.specs.Nodes.{Item, IsItem, ends, item_bytes, items_bytes, header_bytes}
 use Rattle.tuple_codec.specs.Trees.{bytes_of, closes, last_key, name, rows_in}

@@ -1,15 +1,14 @@
 -- A subtree pushed whole over levels that are empty: it counts as the rows below it.
-use Rattle.std.proofs.Common.{◌≡◌, ◌<◌, ℕ, zero, suc, Bool, true, false, cond, List, [], ◌∷◌, ◌++◌, length, map, sym, refl, ap, subst, ◌∙◌, arith}
-use Rattle.std.specs.Prelude.{◌&&◌}
+use Rattle.std.proofs.Common.{◌≡◌, ◌<◌, ℕ, zero, suc, false, cond, List, [], ◌∷◌, ◌++◌, length, map, sym, refl, ap, subst, ◌∙◌, arith}
 use Rattle.tuple_codec.specs.Nodes.{Item}
-use Rattle.tuple_codec.specs.Trees.{blank, bytes_of, closes, cut, cut_from, inner_chunks, names, top}
+use Rattle.tuple_codec.specs.Trees.{blank, bytes_of, cut, names, top}
 use Rattle.tree_laws.specs.Found.{left, lift, Ended}
 use Rattle.tree_laws.proofs.Cuts.{closes_one, cut_apart, names_apart}
-use Rattle.std.proofs.lemmas.List.{append_assoc, map-append}
+use Rattle.std.proofs.lemmas.List.{map-append}
 use Rattle.chunk_store.specs.Chunks.{Chunks}
 use Rattle.chunk_store.specs.Standing.{AreHeld, IsThere}
 use Rattle.node_chunker.specs.Subtrees.{lift_chunks}
-use Rattle.node_chunker.specs.Towers.{is_empty, is_single, first_of, is_root, after, chunks_after, row_top, after_rows, pushes, ended_chunks}
+use Rattle.node_chunker.specs.Towers.{is_empty, is_single, first_of, after, chunks_after, pushes, ended_chunks}
 use Rattle.node_chunker.proofs.TowerLemmas.{all_join, all_split, never_empty, skip_left, after_push, held_push}
 
 -- so many empty nodes below

@@ -1,5 +1,5 @@
 -- A tower onto which a subtree was pushed whole has taken the rows below it.
-use Rattle.std.proofs.Common.{◌≡◌, ◌≤◌, ◌<◌, ◌+◌, ◌-◌, ◌*◌, ◌^◌, ℕ, zero, suc, Bool, true, false, cond, List, [], ◌∷◌, ◌++◌, length, map, take, drop, replicate, Option, None, Some, ◌⊎◌, inl, inr, sym, refl, ap, subst, ◌∙◌, arith}
+use Rattle.std.proofs.Common.{◌≡◌, ◌≤◌, ◌<◌, ◌+◌, ◌-◌, ℕ, zero, suc, true, false, cond, List, [], ◌∷◌, ◌++◌, length, map, take, drop, replicate, Option, None, Some, ◌⊎◌, inl, inr, sym, refl, ap, subst, ◌∙◌, arith}
 use Rattle.std.specs.Prelude.{◌&&◌}
 use Rattle.std.specs.List.{AllByRecursion, list_all}
 use Rattle.std.proofs.lemmas.Bool.{and_parts}
@@ -11,8 +11,8 @@ use Rattle.tree_laws.proofs.Cuts.{closes_none, cut_apart, names_apart}
 use Rattle.tree_laws.proofs.Growing.{held_later}
 use Rattle.chunk_store.specs.Chunks.{Chunks, Extends}
 use Rattle.chunk_store.specs.Standing.{AreHeld, IsThere}
-use Rattle.node_chunker.specs.Towers.{is_empty, is_single, after, chunks_after, row_top, row_chunks, after_rows, chunks_after_rows, pushes, ended_chunks, Continues, IsKept}
-use Rattle.node_chunker.specs.Growth.{IsEntry, IsGrown, AreOpen, IsTopped, spread, last_after, Fits, IsTower}
+use Rattle.node_chunker.specs.Towers.{is_empty, is_single, after, chunks_after, row_top, row_chunks, chunks_after_rows, pushes, ended_chunks, Continues, IsKept}
+use Rattle.node_chunker.specs.Growth.{IsGrown, AreOpen, IsTopped, spread, last_after, Fits, IsTower}
 use Rattle.node_chunker.specs.Steps.{IsPushedAt}
 use Rattle.node_chunker.specs.Subtrees.{IsSubtree, is_clear, lift_chunks}
 use Rattle.node_chunker.proofs.TowerLemmas.{all_join, all_split, extends_both, held_push, never_empty, skip_left}

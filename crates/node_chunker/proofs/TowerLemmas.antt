@@ -1,10 +1,10 @@
 -- What a tower comes to: a push takes the first of the items that are still to come.
-use Rattle.std.proofs.Common.{◌≡◌, ◌≤◌, ◌<◌, ◌+◌, ◌*◌, ℕ, zero, suc, Bool, true, false, cond, if◌then◌else◌, List, [], ◌∷◌, ◌++◌, length, map, Some, sym, refl, ap, subst, ◌∙◌, arith}
+use Rattle.std.proofs.Common.{◌≡◌, ◌<◌, ℕ, zero, suc, Bool, true, false, cond, List, [], ◌∷◌, ◌++◌, length, map, sym, refl, ap, subst, ◌∙◌, arith}
 use Rattle.std.specs.Prelude.{◌&&◌}
 use Rattle.std.specs.List.{AllByRecursion}
-use Rattle.std.proofs.lemmas.List.{append-nil, append_assoc}
+use Rattle.std.proofs.lemmas.List.{append_assoc}
 use Rattle.tuple_codec.specs.Nodes.{Item}
-use Rattle.tuple_codec.specs.Trees.{blank, bytes_of, closes, cut, cut_from, inner_chunks, name, names, top}
+use Rattle.tuple_codec.specs.Trees.{blank, bytes_of, closes, cut_from, inner_chunks, name, names, top}
 use Rattle.tree_laws.proofs.Cuts.{closes_one, some_before}
 use Rattle.tree_laws.proofs.Growing.{held_later}
 use Rattle.chunk_store.specs.Chunks.{Chunks, Extends}

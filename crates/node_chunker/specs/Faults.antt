@@ -1,6 +1,5 @@
 -- Why a tower was refused, and what it has put into a draft.
-use Rattle.std.specs.Prelude.{◌≡◌, ◌≢◌, ℕ, List, [], ◌∷◌, Some, length}
-use Rattle.std.specs.List.{AllByRecursion}
+use Rattle.std.specs.Prelude.{◌≡◌, ◌≢◌, ℕ, List, Some}
 use Rattle.chunk_store.specs.Chunks.{Chunks}
 use Rattle.chunk_store.specs.declared.faults.Clash.{Clash}
 use Rattle.chunk_store.specs.declared.faults.PutFault.{PutFault}

@@ -1,5 +1,5 @@
 -- What the open nodes of a tower are: small, in order, and with the rows counted.
-use Rattle.std.specs.Prelude.{◌≡◌, ◌≤◌, ◌<◌, ℕ, zero, suc, ◌+◌, ◌^◌, false, List, [], ◌∷◌, ◌++◌, length, Option, None, Some}
+use Rattle.std.specs.Prelude.{◌≡◌, ◌≤◌, ◌<◌, ℕ, zero, suc, ◌^◌, false, List, [], ◌∷◌, ◌++◌, length, Option, None, Some}
 use Rattle.std.specs.List.{AllByRecursion}
 use Rattle.tuple_codec.specs.Nodes.{Item, IsNode, Rise}
 use Rattle.tuple_codec.specs.Trees.{AreRows, IsRow, bytes_of, closes, last_key, rows_in}

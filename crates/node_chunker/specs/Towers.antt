@@ -1,5 +1,5 @@
 -- Towers: a tree that grows row by row, as the nodes that are still open, one a level, the leaf first.
-use Rattle.std.specs.Prelude.{◌≡◌, ◌≤◌, ◌<◌, ℕ, zero, suc, ◌+◌, Bool, true, false, ◌&&◌, if◌then◌else◌, List, [], ◌∷◌, ◌++◌, length, map}
+use Rattle.std.specs.Prelude.{◌≡◌, ℕ, zero, suc, Bool, true, false, ◌&&◌, if◌then◌else◌, List, [], ◌∷◌, ◌++◌, map}
 use Rattle.tuple_codec.specs.Nodes.{Item}
 use Rattle.tuple_codec.specs.Trees.{blank, bytes_of, closes, cut, cut_from, inner_chunks, name, names, top}
 use Rattle.chunk_store.specs.Chunks.{Chunks, Extends}

@@ -1,11 +1,10 @@
 -- From a node down to the one below in which a key is looked up.
-use Rattle.std.proofs.Common.{◌≡◌, ◌<◌, ◌≤◌, ◌+◌, ℕ, zero, suc, Bool, true, false, cond, List, [], ◌∷◌, ◌++◌, length, drop, Option, None, Some, refl, sym, ap, ◌∙◌, subst, arith}
+use Rattle.std.proofs.Common.{◌≡◌, ◌<◌, ◌≤◌, ◌+◌, ℕ, zero, suc, true, false, cond, List, [], ◌∷◌, ◌++◌, length, drop, None, Some, refl, sym, ap, ◌∙◌, subst, arith}
 use Rattle.std.specs.Option.{option_map}
 use Rattle.std.specs.List.{AllByRecursion, slice_get}
 use Rattle.std.specs.Ordering.{is_lt}
 use Rattle.tuple_codec.specs.Nodes.{Item, Node, Rise}
-use Rattle.tuple_codec.specs.Trees.{last_key, rows_in}
-use Rattle.chunk_store.specs.Standing.{IsTree}
+use Rattle.tuple_codec.specs.Trees.{rows_in}
 use Rattle.node_format.proofs.NodeLemmas.{one_spelling}
 use Rattle.node_format.proofs.FieldLemmas.{some_is}
 use Rattle.tree_laws.specs.Found.{UpTo, each_of, nodes_in, rows_at}

@@ -1,11 +1,10 @@
 -- What is left of a tree, as a list of items with their levels.
-use Rattle.std.proofs.Common.{◌≡◌, ◌≤◌, ℕ, zero, suc, ◌⊎◌, inl, inr, List, [], ◌∷◌, ◌++◌, drop, Option, None, Some, refl, sym, ap, ◌∙◌, subst, append_assoc, append-nil}
-use Rattle.std.specs.Option.{MatchOption}
+use Rattle.std.proofs.Common.{◌≡◌, ◌≤◌, ℕ, inl, inr, List, [], ◌∷◌, ◌++◌, drop, refl, sym, ap, ◌∙◌, subst, append_assoc, append-nil}
 use Rattle.tuple_codec.specs.Nodes.{Item, Node}
 use Rattle.tree_laws.specs.Found.{Nodes, each_of, items_of, nodes_in, rows_at}
 use Rattle.tree_laws.specs.Standing.{Chunks, IsStored, Leads}
 use Rattle.tree_laws.proofs.StandingReads.{items_there}
-use Rattle.prolly_tree.specs.Walks.{CanWalk, IsAtNode, IsAtRow, IsSettled, Left, left_in}
+use Rattle.prolly_tree.specs.Walks.{IsAtNode, IsAtRow, IsSettled, Left, left_in}
 use Rattle.prolly_tree.specs.Fronts.{Front, IsReady, front_above, front_of, items_below, on_level, opened, rows_ahead}
 use Rattle.prolly_tree.proofs.WalkLemmas.{IsBelow, begin, begin_can, down_to, up_from}
 

@@ -1,7 +1,7 @@
 -- Trees of one leaf, for tests.
-use Rattle.std.proofs.Common.{◌≡◌, ◌<◌, ◌≤◌, ℕ, List, [], ◌∷◌, ◌++◌, length, map, Option, Some, false, refl, sym, ap, ◌∙◌, subst, arith}
+use Rattle.std.proofs.Common.{◌≡◌, ℕ, List, [], ◌∷◌, ◌++◌, length, map, Some, refl, sym, ap, ◌∙◌, subst, arith}
 use Rattle.tuple_codec.specs.Nodes.{Item, ends}
-use Rattle.tuple_codec.specs.Trees.{AreRows, bytes_of, closes, cut, inner_chunks, name, names, root, top, tree_chunks}
+use Rattle.tuple_codec.specs.Trees.{AreRows, bytes_of, closes, cut, inner_chunks, name, names, top}
 use Rattle.chunk_store.specs.Standing.{AreHeld, IsTree}
 use Rattle.tree_laws.specs.Standing.{Chunks}
 use Rattle.prolly_tree.specs.Samples.{by_length, two_rows}

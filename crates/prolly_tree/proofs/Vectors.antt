@@ -1,5 +1,5 @@
 -- The definitions, computed.
-use Rattle.std.proofs.Common.{◌≡◌, List, [], ◌∷◌, Some, None, refl}
+use Rattle.std.proofs.Common.{◌≡◌, [], ◌∷◌, Some, None, refl}
 use Rattle.tuple_codec.specs.Nodes.{leaf_item}
 use Rattle.prolly_tree.specs.Lists.{from_key, value_at}
 use Rattle.prolly_tree.specs.Samples.{two_rows}

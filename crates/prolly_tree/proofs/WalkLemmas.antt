@@ -1,19 +1,18 @@
 -- What a walk has left, as it goes up and down.
-use Rattle.std.proofs.Common.{◌≡◌, ◌<◌, ◌≤◌, ◌+◌, ℕ, zero, suc, Bool, true, false, cond, ◌⊎◌, inl, inr, List, [], ◌∷◌, ◌++◌, length, drop, Option, None, Some, refl, sym, ap, ◌∙◌, subst, append_assoc, append-nil, arith}
+use Rattle.std.proofs.Common.{◌≡◌, ◌<◌, ◌≤◌, ◌+◌, ℕ, zero, suc, Bool, true, false, cond, inl, inr, List, [], ◌∷◌, ◌++◌, length, drop, Option, None, Some, refl, sym, ap, ◌∙◌, subst, append_assoc, append-nil, arith}
 use Rattle.std.specs.List.{AllByRecursion}
 use Rattle.std.specs.Ordering.{is_lt}
 use Rattle.std.specs.Option.{MatchOption, is_some}
 use Rattle.tuple_codec.specs.Nodes.{Item, Node, Rise}
 use Rattle.tuple_codec.specs.Trees.{last_key}
 use Rattle.tree_laws.specs.Found.{each_of, nodes_in, rows_at}
-use Rattle.tree_laws.specs.Standing.{Chunks, IsFound, IsOpen, IsStored, Leads, rows_below}
+use Rattle.tree_laws.specs.Standing.{Chunks, IsFound, IsStored, Leads, rows_below}
 use Rattle.tree_laws.proofs.StandingReads.{IsReached, all_map, last_row, reached, rows_there, some_rows}
 use Rattle.tree_laws.proofs.StandingOrder.{order, rise_left, rise_right}
-use Rattle.tree_laws.proofs.StandingLists.{length_one}
 use Rattle.prolly_tree.specs.Lists.{from_key, place_of}
 use Rattle.prolly_tree.specs.Walks.{CanWalk, HaveRoom, IsAtNode, IsAtRow, IsSettled, Left, LeadsOn, left_in, rows_above, rows_left}
 use Rattle.prolly_tree.proofs.Lookups.{drop_place, reach}
-use Rattle.prolly_tree.proofs.Descents.{child_opens, from_here, from_items, head_above, leaf_below}
+use Rattle.prolly_tree.proofs.Descents.{from_items, head_above, leaf_below}
 
 length_is_one : (nodes : List Node) (node : Node) → length (nodes ++ node ∷ []) ≡ length nodes + 1
 length_is_one [] node = omega arith

@@ -1,5 +1,5 @@
 -- The first of what a walk has left.
-use Rattle.std.specs.Prelude.{◌≡◌, ℕ, suc, List}
+use Rattle.std.specs.Prelude.{ℕ, suc}
 use Rattle.tuple_codec.specs.Nodes.{Item, leaf_item}
 use Rattle.prolly_tree.specs.declared.steps.Head.{Head}
 use Rattle.prolly_tree.specs.declared.steps.Head.TheVariants as head

@@ -1,4 +1,4 @@
-use Rattle.std.proofs.Common.{◌≡◌, ◌∷◌, [], ◌++◌, List, map, take, ap, sym, subst, ◌∙◌}
+use Rattle.std.proofs.Common.{◌∷◌, [], ◌++◌, List, map, take, ap, sym, subst, ◌∙◌}
 use Rattle.tuple_codec.specs.Nodes.{Item, leaf_item}
 use Rattle.tuple_codec.specs.Trees.{AreRows}
 use Rattle.node_format.specs.Views.{leaf_of}

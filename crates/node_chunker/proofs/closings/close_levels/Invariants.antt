@@ -1,4 +1,4 @@
-use Rattle.std.proofs.Common.{◌≡◌, ◌≤◌, ◌-◌, suc, drop, length}
+use Rattle.std.proofs.Common.{◌≤◌, ◌-◌, suc, drop, length}
 use Rattle.std.specs.Prelude.{vec_len, List}
 use Rattle.std.specs.Option.{option_map, option_to_list}
 use Rattle.tuple_codec.specs.Nodes.{Item}

@@ -1,4 +1,4 @@
-use Rattle.std.proofs.Common.{◌≡◌, ◌<◌, ◌-◌, ◌++◌, ◌∷◌, [], List, length, replicate, sym, ap, ◌∙◌, arith}
+use Rattle.std.proofs.Common.{◌≡◌, ◌<◌, ◌-◌, ◌++◌, ◌∷◌, [], List, length, replicate, ap, ◌∙◌, arith}
 use Rattle.tuple_codec.specs.Nodes.{Item}
 use Rattle.node_chunker.proofs.SubtreeLemmas.{one_level}
 use Rattle.node_chunker.proofs.towers.open_levels.Goals as goal

@@ -1,5 +1,5 @@
-use Rattle.std.proofs.Common.{◌≡◌, ◌<◌, ℕ, List, Some, None, sym, ap, ◌∙◌, subst, refl, arith}
-use Rattle.tuple_codec.specs.Nodes.{Item, Node}
+use Rattle.std.proofs.Common.{◌≡◌, ◌<◌, sym, ap, ◌∙◌, subst, refl, arith}
+use Rattle.tuple_codec.specs.Nodes.{Node}
 use Rattle.chunk_store.specs.Drafts.{chunks_of}
 use Rattle.tree_laws.specs.Standing.{Leads, rows_below}
 use Rattle.prolly_tree.specs.Lists.{value_at}

@@ -1,4 +1,4 @@
-use Rattle.std.proofs.Common.{◌≡◌, ◌≤◌, ◌-◌, length}
+use Rattle.std.proofs.Common.{◌≤◌, ◌-◌, length}
 use Rattle.prolly_tree.specs.Lists.{place_of}
 use Rattle.prolly_tree.proofs.nodes.place_of.Given as goal
 

@@ -1,4 +1,4 @@
-use Rattle.std.proofs.Common.{◌≡◌, ℕ, Bool, List, cond, Some, None, sym, ap, ◌∙◌}
+use Rattle.std.proofs.Common.{Bool, cond, Some, None, sym, ap, ◌∙◌}
 use Rattle.prolly_tree.specs.Lists.{first_of}
 use Rattle.prolly_tree.proofs.Descents.{from_end, from_place}
 use Rattle.prolly_tree.proofs.nodes.value_in.Goals as goal

@@ -1,4 +1,4 @@
-use Rattle.std.proofs.Common.{◌≡◌, ◌+◌, ℕ, suc, List, drop, ap, ◌∙◌, arith}
+use Rattle.std.proofs.Common.{◌≡◌, ◌+◌, ℕ, suc, drop, ap, ◌∙◌, arith}
 use Rattle.prolly_tree.proofs.Descents.{drop_next, drop_past}
 use Rattle.prolly_tree.proofs.steps.next_in.Goals as goal
 

@@ -1,7 +1,7 @@
-use Rattle.std.proofs.Common.{◌≡◌, length, arith, ℕ, List, [], ◌∷◌, sym, ap, subst, ◌∙◌, map}
+use Rattle.std.proofs.Common.{◌≡◌, length, arith, ℕ, List, [], ◌∷◌, sym, ap, subst, ◌∙◌}
 use Rattle.tuple_codec.specs.Nodes.{node_bytes}
 use Rattle.tuple_codec.specs.Trees.{bytes_of, rows_in}
-use Rattle.node_format.specs.Views.{leaf_node, leaf_of}
+use Rattle.node_format.specs.Views.{leaf_node}
 use Rattle.chunk_store.specs.Drafts.{chunks_of}
 use Rattle.chunk_store.specs.Standing.{AreHeld}
 use Rattle.node_chunker.proofs.NodeLemmas.{leaves_count, name_is}

@@ -1,4 +1,4 @@
-use Rattle.std.proofs.Common.{◌≡◌, ◌++◌, ◌∷◌, [], ℕ, List, Option, subst, sym, ap, ◌∙◌, refl}
+use Rattle.std.proofs.Common.{◌≡◌, ◌++◌, ◌∷◌, [], List, Option, subst, sym}
 use Rattle.std.specs.Option.{option_map}
 use Rattle.std.proofs.lemmas.Result.{IfOk-weaker}
 use Rattle.tuple_codec.specs.Nodes.{Item, leaf_item}
@@ -7,7 +7,7 @@ use Rattle.node_format.specs.Views.{leaf_of, ref_of}
 use Rattle.chunk_store.specs.Drafts.{chunks_of}
 use Rattle.chunk_store.specs.Standing.{AreHeld}
 use Rattle.node_chunker.specs.Towers.{ended_chunks, pushes}
-use Rattle.node_chunker.specs.Growth.{CanPush, Fits, IsTower}
+use Rattle.node_chunker.specs.Growth.{IsTower}
 use Rattle.node_chunker.specs.Steps.{IsPushed}
 use Rattle.node_chunker.proofs.GrowthLemmas.{writable_here}
 use Rattle.node_chunker.proofs.ClimbLemmas.{grows, name_fits, row_climbs, row_fits, row_stays}

@@ -3,7 +3,7 @@ use Rattle.tuple_codec.specs.Nodes.{Node}
 use Rattle.prolly_tree.specs.Walks.{CanWalk, Left, rows_left}
 use Rattle.prolly_tree.specs.Fronts.{front_of}
 use Rattle.prolly_tree.proofs.FrontLemmas.{up_front}
-use Rattle.prolly_tree.proofs.WalkLemmas.{none_first, up_can, up_from, up_rows}
+use Rattle.prolly_tree.proofs.WalkLemmas.{none_first, up_can, up_rows}
 use Rattle.prolly_tree.proofs.paths.Path.settle.Goals as goal
 
 pub ended-preserved : goal.ended-preserved

@@ -1,12 +1,12 @@
-use Rattle.std.proofs.Common.{◌≡◌, ◌≤◌, ℕ, List, ap, sym, ◌∙◌, subst, arith}
-use Rattle.tuple_codec.specs.Nodes.{Item, Node}
+use Rattle.std.proofs.Common.{◌≡◌, ◌≤◌, List, ap, sym, ◌∙◌, subst, arith}
+use Rattle.tuple_codec.specs.Nodes.{Node}
 use Rattle.chunk_store.specs.Drafts.{chunks_of}
 use Rattle.tree_laws.specs.Found.{nodes_in}
-use Rattle.tree_laws.specs.Standing.{Leads, rows_below}
+use Rattle.tree_laws.specs.Standing.{Leads}
 use Rattle.tree_laws.proofs.Standing.{trees_lead}
-use Rattle.prolly_tree.specs.Walks.{Left, left_in}
-use Rattle.prolly_tree.specs.Fronts.{Front, IsReady, front_of, on_level, rows_ahead}
-use Rattle.prolly_tree.proofs.WalkLemmas.{begin, begin_can}
+use Rattle.prolly_tree.specs.Walks.{left_in}
+use Rattle.prolly_tree.specs.Fronts.{IsReady, front_of, on_level, rows_ahead}
+use Rattle.prolly_tree.proofs.WalkLemmas.{begin}
 use Rattle.prolly_tree.proofs.FrontLemmas.{begin_front, begin_ready, rows_on}
 use Rattle.prolly_tree.proofs.walks.Walk.new.Goals as goal
 

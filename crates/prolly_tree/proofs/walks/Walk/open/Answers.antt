@@ -1,7 +1,6 @@
 use Rattle.std.proofs.Common.{◌≡◌, ap, sym, ◌∙◌, subst}
 use Rattle.tuple_codec.specs.Nodes.{Node}
 use Rattle.chunk_store.specs.Drafts.{chunks_of}
-use Rattle.tree_laws.specs.Found.{nodes_in}
 use Rattle.prolly_tree.specs.Walks.{CanWalk, IsSettled}
 use Rattle.prolly_tree.specs.Fronts.{Front, Walking, front_of, nodes_of, opened}
 use Rattle.prolly_tree.proofs.WalkLemmas.{below, down_can, down_settled, down_to}

@@ -1,4 +1,4 @@
-use Rattle.std.proofs.Common.{◌≡◌, drop, ap, sym, ◌∙◌, subst}
+use Rattle.std.proofs.Common.{drop, ap, sym, ◌∙◌, subst}
 use Rattle.chunk_store.specs.Drafts.{chunks_of}
 use Rattle.prolly_tree.specs.Walks.{CanWalk}
 use Rattle.prolly_tree.specs.Fronts.{Front, Walking, front_of}
