@@ -1,5 +1,5 @@
 -- The chunks that a database is opened with.
-use Rattle.std.proofs.Common.{◌≡◌, refl, sym, ◌∙◌, ap, subst, ℕ, List, [], ◌∷◌, length, true, false, Some, None, Result, Ok, Err, IfErr, if◌then◌else◌, bytes_eq, pos}
+use Rattle.std.proofs.Common.{◌≡◌, refl, sym, ◌∙◌, ap, subst, ℕ, List, [], ◌∷◌, true, false, Some, None, Result, Ok, Err, IfErr, if◌then◌else◌, bytes_eq, pos}
 use Rattle.std.proofs.lemmas.Slice.Eq.{bytes_eq-Decides}
 use Rattle.chunk_store.specs.Chunks.{AreNamed, Chunk, Chunks, bytes_at}
 use Rattle.chunk_store.specs.Clashes.{IsCause}
@@ -8,23 +8,8 @@ use Rattle.chunk_store.specs.declared.faults.PutFault.{PutFault}
 use Rattle.chunk_store.specs.declared.faults.PutFault.TheVariants.{Memory, Collision}
 use Rattle.schema_model.specs.WrittenForms.{CommitParts, commit_bytes, database_address, database_bytes}
 use Rattle.plain_model.specs.PlainViews.{first_commit, plain_database}
-use Rattle.plain_model.specs.Sound.{is_sound_database}
 use Rattle.table_statements.specs.Keeping.{AreTablesAt, IsNamed}
 use Rattle.doltrun.specs.Opening.{IsOpeningFault, empty_alone}
-
--- where the empty database is found under its address, it stands
-pub empty_stands : (address : List ℕ → List ℕ) (chunks : Chunks) (k : List ℕ) → k ≡ database_address address [] → chunks (database_address address []) ≡ Some (database_bytes address []) → length k ≡ 20
-    → AreTablesAt address chunks k []
-unfolding is_sound_database plain_database
-empty_stands address chunks k is held whole = record {
-  sound = refl;
-  database = record {
-    is_database = record { tables = tt; names = refl; rise = refl };
-    named = sym is;
-    there = (held, ap length (sym is) ∙ whole);
-    tables = tt;
-  };
-}
 
 -- one chunk alone is found under its address
 pub one_found : (k bytes at found : List ℕ) → bytes_at ((k, bytes) ∷ []) at ≡ Some found → (k ≡ at) × (bytes ≡ found)
@@ -68,7 +53,3 @@ no_collision address old brought (Collision clash) none cause =
 
 pub named_opened : (address : List ℕ → List ℕ) (old new : DraftParts) → old ≡ empty_alone address → Longer old new → IsNamed address new
 named_opened address old new alone longer = subst (λ (base : List Chunk). AreNamed address base) (sym (longer.base ∙ ap (λ (d : DraftParts). d.base) alone)) tt
-
--- a draft that grew keeps its names
-pub named_later : (address : List ℕ → List ℕ) (old new : DraftParts) → Longer old new → IsNamed address old → IsNamed address new
-named_later address old new longer named = subst (λ (base : List Chunk). AreNamed address base) (sym longer.base) named

@@ -3,7 +3,7 @@ use Rattle.std.proofs.Common.{◌≡◌, refl, sym, ◌∙◌, ap, subst, ℕ, B
 use Rattle.std.specs.Option.{option_map_or}
 use Rattle.std.specs.List.{list_all}
 use Rattle.tuple_codec.specs.Rows.{Cells, fits_all}
-use Rattle.chunk_store.specs.Chunks.{Chunks, Extends}
+use Rattle.chunk_store.specs.Chunks.{Chunks}
 use Rattle.chunk_store.specs.declared.faults.Clash.{Clash}
 use Rattle.chunk_store.specs.declared.faults.PutFault.{PutFault}
 use Rattle.chunk_store.specs.declared.faults.PutFault.TheVariants.{Memory, Collision}
@@ -15,7 +15,7 @@ use Rattle.script_text.specs.declared.replies.Reply.{Reply}
 use Rattle.script_text.specs.declared.replies.Reply.TheVariants.{Done, Count, Refused, Collided}
 use Rattle.plain_model.specs.Effects.{Effect, effect, are_of_kinds, created, filled, inserted, is_too_large, most_rows, most_tables, refuses, rows_refusal, selected}
 use Rattle.plain_model.specs.Language.{read}
-use Rattle.plain_model.specs.PlainViews.{plain_database, plain_schema}
+use Rattle.plain_model.specs.PlainViews.{plain_schema}
 use Rattle.plain_model.specs.Sound.{EffectsAreSound, is_change, is_sound_database, is_sound_statement}
 use Rattle.plain_model.specs.Tables.{Tables, table_in, with_table, in_key_order, has_repeated_key, kinds_of, is_same_database}
 use Rattle.plain_model.specs.declared.statements.Create.{Create}
@@ -24,7 +24,6 @@ use Rattle.plain_model.specs.declared.statements.Statement.{Statement}
 use Rattle.plain_model.specs.declared.statements.Statement.TheVariants as form
 use Rattle.plain_model.specs.declared.tables.Schema.{Schema}
 use Rattle.plain_model.specs.declared.tables.Table.{Table}
-use Rattle.table_root.specs.Standing.{DatabasesStand}
 use Rattle.table_statements.specs.Keeping.{AreTablesAt, DoesEffect}
 use Rattle.doltrun.specs.Alone.{Served, collided_by, is_sound_reply, served, served_by, starved_by}
 use Rattle.doltrun.specs.Serving.{Serves, fault_reply}
@@ -164,10 +163,6 @@ stays_unread address chunks tables text answered k is counts stands = record {
   is_served = ap (λ r. served (shortage r) tables text) is ∙ told_as tables answered (Refused 1) 0 is counts;
   stands = stands;
 }
-
--- the tables stand in a draft that grew
-pub tables_later : DatabasesStand → (address : List ℕ → List ℕ) (old new : Chunks) (k : List ℕ) (tables : Tables) → Extends old new → AreTablesAt address old k tables → AreTablesAt address new k tables
-tables_later law address old new k tables more at = record { sound = at.sound; database = law.later address old new k (plain_database tables) more at.database }
 
 -- what a statement answers can be shown, and tells truly
 pub shows : EffectsAreSound → (tables : Tables) (statement : Statement) (reply : Reply) → is_sound_database tables ≡ true → is_sound_statement statement ≡ true

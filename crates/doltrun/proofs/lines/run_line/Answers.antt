@@ -1,7 +1,7 @@
 use Rattle.std.proofs.Common.{◌≡◌, ◌∙◌, ◌*◌, ◌+◌, ◌≤◌, sym, ap, subst, length, vec_capacity, arith}
 use Rattle.script_text.specs.Output.{shortage}
 use Rattle.doltrun.specs.Alone.{served}
-use Rattle.doltrun.proofs.OpeningLemmas.{named_later}
+use Rattle.table_statements.proofs.FaultLemmas.{still_named}
 use Rattle.doltrun.proofs.RunningLemmas.{line_run, line_there, room_kept, said_within, session_there, truly_run}
 use Rattle.doltrun.proofs.lines.run_line.Goals as goal
 
@@ -73,7 +73,7 @@ returns g c =
       head = c.requires.before.head;
       staged = c.requires.before.staged;
       stands = served_so.stands;
-      named = named_later g.D.Digester.address c.args.running.now.draft.chunks c.serve-answered.new.draft.chunks c.serve-answered.ensures.longer c.requires.before.named;
+      named = still_named g.D.Digester.address c.args.running.now.draft.chunks c.serve-answered.new.draft.chunks c.serve-answered.ensures.longer c.requires.before.named;
       truly = truly_run g.D.Digester.address c.args.running.now.replies.items c.index-as_slice-at.result.session c.index_mut-replies.result.now c.put.new.items c.serve-answered.result.reply
           session c.index_mut-replies.ensures.value c.put.ensures.items c.serve-answered.ensures.truly c.requires.before.truly;
       replies_room = room_kept (length c.args.script.now.lines) c.args.running.now.replies.items c.index-as_slice-at.result.session c.put.new.items (omega arith) c.requires.before.replies_room;

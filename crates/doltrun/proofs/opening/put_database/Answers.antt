@@ -1,6 +1,7 @@
 use Rattle.std.proofs.lemmas.Result.{err_from_is_err_and}
 use Rattle.chunk_store.specs.Drafts.{chunks_of}
-use Rattle.doltrun.proofs.OpeningLemmas.{empty_stands, no_collision}
+use Rattle.table_statements.proofs.KeepingLemmas.{empty_stands}
+use Rattle.doltrun.proofs.OpeningLemmas.{no_collision}
 use Rattle.doltrun.proofs.opening.put_database.Goals as goal
 
 pub returns-clause-tables : goal.returns-clause-tables

@@ -1,5 +1,6 @@
 use Rattle.chunk_store.specs.Drafts.{chunks_of}
-use Rattle.doltrun.proofs.ServingLemmas.{faults, serves, tables_later, tells}
+use Rattle.table_statements.proofs.KeepingLemmas.{tables_later}
+use Rattle.doltrun.proofs.ServingLemmas.{faults, serves, tells}
 use Rattle.doltrun.proofs.serving.perform.Goals as goal
 
 pub returns-in-Ok-clause-served : goal.returns-in-Ok-clause-served
@@ -14,5 +15,6 @@ returns-in-Ok-clause-truly g c =
 pub returns-in-Err-clause-served : goal.returns-in-Err-clause-served
 returns-in-Err-clause-served g c = λ tables text stands reads.
     faults g.D.Digester.address (chunks_of c.execute.new.draft.chunks) tables c.args.statement text c.faulted.result c.args.database.now.0 c.in-Err.fault reads c.faulted.ensures.reply c.faulted.ensures.moments
-    (tables_later c.law_of_databases.ensures g.D.Digester.address (chunks_of c.args.draft.now.chunks) (chunks_of c.execute.new.draft.chunks) c.args.database.now.0 tables
-    (c.law_of_drafts.ensures.longer_extends c.args.draft.now.chunks c.execute.new.draft.chunks c.execute.ensures.longer) stands)
+    (tables_later g.D.Digester.address (chunks_of c.args.draft.now.chunks) (chunks_of c.execute.new.draft.chunks)
+    (c.law_of_drafts.ensures.longer_extends c.args.draft.now.chunks c.execute.new.draft.chunks c.execute.ensures.longer) c.law_of_databases.ensures
+    c.args.database.now.0 tables stands)
