@@ -1,6 +1,6 @@
 ghost use Rattle.std.specs.Prelude.{◌≡◌, ◌<◌, ◌^◌, length, is_some, true, Some, IfOk};
 ghost use Rattle.sql_grammar.specs.Expressions.{any};
-ghost use Rattle.sql_parse.specs.Checking as spec;
+ghost use Rattle.sql_pieces.specs.Checking as spec;
 
 use sql_ast::{Expr, ReadFault, Token, lex};
 use sql_grammar::{Cursor, Piece, Stop, read_any};

@@ -1,6 +1,6 @@
 ghost use Rattle.std.specs.Prelude.{◌≡◌, is_some, IfOk};
 ghost use Rattle.sql_grammar.specs.Expressions.{any};
-ghost use Rattle.sql_parse.specs.Checking as spec;
+ghost use Rattle.sql_pieces.specs.Checking as spec;
 
 use crate::{parse, parse_check};
 use sql_ast::{ReadFault, Statement, Token, lex};

@@ -1,4 +1,4 @@
-mod Grouping
+pub mod Grouping
 mod NodeLemmas
 mod Openings
 mod Vectors

@@ -1,5 +1,5 @@
 -- The parentheses that are left to write, one after the other.
-use Rattle.std.proofs.Common.{◌≡◌, ◌∙◌, sym, ap, ℕ, suc, ◌+◌, ◌-◌, ◌<◌, ◌++◌, codes, List, arith}
+use Rattle.std.proofs.Common.{◌≡◌, ap, ℕ, suc, ◌+◌, ◌-◌, ◌<◌, ◌++◌, codes, arith}
 use Rattle.sql_text.specs.Canon.{opened}
 
 pub next_opening : (count turn : ℕ) → turn < count → opened (count - turn) ≡ codes "(" ++ opened (count - (turn + 1))

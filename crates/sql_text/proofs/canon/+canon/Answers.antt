@@ -1,4 +1,4 @@
-use Rattle.std.proofs.Common.{◌≡◌, ◌∙◌, ap, ◌++◌, ℕ, List, [], map, length, arith}
+use Rattle.std.proofs.Common.{◌∙◌, ap, ℕ, List, [], map, length, arith}
 use Rattle.std.proofs.lemmas.Grind.{common_steps}
 use Rattle.sql_ast.specs.declared.expressions.Expr.{Expr}
 use Rattle.sql_ast.specs.declared.expressions.Term.{Term}

@@ -1,4 +1,4 @@
-use Rattle.std.proofs.Common.{◌≡◌, ◌++◌, arith}
+use Rattle.std.proofs.Common.{arith}
 use Rattle.std.proofs.lemmas.Grind.{common_steps}
 use Rattle.sql_text.proofs.Openings.{next_opening}
 use Rattle.sql_text.proofs.pieces.push_opening.Goals as goal

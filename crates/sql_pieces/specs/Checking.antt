@@ -1,4 +1,4 @@
--- The expression whose canonical text a text is.
+-- The expression that a canonical text is.
 use Rattle.std.specs.Prelude.{List, [], ◌∷◌, ℕ, Option, Some, None, Result, Ok, Err}
 use Rattle.sql_ast.specs.Tokens.{tokens}
 use Rattle.sql_ast.specs.declared.expressions.Expr.{Expr}
