@@ -136,7 +136,7 @@ module _ (front behind : List ℕ) (front_all : list_all is_digit front ≡ true
         ap (λ v. number_from v behind) (number_capped 0 front ∙ capped_plain (2 ^ 64 - 1) 0 front (omega arith))
         ∙ number_capped (plain 0 front) behind ∙ capped_plain (2 ^ 64 - 1) (plain 0 front) behind (omega arith) ∙ is
 
-    pointed_value : canonical_value kind.Decimal (front ++ codes "." ++ behind) ≡ piece.Decimal number (length behind)
+    pub pointed_value : canonical_value kind.Decimal (front ++ codes "." ++ behind) ≡ piece.Decimal number (length behind)
     pointed_value =
         let whole = append_assoc front (codes ".") behind in
         let many : min (length behind) 255 ≡ length behind = omega arith in

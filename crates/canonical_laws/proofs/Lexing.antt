@@ -111,7 +111,7 @@ abbrev pub Closes : TokenKind → List ℕ → ℕ → List ℕ → ℕ → Last
 Closes kind s at rest start last done =
     (after : Last) × (tokens_from at (s ++ rest) (between start last done) ≡ tokens_from (at + length s) rest (between at after (done ++ token_at kind at (at + length s) ∷ [])))
 
-sliced : (front s rest : List ℕ) (kind : TokenKind) → slice ((front ++ s) ++ rest) (token_at kind (length front) (length (front ++ s))) ≡ s
+pub sliced : (front s rest : List ℕ) (kind : TokenKind) → slice ((front ++ s) ++ rest) (token_at kind (length front) (length (front ++ s))) ≡ s
 sliced front s rest kind = ap (drop (length front)) (take-append_seam (front ++ s) rest) ∙ drop-append_seam front s
 
 pub one_token_to : (Before : Last → Type 0) (After : List ℕ → Type 0) (To : Last → Type 0) (kind : TokenKind) (s : List ℕ)

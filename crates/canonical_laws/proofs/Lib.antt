@@ -16,4 +16,6 @@ pub mod ReadBack
 pub mod Depths
 pub mod WrittenNodes
 pub mod Given
+pub mod TokenPieces
+pub mod Checks
 mod Vectors
