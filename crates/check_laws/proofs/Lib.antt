@@ -1,0 +1,6 @@
+pub mod Nodes
+pub mod Chains
+pub mod Sums
+pub mod Ranges
+pub mod Values
+mod Vectors

@@ -1,0 +1,25 @@
+-- What a canonical text says has the kind, the refusal and the values of the expression.
+use Rattle.std.specs.Prelude.{◌≡◌, List, Ok, Err, true}
+use Rattle.sql_ast.specs.declared.expressions.Expr.{Expr}
+use Rattle.tuple_codec.specs.Rows.{Cells}
+use Rattle.expr_eval.specs.Binding.{Outcome, bound}
+use Rattle.expr_eval.specs.Valuing.{value}
+use Rattle.expr_eval.specs.declared.bound.BoundExpr.{BoundExpr}
+use Rattle.expr_eval.specs.declared.scopes.ScopeColumn.{ScopeColumn}
+use Rattle.canonical_laws.specs.Canonical.{paired}
+use Rattle.grammar_laws.specs.Spelling.{is_tree}
+
+-- one kind, and on every row one value, or both are out of range
+abbrev pub AreWorthTheSame : BoundExpr → BoundExpr → Type 0
+AreWorthTheSame a b = (a.kind ≡ b.kind) × ((row : Cells) → value row a.node ≡ value row b.node)
+
+-- both are bound and worth the same, or both have one refusal
+abbrev pub BindAlike : Outcome BoundExpr → Outcome BoundExpr → Type 0
+BindAlike (Ok a) (Ok b) = AreWorthTheSame a b
+BindAlike (Err m) (Err n) = m ≡ n
+BindAlike (Ok a) (Err n) = ⊥
+BindAlike (Err n) (Ok b) = ⊥
+
+-- over every scope
+abbrev pub KeepsValues : Type 0
+KeepsValues = (scope : List ScopeColumn) (x : Expr) → is_tree x ≡ true → BindAlike (bound scope (paired x)) (bound scope x)
