@@ -3,4 +3,5 @@ pub mod Chains
 pub mod Sums
 pub mod Ranges
 pub mod Values
+pub mod Checks
 mod Vectors

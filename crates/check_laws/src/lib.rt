@@ -5,4 +5,4 @@
 
 mod laws;
 
-pub use laws::law_of_values;
+pub use laws::{law_of_kept_checks, law_of_values};
