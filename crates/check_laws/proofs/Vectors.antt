@@ -1,0 +1,64 @@
+-- A law without `is_tree` would be wrong: of a chain without others, which no text gives, 2^63 is not the literal right under a minus.
+use Rattle.std.proofs.Common.{◌≡◌, ◌∙◌, sym, ap, ◌^◌, ◌-◌, negsuc, [], None, Some, Ok}
+use Rattle.sql_ast.specs.declared.expressions.Expr.{Expr, fold-roll-Expr}
+use Rattle.sql_ast.specs.declared.expressions.Expr.TheOpen.{Expr-F}
+use Rattle.sql_ast.specs.declared.expressions.Expr.TheVariants as e
+use Rattle.sql_ast.specs.declared.expressions.Expr.TheVariants.{rolls-Literal, rolls-Negate, rolls-Or}
+use Rattle.sql_ast.specs.declared.expressions.Literal.TheVariants as literal
+use Rattle.sql_ast.proofs.ListNodes.{fold_or}
+use Rattle.tuple_codec.specs.declared.values.Value.TheVariants as cell
+use Rattle.sql_values.specs.Numbers.{negated}
+use Rattle.sql_values.specs.Worths.{cell_of}
+use Rattle.std.specs.Option.{option_map}
+use Rattle.sql_values.specs.declared.kinds.Kind.TheVariants as kind
+use Rattle.expr_eval.specs.Binding.{Outcome, and_then, bound, bound_chain, bound_negate, logic_kind, minus_of, or_node, step}
+use Rattle.expr_eval.specs.Valuing.{Worthy, one, value, worth}
+use Rattle.expr_eval.specs.Valuing as valuing
+use Rattle.expr_eval.specs.declared.bound.BoundExpr.{BoundExpr}
+use Rattle.expr_eval.specs.declared.bound.Node.{fold-Node, fold-roll-Node}
+use Rattle.expr_eval.specs.declared.bound.Node.TheOpen.{Node-F}
+use Rattle.expr_eval.specs.declared.bound.Node.TheVariants as n
+use Rattle.expr_eval.specs.declared.bound.Node.TheVariants.{outs-MinusOnly, outs-Or, rolls-Constant, rolls-MinusOnly}
+use Rattle.expr_eval.proofs.ValueLemmas.{worth_or}
+use Rattle.canonical_laws.specs.Canonical.{paired, paired_at}
+use Rattle.check_laws.proofs.Nodes.{worth_negate}
+
+abbrev great : Expr
+great = e.Literal (literal.Whole (2 ^ 63))
+
+-- minus an OR of 2^63 alone
+abbrev alone : Expr
+alone = e.Negate (e.Or great [])
+
+bound_of_great : bound [] great ≡ Ok (record { kind = kind.Int; node = n.MinusOnly })
+bound_of_great = ap (λ z. bound [] z) (sym (rolls-Literal (literal.Whole (2 ^ 63)))) ∙ fold-roll-Expr (Outcome BoundExpr) (step []) (Expr-F.Literal (literal.Whole (2 ^ 63)))
+
+bound_of_negate : (a : Expr) → bound [] (e.Negate a) ≡ and_then (bound [] a) bound_negate
+bound_of_negate a = ap (λ z. bound [] z) (sym (rolls-Negate a)) ∙ fold-roll-Expr (Outcome BoundExpr) (step []) (Expr-F.Negate a)
+
+as_it_is : bound [] alone ≡ Ok (record { kind = kind.Int; node = n.Negate (n.Or n.MinusOnly []) })
+as_it_is =
+    bound_of_negate (e.Or great [])
+    ∙ ap (λ o. and_then o bound_negate) (fold_or (step []) great [] ∙ ap (λ o. and_then (and_then o (bound_chain logic_kind [])) or_node) bound_of_great)
+    ∙ ap (λ y. Ok (record { kind = kind.Int; node = minus_of y (n.Or n.MinusOnly []) })) (outs-Or n.MinusOnly [])
+
+out_of_range : worth [] (n.Negate (n.Or n.MinusOnly [])) ≡ None
+out_of_range =
+    worth_negate [] (n.Or n.MinusOnly [])
+    ∙ ap (one negated) (worth_or [] n.MinusOnly [] ∙ ap (λ z. fold-Node Worthy (valuing.step []) z) (sym rolls-MinusOnly) ∙ fold-roll-Node Worthy (valuing.step []) Node-F.MinusOnly)
+
+paired_alone : paired alone ≡ e.Negate great
+unfolding paired
+paired_alone =
+    ap (λ z. paired z) (sym (rolls-Negate (e.Or great []))) ∙ fold-roll-Expr Expr paired_at (Expr-F.Negate (e.Or great []))
+    ∙ ap e.Negate (fold_or paired_at great [] ∙ ap (λ z. paired z) (sym (rolls-Literal (literal.Whole (2 ^ 63)))) ∙ fold-roll-Expr Expr paired_at (Expr-F.Literal (literal.Whole (2 ^ 63))))
+
+read_back : bound [] (paired alone) ≡ Ok (record { kind = kind.Int; node = n.Constant kind.Int (cell.Int (negsuc (2 ^ 63 - 1))) })
+read_back =
+    ap (λ z. bound [] z) paired_alone ∙ bound_of_negate great ∙ ap (λ o. and_then o bound_negate) bound_of_great
+    ∙ ap (λ y. Ok (record { kind = kind.Int; node = minus_of y n.MinusOnly })) outs-MinusOnly
+
+in_range : value [] (n.Constant kind.Int (cell.Int (negsuc (2 ^ 63 - 1)))) ≡ Some (cell.Int (negsuc (2 ^ 63 - 1)))
+in_range =
+    ap (option_map cell_of) (ap (λ z. fold-Node Worthy (valuing.step []) z) (sym (rolls-Constant kind.Int (cell.Int (negsuc (2 ^ 63 - 1)))))
+    ∙ fold-roll-Node Worthy (valuing.step []) (Node-F.Constant kind.Int (cell.Int (negsuc (2 ^ 63 - 1)))))
