@@ -5,7 +5,7 @@ ghost use Rattle.std.specs.Arc.{arc_value};
 ghost use Rattle.chunk_region.specs.Pages.{Pages};
 ghost use Rattle.chunk_store.specs.Chunks.{Agree, AreNamed, IsHeld, IsSingle, bytes_at};
 ghost use Rattle.chunk_store.specs.Clashes.{IsCause};
-ghost use Rattle.chunk_store.specs.Drafts.{IsSound, TakesAtMostOnePage, chunks_of, cut_to, pages_in, put_in};
+ghost use Rattle.chunk_store.specs.Drafts.{IsSound, Puts, TakesAtMostOnePage, chunks_of, cut_to, pages_in};
 
 use crate::faults::{PutFault, is_there};
 use crate::index::{Index, Placed};
@@ -69,13 +69,7 @@ impl<D: Digester> Draft<D> {
     /// Keeps these bytes, or finds that they are kept: the address is theirs. A collision shows the bytes held first.
     pub fn put(&mut self, bytes: &[u8]) -> Result<Address, PutFault>
         requires { length bytes.now ≤ 65536 }
-        ensures address { IfOk result (λ address. address.0 ≡ D.address bytes.now) }
-        ensures exact { OnOk result (self.new.chunks ≡ put_in D.address bytes.now self.old.chunks) }
-        ensures held { OnOk result (IsHeld D.address (chunks_of self.new.chunks) (D.address bytes.now) bytes.now) }
-        ensures cause { IfErr result (IsCause (chunks_of self.old.chunks) (bytes_at ((D.address bytes.now, bytes.now) ∷ []))) }
-        ensures same { OnErr result (self.new ≡ self.old) }
-        ensures pages { TakesAtMostOnePage self.old self.new }
-        ensures steps { (self.new.chunks ≡ self.old.chunks) ⊎ (self.new.chunks ≡ put_in D.address bytes.now self.old.chunks) }
+        ensures { Puts D.address bytes.now self.old self.new result }
     {
         let address = D::address_of(bytes);
         if self.has(&address, bytes)? {
