@@ -11,9 +11,10 @@ pub record DraftParts : Type 0 where
   pub base : List Chunk
   pub own : List Chunk
 
--- what a draft has: its chunks, and how many pages of its pool are free and how many are taken
+-- what a draft has: its chunks, how those of the store lie in segments, and how many pages of its pool are free and how many are taken
 pub record Drafting : Type 0 where
   pub chunks : DraftParts
+  pub segments : List (List Chunk)
   pub free : ℕ
   pub taken : ℕ
 
@@ -65,6 +66,7 @@ pub record Grows (is_kind : List ℕ → Bool) (old new : Drafting) : Type 0 whe
   pub more : List Chunk
   pub base : new.chunks.base ≡ old.chunks.base
   pub own : new.chunks.own ≡ old.chunks.own ++ more
+  pub segments : new.segments ≡ old.segments
   pub kinds : AreOfKind is_kind more
   pub pages : pages_in old ≤ pages_in new
 
@@ -77,4 +79,5 @@ pub record Puts (address_of : List ℕ → List ℕ) (bytes : List ℕ) (old new
   pub cause : IfErr result (IsReason address_of (chunks_of new.chunks))
   pub brought : IfErr result (IsBrought bytes)
   pub same : OnErr result (new ≡ old)
+  pub segments : new.segments ≡ old.segments
   pub pages : TakesAtMostOnePage old new

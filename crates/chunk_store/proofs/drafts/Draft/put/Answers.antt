@@ -34,5 +34,6 @@ returns g c =
       cause = tt;
       brought = tt;
       same = tt;
+      segments = c.add.ensures.segments;
       pages = c.add.ensures.pages;
     }
