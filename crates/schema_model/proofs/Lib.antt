@@ -1,5 +1,6 @@
 pub mod ItemLemmas
 pub mod PartLemmas
+mod SamenessLemmas
 mod SchemaLemmas
 mod ValueLemmas
 mod Vectors

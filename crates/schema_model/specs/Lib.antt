@@ -6,3 +6,4 @@ pub mod Reading
 pub mod Spellings
 pub mod PlainTables
 pub mod WrittenForms
+pub mod Sameness

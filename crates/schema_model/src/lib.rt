@@ -19,7 +19,7 @@ mod tests;
 mod types;
 mod writing;
 
-pub use laws::law_of_schemas;
+pub use laws::{law_of_sameness, law_of_schemas};
 pub use reading::read_schema;
 pub use rules::is_schema;
 pub use schemas::{CheckDef, Column, ForeignKey, IndexDef, Schema};
