@@ -2,6 +2,7 @@ pub mod ItemLemmas
 pub mod PartLemmas
 mod SamenessLemmas
 mod SchemaLemmas
+mod SizeLemmas
 mod ValueLemmas
 mod Vectors
 mod WrittenLemmas

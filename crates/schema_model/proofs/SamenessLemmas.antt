@@ -83,7 +83,6 @@ kind_decides (kind.Decimal a c) (kind.Decimal b d) =
     (Decides-and _ _ (Decides-eqb a b) (Decides-eqb c d))
 kind_decides a b = (λ e. cc, λ e. cc)
 
-
 column_decides : (a b : Column) → Decides (is_same_column a b) (a ≡ b)
 column_decides a b =
     Decides-like _

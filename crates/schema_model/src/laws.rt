@@ -1,7 +1,7 @@
 //! Laws for the crates above: call one where a proof needs it. None does anything.
 
 ghost use Rattle.schema_model.specs.Sameness.{SamenessIsEquality};
-ghost use Rattle.schema_model.specs.Spellings.{HasOneSpelling};
+ghost use Rattle.schema_model.specs.Spellings.{HasOneSpelling, SchemasAreShort};
 
 /// Two schemas with the same bytes are one.
 pub fn law_of_schemas()
@@ -11,4 +11,9 @@ pub fn law_of_schemas()
 /// Rows, schemas, tables and databases are the same by the tests exactly where they are equal.
 pub fn law_of_sameness()
     ensures { SamenessIsEquality }
+{}
+
+/// A schema has fewer than 2^32 bytes.
+pub fn law_of_sizes()
+    ensures { SchemasAreShort }
 {}
