@@ -1,6 +1,8 @@
 pub mod ItemLemmas
 pub mod PartLemmas
+mod SamenessLemmas
 mod SchemaLemmas
+mod SizeLemmas
 mod ValueLemmas
 mod Vectors
 mod WrittenLemmas
