@@ -1,3 +1,4 @@
+mod AncestorLemmas
 pub mod ItemLemmas
 pub mod PartLemmas
 mod SamenessLemmas

@@ -38,7 +38,7 @@ truth_decides false false = (λ _. refl, λ _. refl)
 truth_decides true false = (λ e. cc, λ e. cc)
 truth_decides false true = (λ e. cc, λ e. cc)
 
-text_decides : (a b : List ℕ) → Decides (is_eq (slice_cmp nat_cmp a b)) (a ≡ b)
+pub text_decides : (a b : List ℕ) → Decides (is_eq (slice_cmp nat_cmp a b)) (a ≡ b)
 text_decides a b = Decides-at _ _ (is_eq-slice_cmp a b) (bytes_decides a b)
 
 value_decides : (a b : Value) → Decides (is_same_value a b) (a ≡ b)
@@ -50,7 +50,7 @@ value_decides (cell.Bytes a) (cell.Bytes b) = Decides-like _ (λ e. ap cell.Byte
 value_decides (cell.Decimal a) (cell.Decimal b) = Decides-like _ (λ e. ap cell.Decimal e) (λ e. cc) (int_decides a b)
 value_decides a b = (λ e. cc, λ e. cc)
 
-then_equal : (o p : Ordering) → is_eq (ordering_then o p) ≡ (is_eq o && is_eq p)
+pub then_equal : (o p : Ordering) → is_eq (ordering_then o p) ≡ (is_eq o && is_eq p)
 then_equal Less p = refl
 then_equal Equal p = refl
 then_equal Greater p = refl

@@ -1,5 +1,5 @@
 -- A schema has few bytes.
-use Rattle.std.proofs.Common.{◌≡◌, ℕ, suc, ◌+◌, ◌*◌, ◌≤◌, ◌<◌, ◌^◌, ◌==◌, Bool, true, leb, ltb, List, [], ◌∷◌, ◌++◌, length, Option, Some, None, arith}
+use Rattle.std.proofs.Common.{◌≡◌, ℕ, ◌+◌, ◌*◌, ◌≤◌, ◌<◌, ◌^◌, ◌==◌, Bool, true, leb, ltb, List, [], ◌∷◌, ◌++◌, length, Option, Some, None, arith}
 use Rattle.std.specs.Prelude.{◌&&◌, is_some}
 use Rattle.std.specs.List.{flat_map, list_all}
 use Rattle.std.proofs.Math.Nat.{mul-le-mul_right}

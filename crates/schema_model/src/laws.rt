@@ -1,5 +1,6 @@
 //! Laws for the crates above: call one where a proof needs it. None does anything.
 
+ghost use Rattle.schema_model.specs.PlainCommits.{AncestorsFollow};
 ghost use Rattle.schema_model.specs.Sameness.{SamenessIsEquality};
 ghost use Rattle.schema_model.specs.Spellings.{HasOneSpelling, SchemasAreShort};
 
@@ -16,4 +17,9 @@ pub fn law_of_sameness()
 /// A schema has fewer than 2^32 bytes.
 pub fn law_of_sizes()
     ensures { SchemasAreShort }
+{}
+
+/// The list of a commit's ancestors has each once and in order, and the base is the first common one.
+pub fn law_of_ancestors()
+    ensures { AncestorsFollow }
 {}
