@@ -14,7 +14,7 @@ use Rattle.chunk_store.proofs.FollowLemmas.{drafts_follow}
 use Rattle.node_chunker.specs.Towers.{pushes, ended_chunks}
 use Rattle.node_chunker.specs.Growth.{CanPush, Fits, IsTower, IsWritable, spread}
 use Rattle.chunk_store.specs.Standing.{AreHeld}
-use Rattle.node_chunker.specs.Steps.{IsClimbing, IsNamed}
+use Rattle.node_chunker.specs.Steps.{IsClimbing, IsNamed, IsPushedAt}
 use Rattle.node_chunker.proofs.TowerLemmas.{all_split, extends_both}
 use Rattle.node_chunker.proofs.GrowthLemmas.{rise_split, rows_join, low_level, fits_row, fits_up, writable_here, tower_push}
 
@@ -147,6 +147,11 @@ module _ (a : List ℕ → List ℕ) (made : List (List Item)) (written : List (
             ∙ ap (λ l. take at nodes ++ pushes a (suc at) l item) (sym none) ∙ climbing.comes,
         climbing.kept old (λ k bytes found. found) (subst P (ap (λ l. ended_chunks a (suc at) l item) (sym none)) tt),
       )
+
+-- what climbed further is pushed
+pub climb_done : (a : List ℕ → List ℕ) (made : List (List Item)) (written : List (List ℕ)) (old new : Chunks) (nodes after : List (List Item)) (at : ℕ) (item : Item)
+    → IsClimbing a old made written nodes at item → Extends old new → IsPushedAt a new at nodes item after → (after ≡ made) × AreHeld a new written
+climb_done a made written old new nodes after at item climbing grows done = (done.0 ∙ climbing.comes, climbing.kept new grows done.1)
 
 -- ---- a row
 

@@ -13,6 +13,7 @@ ghost use Rattle.node_chunker.specs.Towers.{is_empty};
 use crate::inners::OpenInner;
 use chunk_store::{Draft, PutFault};
 use node_format::RefItem;
+use std::alloc::Global;
 use tuple_codec::{Address, Digester};
 
 /// What closing a level came to.
@@ -36,13 +37,14 @@ pub(crate) fn close_levels<D: Digester>(
     ensures longer { Longer draft.old.chunks draft.new.chunks }
     ensures cause { IfErr result (IsReason D.address (chunks_of draft.new.chunks)) }
 {
+    let alloc = *inner.allocator();
     let mut inner = inner;
     let mut carry = named;
     let mut at = 0;
     'levels: while at < inner.len() {
         let level = at as u8 + 1;
         let is_last = at + 1 == inner.len();
-        match close_level(&mut inner[at], draft, level, is_last, carry)? {
+        match close_level(alloc, &mut inner[at], draft, level, is_last, carry)? {
             Closed::Root(root) => return Ok(root),
             Closed::Below(named) => carry = named,
         }
@@ -56,6 +58,7 @@ pub(crate) fn close_levels<D: Digester>(
 
 /// Closes the open node of one level, after the name that the level below has left.
 fn close_level<D: Digester>(
+    alloc: Global,
     node: &mut OpenInner,
     draft: &mut Draft<D>,
     level: u8,
@@ -72,6 +75,6 @@ fn close_level<D: Digester>(
     if let Some(root) = node.root(is_last) {
         return Ok(Closed::Root(root));
     }
-    let named = node.close(draft, level)?;
+    let named = node.close(alloc, draft, level)?;
     Ok(Closed::Below(named))
 }

@@ -1,4 +1,4 @@
-use Rattle.std.proofs.Common.{◌≤◌, ◌-◌, ◌++◌, suc, take, drop, length}
+use Rattle.std.proofs.Common.{◌≤◌, ◌+◌, ◌-◌, ◌++◌, suc, take, drop, length}
 use Rattle.std.specs.Prelude.{vec_len}
 use Rattle.node_format.specs.Views.{ref_of}
 use Rattle.chunk_store.specs.Drafts.{Longer, chunks_of}
