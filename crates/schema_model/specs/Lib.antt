@@ -6,3 +6,5 @@ pub mod Reading
 pub mod Spellings
 pub mod PlainTables
 pub mod WrittenForms
+pub mod PlainCommits
+pub mod Sameness
