@@ -1,5 +1,5 @@
 -- What a seat knows that took others in, one after another.
-use Rattle.std.proofs.Common.{◌≡◌, ◌≢◌, ℕ, zero, suc, ◌+◌, ◌<◌, Bool, true, false, cond, nat_eq, ◌==◌, length, get_or, map, List, [], ◌∷◌, ◌++◌, refl, sym, ap, ◌∙◌, subst, arith, eq-eqb, ◌⊎◌, inl, inr}
+use Rattle.std.proofs.Common.{◌≡◌, ◌≢◌, ℕ, zero, suc, ◌+◌, ◌<◌, Bool, true, false, cond, nat_eq, ◌==◌, length, get_or, map, List, [], ◌∷◌, ◌++◌, refl, sym, ap, ◌∙◌, subst, arith, eq-eqb, inl, inr}
 use Rattle.std.specs.List.{filter, AllByRecursion}
 use Rattle.seat_gate.specs.History.{Spelling, Entry, Past, View, entries_of, past_of, joined_with, gathered}
 use Rattle.seat_gate.specs.Words.{HasJoined, HasJoinedBelow, StandsIn, IsWhole, shown}

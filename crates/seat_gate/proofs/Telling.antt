@@ -1,11 +1,10 @@
 -- The turns of a seat as it sees more of the history.
-use Rattle.std.proofs.Common.{◌≡◌, ℕ, suc, ◌+◌, ◌<◌, get_or, Bool, true, false, cond, nat_eq, List, [], ◌∷◌, ◌++◌, length, refl, sym, ap, ◌∙◌, subst, arith, append-nil, eq-eqb, length-append}
+use Rattle.std.proofs.Common.{◌≡◌, ℕ, suc, ◌+◌, ◌<◌, get_or, Bool, true, false, cond, nat_eq, List, [], ◌∷◌, ◌++◌, length, refl, sym, ap, ◌∙◌, arith, append-nil, eq-eqb, length-append}
 use Rattle.std.proofs.lemmas.List.Elements.{filter-append}
 use Rattle.seat_gate.specs.History.{Spelling, Entry, View, entries_of, StartsWith, HasMade, gathered}
-use Rattle.seat_gate.specs.Told.{Turn, turn_from, left_last, told_by, told_of}
+use Rattle.seat_gate.specs.Told.{turn_from, left_last, told_by, told_of}
 use Rattle.seat_gate.specs.Words.{StandsIn, IsWhole}
 use Rattle.seat_gate.proofs.Gathering.{whole_each, whole_opened}
-use Rattle.seat_gate.proofs.PlaceLemmas.{off}
 
 pub left_append : (before : Spelling) (a b : List Entry) → left_last before (a ++ b) ≡ left_last (left_last before a) b
 left_append before [] b = refl

@@ -1,6 +1,6 @@
 -- The words in which workers are spoken of.
 use Rattle.std.specs.Prelude.{◌≡◌, ℕ, ◌+◌, ◌<◌, length, slice_index_or, List, [], map, Option, Some, None}
-use Rattle.seat_gate.specs.History.{Spelling, View, new_view, newcomer}
+use Rattle.seat_gate.specs.History.{View, new_view, newcomer}
 use Rattle.seat_gate.specs.Words.{GateId, gate_of, seat_view}
 use Rattle.seat_gate.specs.declared.seat.Seat.{Seat}
 use Rattle.seat_gate.specs.declared.workers.Worker.{Worker}

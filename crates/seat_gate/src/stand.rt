@@ -111,10 +111,7 @@ impl<'a, T: Kept> Stand<'a, T> {
         ensures view { seat_view result ≡ stand_view self.entry }
         ensures own { HasMade (seat_view result) }
     {
-        let Stand {
-            gate: _,
-            spot,
-        } = self;
+        let Stand { gate: _, spot } = self;
         match spot {
             Spot::Seated(seat) => seat,
             Spot::Holding(held) => held.leave(),

@@ -1,5 +1,5 @@
-use Rattle.std.proofs.Common.{◌≡◌, ◌+◌, ◌<◌, length, sym, ap, ◌∙◌, subst, arith}
-use Rattle.seat_gate.specs.History.{View, gathered}
+use Rattle.std.proofs.Common.{◌≡◌, ◌+◌, length, sym, ap, ◌∙◌, subst, arith}
+use Rattle.seat_gate.specs.History.{View}
 use Rattle.seat_gate.specs.Words.{HasJoinedBelow, seat_view}
 use Rattle.seat_gate.specs.Working.{views_of}
 use Rattle.seat_gate.proofs.Gathering.{all_gathered}
