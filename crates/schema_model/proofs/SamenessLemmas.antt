@@ -1,20 +1,18 @@
 -- Plain contents that are the same part by part are equal.
-use Rattle.std.proofs.Common.{◌≡◌, refl, ◌∙◌, ap, ℕ, ℤ, Bool, true, false, ◌&&◌, List, [], ◌∷◌, Option, None, Some, arith}
+use Rattle.std.proofs.Common.{◌≡◌, refl, ◌∙◌, ap, ℕ, Bool, true, false, ◌&&◌, List, [], ◌∷◌, Option, None, Some}
 use Rattle.std.specs.Bool.{Decides}
-use Rattle.std.specs.Cmp.{int_ranks}
 use Rattle.std.specs.Cmp.Lexicographic.{slice_cmp, pointwise_decides, bytes_decides}
-use Rattle.std.specs.Ordering.{nat_cmp, int_cmp, bool_cmp, is_eq, ordering_then}
+use Rattle.std.specs.Ordering.{nat_cmp, is_eq, ordering_then}
 use Rattle.std.specs.declared.cmp.Ordering.{Ordering}
 use Rattle.std.specs.declared.cmp.Ordering.TheVariants.{Less, Equal, Greater}
 use Rattle.std.proofs.lemmas.Bool.Decides.{Decides-at, Decides-and, Decides-like, Decides-eqb}
 use Rattle.std.proofs.lemmas.Map.Text.{is_eq-slice_cmp}
-use Rattle.tuple_codec.specs.Rows.{Cells, value_cmp}
+use Rattle.tuple_codec.specs.Rows.{Cells, same_cells, same_value}
+use Rattle.tuple_codec.proofs.Orders.{cells_told, values_told}
 use Rattle.tuple_codec.specs.declared.values.SqlType.{SqlType}
 use Rattle.tuple_codec.specs.declared.values.SqlType.TheVariants as kind
-use Rattle.tuple_codec.specs.declared.values.Value.{Value}
-use Rattle.tuple_codec.specs.declared.values.Value.TheVariants as cell
 use Rattle.schema_model.specs.PlainTables.{Conflict, NamedTable, PlainDatabase, PlainTable, Violation}
-use Rattle.schema_model.specs.Sameness.{SamenessIsEquality, is_same_check, is_same_column, is_same_conflict, is_same_database, is_same_foreign, is_same_index, is_same_kind, is_same_named, is_same_option, is_same_row, is_same_schema, is_same_table, is_same_truth, is_same_value, is_same_violation}
+use Rattle.schema_model.specs.Sameness.{SamenessIsEquality, is_same_check, is_same_column, is_same_conflict, is_same_database, is_same_foreign, is_same_index, is_same_kind, is_same_named, is_same_option, is_same_schema, is_same_table, is_same_truth, is_same_violation}
 use Rattle.schema_model.specs.declared.schemas.Column.{Column}
 use Rattle.schema_model.specs.declared.schemas.IndexDef.{IndexDef}
 use Rattle.schema_model.specs.declared.schemas.CheckDef.{CheckDef}
@@ -22,15 +20,6 @@ use Rattle.schema_model.specs.declared.schemas.ForeignKey.{ForeignKey}
 use Rattle.schema_model.specs.declared.schemas.Schema.{Schema}
 
 -- ---- values and rows
-
-int_decides : (a b : ℤ) → Decides (is_eq (int_cmp a b)) (a ≡ b)
-int_decides a b = grind (arith, int_ranks a b)
-
-ordered_truth_decides : (a b : Bool) → Decides (is_eq (bool_cmp a b)) (a ≡ b)
-ordered_truth_decides true true = (λ _. refl, λ _. refl)
-ordered_truth_decides false false = (λ _. refl, λ _. refl)
-ordered_truth_decides true false = (λ e. cc, λ e. cc)
-ordered_truth_decides false true = (λ e. cc, λ e. cc)
 
 truth_decides : (a b : Bool) → Decides (is_same_truth a b) (a ≡ b)
 truth_decides true true = (λ _. refl, λ _. refl)
@@ -41,28 +30,10 @@ truth_decides false true = (λ e. cc, λ e. cc)
 pub text_decides : (a b : List ℕ) → Decides (is_eq (slice_cmp nat_cmp a b)) (a ≡ b)
 text_decides a b = Decides-at _ _ (is_eq-slice_cmp a b) (bytes_decides a b)
 
-value_decides : (a b : Value) → Decides (is_same_value a b) (a ≡ b)
-value_decides cell.Null cell.Null = (λ _. refl, λ _. refl)
-value_decides (cell.Int a) (cell.Int b) = Decides-like _ (λ e. ap cell.Int e) (λ e. cc) (int_decides a b)
-value_decides (cell.Bool a) (cell.Bool b) = Decides-like _ (λ e. ap cell.Bool e) (λ e. cc) (ordered_truth_decides a b)
-value_decides (cell.Text a) (cell.Text b) = Decides-like _ (λ e. ap cell.Text e) (λ e. cc) (text_decides a b)
-value_decides (cell.Bytes a) (cell.Bytes b) = Decides-like _ (λ e. ap cell.Bytes e) (λ e. cc) (text_decides a b)
-value_decides (cell.Decimal a) (cell.Decimal b) = Decides-like _ (λ e. ap cell.Decimal e) (λ e. cc) (int_decides a b)
-value_decides a b = (λ e. cc, λ e. cc)
-
 pub then_equal : (o p : Ordering) → is_eq (ordering_then o p) ≡ (is_eq o && is_eq p)
 then_equal Less p = refl
 then_equal Equal p = refl
 then_equal Greater p = refl
-
-pub row_decides : (a b : Cells) → Decides (is_same_row a b) (a ≡ b)
-row_decides [] [] = (λ _. refl, λ _. refl)
-row_decides [] (b ∷ bs) = (λ e. cc, λ e. cc)
-row_decides (a ∷ more) [] = (λ e. cc, λ e. cc)
-row_decides (a ∷ more) (b ∷ bs) =
-    Decides-at _ _ (then_equal (value_cmp a b) (slice_cmp value_cmp more bs))
-    (Decides-like _ (λ p. ap (λ v. v ∷ more) p.0 ∙ ap (λ vs. b ∷ vs) p.1) (λ (e : a ∷ more ≡ b ∷ bs). let first : a ≡ b = cc in let rest : more ≡ bs = cc in (first, rest))
-    (Decides-and _ _ (value_decides a b) (row_decides more bs)))
 
 option_decides : {A : Type 0} (same : A → A → Bool) → ((a b : A) → Decides (same a b) (a ≡ b)) → (a b : Option A) → Decides (is_same_option same a b) (a ≡ b)
 option_decides same decides None None = (λ _. refl, λ _. refl)
@@ -92,7 +63,7 @@ column_decides a b =
     ∙ ap (λ x. record { name = b.name; kind = b.kind; not_null = b.not_null; default = x }) p.1)
     (λ e. (((ap (λ c. c.name) e, ap (λ c. c.kind) e), ap (λ c. c.not_null) e), ap (λ c. c.default) e))
     (Decides-and _ _ (Decides-and _ _ (Decides-and _ _ (bytes_decides a.name b.name) (kind_decides a.kind b.kind)) (truth_decides a.not_null b.not_null))
-    (option_decides is_same_value value_decides a.default b.default))
+    (option_decides same_value values_told a.default b.default))
 
 index_decides : (a b : IndexDef) → Decides (is_same_index a b) (a ≡ b)
 index_decides a b =
@@ -134,8 +105,8 @@ schema_decides a b =
 
 -- ---- tables and databases
 
-side_decides : (a b : Option Cells) → Decides (is_same_option is_same_row a b) (a ≡ b)
-side_decides a b = option_decides is_same_row row_decides a b
+side_decides : (a b : Option Cells) → Decides (is_same_option same_cells a b) (a ≡ b)
+side_decides a b = option_decides same_cells cells_told a b
 
 conflict_decides : (a b : Conflict) → Decides (is_same_conflict a b) (a ≡ b)
 conflict_decides a b =
@@ -145,7 +116,7 @@ conflict_decides a b =
     ∙ ap (λ x. record { key = b.key; base = b.base; ours = x; theirs = a.theirs }) p.0.1
     ∙ ap (λ x. record { key = b.key; base = b.base; ours = b.ours; theirs = x }) p.1)
     (λ e. (((ap (λ c. c.key) e, ap (λ c. c.base) e), ap (λ c. c.ours) e), ap (λ c. c.theirs) e))
-    (Decides-and _ _ (Decides-and _ _ (Decides-and _ _ (row_decides a.key b.key) (side_decides a.base b.base)) (side_decides a.ours b.ours)) (side_decides a.theirs b.theirs))
+    (Decides-and _ _ (Decides-and _ _ (Decides-and _ _ (cells_told a.key b.key) (side_decides a.base b.base)) (side_decides a.ours b.ours)) (side_decides a.theirs b.theirs))
 
 violation_decides : (a b : Violation) → Decides (is_same_violation a b) (a ≡ b)
 violation_decides a b =
@@ -155,7 +126,7 @@ violation_decides a b =
     ∙ ap (λ x. record { kind = b.kind; constraint = b.constraint; key = x; row = a.row }) p.0.1
     ∙ ap (λ x. record { kind = b.kind; constraint = b.constraint; key = b.key; row = x }) p.1)
     (λ e. (((ap (λ c. c.kind) e, ap (λ c. c.constraint) e), ap (λ c. c.key) e), ap (λ c. c.row) e))
-    (Decides-and _ _ (Decides-and _ _ (Decides-and _ _ (Decides-eqb a.kind b.kind) (bytes_decides a.constraint b.constraint)) (row_decides a.key b.key)) (row_decides a.row b.row))
+    (Decides-and _ _ (Decides-and _ _ (Decides-and _ _ (Decides-eqb a.kind b.kind) (bytes_decides a.constraint b.constraint)) (cells_told a.key b.key)) (cells_told a.row b.row))
 
 table_decides : (a b : PlainTable) → Decides (is_same_table a b) (a ≡ b)
 table_decides a b =
@@ -165,7 +136,7 @@ table_decides a b =
     ∙ ap (λ x. record { schema = b.schema; rows = b.rows; conflicts = x; violations = a.violations }) p.0.1
     ∙ ap (λ x. record { schema = b.schema; rows = b.rows; conflicts = b.conflicts; violations = x }) p.1)
     (λ e. (((ap (λ c. c.schema) e, ap (λ c. c.rows) e), ap (λ c. c.conflicts) e), ap (λ c. c.violations) e))
-    (Decides-and _ _ (Decides-and _ _ (Decides-and _ _ (schema_decides a.schema b.schema) (pointwise_decides row_decides a.rows b.rows)) (pointwise_decides conflict_decides a.conflicts b.conflicts))
+    (Decides-and _ _ (Decides-and _ _ (Decides-and _ _ (schema_decides a.schema b.schema) (pointwise_decides cells_told a.rows b.rows)) (pointwise_decides conflict_decides a.conflicts b.conflicts))
     (pointwise_decides violation_decides a.violations b.violations))
 
 named_decides : (a b : NamedTable) → Decides (is_same_named a b) (a ≡ b)
@@ -180,7 +151,6 @@ database_decides a b = pointwise_decides named_decides a b
 
 pub sameness_is_equality : SamenessIsEquality
 sameness_is_equality = record {
-  rows = row_decides;
   columns = column_decides;
   indexes = index_decides;
   checks = check_decides;

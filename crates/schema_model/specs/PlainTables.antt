@@ -122,6 +122,16 @@ unkeyed_from key position [] = []
 unkeyed_from key position (value ∷ row) =
     if is_keyed key position then unkeyed_from key (suc position) row else value ∷ unkeyed_from key (suc position) row
 
+-- the types of the columns that aren't in the primary key, the first of these standing at a position
+abbrev pub unkeyed_types : List ℕ → ℕ → List Column → List SqlType
+unkeyed_types key place [] = []
+unkeyed_types key place (column ∷ columns) =
+    if is_keyed key place then unkeyed_types key (suc place) columns else column.kind ∷ unkeyed_types key (suc place) columns
+
+-- the types of a row's cells beside its key
+abbrev pub body_types : Schema → List SqlType
+body_types schema = unkeyed_types schema.key 0 schema.columns
+
 -- the bytes of a row beside its key
 abbrev pub body_bytes : Schema → Cells → List ℕ
 body_bytes schema row = row_bytes (unkeyed_from schema.key 0 row)

@@ -1,12 +1,9 @@
 -- Whether plain contents are the same, part by part: true exactly where they are equal.
-use Rattle.std.specs.Prelude.{◌≡◌, ◌==◌, Bool, true, false, ◌&&◌, not, Option, None, Some, bytes_eq}
-use Rattle.std.specs.Bool.{Decides}
+use Rattle.std.specs.Prelude.{◌==◌, Bool, true, false, ◌&&◌, not, Option, None, Some, bytes_eq}
 use Rattle.std.specs.Cmp.Lexicographic.{pointwise}
-use Rattle.std.specs.Ordering.{is_eq}
-use Rattle.tuple_codec.specs.Rows.{Cells, key_cmp, value_cmp}
+use Rattle.tuple_codec.specs.Rows.{AreTold, same_cells, same_value}
 use Rattle.tuple_codec.specs.declared.values.SqlType.{SqlType}
 use Rattle.tuple_codec.specs.declared.values.SqlType.TheVariants as kind
-use Rattle.tuple_codec.specs.declared.values.Value.{Value}
 use Rattle.schema_model.specs.PlainTables.{Conflict, NamedTable, PlainDatabase, PlainTable, Violation}
 use Rattle.schema_model.specs.declared.schemas.Column.{Column}
 use Rattle.schema_model.specs.declared.schemas.IndexDef.{IndexDef}
@@ -33,14 +30,8 @@ is_same_kind (kind.Varbinary a) (kind.Varbinary b) = a == b
 is_same_kind (kind.Decimal a c) (kind.Decimal b d) = a == b && c == d
 is_same_kind a b = false
 
-abbrev pub is_same_value : Value → Value → Bool
-is_same_value a b = is_eq (value_cmp a b)
-
-abbrev pub is_same_row : Cells → Cells → Bool
-is_same_row a b = is_eq (key_cmp a b)
-
 abbrev pub is_same_column : Column → Column → Bool
-is_same_column a b = bytes_eq a.name b.name && is_same_kind a.kind b.kind && is_same_truth a.not_null b.not_null && is_same_option is_same_value a.default b.default
+is_same_column a b = bytes_eq a.name b.name && is_same_kind a.kind b.kind && is_same_truth a.not_null b.not_null && is_same_option same_value a.default b.default
 
 abbrev pub is_same_index : IndexDef → IndexDef → Bool
 is_same_index a b = bytes_eq a.name b.name && is_same_truth a.unique b.unique && bytes_eq a.columns b.columns
@@ -65,18 +56,18 @@ is_same_schema a b =
 
 abbrev pub is_same_conflict : Conflict → Conflict → Bool
 is_same_conflict a b =
-    is_same_row a.key b.key
-    && is_same_option is_same_row a.base b.base
-    && is_same_option is_same_row a.ours b.ours
-    && is_same_option is_same_row a.theirs b.theirs
+    same_cells a.key b.key
+    && is_same_option same_cells a.base b.base
+    && is_same_option same_cells a.ours b.ours
+    && is_same_option same_cells a.theirs b.theirs
 
 abbrev pub is_same_violation : Violation → Violation → Bool
-is_same_violation a b = a.kind == b.kind && bytes_eq a.constraint b.constraint && is_same_row a.key b.key && is_same_row a.row b.row
+is_same_violation a b = a.kind == b.kind && bytes_eq a.constraint b.constraint && same_cells a.key b.key && same_cells a.row b.row
 
 abbrev pub is_same_table : PlainTable → PlainTable → Bool
 is_same_table a b =
     is_same_schema a.schema b.schema
-    && pointwise is_same_row a.rows b.rows
+    && pointwise same_cells a.rows b.rows
     && pointwise is_same_conflict a.conflicts b.conflicts
     && pointwise is_same_violation a.violations b.violations
 
@@ -88,11 +79,10 @@ is_same_database a b = pointwise is_same_named a b
 
 -- the tests are equality
 pub record SamenessIsEquality : Type 0 where
-  pub rows : (a b : Cells) → Decides (is_same_row a b) (a ≡ b)
-  pub columns : (a b : Column) → Decides (is_same_column a b) (a ≡ b)
-  pub indexes : (a b : IndexDef) → Decides (is_same_index a b) (a ≡ b)
-  pub checks : (a b : CheckDef) → Decides (is_same_check a b) (a ≡ b)
-  pub foreign : (a b : ForeignKey) → Decides (is_same_foreign a b) (a ≡ b)
-  pub schemas : (a b : Schema) → Decides (is_same_schema a b) (a ≡ b)
-  pub tables : (a b : PlainTable) → Decides (is_same_table a b) (a ≡ b)
-  pub databases : (a b : PlainDatabase) → Decides (is_same_database a b) (a ≡ b)
+  pub columns : AreTold is_same_column
+  pub indexes : AreTold is_same_index
+  pub checks : AreTold is_same_check
+  pub foreign : AreTold is_same_foreign
+  pub schemas : AreTold is_same_schema
+  pub tables : AreTold is_same_table
+  pub databases : AreTold is_same_database

@@ -1,5 +1,6 @@
 //! Laws for the crates above: call one where a proof needs it. None does anything.
 
+ghost use Rattle.schema_model.specs.Items.{ItemsTell};
 ghost use Rattle.schema_model.specs.PlainCommits.{AncestorsFollow};
 ghost use Rattle.schema_model.specs.Sameness.{SamenessIsEquality};
 ghost use Rattle.schema_model.specs.Spellings.{HasOneSpelling, SchemasAreShort};
@@ -22,4 +23,9 @@ pub fn law_of_sizes()
 /// The list of a commit's ancestors has each once and in order, and the base is the first common one.
 pub fn law_of_ancestors()
     ensures { AncestorsFollow }
+{}
+
+/// A row, a conflict and a violation each have an item of their own.
+pub fn law_of_items()
+    ensures { ItemsTell }
 {}

@@ -7,11 +7,10 @@ use Rattle.tuple_codec.specs.Rows.{Cells, fits, fits_all, key_of}
 use Rattle.tuple_codec.specs.Limits.{are_types, is_type}
 use Rattle.tuple_codec.specs.declared.values.SqlType.{SqlType}
 use Rattle.tuple_codec.specs.declared.values.Value.TheVariants as cell
-use Rattle.schema_model.specs.PlainTables.{is_keyed, is_row, key_types, kinds, primary_key, unkeyed_from}
+use Rattle.schema_model.specs.PlainTables.{body_types, is_keyed, is_row, key_types, kinds, primary_key, unkeyed_from, unkeyed_types}
 use Rattle.schema_model.specs.Schemas.{are_columns, are_positions, is_column, is_key, is_schema}
 use Rattle.schema_model.specs.declared.schemas.Column.{Column}
 use Rattle.schema_model.specs.declared.schemas.Schema.{Schema}
-use Rattle.table_rows.specs.Places.{body_types, unkeyed_types}
 
 -- ---- what is used of a schema
 
