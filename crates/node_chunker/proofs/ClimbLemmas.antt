@@ -9,8 +9,10 @@ use Rattle.tuple_codec.specs.Trees.{AreRows, IsRow, bytes_of, closes, name}
 use Rattle.node_format.specs.declared.items.LeafItem.{LeafItem}
 use Rattle.node_format.specs.Views.{leaf_of}
 use Rattle.chunk_store.specs.Chunks.{Chunks, Extends}
-use Rattle.chunk_store.specs.Drafts.{DraftParts, Longer, chunks_of}
+use Rattle.chunk_store.specs.Drafts.{Drafting, Grows, chunks_of}
+use Rattle.chunk_store.specs.Kinds.{is_node}
 use Rattle.chunk_store.proofs.FollowLemmas.{drafts_follow}
+use Rattle.chunk_store.proofs.GrowthLemmas.{drafts_grow}
 use Rattle.node_chunker.specs.Towers.{pushes, ended_chunks}
 use Rattle.node_chunker.specs.Growth.{CanPush, Fits, IsTower, IsWritable, spread}
 use Rattle.chunk_store.specs.Standing.{AreHeld}
@@ -155,8 +157,8 @@ climb_done a made written old new nodes after at item climbing grows done = (don
 
 -- ---- a row
 
-pub grows : (d e : DraftParts) → Longer d e → Extends (chunks_of d) (chunks_of e)
-grows d e longer = drafts_follow.longer_extends d e longer
+pub extended : (d e : Drafting) → Grows is_node d e → Extends (chunks_of d.chunks) (chunks_of e.chunks)
+extended d e grows = drafts_follow.longer_extends d.chunks e.chunks (drafts_grow.is_longer is_node d e grows)
 
 module _ (a : List ℕ → List ℕ) where
   -- the row stays in the leaf

@@ -11,10 +11,16 @@ use Rattle.node_format.proofs.FieldLemmas.{wide16}
 use Rattle.node_format.specs.declared.items.LeafItem.{LeafItem}
 use Rattle.node_format.specs.declared.items.RefItem.{RefItem}
 use Rattle.node_format.specs.Views.{leaf_of, ref_of}
+use Rattle.chunk_store.specs.Kinds.{is_node}
 use Rattle.node_chunker.specs.Growth.{IsWritable}
 use Rattle.node_format.proofs.BuildLemmas.{last_is}
 use Rattle.node_chunker.proofs.GrowthLemmas.{items_more, rows_join}
 use Rattle.node_chunker.proofs.TowerLemmas.{all_split}
+
+-- what is written is of the kind of nodes
+pub node_kind : (level : ℕ) (items : List Item) → is_node (bytes_of level items) ≡ true
+node_kind zero items = refl
+node_kind (suc level) items = refl
 
 -- what is written has room for its last item
 pub has_room : (level : ℕ) (items : List Item) (x : Item) → IsWritable level (items ++ x ∷ [])

@@ -3,10 +3,11 @@
 ghost use Rattle.std.specs.Prelude.{◌≡◌, ◌<◌, ◌++◌, false, List, IfOk, IfErr, OnOk, option_map, option_to_list};
 ghost use Rattle.tuple_codec.specs.Nodes.{Item};
 ghost use Rattle.node_format.specs.Views.{ref_of};
-ghost use Rattle.chunk_store.specs.Drafts.{Longer, chunks_of};
+ghost use Rattle.chunk_store.specs.Drafts.{Grows, chunks_of};
+ghost use Rattle.chunk_store.specs.Kinds.{is_node};
 ghost use Rattle.chunk_store.specs.Standing.{IsTree};
 ghost use Rattle.node_chunker.specs.Closing.{CanClose, IsClosing, IsLevelClosed};
-ghost use Rattle.node_chunker.specs.Faults.{IsReason};
+ghost use Rattle.chunk_store.specs.Clashes.{IsReason};
 ghost use Rattle.node_chunker.specs.Growth.{IsWritable};
 ghost use Rattle.node_chunker.specs.Towers.{is_empty};
 
@@ -34,7 +35,7 @@ pub(crate) fn close_levels<D: Digester>(
     requires { CanClose D.address (chunks_of draft.old.chunks) 1 inner.items (option_to_list (option_map ref_of named)) }
     ensures ok { (rows : List Item) → IsClosing D.address (chunks_of draft.old.chunks) 1 inner.items (option_to_list (option_map ref_of named)) rows
         → IfOk result (λ root. IsTree D.address (chunks_of draft.new.chunks) root.0 rows) }
-    ensures longer { Longer draft.old.chunks draft.new.chunks }
+    ensures grows { Grows is_node draft.old draft.new }
     ensures cause { IfErr result (IsReason D.address (chunks_of draft.new.chunks)) }
 {
     let alloc = *inner.allocator();
@@ -68,7 +69,7 @@ fn close_level<D: Digester>(
     requires level { 0 < level }
     requires fits { is_empty (node.old ++ option_to_list (option_map ref_of carry)) ≡ false → IsWritable level (node.old ++ option_to_list (option_map ref_of carry)) }
     ensures ok { IfOk result (λ closed. IsLevelClosed D.address (chunks_of draft.new.chunks) level (node.old ++ option_to_list (option_map ref_of carry)) is_last closed) }
-    ensures longer { Longer draft.old.chunks draft.new.chunks }
+    ensures grows { Grows is_node draft.old draft.new }
     ensures cause { IfErr result (IsReason D.address (chunks_of draft.new.chunks)) }
 {
     node.take(level, carry)?;

@@ -5,8 +5,9 @@ ghost use Rattle.tuple_codec.specs.Nodes.{IsItem};
 ghost use Rattle.tuple_codec.specs.Trees.{closes};
 ghost use Rattle.node_format.specs.Outlasting.{Outlasts};
 ghost use Rattle.node_format.specs.Views.{ref_of};
-ghost use Rattle.chunk_store.specs.Drafts.{Longer, chunks_of};
-ghost use Rattle.node_chunker.specs.Faults.{IsReason};
+ghost use Rattle.chunk_store.specs.Drafts.{Grows, chunks_of};
+ghost use Rattle.chunk_store.specs.Kinds.{is_node};
+ghost use Rattle.chunk_store.specs.Clashes.{IsReason};
 ghost use Rattle.node_chunker.specs.Growth.{IsWritable};
 ghost use Rattle.node_chunker.specs.Steps.{IsClosed, IsNamed, IsPushed};
 ghost use Rattle.node_chunker.specs.Towers.{first_of, is_empty, is_single};
@@ -106,7 +107,7 @@ impl OpenInner {
         requires fits { IsWritable level (self.old ++ ref_of item.now ∷ []) }
         requires known { Outlasts D.address level steps (ref_of item.now).key }
         ensures ok { IfOk result (λ named. IsPushed D.address (chunks_of draft.new.chunks) level self.old (ref_of item.now) self.new (option_map ref_of named)) }
-        ensures longer { Longer draft.old.chunks draft.new.chunks }
+        ensures grows { Grows is_node draft.old draft.new }
         ensures cause { IfErr result (IsReason D.address (chunks_of draft.new.chunks)) }
     {
         let over = self.ends_after::<D>(level, item, steps);
@@ -128,7 +129,7 @@ impl OpenInner {
         requires level { 0 < level }
         requires fits { is_empty self.old ≡ false → IsWritable level self.old }
         ensures ok { IfOk result (λ named. IsClosed D.address (chunks_of draft.new.chunks) level self.old (option_map ref_of named)) }
-        ensures longer { Longer draft.old.chunks draft.new.chunks }
+        ensures grows { Grows is_node draft.old draft.new }
         ensures cause { IfErr result (IsReason D.address (chunks_of draft.new.chunks)) }
     {
         if self.is_empty() {
@@ -184,7 +185,7 @@ impl OpenInner {
         requires level { 0 < level }
         requires fits { IsWritable level self.old }
         ensures ok { IfOk result (λ named. IsNamed D.address (chunks_of draft.new.chunks) level self.old self.new (ref_of named)) }
-        ensures longer { Longer draft.old.chunks draft.new.chunks }
+        ensures grows { Grows is_node draft.old draft.new }
         ensures cause { IfErr result (IsReason D.address (chunks_of draft.new.chunks)) }
     {
         self.node.set_level(level);

@@ -5,8 +5,9 @@ ghost use Rattle.tuple_codec.specs.Nodes.{leaf_item};
 ghost use Rattle.tuple_codec.specs.Trees.{closes};
 ghost use Rattle.node_format.specs.Outlasting.{Outlasts};
 ghost use Rattle.node_format.specs.Views.{ref_of};
-ghost use Rattle.chunk_store.specs.Drafts.{Longer, chunks_of};
-ghost use Rattle.node_chunker.specs.Faults.{IsReason};
+ghost use Rattle.chunk_store.specs.Drafts.{Grows, chunks_of};
+ghost use Rattle.chunk_store.specs.Kinds.{is_node};
+ghost use Rattle.chunk_store.specs.Clashes.{IsReason};
 ghost use Rattle.node_chunker.specs.Growth.{IsWritable};
 ghost use Rattle.node_chunker.specs.Steps.{IsClosed, IsNamed, IsPushed};
 ghost use Rattle.node_chunker.specs.Towers.{is_empty};
@@ -62,7 +63,7 @@ impl OpenLeaf {
         requires fits { IsWritable 0 (self.old ++ leaf_item key.now value.now ∷ []) }
         requires known { Outlasts D.address 0 steps key.now }
         ensures ok { IfOk result (λ named. IsPushed D.address (chunks_of draft.new.chunks) 0 self.old (leaf_item key.now value.now) self.new (option_map ref_of named)) }
-        ensures longer { Longer draft.old.chunks draft.new.chunks }
+        ensures grows { Grows is_node draft.old draft.new }
         ensures cause { IfErr result (IsReason D.address (chunks_of draft.new.chunks)) }
     {
         let over = self.ends_after::<D>(key, value, steps);
@@ -82,7 +83,7 @@ impl OpenLeaf {
     ) -> Result<Option<RefItem>, PutFault>
         requires { IsWritable 0 self.old }
         ensures ok { IfOk result (λ named. IsClosed D.address (chunks_of draft.new.chunks) 0 self.old (option_map ref_of named)) }
-        ensures longer { Longer draft.old.chunks draft.new.chunks }
+        ensures grows { Grows is_node draft.old draft.new }
         ensures cause { IfErr result (IsReason D.address (chunks_of draft.new.chunks)) }
     {
         if self.is_empty() {
@@ -118,7 +119,7 @@ impl OpenLeaf {
     ) -> Result<RefItem, PutFault>
         requires { IsWritable 0 self.old }
         ensures ok { IfOk result (λ named. IsNamed D.address (chunks_of draft.new.chunks) 0 self.old self.new (ref_of named)) }
-        ensures longer { Longer draft.old.chunks draft.new.chunks }
+        ensures grows { Grows is_node draft.old draft.new }
         ensures cause { IfErr result (IsReason D.address (chunks_of draft.new.chunks)) }
     {
         let address = put_chunk(draft, self.node.bytes())?;

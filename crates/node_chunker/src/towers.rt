@@ -7,9 +7,10 @@ ghost use Rattle.tuple_codec.specs.Trees.{AreRows};
 ghost use Rattle.node_format.specs.Outlasting.{Outlasts};
 ghost use Rattle.node_format.specs.Views.{ref_of};
 ghost use Rattle.chunk_store.specs.Chunks.{Chunks};
-ghost use Rattle.chunk_store.specs.Drafts.{Longer, chunks_of};
+ghost use Rattle.chunk_store.specs.Drafts.{Grows, chunks_of};
+ghost use Rattle.chunk_store.specs.Kinds.{is_node};
 ghost use Rattle.chunk_store.specs.Standing.{IsTree};
-ghost use Rattle.node_chunker.specs.Faults.{IsReason};
+ghost use Rattle.chunk_store.specs.Clashes.{IsReason};
 ghost use Rattle.node_chunker.specs.Growth.{CanPush, Fits, IsTower, WasPushed};
 ghost use Rattle.node_chunker.specs.Steps.{IsPushedAt};
 ghost use Rattle.node_chunker.specs.Subtrees.{CanPushRef, IsSubtree, is_clear};
@@ -66,7 +67,7 @@ impl Tower {
         requires { CanPush D.address (chunks_of draft.old.chunks) self.old (leaf_item key.now value.now) }
         ensures ok { (rows : List Item) → IsTower D.address (chunks_of draft.old.chunks) self.old rows
             → OnOk result (IsTower D.address (chunks_of draft.new.chunks) self.new (rows ++ leaf_item key.now value.now ∷ [])) }
-        ensures longer { Longer draft.old.chunks draft.new.chunks }
+        ensures grows { Grows is_node draft.old draft.new }
         ensures cause { IfErr result (IsReason D.address (chunks_of draft.new.chunks)) }
     {
         self.push_kept_row(draft, key, value, 0)
@@ -85,7 +86,7 @@ impl Tower {
         requires known { Outlasts D.address 0 steps key.now }
         ensures ok { (rows : List Item) → IsTower D.address (chunks_of draft.old.chunks) self.old rows
             → OnOk result (IsTower D.address (chunks_of draft.new.chunks) self.new (rows ++ leaf_item key.now value.now ∷ [])) }
-        ensures longer { Longer draft.old.chunks draft.new.chunks }
+        ensures grows { Grows is_node draft.old draft.new }
         ensures cause { IfErr result (IsReason D.address (chunks_of draft.new.chunks)) }
     {
         let alloc = *self.inner.allocator();
@@ -116,7 +117,7 @@ impl Tower {
         ensures ok { (rows below : List Item) → IsTower D.address (chunks_of draft.old.chunks) self.old rows
             → IsSubtree D.address (chunks_of draft.old.chunks) level (ref_of item.now) below → AreRows (rows ++ below)
             → OnOk result (IsTower D.address (chunks_of draft.new.chunks) self.new (rows ++ below)) }
-        ensures longer { Longer draft.old.chunks draft.new.chunks }
+        ensures grows { Grows is_node draft.old draft.new }
         ensures cause { IfErr result (IsReason D.address (chunks_of draft.new.chunks)) }
     {
         self.push_kept_ref(draft, level, item, 0)
@@ -136,7 +137,7 @@ impl Tower {
         ensures ok { (rows below : List Item) → IsTower D.address (chunks_of draft.old.chunks) self.old rows
             → IsSubtree D.address (chunks_of draft.old.chunks) level (ref_of item.now) below → AreRows (rows ++ below)
             → OnOk result (IsTower D.address (chunks_of draft.new.chunks) self.new (rows ++ below)) }
-        ensures longer { Longer draft.old.chunks draft.new.chunks }
+        ensures grows { Grows is_node draft.old draft.new }
         ensures cause { IfErr result (IsReason D.address (chunks_of draft.new.chunks)) }
     {
         let place = level as usize - 1;
@@ -149,7 +150,7 @@ impl Tower {
         requires { WasPushed D.address (chunks_of draft.old.chunks) self }
         ensures ok { (rows : List Item) → IsTower D.address (chunks_of draft.old.chunks) self rows
             → IfOk result (λ root. IsTree D.address (chunks_of draft.new.chunks) root.0 rows) }
-        ensures longer { Longer draft.old.chunks draft.new.chunks }
+        ensures grows { Grows is_node draft.old draft.new }
         ensures cause { IfErr result (IsReason D.address (chunks_of draft.new.chunks)) }
     {
         let Tower { mut leaf, inner } = self;
@@ -192,7 +193,7 @@ fn push_kept_name<D: Digester>(
     requires fits { Fits D.address (suc place) (drop place inner.old.items) (ref_of named.now) }
     requires known { Outlasts D.address (place + 1) steps (ref_of named.now).key }
     ensures ok { OnOk result (IsPushedAt D.address (chunks_of draft.new.chunks) place inner.old.items (ref_of named.now) inner.new.items) }
-    ensures longer { Longer draft.old.chunks draft.new.chunks }
+    ensures grows { Grows is_node draft.old draft.new }
     ensures cause { IfErr result (IsReason D.address (chunks_of draft.new.chunks)) }
 {
     if place == inner.len() {
@@ -217,7 +218,7 @@ fn push_name<D: Digester>(
     requires place { place ≤ length inner.old.items }
     requires fits { Fits D.address (suc place) (drop place inner.old.items) (ref_of named) }
     ensures ok { OnOk result (IsPushedAt D.address (chunks_of draft.new.chunks) place inner.old.items (ref_of named) inner.new.items) }
-    ensures longer { Longer draft.old.chunks draft.new.chunks }
+    ensures grows { Grows is_node draft.old draft.new }
     ensures cause { IfErr result (IsReason D.address (chunks_of draft.new.chunks)) }
 {
     let alloc = *inner.allocator();

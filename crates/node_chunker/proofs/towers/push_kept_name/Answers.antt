@@ -7,7 +7,7 @@ use Rattle.node_format.specs.Views.{ref_of}
 use Rattle.chunk_store.specs.Drafts.{chunks_of}
 use Rattle.node_chunker.specs.Steps.{IsClimbing, IsPushed, IsPushedAt}
 use Rattle.node_chunker.specs.Towers.{ended_chunks, pushes}
-use Rattle.node_chunker.proofs.ClimbLemmas.{climb_begins, climb_done, climb_low, climb_ready, climb_stays, climb_up, grows}
+use Rattle.node_chunker.proofs.ClimbLemmas.{climb_begins, climb_done, climb_low, climb_ready, climb_stays, climb_up, extended}
 use Rattle.node_chunker.proofs.towers.push_kept_name.Goals as goal
 
 pub overflow_cast-level : goal.overflow_cast-level
@@ -44,7 +44,7 @@ push_name-requires-clause-fits g c κs live =
     let P : Option RefItem → Type 0 = λ o. IsPushed a new (c.args.place + 1) c.index_mut.result.now item c.push.new.self (option_map ref_of o) in
     (climb_up a _ _ old new nodes (set nodes c.args.place c.push.new.self) c.args.place item (ref_of c.in-Some.above) c.index_mut.result.now c.push.new.self
     (climb_begins a old nodes c.args.place item c.requires.fits) within c.index_mut.ensures.value
-    (grows c.args.draft.now.chunks c.push.new.draft.chunks c.in_ok-push.ensures.longer) (subst P c.in-Some.is c.in_ok-push.ensures.ok) refl).fits
+    (extended c.args.draft.now c.push.new.draft c.in_ok-push.ensures.grows) (subst P c.in-Some.is c.in_ok-push.ensures.ok) refl).fits
 
 pub returns-in-None-clause-ok : goal.returns-in-None-clause-ok
 returns-in-None-clause-ok g c =
@@ -57,7 +57,7 @@ returns-in-None-clause-ok g c =
     let P : Option RefItem → Type 0 = λ o. IsPushed a new (c.args.place + 1) c.index_mut.result.now item c.push.new.self (option_map ref_of o) in
     climb_stays a _ _ old new nodes (set nodes c.args.place c.push.new.self) c.args.place item c.index_mut.result.now c.push.new.self
     (climb_begins a old nodes c.args.place item c.requires.fits) within c.index_mut.ensures.value
-    (grows c.args.draft.now.chunks c.push.new.draft.chunks c.in_ok-push.ensures.longer) (subst P c.in-None.is c.in_ok-push.ensures.ok) refl
+    (extended c.args.draft.now c.push.new.draft c.in_ok-push.ensures.grows) (subst P c.in-None.is c.in_ok-push.ensures.ok) refl
 
 pub returns-in-Some-clause-ok : goal.returns-in-Some-clause-ok
 returns-in-Some-clause-ok g c =
@@ -73,9 +73,9 @@ returns-in-Some-clause-ok g c =
     let after = set nodes place c.push.new.self in
     let climbing = climb_up a _ _ old new nodes after place item (ref_of c.in-Some.above) c.index_mut.result.now c.push.new.self
     (climb_begins a old nodes place item c.requires.fits) within c.index_mut.ensures.value
-    (grows c.args.draft.now.chunks c.push.new.draft.chunks c.in_ok-push.ensures.longer) (subst P c.in-Some.is c.in_ok-push.ensures.ok) refl in
+    (extended c.args.draft.now c.push.new.draft c.in_ok-push.ensures.grows) (subst P c.in-Some.is c.in_ok-push.ensures.ok) refl in
     IfOk-weaker c.push_name.result (λ _. IsPushedAt a end (place + 1) after (ref_of c.in-Some.above) c.push_name.new.inner.items)
     (λ _. IsPushedAt a end place nodes item c.push_name.new.inner.items)
     (λ _ done. climb_done a _ _ new end after c.push_name.new.inner.items (place + 1) (ref_of c.in-Some.above) climbing
-    (grows c.push.new.draft.chunks c.push_name.new.draft.chunks c.push_name.ensures.longer) done)
+    (extended c.push.new.draft c.push_name.new.draft c.push_name.ensures.grows) done)
     c.push_name.ensures.ok

@@ -1,9 +1,10 @@
-use Rattle.std.proofs.Common.{◌≡◌, ◌∙◌, ℕ, List, [], ◌∷◌, ap, subst}
+use Rattle.std.proofs.Common.{◌≡◌, ◌∙◌, ℕ, List, [], ◌∷◌, ap, subst, sym, true}
 use Rattle.tuple_codec.specs.Nodes.{Node, node_bytes}
 use Rattle.tuple_codec.specs.Trees.{bytes_of, last_key, rows_in}
 use Rattle.chunk_store.specs.Drafts.{chunks_of}
+use Rattle.chunk_store.specs.Kinds.{is_node}
 use Rattle.chunk_store.specs.Standing.{AreHeld}
-use Rattle.node_chunker.proofs.NodeLemmas.{name_is}
+use Rattle.node_chunker.proofs.NodeLemmas.{name_is, node_kind}
 use Rattle.node_chunker.proofs.inners.OpenInner.put.Goals as goal
 
 pub returns-clause-ok : goal.returns-clause-ok
@@ -21,3 +22,7 @@ returns-clause-ok g c =
           (c.in_ok-address.ensures.address ∙ ap a bytes_are) (c.self.invariant.1 ∙ ap rows_in c.self.view_is);
       put = subst P bytes_are c.in_ok-address.ensures.put;
     }
+
+pub put_chunk-requires-clause-node : goal.put_chunk-requires-clause-node
+put_chunk-requires-clause-node g c κs within =
+    subst (λ bytes. is_node bytes ≡ true) (sym (c.bytes.ensures ∙ ap node_bytes c.set_level.ensures)) (node_kind c.args.level c.self.inside.node.items)

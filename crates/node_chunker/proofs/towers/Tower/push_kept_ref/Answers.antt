@@ -6,7 +6,7 @@ use Rattle.chunk_store.specs.Drafts.{chunks_of}
 use Rattle.node_chunker.specs.Growth.{IsTower}
 use Rattle.node_chunker.specs.Steps.{IsPushedAt}
 use Rattle.node_chunker.specs.Subtrees.{IsSubtree, is_clear}
-use Rattle.node_chunker.proofs.ClimbLemmas.{grows}
+use Rattle.node_chunker.proofs.ClimbLemmas.{extended}
 use Rattle.node_chunker.proofs.SubtreeLemmas.{place_fits, place_tower}
 use Rattle.node_chunker.proofs.towers.Tower.push_kept_ref.Goals as goal
 
@@ -42,5 +42,5 @@ returns-clause-ok g c rows below tower subtree follow =
     IfOk-weaker c.push_kept_name.result (λ _. IsPushedAt a new (level - 1) opened named end) (λ _. IsTower a new (leaf ∷ end) (rows ++ below))
     (λ _ done. place_tower a old (level - 1) level is named leaf c.self.inside.inner.items opened rows below (subst P (sym c.self.view_is) tower)
     (subst Q (sym c.self.view_is) c.requires.can.clear) c.in_ok-open_levels.ensures (subst R refl subtree) follow new end
-    (grows c.args.draft.now.chunks c.push_kept_name.new.draft.chunks c.push_kept_name.ensures.longer) done)
+    (extended c.args.draft.now c.push_kept_name.new.draft c.push_kept_name.ensures.grows) done)
     c.push_kept_name.ensures.ok

@@ -10,7 +10,7 @@ use Rattle.node_chunker.specs.Towers.{ended_chunks, pushes}
 use Rattle.node_chunker.specs.Growth.{IsTower}
 use Rattle.node_chunker.specs.Steps.{IsPushed}
 use Rattle.node_chunker.proofs.GrowthLemmas.{writable_here}
-use Rattle.node_chunker.proofs.ClimbLemmas.{grows, name_fits, row_climbs, row_fits, row_stays}
+use Rattle.node_chunker.proofs.ClimbLemmas.{extended, name_fits, row_climbs, row_fits, row_stays}
 use Rattle.node_chunker.proofs.towers.Tower.push_kept_row.Goals as goal
 
 pub push-requires-clause-fits : goal.push-requires-clause-fits
@@ -47,7 +47,7 @@ returns-in-None-clause-ok g c rows tower =
     let Q : List (List Item) → Type 0 = λ l. IsTower a old l rows in
     let R : Item → Type 0 = λ i. IsTower a mid (c.push.new.self ∷ inner) (rows ++ i ∷ []) in
     subst R refl (row_stays a old mid leaf c.push.new.self inner rows x (subst Q (sym c.self.view_is) tower) fits
-    (grows c.args.draft.now.chunks c.push.new.draft.chunks c.in_ok-push.ensures.longer) (subst P c.in-None.is c.in_ok-push.ensures.ok))
+    (extended c.args.draft.now c.push.new.draft c.in_ok-push.ensures.grows) (subst P c.in-None.is c.in_ok-push.ensures.ok))
 
 pub returns-in-Some-clause-ok : goal.returns-in-Some-clause-ok
 returns-in-Some-clause-ok g c rows tower =
@@ -68,6 +68,6 @@ returns-in-Some-clause-ok g c rows tower =
     (λ _. (after ≡ pushes a 1 inner named) × AreHeld a new (ended_chunks a 1 inner named))
     (λ _. IsTower a new (c.push.new.self ∷ after) (rows ++ leaf_item c.args.key.now c.args.value.now ∷ []))
     (λ _ done. subst R refl (row_climbs a old mid new leaf c.push.new.self inner after rows x named (subst Q (sym c.self.view_is) tower) fits
-    (grows c.args.draft.now.chunks c.push.new.draft.chunks c.in_ok-push.ensures.longer)
-    (grows c.push.new.draft.chunks c.push_name.new.draft.chunks c.push_name.ensures.longer) (subst P c.in-Some.is c.in_ok-push.ensures.ok) done.0 done.1))
+    (extended c.args.draft.now c.push.new.draft c.in_ok-push.ensures.grows)
+    (extended c.push.new.draft c.push_name.new.draft c.push_name.ensures.grows) (subst P c.in-Some.is c.in_ok-push.ensures.ok) done.0 done.1))
     c.push_name.ensures.ok
