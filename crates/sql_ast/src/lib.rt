@@ -33,7 +33,8 @@ pub use selects::{
 pub use signing::sign_of;
 pub use signs::Sign;
 pub use statements::{
-    Alter, Assignment, Call, Delete, Entry, Insert, Setting, Statement, Tuple, Update, Write,
+    Alter, AlterAction, Assignment, Call, Delete, Entry, Insert, Setting, Statement, Tuple, Update,
+    Write,
 };
 pub use tables::{
     Attribute, ColumnElement, CreateTable, DropTable, Element, ForeignKeyElement, TypeName,
