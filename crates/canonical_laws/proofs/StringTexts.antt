@@ -1,14 +1,12 @@
 -- The value of a string in a text of UTF-8 is UTF-8.
 use Rattle.std.proofs.Common.{◌≡◌, ◌≤◌, ◌<◌, ◌+◌, ◌/◌, ◌%◌, ◌∙◌, inl, inr, sym, ap, refl, subst, ℕ, zero, suc, Bool, true, false, ◌==◌, ◌||◌, cond, if◌then◌else◌, List, [], ◌∷◌, ◌++◌, length, take, drop, get_or, arith}
 use Rattle.std.specs.List.{AllByRecursion}
-use Rattle.std.specs.Str.{IsUtf8, is_utf8 as is_text}
-use Rattle.std.specs.Str.Lossy.{utf8_valid_len, valid_len_up_to}
-use Rattle.tuple_codec.specs.Texts.{is_utf8}
+use Rattle.std.specs.Str.{IsUtf8}
 use Rattle.std.proofs.Math.Utf8.{encode, encodes, low_scalar, scalar, scalars}
-use Rattle.std.proofs.Math.Seq.{drop-append_seam, get_or-append_seam, take-append_seam, take-length}
+use Rattle.std.proofs.Math.Seq.{drop-append_seam, get_or-append_seam, take-append_seam}
 use Rattle.std.proofs.lemmas.Bool.{and_from, and_parts, cases_lt, cond-true, cond-false, eq-eqb, eqb-true, le-ltb, lt-ltb}
-use Rattle.std.proofs.lemmas.List.{append_assoc, length-append}
-use Rattle.std.proofs.lemmas.Str.{IsCharBoundary-before_ascii, IsUtf8-drop, IsUtf8-from_is_utf8, IsUtf8-past_char, IsUtf8-take, encode_ascii, encodes-append, utf8_valid_len-IsUtf8}
+use Rattle.std.proofs.lemmas.List.{append-nil, append_assoc, length-append}
+use Rattle.std.proofs.lemmas.Str.{IsCharBoundary-before_ascii, IsUtf8-drop, IsUtf8-past_char, IsUtf8-take, encode_ascii, encodes-append}
 use Rattle.sql_ast.specs.Bytes.{escape}
 use Rattle.sql_pieces.specs.Values.{string_from}
 
@@ -50,12 +48,8 @@ escape_high : (byte : ℕ) → 128 ≤ byte → escape byte ≡ byte ∷ []
 escape_high byte high =
     rw (differs byte 110 high (omega arith), differs byte 114 high (omega arith), differs byte 116 high (omega arith), differs byte 48 high (omega arith), differs byte 98 high (omega arith), differs byte 90 high (omega arith), differs byte 37 high (omega arith), differs byte 95 high (omega arith)) refl
 
-pub no_more : (xs : List ℕ) → xs ++ [] ≡ xs
-no_more [] = refl
-no_more (x ∷ xs) = ap (λ ys. x ∷ ys) (no_more xs)
-
 low_shape : (c : ℕ) → c < 128 → Shape c
-low_shape c low = record { lead = c; tail = []; is = encode_ascii c low; all_high = tt; escapes = escape_low c low ∙ sym (no_more (escape c)) }
+low_shape c low = record { lead = c; tail = []; is = encode_ascii c low; all_high = tt; escapes = escape_low c low ∙ sym (append-nil (escape c)) }
 
 -- a character of two bytes or more
 pub record Wide (c : ℕ) : Type 0 where
@@ -99,7 +93,7 @@ wide_shape c high w = record {
   tail = w.tail;
   is = w.is;
   all_high = w.all_high;
-  escapes = ap encodes (escape_high c high) ∙ no_more (encode c) ∙ w.is ∙ sym (ap (λ e. e ++ w.tail) (escape_high w.lead w.high));
+  escapes = ap encodes (escape_high c high) ∙ append-nil (encode c) ∙ w.is ∙ sym (ap (λ e. e ++ w.tail) (escape_high w.lead w.high));
 }
 
 shape : (c : ℕ) → Shape c
@@ -243,24 +237,3 @@ string_of before body rest quote low utf8 =
     append_assoc before (quote ∷ (body ++ quote ∷ [])) rest ∙ ap (λ b. before ++ quote ∷ b) (append_assoc body (quote ∷ []) rest) in
     let behind = (cut_at before quote (body ++ quote ∷ rest) low (subst IsUtf8 split utf8)).1 in
     string_utf8 quote low body (cut_at body quote rest low behind).0
-
--- UTF-8 as a test on bytes
-up_to : (bs : List ℕ) (n : ℕ) → valid_len_up_to bs n ≤ n
-up_to bs zero = omega arith
-up_to bs (suc n) = let ih = up_to bs n in grind arith
-
-whole : (c : Bool) (n m : ℕ) → m ≤ n → cond c (suc n) m ≡ suc n → c ≡ true
-whole true n m h e = refl
-whole false n m h e = absurd (omega arith)
-
-pub from_test : (bs : List ℕ) → is_utf8 bs ≡ true → IsUtf8 bs
-unfolding utf8_valid_len
-from_test [] e = ([], (refl, refl))
-from_test (b ∷ bs) e =
-    let n = length bs in
-    let valid : valid_len_up_to (b ∷ bs) (suc n) ≡ suc n = eqb-true _ _ e in
-    let front : is_text (take (suc n) (b ∷ bs)) ≡ true = whole (is_text (take (suc n) (b ∷ bs))) n (valid_len_up_to (b ∷ bs) n) (up_to (b ∷ bs) n) valid in
-    IsUtf8-from_is_utf8 (b ∷ bs) (subst (λ (t : List ℕ). is_text t ≡ true) (take-length (b ∷ bs)) front)
-
-pub to_test : (bs : List ℕ) → IsUtf8 bs → is_utf8 bs ≡ true
-to_test bs utf8 = eq-eqb _ _ (utf8_valid_len-IsUtf8 bs utf8)

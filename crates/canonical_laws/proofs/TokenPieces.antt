@@ -11,7 +11,8 @@ use Rattle.std.proofs.lemmas.List.{append_assoc, length-append, map-append}
 use Rattle.std.proofs.lemmas.List.Folds.{list_all-append}
 use Rattle.std.specs.Str.{IsUtf8}
 use Rattle.tuple_codec.specs.Texts.{is_utf8}
-use Rattle.canonical_laws.proofs.StringTexts.{from_test, string_of, to_test}
+use Rattle.tuple_codec.proofs.Utf8Lemmas.{from_test, to_test}
+use Rattle.canonical_laws.proofs.StringTexts.{string_of}
 use Rattle.sql_ast.specs.Bytes.{hex_value, is_blank, is_digit, is_upper, is_word_byte, is_word_start, lower}
 use Rattle.std.proofs.lemmas.Nat.{pow-add}
 use Rattle.std.specs.Prelude.{is_some}
@@ -859,7 +860,3 @@ runs_well (byte ∷ rest) front found reading state e =
 pub tokens_are_given : (text : List ℕ) (found : List Token) → is_utf8 text ≡ true → tokens text ≡ Ok found → are_given Other (pieces_of text found) ≡ true
 tokens_are_given text found utf8 e =
     runs_well text [] found (between 0 Other []) (inl (record { start = 0; last = Other; done = []; is = refl; tokens_given = record { given = refl; behind = refl; utf8 = from_test text utf8 } })) e
-
-pub given_behind : (last : Last) (front ps : List Piece) (t : Piece) → are_given last (front ++ t ∷ ps) ≡ true → after_piece t (ends last front) ≡ Other → are_given Other ps ≡ true
-given_behind last [] ps t given is = ap (λ l. are_given l ps) (sym is) ∙ (and_parts (is_given last t) (are_given (after_piece t last) ps) given).1
-given_behind last (q ∷ front) ps t given is = given_behind (after_piece q last) front ps t (and_parts (is_given last q) (are_given (after_piece q last) (front ++ t ∷ ps)) given).1 is

@@ -18,12 +18,16 @@ use Rattle.sql_ast.specs.declared.selects.Select.{Select}
 use Rattle.sql_ast.specs.declared.selects.Select.TheVariants as select
 use Rattle.sql_ast.specs.declared.selects.Sorting.{Sorting}
 use Rattle.sql_ast.specs.declared.selects.Source.{Source}
+use Rattle.sql_ast.specs.declared.statements.Alter.{Alter}
+use Rattle.sql_ast.specs.declared.statements.AlterAction.{AlterAction}
+use Rattle.sql_ast.specs.declared.statements.AlterAction.TheVariants as action
 use Rattle.sql_ast.specs.declared.statements.Assignment.{Assignment}
 use Rattle.sql_ast.specs.declared.statements.Call.{Call}
 use Rattle.sql_ast.specs.declared.statements.Delete.{Delete}
 use Rattle.sql_ast.specs.declared.statements.Entry.{Entry}
 use Rattle.sql_ast.specs.declared.statements.Entry.TheVariants as entry
 use Rattle.sql_ast.specs.declared.statements.Insert.{Insert}
+use Rattle.sql_ast.specs.declared.statements.Setting.{Setting}
 use Rattle.sql_ast.specs.declared.statements.Statement.{Statement}
 use Rattle.sql_ast.specs.declared.statements.Statement.TheVariants as statement
 use Rattle.sql_ast.specs.declared.statements.Update.{Update}
@@ -146,6 +150,23 @@ abbrev pub is_select : Select → Bool
 is_select (select.From x) = is_query x
 is_select (select.Alone found) = is_filled is_named found
 
+-- ALTER makes no keys
+abbrev pub is_altering : Attribute → Bool
+is_altering attribute.PrimaryKey = false
+is_altering attribute.Unique = false
+is_altering x = is_attribute x
+
+abbrev pub is_altered_column : ColumnElement → Bool
+is_altered_column x = is_name x.name && list_all is_altering x.attributes
+
+abbrev pub is_action : AlterAction → Bool
+is_action (action.Add column) = is_altered_column column
+is_action (action.Drop name) = is_name name
+is_action (action.Modify column) = is_altered_column column
+
+abbrev pub is_alter : Alter → Bool
+is_alter x = is_name x.table && is_action x.action
+
 -- ---- statements
 
 abbrev pub is_write : Write → Bool
@@ -154,7 +175,10 @@ is_write (write.Drop x) = is_drop x
 is_write (write.Insert x) = is_insert x
 is_write (write.Update x) = is_update x
 is_write (write.Delete x) = is_delete x
-is_write (write.Alter x) = is_name x.table
+is_write (write.Alter x) = is_alter x
+
+abbrev pub is_setting : Setting → Bool
+is_setting x = is_name x.variable
 
 abbrev pub is_call : Call → Bool
 is_call x = is_name x.name && list_all is_utf8 x.arguments
@@ -162,6 +186,6 @@ is_call x = is_name x.name && list_all is_utf8 x.arguments
 abbrev pub is_sound : Statement → Bool
 is_sound (statement.Write x) = is_write x
 is_sound (statement.Select x) = is_select x
-is_sound (statement.Set x) = is_name x.variable
+is_sound (statement.Set x) = is_setting x
 is_sound (statement.Call x) = is_call x
 is_sound _ = true
