@@ -22,4 +22,4 @@ returns-clause-reads g c = λ node other is_old is_new alike apart.
     ∙ (c.turns.invariant.alike node other is_old is_new alike).1
 
 pub returns-clause-rises : goal.returns-clause-rises
-returns-clause-rises g c = λ apart. subst (λ (w : Compared). counted c.args.reads.now.0 2 ≤ w.reads) c.comparison.view_is c.turns.invariant.rises
+returns-clause-rises g c = λ apart. subst (λ (w : Compared). counted c.args.reads.now.0 2 ≤ w.reads) (sym c.comparison.view_is) c.turns.invariant.rises
