@@ -85,7 +85,13 @@ fn turn<'a, D: Digester>(
 
 /// Whether a node's subtree is pushed whole: no edit comes before its end, it ended by the boundary rule since something
 /// follows, and the tower begins a node of its level and of each below it just there.
-fn stays<D: Digester>(tower: &Tower, path: &Path<D>, edits: &[Edit], level: u8, item: &RefItem) -> bool
+fn stays<D: Digester>(
+    tower: &Tower,
+    path: &Path<D>,
+    edits: &[Edit],
+    level: u8,
+    item: &RefItem,
+) -> bool
     requires { level < 255 }
     ensures { result ≡ (is_past item.now.key edits.now && not (is_over path.now) && is_clear (suc level) tower.now) }
 {

@@ -22,12 +22,15 @@ node_at-requires-after_bounds g c κs within =
 pub read-requires-after_bounds : goal.read-requires-after_bounds
 read-requires-after_bounds g c κs within =
     let start = chunks_of c.args.draft.now.chunks in
-    let edits = c.args.edits.now in (omega arith, (
-      start,
-      edited c.requires.0 edits,
-      root_begins g.D.Digester.address start c.args.root.now.0 edits c.requires.0 c.requires.1 c.in_ok-tower.tower (c.in_ok-tower.ensures g.D.Digester.address start)
-          c.node_at.result c.node_at.ensures c.level-level.result c.level-level.ensures.level c.new-path.result c.new-path.ensures,
-    ))
+    let edits = c.args.edits.now in (
+      omega arith,
+      (
+        start,
+        edited c.requires.0 edits,
+        root_begins g.D.Digester.address start c.args.root.now.0 edits c.requires.0 c.requires.1 c.in_ok-tower.tower (c.in_ok-tower.ensures g.D.Digester.address start)
+            c.node_at.result c.node_at.ensures c.level-level.result c.level-level.ensures.level c.new-path.result c.new-path.ensures,
+      ),
+    )
 
 pub parts-init : goal.parts-init
 parts-init g c =
@@ -44,12 +47,18 @@ parts-init g c =
 pub turn-requires-after_bounds : goal.turn-requires-after_bounds
 turn-requires-after_bounds g c κs within =
     let start = chunks_of c.args.draft.now.chunks in
-    let whole = edited c.requires.0 c.args.edits.now in (omega arith, ((
-      start,
-      whole,
-      subst (λ (f : Front). IsGoing g.D.Digester.address start (chunks_of c.parts.draft.chunks) c.parts.tower f c.parts.left.now whole) c.in-Some.ensures.front
-          (c.parts.invariant.going c.requires.0 c.requires.1),
-    ), c.in-Some.ensures.known))
+    let whole = edited c.requires.0 c.args.edits.now in (
+      omega arith,
+      (
+        (
+          start,
+          whole,
+          subst (λ (f : Front). IsGoing g.D.Digester.address start (chunks_of c.parts.draft.chunks) c.parts.tower f c.parts.left.now whole) c.in-Some.ensures.front
+              (c.parts.invariant.going c.requires.0 c.requires.1),
+        ),
+        c.in-Some.ensures.known,
+      ),
+    )
 
 pub parts-preserved : goal.parts-preserved
 parts-preserved g c =

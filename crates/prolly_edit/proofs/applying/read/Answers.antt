@@ -15,13 +15,16 @@ read_names-requires-after_bounds g c κs within =
     let a = g.D.Digester.address in
     let now = chunks_of c.args.draft.now.chunks in
     let before = c.requires.2 in
-    let inner = c.if-level-gt0.true in (omega arith, (
-      node a c.requires.0 now c.args.tower.now c.args.level c.args.address.now.0 c.args.path.now c.args.edits.now c.requires.1 before,
-      stored_now a c.requires.0 now c.args.tower.now c.args.level c.args.address.now.0 c.args.path.now c.args.edits.now c.requires.1 before,
-      inner,
-      before.some inner,
-      before.stays,
-    ))
+    let inner = c.if-level-gt0.true in (
+      omega arith,
+      (
+        node a c.requires.0 now c.args.tower.now c.args.level c.args.address.now.0 c.args.path.now c.args.edits.now c.requires.1 before,
+        stored_now a c.requires.0 now c.args.tower.now c.args.level c.args.address.now.0 c.args.path.now c.args.edits.now c.requires.1 before,
+        inner,
+        before.some inner,
+        before.stays,
+      ),
+    )
 
 pub read_rows-requires-after_bounds : goal.read_rows-requires-after_bounds
 read_rows-requires-after_bounds g c κs within =

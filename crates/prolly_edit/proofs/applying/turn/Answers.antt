@@ -27,11 +27,14 @@ push_kept_ref-requires-clause-can g c κs within =
     (can_push a c.requires.going.0 now c.args.tower.now level item c.args.path.now c.args.edits.now c.requires.going.1 c.requires.going.2 stay.0 (not_true (is_over c.args.path.now) stay.1) stay.2)
 
 pub read-requires-after_bounds : goal.read-requires-after_bounds
-read-requires-after_bounds g c κs within = (omega arith, (
-  c.requires.going.0,
-  c.requires.going.1,
-  before g.D.Digester.address c.requires.going.0 (chunks_of c.args.draft.now.chunks) c.args.tower.now c.args.level (ref_of c.args.name.now.item) c.args.path.now c.args.edits.now c.requires.going.1 c.requires.going.2,
-))
+read-requires-after_bounds g c κs within = (
+  omega arith,
+  (
+    c.requires.going.0,
+    c.requires.going.1,
+    before g.D.Digester.address c.requires.going.0 (chunks_of c.args.draft.now.chunks) c.args.tower.now c.args.level (ref_of c.args.name.now.item) c.args.path.now c.args.edits.now c.requires.going.1 c.requires.going.2,
+  ),
+)
 
 pub returns-then-stays-clause-ok : goal.returns-then-stays-clause-ok
 returns-then-stays-clause-ok g c start whole going =
