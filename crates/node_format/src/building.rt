@@ -78,6 +78,7 @@ impl NodeBuilder {
         requires few { length self.old.items + 1 < 2 ^ 16 }
         requires small { length (items_bytes 0 self.old.items) + length (item_bytes 0 (leaf_item key.now value.now)) ≤ 65532 }
         ensures ok { OnOk result (self.new.items ≡ self.old.items ++ leaf_item key.now value.now ∷ []) }
+        ensures err { OnErr result (self.new.items ≡ self.old.items) }
         ensures level { self.new.level ≡ self.old.level }
     {
         let start = self.bytes.len();

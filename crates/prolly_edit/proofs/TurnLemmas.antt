@@ -9,6 +9,7 @@ use Rattle.tuple_codec.specs.declared.edits.Edit.{Edit}
 use Rattle.node_format.proofs.NodeLemmas.{one_spelling}
 use Rattle.node_format.proofs.FieldLemmas.{some_is}
 use Rattle.chunk_store.specs.Chunks.{Chunks, Extends}
+use Rattle.chunk_store.specs.Kinds.{is_node}
 use Rattle.chunk_store.specs.Standing.{IsTree}
 use Rattle.node_chunker.specs.Growth.{IsTower}
 use Rattle.node_chunker.specs.Subtrees.{CanPushRef, IsSubtree, is_clear}
@@ -17,7 +18,8 @@ use Rattle.tree_laws.specs.Standing.{IsFound, IsStored, rows_below}
 use Rattle.tree_laws.proofs.Standing.{trees_have_roots, trees_lead}
 use Rattle.tree_laws.proofs.StandingReads.{all_map, items_there, reached, rows_there, some_rows}
 use Rattle.prolly_edit.specs.Editing.{CanEdit}
-use Rattle.prolly_edit.specs.Fronts.{AreParts, EndsBefore, Front, IsPart, is_over, load, load_below, on_level, rest, sum_of, weight}
+use Rattle.prolly_edit.specs.Fronts.{AreParts, EndsBefore, IsPart, is_over, load, load_below, rest}
+use Rattle.prolly_tree.specs.Fronts.{Front, on_level, sum_of, weight}
 use Rattle.prolly_edit.specs.Stages.{Awaits, IsBefore, IsGoing, IsRead, IsTurn, is_past}
 use Rattle.prolly_edit.proofs.EditLemmas.{edited_rows, rows_pass}
 use Rattle.prolly_edit.proofs.StageLemmas.{awaits_all, awaits_next, awaits_same, next_rows}

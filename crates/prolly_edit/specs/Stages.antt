@@ -10,7 +10,8 @@ use Rattle.node_chunker.specs.Growth.{IsTower}
 use Rattle.tree_laws.specs.Found.{each_of, nodes_in, rows_at}
 use Rattle.tree_laws.specs.Standing.{IsStored}
 use Rattle.prolly_edit.specs.Keeping.{StaysOpen}
-use Rattle.prolly_edit.specs.Fronts.{AreParts, Front, load, load_below, on_level, rest}
+use Rattle.prolly_edit.specs.Fronts.{AreParts, load, load_below, rest}
+use Rattle.prolly_tree.specs.Fronts.{Front, on_level}
 
 -- a tower has taken all rows but the later ones
 pub record Awaits (address : List ℕ → List ℕ) (chunks : Chunks) (open_nodes : List (List Item)) (later whole : List Item) : Type 0 where

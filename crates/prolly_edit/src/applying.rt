@@ -5,13 +5,15 @@ ghost use Rattle.tuple_codec.specs.Nodes.{Item, Node};
 ghost use Rattle.tuple_codec.specs.Edits.{edited};
 ghost use Rattle.node_format.specs.Views.{ref_of};
 ghost use Rattle.chunk_store.specs.Chunks.{Chunks};
-ghost use Rattle.chunk_store.specs.Drafts.{Longer, chunks_of};
+ghost use Rattle.chunk_store.specs.Drafts.{Grows, chunks_of};
+ghost use Rattle.chunk_store.specs.Kinds.{is_node};
 ghost use Rattle.chunk_store.specs.Standing.{IsTree};
-ghost use Rattle.node_chunker.specs.Faults.{IsReason};
+ghost use Rattle.chunk_store.specs.Clashes.{IsReason};
 ghost use Rattle.node_chunker.specs.Subtrees.{is_clear};
 ghost use Rattle.prolly_edit.specs.Editing.{CanEdit};
 ghost use Rattle.tree_laws.specs.Standing.{IsStored};
-ghost use Rattle.prolly_edit.specs.Fronts.{is_over, on_level};
+ghost use Rattle.prolly_edit.specs.Fronts.{is_over};
+ghost use Rattle.prolly_tree.specs.Fronts.{on_level};
 ghost use Rattle.node_format.specs.Outlasting.{Outlasts};
 ghost use Rattle.prolly_edit.specs.Names.{item_of};
 ghost use Rattle.prolly_edit.specs.Keeping.{StaysOpen};
@@ -42,7 +44,7 @@ pub fn apply<D: Digester>(
     requires { (rows : List Item) × CanEdit D.address (chunks_of draft.old.chunks) root.now.0 edits.now rows }
     ensures ok { (rows : List Item) → IsTree D.address (chunks_of draft.old.chunks) root.now.0 rows
         → IfOk result (λ root. IsTree D.address (chunks_of draft.new.chunks) root.0 (edited rows edits.now)) }
-    ensures longer { Longer draft.old.chunks draft.new.chunks }
+    ensures grows { Grows is_node draft.old draft.new }
     ensures cause { IfErr result (IsReason D.address (chunks_of draft.new.chunks)) }
 {
     let mut tower = Tower::new(alloc)?;
@@ -70,7 +72,7 @@ fn turn<'a, D: Digester>(
     requires known { Outlasts D.address (suc level) name.now.steps (item_of name.now).key }
     ensures ok { (start : Chunks) (whole : List Item) → IsGoing D.address start (chunks_of draft.old.chunks) tower.old ((level, item_of name.now) ∷ path.old) edits.now whole
         → IfOk result (λ left. IsTurn D.address start (chunks_of draft.new.chunks) tower.new ((level, item_of name.now) ∷ path.old) path.new left.now whole) }
-    ensures longer { Longer draft.old.chunks draft.new.chunks }
+    ensures grows { Grows is_node draft.old draft.new }
     ensures cause { IfErr result (IsReason D.address (chunks_of draft.new.chunks)) }
 {
     let item = &name.item;
@@ -83,7 +85,13 @@ fn turn<'a, D: Digester>(
 
 /// Whether a node's subtree is pushed whole: no edit comes before its end, it ended by the boundary rule since something
 /// follows, and the tower begins a node of its level and of each below it just there.
-fn stays<D: Digester>(tower: &Tower, path: &Path<D>, edits: &[Edit], level: u8, item: &RefItem) -> bool
+fn stays<D: Digester>(
+    tower: &Tower,
+    path: &Path<D>,
+    edits: &[Edit],
+    level: u8,
+    item: &RefItem,
+) -> bool
     requires { level < 255 }
     ensures { result ≡ (is_past item.now.key edits.now && not (is_over path.now) && is_clear (suc level) tower.now) }
 {
@@ -104,7 +112,7 @@ fn read<'a, D: Digester>(
     requires { (start : Chunks) × (whole : List Item) × IsBefore D.address start (chunks_of draft.old.chunks) tower.old level address.now.0 path.old edits.now whole }
     ensures ok { (start : Chunks) (whole : List Item) → IsBefore D.address start (chunks_of draft.old.chunks) tower.old level address.now.0 path.old edits.now whole
         → IfOk result (λ left. IsRead D.address start (chunks_of draft.new.chunks) tower.new level address.now.0 path.old path.new left.now whole) }
-    ensures longer { Longer draft.old.chunks draft.new.chunks }
+    ensures grows { Grows is_node draft.old draft.new }
     ensures cause { IfErr result (IsReason D.address (chunks_of draft.new.chunks)) }
 {
     if level > 0 {
@@ -143,7 +151,7 @@ fn read_rows<'a, D: Digester>(
     ensures ok { (node : Node) (more whole : List Item) → IsStored (chunks_of draft.old.chunks) address.now.0 node → node.level ≡ 0
         → Awaits D.address (chunks_of draft.old.chunks) tower.old (edited (node.items ++ more) edits.now) whole
         → IfOk result (λ left. Awaits D.address (chunks_of draft.new.chunks) tower.new (edited more left.now) whole) }
-    ensures longer { Longer draft.old.chunks draft.new.chunks }
+    ensures grows { Grows is_node draft.old draft.new }
     ensures cause { IfErr result (IsReason D.address (chunks_of draft.new.chunks)) }
 {
     let bytes = bytes_at(alloc, draft, address)?;

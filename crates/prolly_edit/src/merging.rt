@@ -4,8 +4,9 @@ ghost use Rattle.std.specs.Prelude.{◌≡◌, ◌≤◌, ◌+◌, ◌++◌, ◌
 ghost use Rattle.std.specs.Ordering.{is_lt};
 ghost use Rattle.tuple_codec.specs.Nodes.{Item, items_bytes, leaf_item, node_bytes};
 ghost use Rattle.tuple_codec.specs.Edits.{edited, order, putting, puts};
-ghost use Rattle.chunk_store.specs.Drafts.{Longer, chunks_of};
-ghost use Rattle.node_chunker.specs.Faults.{IsReason};
+ghost use Rattle.chunk_store.specs.Drafts.{Grows, chunks_of};
+ghost use Rattle.chunk_store.specs.Kinds.{is_node};
+ghost use Rattle.chunk_store.specs.Clashes.{IsReason};
 ghost use Rattle.node_format.specs.Outlasting.{Outlasts};
 ghost use Rattle.prolly_edit.specs.Keeping.{StaysOpen};
 ghost use Rattle.prolly_edit.specs.Stages.{Awaits, IsFirstAt, IsFirstBefore, are_not_before, is_past};
@@ -28,7 +29,7 @@ fn push<D: Digester>(
     requires known { Outlasts D.address 0 steps key.now }
     ensures ok { (later whole : List Item) → Awaits D.address (chunks_of draft.old.chunks) tower.old (leaf_item key.now value.now ∷ later) whole
         → OnOk result (Awaits D.address (chunks_of draft.new.chunks) tower.new later whole) }
-    ensures longer { Longer draft.old.chunks draft.new.chunks }
+    ensures grows { Grows is_node draft.old draft.new }
     ensures cause { IfErr result (IsReason D.address (chunks_of draft.new.chunks)) }
 {
     tower.push_kept_row(draft, key, value, steps)
@@ -43,7 +44,7 @@ fn put_edit<D: Digester>(
     requires { (later whole : List Item) × Awaits D.address (chunks_of draft.old.chunks) tower.old (putting edit.now.key edit.now.value later) whole }
     ensures ok { (later whole : List Item) → Awaits D.address (chunks_of draft.old.chunks) tower.old (putting edit.now.key edit.now.value later) whole
         → OnOk result (Awaits D.address (chunks_of draft.new.chunks) tower.new later whole) }
-    ensures longer { Longer draft.old.chunks draft.new.chunks }
+    ensures grows { Grows is_node draft.old draft.new }
     ensures cause { IfErr result (IsReason D.address (chunks_of draft.new.chunks)) }
 {
     match &edit.value {
@@ -61,7 +62,7 @@ pub(crate) fn put_edits<D: Digester>(
     requires { (whole : List Item) × Awaits D.address (chunks_of draft.old.chunks) tower.old (puts edits.now) whole }
     ensures ok { (whole : List Item) → Awaits D.address (chunks_of draft.old.chunks) tower.old (puts edits.now) whole
         → OnOk result (Awaits D.address (chunks_of draft.new.chunks) tower.new [] whole) }
-    ensures longer { Longer draft.old.chunks draft.new.chunks }
+    ensures grows { Grows is_node draft.old draft.new }
     ensures cause { IfErr result (IsReason D.address (chunks_of draft.new.chunks)) }
 {
     for edit in edits {
@@ -130,7 +131,7 @@ fn put_before<'a, D: Digester>(
     ensures ok { (row : Item) (rows whole : List Item) → row.key ≡ key.now → Awaits D.address (chunks_of draft.old.chunks) tower.old (edited (row ∷ rows) edits.now) whole
         → IfOk result (λ left. Awaits D.address (chunks_of draft.new.chunks) tower.new (edited (row ∷ rows) left.now) whole) }
     ensures first { IfOk result (λ left. are_not_before key.now left.now ≡ true) }
-    ensures longer { Longer draft.old.chunks draft.new.chunks }
+    ensures grows { Grows is_node draft.old draft.new }
     ensures cause { IfErr result (IsReason D.address (chunks_of draft.new.chunks)) }
 {
     let mut left = edits;
@@ -154,7 +155,7 @@ fn edit_row<'a, D: Digester>(
     requires awaits { (rows whole : List Item) × Awaits D.address (chunks_of draft.old.chunks) tower.old (edited (leaf_item key.now value.now ∷ rows) edits.now) whole }
     ensures ok { (rows whole : List Item) → Awaits D.address (chunks_of draft.old.chunks) tower.old (edited (leaf_item key.now value.now ∷ rows) edits.now) whole
         → IfOk result (λ left. Awaits D.address (chunks_of draft.new.chunks) tower.new (edited rows left.now) whole) }
-    ensures longer { Longer draft.old.chunks draft.new.chunks }
+    ensures grows { Grows is_node draft.old draft.new }
     ensures cause { IfErr result (IsReason D.address (chunks_of draft.new.chunks)) }
 {
     let left = put_before(tower, draft, edits, key)?;
@@ -183,7 +184,7 @@ pub(crate) fn edit_rows<'a, D: Digester>(
     requires awaits { (more whole : List Item) × Awaits D.address (chunks_of draft.old.chunks) tower.old (edited (leaf.now.items ++ more) edits.now) whole }
     ensures ok { (more whole : List Item) → Awaits D.address (chunks_of draft.old.chunks) tower.old (edited (leaf.now.items ++ more) edits.now) whole
         → IfOk result (λ left. Awaits D.address (chunks_of draft.new.chunks) tower.new (edited more left.now) whole) }
-    ensures longer { Longer draft.old.chunks draft.new.chunks }
+    ensures grows { Grows is_node draft.old draft.new }
     ensures cause { IfErr result (IsReason D.address (chunks_of draft.new.chunks)) }
 {
     let mut left = edits;

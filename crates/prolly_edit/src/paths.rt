@@ -4,7 +4,8 @@ ghost use Rattle.std.specs.Prelude.{◌≡◌, ◌<◌, ◌∷◌, ◌++◌, [],
 ghost use Rattle.tuple_codec.specs.Nodes.{Item, Node};
 ghost use Rattle.node_format.specs.Outlasting.{Outlasts};
 ghost use Rattle.prolly_edit.specs.Names.{AreKnown, item_of};
-ghost use Rattle.prolly_edit.specs.Fronts.{front_of, is_over, on_level};
+ghost use Rattle.prolly_edit.specs.Fronts.{front_of, is_over};
+ghost use Rattle.prolly_tree.specs.Fronts.{on_level};
 
 use node_format::RefItem;
 use smallvec::SmallVec;
@@ -93,7 +94,8 @@ pub(crate) struct Path<D: Digester> {
 }
 
 impl<D: Digester> Model for Path<D> {
-    ghost use Rattle.prolly_edit.specs.Fronts.{Front, HaveNames, front_of};
+    ghost use Rattle.prolly_edit.specs.Fronts.{HaveNames, front_of};
+    ghost use Rattle.prolly_tree.specs.Fronts.{Front};
 
     ghost Value = { Front };
 

@@ -1,7 +1,7 @@
 use Rattle.std.proofs.Common.{◌≡◌, ◌<◌, ◌-◌, ◌++◌, length, ap, sym, subst, ◌∙◌, arith}
 use Rattle.std.proofs.lemmas.Result.{IfOk-weaker}
 use Rattle.tuple_codec.specs.Nodes.{Node}
-use Rattle.prolly_edit.specs.Fronts.{on_level}
+use Rattle.prolly_tree.specs.Fronts.{on_level}
 use Rattle.prolly_edit.proofs.applying.read_names.Goals as goal
 
 pub push-requires-after_bounds : goal.push-requires-after_bounds

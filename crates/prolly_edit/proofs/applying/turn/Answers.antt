@@ -4,7 +4,7 @@ use Rattle.node_format.specs.Views.{ref_of}
 use Rattle.node_format.specs.Outlasting.{Outlasts}
 use Rattle.chunk_store.specs.Drafts.{chunks_of}
 use Rattle.node_chunker.specs.Subtrees.{CanPushRef, IsSubtree, is_clear}
-use Rattle.node_chunker.proofs.ClimbLemmas.{grows}
+use Rattle.node_chunker.proofs.ClimbLemmas.{extended}
 use Rattle.node_chunker.proofs.TowerLemmas.{extends_both}
 use Rattle.prolly_edit.specs.Fronts.{is_over}
 use Rattle.prolly_edit.specs.Stages.{IsRead, IsTurn, is_past}
@@ -27,11 +27,14 @@ push_kept_ref-requires-clause-can g c κs within =
     (can_push a c.requires.going.0 now c.args.tower.now level item c.args.path.now c.args.edits.now c.requires.going.1 c.requires.going.2 stay.0 (not_true (is_over c.args.path.now) stay.1) stay.2)
 
 pub read-requires-after_bounds : goal.read-requires-after_bounds
-read-requires-after_bounds g c κs within = (omega arith, (
-  c.requires.going.0,
-  c.requires.going.1,
-  before g.D.Digester.address c.requires.going.0 (chunks_of c.args.draft.now.chunks) c.args.tower.now c.args.level (ref_of c.args.name.now.item) c.args.path.now c.args.edits.now c.requires.going.1 c.requires.going.2,
-))
+read-requires-after_bounds g c κs within = (
+  omega arith,
+  (
+    c.requires.going.0,
+    c.requires.going.1,
+    before g.D.Digester.address c.requires.going.0 (chunks_of c.args.draft.now.chunks) c.args.tower.now c.args.level (ref_of c.args.name.now.item) c.args.path.now c.args.edits.now c.requires.going.1 c.requires.going.2,
+  ),
+)
 
 pub returns-then-stays-clause-ok : goal.returns-then-stays-clause-ok
 returns-then-stays-clause-ok g c start whole going =
@@ -43,7 +46,7 @@ returns-then-stays-clause-ok g c start whole going =
     let level = c.args.level in
     let e : suc level ≡ level + 1 = omega arith in
     let stay = three_true (is_past item.key c.args.edits.now) _ (is_clear (suc level) c.args.tower.now) (sym c.stays.ensures ∙ c.if-stays.true) in
-    let extends = extends_both start old new going.extends (grows c.args.draft.now.chunks c.push_kept_ref.new.draft.chunks c.in_ok-push_kept_ref.ensures.longer) in
+    let extends = extends_both start old new going.extends (extended c.args.draft.now c.push_kept_ref.new.draft c.in_ok-push_kept_ref.ensures.grows) in
     pushed a start old c.args.tower.now level item c.args.path.now c.args.edits.now whole going stay.0 (not_true (is_over c.args.path.now) stay.1) new tower extends
     (λ rows more stands subtree follow. c.in_ok-push_kept_ref.ensures.ok rows more stands (subst (λ n. IsSubtree a old n item more) e subtree) follow)
 

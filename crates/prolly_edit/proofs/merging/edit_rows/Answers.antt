@@ -3,7 +3,8 @@ use Rattle.tuple_codec.specs.Nodes.{Item, item_bytes, leaf_item}
 use Rattle.tuple_codec.specs.Trees.{bytes_of}
 use Rattle.tuple_codec.specs.Edits.{edited}
 use Rattle.chunk_store.specs.Drafts.{chunks_of}
-use Rattle.chunk_store.proofs.FollowLemmas.{drafts_follow}
+use Rattle.chunk_store.specs.Kinds.{is_node}
+use Rattle.chunk_store.proofs.GrowthLemmas.{drafts_grow}
 use Rattle.prolly_edit.specs.Stages.{Awaits}
 use Rattle.prolly_edit.proofs.StageLemmas.{drop_some}
 use Rattle.prolly_edit.proofs.KeepLemmas.{size_next, size_within}
@@ -21,7 +22,7 @@ edit_row-requires-clause-awaits g c κs within =
 pub loop-at-preserved : goal.loop-at-preserved
 loop-at-preserved g c = record {
   size_is = size_next 0 c.args.leaf.now.items c.loop-at.at _ c.loop-at.size c.row_size-size.result c.leaf_item.ensures c.row_size-size.ensures.size c.loop-at.invariant.size_is;
-  longer = drafts_follow.in_steps c.args.draft.now.chunks c.loop-at.draft.chunks c.edit_row.new.draft.chunks c.loop-at.invariant.longer c.in_ok-left.ensures.longer;
+  grows = drafts_grow.in_steps is_node c.args.draft.now c.loop-at.draft c.edit_row.new.draft c.loop-at.invariant.grows c.in_ok-left.ensures.grows;
   awaits = λ more whole awaits.
       let items = c.args.leaf.now.items in
       let at = c.loop-at.at in

@@ -14,8 +14,7 @@ pub invariant_of-self-2 : goal.invariant_of-self-2
 invariant_of-self-2 c =
     let items = c.self.inside.node.items in
     let pushed = c.in_ok-push_name.ensures.ok in
-    let x : Item = record { key = c.as_slice.result.now; body = c.args.item.now.address.0; rows = c.args.item.now.rows } in
-    (
+    let x : Item = record { key = c.as_slice.result.now; body = c.args.item.now.address.0; rows = c.args.item.now.rows } in (
       omega (arith, c.in_ok-push_name.ensures.level, c.self.invariant.0),
       omega (arith, c.self.invariant.1, ap rows_in pushed, rows_join items (x ∷ [])),
       λ single. ap (λ (i : Item). i.body) (single_last items c.push_name.new.self.items x pushed single),

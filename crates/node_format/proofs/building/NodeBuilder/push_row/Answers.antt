@@ -1,7 +1,5 @@
 use Rattle.std.proofs.Common.{◌≡◌, ◌≤◌, ◌+◌, ◌++◌, ◌∷◌, [], ℕ, List, length, ap, sym, subst, ◌∙◌, arith}
-use Rattle.std.proofs.lemmas.List.{length-append}
 use Rattle.tuple_codec.specs.Nodes.{Item, IsItem, Node, item_bytes, leaf_item, sized}
-use Rattle.node_format.specs.Building.{IsBuilt}
 use Rattle.node_format.proofs.BuildLemmas.{grown, built_on, key_there, key_within}
 use Rattle.node_format.proofs.building.NodeBuilder.push_row.Goals as goal
 
@@ -32,4 +30,4 @@ returns-in-Ok c =
     let pushed = c.in-Ok.ensures.ok in
     let items = grown level c.self.inside.count bytes mid new c.self.inside.key_start c.self.inside.key_size row c.self.invariant
     (subst (λ l. IsItem l row) (sym is_leaf) c.requires.item) (pushed ∙ ap (λ l. bytes ++ item_bytes l row) (sym is_leaf)) c.put_header.ensures in
-    record { ok = items ∙ ap (λ (n : Node). n.items ++ row ∷ []) c.self.view_is; level = ap (λ (n : Node). n.level) c.self.view_is }
+    record { err = tt; ok = items ∙ ap (λ (n : Node). n.items ++ row ∷ []) c.self.view_is; level = ap (λ (n : Node). n.level) c.self.view_is }

@@ -1,5 +1,6 @@
 use Rattle.std.proofs.Common.{◌++◌, ap, ◌∙◌}
-use Rattle.prolly_edit.specs.Fronts.{Front, front_of, on_level}
+use Rattle.prolly_edit.specs.Fronts.{front_of}
+use Rattle.prolly_tree.specs.Fronts.{Front, on_level}
 use Rattle.prolly_edit.proofs.FrontLemmas.{front_last}
 use Rattle.prolly_edit.proofs.paths.Path.push.Goals as goal
 

@@ -3,7 +3,8 @@ use Rattle.std.specs.Prelude.{◌==◌, vec_len}
 use Rattle.std.proofs.lemmas.List.{length-map, length-reverse}
 use Rattle.tuple_codec.specs.Nodes.{Node}
 use Rattle.prolly_edit.specs.Names.{item_of}
-use Rattle.prolly_edit.specs.Fronts.{is_over, on_level}
+use Rattle.prolly_edit.specs.Fronts.{is_over}
+use Rattle.prolly_tree.specs.Fronts.{on_level}
 use Rattle.prolly_edit.proofs.FrontLemmas.{over_is}
 use Rattle.prolly_edit.proofs.paths.Step.is_empty.Goals as goal
 
