@@ -13,6 +13,6 @@ mod tests;
 mod writing;
 
 pub use commits::CommitRecord;
-pub use laws::law_of_commits;
+pub use laws::{law_of_commits, law_of_standing_commits};
 pub use reading::read_commit;
 pub use writing::write_commit;

@@ -21,6 +21,3 @@ id_in_the_middle = record {
 -- a word, an id, and no amount
 abbrev pub sample_row : Value → ℤ → Cells
 sample_row word id = word ∷ cell.Int id ∷ cell.Null ∷ []
-
-abbrev pub two_rows : List Cells
-two_rows = sample_row cell.Null (pos 1) ∷ sample_row cell.Null (pos 2) ∷ []
