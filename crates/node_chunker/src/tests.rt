@@ -62,12 +62,3 @@ fn a_tree_has_the_address_of_its_rows(rt: HostRuntime) {
         assert!(rt; &root.text()[..] == want.as_bytes(), "{count} rows");
     }
 }
-
-#[test]
-fn no_rows_are_an_empty_leaf(rt: HostRuntime) {
-    let mut draft = draft_of(rt.alloc()).expect(&rt, "memory for a draft");
-    let rows = rows_below(rt.alloc(), 0).expect(&rt, "no memory is taken");
-    let root = build(rt.alloc(), &mut draft, &rows).expect(&rt, "memory for a leaf");
-    let leaf = draft.get(&root).expect(&rt, "the leaf");
-    assert_eq!(rt; leaf, [1, 0, 0, 0].as_slice());
-}

@@ -1,5 +1,5 @@
 -- A comparison from its beginning to its end.
-use Rattle.std.proofs.Common.{◌≡◌, ◌≤◌, ◌*◌, ◌+◌, ◌-◌, ◌^◌, ℕ, suc, List, [], ◌∷◌, ◌++◌, refl, sym, ap, ◌∙◌, subst, append-nil, arith}
+use Rattle.std.proofs.Common.{◌≡◌, ◌≤◌, ◌*◌, ◌+◌, ℕ, suc, List, [], ◌∷◌, ◌++◌, refl, sym, ap, ◌∙◌, subst, append-nil, arith}
 use Rattle.tuple_codec.specs.Nodes.{Item, Node}
 use Rattle.tuple_codec.specs.Edits.{changed}
 use Rattle.tuple_codec.specs.declared.edits.Change.{Change}
@@ -10,7 +10,7 @@ use Rattle.tree_laws.specs.Standing.{Chunks, IsStored, rows_below}
 use Rattle.tree_laws.proofs.Standing.{trees_lead}
 use Rattle.prolly_tree.specs.Fronts.{Front, nodes_of, on_level, rows_ahead, rows_of}
 use Rattle.prolly_tree.proofs.Descents.{one_node}
-use Rattle.pair_walk.specs.Counts.{counted}
+use Rattle.pair_walk.specs.Counts.{IsCount, counted}
 use Rattle.pair_walk.specs.Heads.{Begins}
 use Rattle.pair_walk.specs.Pairs.{AllPairs, AreAlike, AreAligned, HaveSameKeys, differing, differing_ahead, differing_from, pair_sum}
 use Rattle.pair_walk.specs.Turns.{AreAlikeAhead, Compared, IsTurn, all_changes, all_reads}
@@ -23,7 +23,8 @@ pub record IsGoing (address : List ℕ → List ℕ) (parts : DraftParts) (old n
   pub changes : (rows others : List Item) → IsTree address (chunks_of parts) old rows → IsTree address (chunks_of parts) new others → all_changes c ≡ changed rows others
   pub alike : (node other : Node) → IsStored (chunks_of parts) old node → IsStored (chunks_of parts) new other → AreAlike (nodes_of parts) node other
       → AreAlikeAhead c × (all_reads c ≡ counted reads (2 * differing_from (nodes_of parts) node other))
-  pub few : c.reads ≤ 2 ^ 64 - 1
+  pub rises : counted reads 2 ≤ c.reads
+  pub count : IsCount c.reads
 
 aligned_from : (nodes : Nodes) (level : ℕ) (items others : List Item) → AllPairs (HaveSameKeys nodes level) items others → AreAligned nodes (on_level level items) (on_level level others)
 aligned_from nodes level [] [] pairs = tt
@@ -65,7 +66,8 @@ begin_goes address parts old new reads c b = record {
             ∙ ap (λ (n : ℕ). counted n (2 * differing_ahead (nodes_of parts) c.old_walk.front c.new_walk.front)) b.reads_are
             ∙ a.1,
       );
-  few = let two = b.reads_are in omega (arith, two);
+  rises = let two = b.reads_are in omega (arith, two);
+  count = let two = b.reads_are in omega (arith, two);
 }
 
 pub turn_goes : (address : List ℕ → List ℕ) (parts : DraftParts) (old new : List ℕ) (reads : ℕ) (c d : Compared) → IsTurn c d
@@ -75,7 +77,8 @@ turn_goes address parts old new reads c d turn goes = record {
   new_parts = turn.new_parts ∙ goes.new_parts;
   changes = λ rows others is_old is_new. turn.changes ∙ goes.changes rows others is_old is_new;
   alike = λ node other is_old is_new alike. let a = goes.alike node other is_old is_new alike in (turn.alike a.0, turn.reads a.0 ∙ a.1);
-  few = turn.few goes.few;
+  rises = let more = (turn.rises goes.count).0 in let before = goes.rises in omega (arith, before, more);
+  count = (turn.rises goes.count).1;
 }
 
 pub end_changes : (c : Compared) → c.old_walk.front ≡ [] → c.new_walk.front ≡ [] → all_changes c ≡ c.found
@@ -84,7 +87,7 @@ end_changes c old new =
     ∙ ap (λ (f : Front). c.found ++ changed [] (rows_ahead (nodes_of c.new_walk.parts) f)) new
     ∙ append-nil c.found
 
-pub end_reads : (c : Compared) → c.old_walk.front ≡ [] → c.reads ≤ 2 ^ 64 - 1 → all_reads c ≡ c.reads
+pub end_reads : (c : Compared) → c.old_walk.front ≡ [] → IsCount c.reads → all_reads c ≡ c.reads
 end_reads c old few =
     let over : all_reads c ≡ counted c.reads (2 * 0) = ap (λ (f : Front). counted c.reads (2 * differing_ahead (nodes_of c.old_walk.parts) f c.new_walk.front)) old in
     let stays : counted c.reads (2 * 0) ≡ c.reads = omega (arith, few) in

@@ -5,12 +5,12 @@ use Rattle.tuple_codec.specs.Nodes.{Item}
 use Rattle.tuple_codec.specs.Edits.{added, changed, removed}
 use Rattle.tuple_codec.specs.declared.edits.Change.{Change}
 use Rattle.tree_laws.specs.Found.{Nodes, items_of, rows_at}
-use Rattle.prolly_tree.specs.Fronts.{Front, nodes_of, on_level, opened, rows_ahead, rows_of}
+use Rattle.prolly_tree.specs.Fronts.{Front, nodes_of, on_level, opened, rows_ahead, rows_of, sum_of, weight}
 use Rattle.prolly_tree.proofs.FrontLemmas.{rows_on}
-use Rattle.pair_walk.specs.Counts.{counted}
+use Rattle.pair_walk.specs.Counts.{IsCount, counted}
 use Rattle.pair_walk.specs.Heads.{descended, skipped}
 use Rattle.pair_walk.specs.Pairs.{AllPairs, AreAligned, HaveSameKeys, differing, differing_ahead, pair_sum}
-use Rattle.pair_walk.specs.Turns.{AreAlikeAhead, Compared, IsTurn, load, load_of, sum_of, weight}
+use Rattle.pair_walk.specs.Turns.{AreAlikeAhead, Compared, IsTurn, load, load_of}
 
 load_append : (nodes : Nodes) (front more : Front) → load nodes (front ++ more) ≡ load nodes front + load nodes more
 load_append nodes [] more = let e : load nodes more ≡ 0 + load nodes more = omega arith in e
@@ -47,8 +47,14 @@ open_load nodes front level item first =
     let whole = load_on nodes level items in
     omega (arith, after, before, parts, whole)
 
-capped : (reads more : ℕ) → counted reads more ≤ 2 ^ 64 - 1
-capped reads more = omega arith
+more_counted : (reads : ℕ) → IsCount reads → (reads ≤ counted reads 1) × IsCount (counted reads 1)
+more_counted reads count = (omega arith, omega arith)
+
+none_counted : (reads : ℕ) → IsCount reads → (reads ≤ reads) × IsCount reads
+none_counted reads count = (omega arith, count)
+
+both_counted : (reads : ℕ) → IsCount reads → (reads ≤ counted (counted reads 1) 1) × IsCount (counted (counted reads 1) 1)
+both_counted reads count = (omega arith, omega arith)
 
 -- ---- turns on one side, where the sides aren't alike
 
@@ -68,7 +74,7 @@ turn_removed c row first step unlike =
       less = omega (arith, weights);
       alike = λ a. absurd (unlike a);
       reads = λ a. absurd (unlike a);
-      few = λ f. f;
+      rises = none_counted c.reads;
     }
 
 pub turn_added : (c : Compared) (row : Item) → c.new_walk.front ≡ (0, row) ∷ drop 1 c.new_walk.front
@@ -87,7 +93,7 @@ turn_added c row first step unlike =
       less = omega (arith, weights);
       alike = λ a. absurd (unlike a);
       reads = λ a. absurd (unlike a);
-      few = λ f. f;
+      rises = none_counted c.reads;
     }
 
 pub turn_old_opened : (c : Compared) (level : ℕ) (item : Item) → c.old_walk.front ≡ (suc level, item) ∷ drop 1 c.old_walk.front → (AreAlikeAhead c → ⊥)
@@ -102,7 +108,7 @@ turn_old_opened c level item first unlike =
       less = omega (arith, weights);
       alike = λ a. absurd (unlike a);
       reads = λ a. absurd (unlike a);
-      few = λ f. capped _ 1;
+      rises = more_counted c.reads;
     }
 
 pub turn_new_opened : (c : Compared) (level : ℕ) (item : Item) → c.new_walk.front ≡ (suc level, item) ∷ drop 1 c.new_walk.front → (AreAlikeAhead c → ⊥)
@@ -117,7 +123,7 @@ turn_new_opened c level item first unlike =
       less = omega (arith, weights);
       alike = λ a. absurd (unlike a);
       reads = λ a. absurd (unlike a);
-      few = λ f. capped _ 1;
+      rises = more_counted c.reads;
     }
 
 -- ---- turns on both sides
@@ -151,7 +157,7 @@ turn_passed c level item other more found parts first other_first step is none =
       less = omega (arith, weights, others, some);
       alike = λ a. aligned_rest nodes c.old_walk.front c.new_walk.front a;
       reads = λ a. ap (λ (n : ℕ). counted c.reads (2 * n)) (sym ahead);
-      few = λ f. f;
+      rises = none_counted c.reads;
     } where
       weight_some : (nodes : Nodes) (level : ℕ) (item : Item) → 0 < weight nodes level item
       weight_some nodes zero item = omega arith
@@ -217,5 +223,5 @@ turn_both_opened c level item other parts first other_first apart =
           ap (λ (n : ℕ). counted (counted (counted c.reads 1) 1) (2 * n)) after
           ∙ two_counted c.reads (pair_sum (differing nodes level) items others + differing_ahead nodes (drop 1 c.old_walk.front) (drop 1 c.new_walk.front))
           ∙ ap (λ (n : ℕ). counted c.reads (2 * n)) (sym differ);
-      few = λ f. capped _ 1;
+      rises = both_counted c.reads;
     }

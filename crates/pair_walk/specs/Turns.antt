@@ -1,21 +1,12 @@
 -- A turn of a comparison: what is found and what is left come to the same as before, and less is left.
-use Rattle.std.specs.Prelude.{◌≡◌, ◌<◌, ◌≤◌, ◌+◌, ◌-◌, ◌*◌, ◌^◌, ℕ, zero, suc, List, [], ◌∷◌, ◌++◌}
+use Rattle.std.specs.Prelude.{◌≡◌, ◌<◌, ◌≤◌, ◌+◌, ◌*◌, ℕ, List, [], ◌∷◌, ◌++◌}
 use Rattle.tuple_codec.specs.Nodes.{Item}
 use Rattle.tuple_codec.specs.Edits.{changed}
 use Rattle.tuple_codec.specs.declared.edits.Change.{Change}
-use Rattle.tree_laws.specs.Found.{Nodes, items_of}
-use Rattle.prolly_tree.specs.Fronts.{Front, Walking, nodes_of, rows_of}
-use Rattle.pair_walk.specs.Counts.{counted}
+use Rattle.tree_laws.specs.Found.{Nodes}
+use Rattle.prolly_tree.specs.Fronts.{Front, Walking, nodes_of, rows_of, weight}
+use Rattle.pair_walk.specs.Counts.{IsCount, counted}
 use Rattle.pair_walk.specs.Pairs.{AreAligned, differing_ahead}
-
-abbrev pub sum_of : (Item → ℕ) → List Item → ℕ
-sum_of f [] = 0
-sum_of f (item ∷ items) = f item + sum_of f items
-
--- how many items there are at and below an item
-abbrev pub weight : Nodes → ℕ → Item → ℕ
-weight nodes zero item = 1
-weight nodes (suc level) item = suc (sum_of (weight nodes level) (items_of (nodes level item.body)))
 
 abbrev pub load : Nodes → Front → ℕ
 load nodes [] = 0
@@ -49,4 +40,4 @@ pub record IsTurn (before after : Compared) : Type 0 where
   pub less : load_of after.old_walk + load_of after.new_walk < load_of before.old_walk + load_of before.new_walk
   pub alike : AreAlikeAhead before → AreAlikeAhead after
   pub reads : AreAlikeAhead before → all_reads after ≡ all_reads before
-  pub few : before.reads ≤ 2 ^ 64 - 1 → after.reads ≤ 2 ^ 64 - 1
+  pub rises : IsCount before.reads → (before.reads ≤ after.reads) × IsCount after.reads

@@ -1,6 +1,6 @@
 //! Two walks side by side.
 
-ghost use Rattle.std.specs.Prelude.{◌≡◌, ◌≢◌, suc, ◌∷◌, ◌++◌, ◌+◌, ◌*◌, [], List, Some, IfOk, OnOk, OnErr, MatchOption, drop};
+ghost use Rattle.std.specs.Prelude.{◌≡◌, ◌≢◌, ◌≤◌, suc, ◌∷◌, ◌++◌, ◌+◌, ◌*◌, [], List, Some, IfOk, OnOk, OnErr, MatchOption, drop};
 ghost use Rattle.tuple_codec.specs.Nodes.{Item, Node, leaf_item};
 ghost use Rattle.tuple_codec.specs.Edits.{added, changed, removed, replaced};
 ghost use Rattle.chunk_store.specs.Drafts.{chunks_of};
@@ -24,8 +24,9 @@ use tuple_codec::{Address, Blob, Change, Digester};
 
 /// The keys, rising, at which the rows of two trees differ, with the value of each tree there.
 ///
-/// Each node that is read raises `reads` by one. Nodes of one address are never read, wherever both walks come to them,
-/// so what is read are nodes that differ and those above them. Where memory is wanting, `reads` is as before.
+/// Each node that is read raises `reads` by one; both roots are read where their addresses differ. Nodes of one address are
+/// never read, wherever both walks come to them, so what is read are nodes that differ and those above them. Where memory is
+/// wanting, `reads` is as before.
 pub fn changes<D: Digester>(
     alloc: Global,
     draft: &Draft<D>,
@@ -42,6 +43,7 @@ pub fn changes<D: Digester>(
         → IsStored (chunks_of draft.now.chunks) new.now.0 other → AreAlike (nodes_in (chunks_of draft.now.chunks)) node other
         → old.now.0 ≢ new.now.0
         → OnOk result (reads.new.0 ≡ counted reads.old.0 (2 * differing_from (nodes_in (chunks_of draft.now.chunks)) node other)) }
+    ensures rises { old.now.0 ≢ new.now.0 → OnOk result (counted reads.old.0 2 ≤ reads.new.0) }
     ensures err { OnErr result (reads.new ≡ reads.old) }
 {
     if old == new {

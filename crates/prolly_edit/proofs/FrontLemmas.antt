@@ -3,10 +3,12 @@ use Rattle.std.proofs.Common.{◌≡◌, ◌<◌, ◌+◌, ℕ, suc, ◌==◌, t
 use Rattle.std.specs.List.{AllByRecursion}
 use Rattle.std.proofs.Math.Dec.{eqb-suc-zero}
 use Rattle.tuple_codec.specs.Nodes.{Item, Node}
+use Rattle.chunk_store.specs.Kinds.{is_node}
 use Rattle.tree_laws.specs.Found.{ButLast, IsCanonical, IsEnded, IsOrdered, Nodes, each_of, nodes_in, rows_at}
 use Rattle.tree_laws.specs.Standing.{Chunks, IsFound}
 use Rattle.tree_laws.proofs.StandingReads.{items_there}
-use Rattle.prolly_edit.specs.Fronts.{AreParts, EndsBefore, Front, HaveNames, IsPart, front_of, is_over, load, on_level, rest, sum_of, weight}
+use Rattle.prolly_edit.specs.Fronts.{AreParts, EndsBefore, HaveNames, IsPart, front_of, is_over, load, rest}
+use Rattle.prolly_tree.specs.Fronts.{Front, on_level, sum_of, weight}
 
 -- ---- steps of a path
 

@@ -1,18 +1,10 @@
--- What a walk has left of a tree: nodes in order, each as the item that names it.
+-- What a walk has left of a tree: the nodes that aren't read yet, in order, by the level of each and the item that names it.
 use Rattle.std.specs.Prelude.{◌<◌, ℕ, zero, suc, ◌+◌, Bool, true, false, List, [], ◌∷◌, ◌++◌, length}
 use Rattle.std.specs.List.{AllByRecursion}
 use Rattle.tuple_codec.specs.Nodes.{Item, Node}
 use Rattle.tree_laws.specs.Found.{IsCanonical, IsEnded, IsOrdered, Nodes, items_of, nodes_in, rows_at}
 use Rattle.tree_laws.specs.Standing.{Chunks, IsFound}
-
--- nodes that aren't read yet: the level of each, and the item that names it
-abbrev pub Front : Type 0
-Front = List (ℕ × Item)
-
--- nodes of one level
-abbrev pub on_level : ℕ → List Item → Front
-on_level level [] = []
-on_level level (item ∷ items) = (level, item) ∷ on_level level items
+use Rattle.prolly_tree.specs.Fronts.{Front, on_level, sum_of, weight}
 
 -- those of a path, whose steps each have names of nodes of a level, the last step first
 abbrev pub front_of : List Node → Front
@@ -28,21 +20,12 @@ abbrev pub rest : Nodes → Front → List Item
 rest nodes [] = []
 rest nodes (part ∷ front) = rows_at nodes (suc part.0) part.1 ++ rest nodes front
 
-abbrev pub sum_of : (Item → ℕ) → List Item → ℕ
-sum_of f [] = 0
-sum_of f (item ∷ items) = f item + sum_of f items
-
--- how many nodes are at or below an item
-abbrev pub weight : Nodes → ℕ → Item → ℕ
-weight nodes zero item = 0
-weight nodes (suc level) item = suc (sum_of (weight nodes level) (items_of (nodes level item.body)))
-
--- how many nodes a walk may still read
+-- how many nodes and rows a walk has left
 abbrev pub load : Nodes → Front → ℕ
 load nodes [] = 0
 load nodes (part ∷ front) = weight nodes (suc part.0) part.1 + load nodes front
 
--- how many nodes are below the one of this level at this address
+-- how many are below the node of this level at this address
 abbrev pub load_below : Nodes → ℕ → List ℕ → ℕ
 load_below nodes level k = sum_of (weight nodes level) (items_of (nodes level k))
 

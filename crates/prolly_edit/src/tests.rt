@@ -1,13 +1,10 @@
-ghost use Rattle.std.specs.Prelude.{◌≡◌, ◌≤◌, ◌<◌, ◌+◌, ◌-◌, ◌^◌, ℕ, map, length, IfOk, OnOk, None, Some};
+ghost use Rattle.std.specs.Prelude.{◌≡◌, ◌≤◌, ◌<◌, ◌+◌, ◌-◌, ◌^◌, ℕ, map, length, IfOk, OnOk};
 ghost use Rattle.std.specs.Int.{w64, to_be_bytes};
-ghost use Rattle.tuple_codec.specs.Nodes.{leaf_item};
 ghost use Rattle.node_format.specs.Views.{leaf_of};
 ghost use Rattle.chunk_store.specs.Digests.{cut_address};
 ghost use Rattle.chunk_store.specs.Drafts.{chunks_of};
-ghost use Rattle.chunk_store.specs.Standing.{IsTree};
 ghost use Rattle.node_chunker.specs.Samples.{AreBelow};
 ghost use Rattle.prolly_tree.specs.Lists.{StandsForRows};
-ghost use Rattle.prolly_tree.specs.Samples.{two_rows};
 ghost use Rattle.prolly_edit.specs.Samples.{AreEditsBelow, AreFewEdits, AreFewRows, IsFit, StandsForFew};
 
 use super::*;
@@ -24,66 +21,6 @@ fn blob(alloc: Global, bytes: &[u8]) -> Result<Blob, AllocError>
     ensures { IfOk result (λ blob. blob ≡ bytes.now) }
 {
     Ok(Blob::from_vec(Vec::from_slice(alloc, bytes)?))
-}
-
-fn row(alloc: Global, key: &[u8], value: &[u8]) -> Result<LeafItem, AllocError>
-    ensures { IfOk result (λ row. leaf_of row ≡ leaf_item key.now value.now) }
-{
-    Ok(LeafItem {
-        key: blob(alloc, key)?,
-        value: blob(alloc, value)?,
-    })
-}
-
-fn put(alloc: Global, key: &[u8], value: &[u8]) -> Result<Edit, AllocError>
-    ensures key { IfOk result (λ edit. edit.key ≡ key.now) }
-    ensures value { IfOk result (λ edit. edit.value ≡ Some value.now) }
-{
-    Ok(Edit {
-        key: blob(alloc, key)?,
-        value: Some(blob(alloc, value)?),
-    })
-}
-
-fn removal(alloc: Global, key: &[u8]) -> Result<Edit, AllocError>
-    ensures key { IfOk result (λ edit. edit.key ≡ key.now) }
-    ensures value { IfOk result (λ edit. edit.value ≡ None) }
-{
-    Ok(Edit {
-        key: blob(alloc, key)?,
-        value: None,
-    })
-}
-
-/// The root of the tree of two rows.
-fn old_root(alloc: Global, draft: &mut Draft<Sha512Cut>) -> Result<Address, PutFault>
-    ensures { IfOk result (λ root. IsTree cut_address (chunks_of draft.new.chunks) root.0 two_rows) }
-{
-    let rows = [row(alloc, b"b", b"two")?, row(alloc, b"d", b"four")?];
-    build(alloc, draft, &rows)
-}
-
-/// Puts a row between the two, and removes the second.
-fn edited_root(alloc: Global, draft: &mut Draft<Sha512Cut>) -> Result<Address, PutFault> {
-    let root = old_root(alloc, draft)?;
-    let edits = [put(alloc, b"c", b"three")?, removal(alloc, b"d")?];
-    apply(alloc, draft, &root, &edits)
-}
-
-/// The root of the tree of the rows that are there then.
-fn new_root(alloc: Global, draft: &mut Draft<Sha512Cut>) -> Result<Address, PutFault> {
-    let rows = [row(alloc, b"b", b"two")?, row(alloc, b"c", b"three")?];
-    build(alloc, draft, &rows)
-}
-
-#[test]
-fn an_edited_tree_is_the_tree_of_the_edited_rows(rt: HostRuntime) -> Result<(), Fail> {
-    let pool = PagePool::with_pages(rt.alloc(), 1)?;
-    let mut draft: Draft<Sha512Cut> = Draft::new(Store::new(rt.alloc()), pool);
-    let edited = edited_root(rt.alloc(), &mut draft)?;
-    let built = new_root(rt.alloc(), &mut draft)?;
-    assert_eq!(rt; edited, built);
-    Ok(())
 }
 
 /// How many rows the trees of the table have.
@@ -224,35 +161,28 @@ fn both_agree(alloc: Global, count: u16, from: u32, to: u32) -> Result<bool, Put
     Ok(put && removed)
 }
 
+// at the front, in the middle and at the end, where there is a row and where there is none
 #[test]
-fn edits_at_the_front(rt: HostRuntime) {
-    for count in COUNTS {
-        for at in [0, 2] {
-            let same = both_agree(rt.alloc(), count, at, at + 1).expect(&rt, "memory for trees");
-            assert!(rt; same, "{count} rows, an edit at {at}");
-        }
-    }
-}
-
-#[test]
-fn edits_in_the_middle(rt: HostRuntime) {
+fn edits_of_one_row(rt: HostRuntime) {
     for count in COUNTS {
         let middle = count as u32;
-        for at in [middle, middle + 1] {
+        let last = 2 * count as u32;
+        for at in [0, 2, middle, middle + 1, last, last + 1] {
             let same = both_agree(rt.alloc(), count, at, at + 1).expect(&rt, "memory for trees");
             assert!(rt; same, "{count} rows, an edit at {at}");
         }
     }
 }
 
+// of up to 500 rows, so that an edit moves rows over each step of 1,024 bytes of a leaf, and of the node above it
 #[test]
-fn edits_at_the_end(rt: HostRuntime) {
-    for count in COUNTS {
-        let last = 2 * count as u32;
-        for at in [last, last + 1] {
-            let same = both_agree(rt.alloc(), count, at, at + 1).expect(&rt, "memory for trees");
-            assert!(rt; same, "{count} rows, an edit at {at}");
-        }
+fn edits_of_one_row_at_random(rt: HostRuntime) {
+    let mut seed = 1u32;
+    for count in 1..500u16 {
+        seed = seed.wrapping_mul(1_664_525).wrapping_add(1_013_904_223);
+        let at = (seed >> 8) % (2 * count as u32 + 2);
+        let same = both_agree(rt.alloc(), count, at, at + 1).expect(&rt, "memory for trees");
+        assert!(rt; same, "{count} rows, an edit at {at}");
     }
 }
 

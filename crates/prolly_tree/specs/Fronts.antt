@@ -1,5 +1,5 @@
 -- What a walk has left, in order: rows, and nodes that it hasn't opened, each as an item with the level at which it stands.
-use Rattle.std.specs.Prelude.{ℕ, zero, suc, List, [], ◌∷◌, ◌++◌}
+use Rattle.std.specs.Prelude.{ℕ, zero, suc, ◌+◌, List, [], ◌∷◌, ◌++◌}
 use Rattle.tuple_codec.specs.Nodes.{Item, Node}
 use Rattle.chunk_store.specs.Chunks.{Chunks}
 use Rattle.chunk_store.specs.Drafts.{DraftParts, chunks_of}
@@ -13,6 +13,15 @@ Front = List (ℕ × Item)
 abbrev pub on_level : ℕ → List Item → Front
 on_level level [] = []
 on_level level (item ∷ items) = (level, item) ∷ on_level level items
+
+abbrev pub sum_of : (Item → ℕ) → List Item → ℕ
+sum_of f [] = 0
+sum_of f (item ∷ items) = f item + sum_of f items
+
+-- how many items there are at and below an item
+abbrev pub weight : Nodes → ℕ → Item → ℕ
+weight nodes zero item = 1
+weight nodes (suc level) item = suc (sum_of (weight nodes level) (items_of (nodes level item.body)))
 
 -- the rows at or below all items that are left
 abbrev pub rows_ahead : Nodes → Front → List Item

@@ -67,17 +67,6 @@ fn plant_two(draft: &mut Draft<ByLength>, alloc: Global) -> Result<Address, Fail
 }
 
 #[test]
-fn two_rows_by_key(rt: HostRuntime) -> Result<(), Fail> {
-    let pool = PagePool::with_pages(rt.alloc(), 1)?;
-    let mut draft: Draft<ByLength> = Draft::new(Store::new(rt.alloc()), pool);
-    let root = plant_two(&mut draft, rt.alloc())?;
-    assert_eq!(rt; count(&draft, &root), 2);
-    assert!(rt; get(&draft, &root, b"d") == Some(b"four".as_slice()));
-    assert!(rt; get(&draft, &root, b"c").is_none());
-    Ok(())
-}
-
-#[test]
 fn two_rows_in_turn(rt: HostRuntime) -> Result<(), Fail> {
     let pool = PagePool::with_pages(rt.alloc(), 1)?;
     let mut draft: Draft<ByLength> = Draft::new(Store::new(rt.alloc()), pool);
@@ -87,27 +76,5 @@ fn two_rows_in_turn(rt: HostRuntime) -> Result<(), Fail> {
     assert!(rt; scan.next().is_none());
     let mut past = scan_from(rt.alloc(), &draft, &root, b"e")?;
     assert!(rt; past.next().is_none());
-    Ok(())
-}
-
-fn is_row(head: Option<Head<'_>>, key: &[u8], value: &[u8]) -> bool {
-    match head {
-        Some(Head::Row { key: k, value: v }) => k == key && v == value,
-        _ => false,
-    }
-}
-
-#[test]
-fn two_rows_walked(rt: HostRuntime) -> Result<(), Fail> {
-    let pool = PagePool::with_pages(rt.alloc(), 1)?;
-    let mut draft: Draft<ByLength> = Draft::new(Store::new(rt.alloc()), pool);
-    let root = plant_two(&mut draft, rt.alloc())?;
-    let mut walk = Walk::new(rt.alloc(), &draft, &root)?;
-    assert!(rt; is_row(walk.head(), b"b", b"two"));
-    walk.skip();
-    walk.open();
-    assert!(rt; is_row(walk.head(), b"d", b"four"));
-    walk.skip();
-    assert!(rt; walk.head().is_none());
     Ok(())
 }

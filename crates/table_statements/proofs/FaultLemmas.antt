@@ -1,12 +1,11 @@
 -- Why puts are refused: where all chunks are named, two byte strings have one address.
 use Rattle.std.proofs.Common.{ℕ, List, [], ◌∷◌, ◌++◌, refl, sym, subst}
 use Rattle.chunk_store.specs.Chunks.{AreNamed, Chunk, bytes_at}
-use Rattle.chunk_store.specs.Clashes.{IsCause}
+use Rattle.chunk_store.specs.Clashes.{IsCause, IsReason}
 use Rattle.chunk_store.specs.Drafts.{DraftParts, IsSound, Longer, chunks_of}
 use Rattle.chunk_store.specs.Laws.{ChunksFollow}
 use Rattle.chunk_store.specs.declared.faults.PutFault.{PutFault}
 use Rattle.chunk_store.specs.declared.faults.PutFault.TheVariants.{Memory, Collision}
-use Rattle.node_chunker.specs.Faults.{IsReason}
 use Rattle.script_text.specs.Collisions.{IsFault}
 use Rattle.table_statements.specs.Keeping.{IsNamed}
 

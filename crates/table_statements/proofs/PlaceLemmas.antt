@@ -12,7 +12,7 @@ use Rattle.chunk_store.specs.Drafts.{DraftParts, chunks_of}
 use Rattle.chunk_store.specs.declared.faults.PutFault.{PutFault}
 use Rattle.chunk_store.specs.declared.faults.PutFault.TheVariants.{Memory, Collision}
 use Rattle.chunk_store.proofs.FollowLemmas.{chunks_follow}
-use Rattle.node_chunker.specs.Faults.{IsReason}
+use Rattle.chunk_store.specs.Clashes.{IsReason}
 use Rattle.prolly_edit.proofs.EditLemmas.{above_other}
 use Rattle.script_text.specs.Collisions.{IsFault}
 use Rattle.table_statements.specs.Placing.{comes_before, have_twins, never_fall}

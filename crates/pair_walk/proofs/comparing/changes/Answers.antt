@@ -1,6 +1,7 @@
-use Rattle.std.proofs.Common.{ap, sym, ◌∙◌}
+use Rattle.std.proofs.Common.{◌≤◌, ap, subst, sym, ◌∙◌}
 use Rattle.std.proofs.lemmas.Slice.Eq.{bytes_eq-Decides}
 use Rattle.chunk_store.specs.Drafts.{chunks_of}
+use Rattle.pair_walk.specs.Counts.{counted}
 use Rattle.pair_walk.specs.Turns.{Compared}
 use Rattle.pair_walk.proofs.Comparisons.{begin_goes, end_reads, same_tree}
 use Rattle.pair_walk.proofs.comparing.changes.Goals as goal
@@ -17,5 +18,8 @@ turns-init g c =
 pub returns-clause-reads : goal.returns-clause-reads
 returns-clause-reads g c = λ node other is_old is_new alike apart.
     ap (λ (w : Compared). w.reads) c.comparison.view_is
-    ∙ sym (end_reads c.turns.comparison c.in_default.ensures.0 c.turns.invariant.few)
+    ∙ sym (end_reads c.turns.comparison c.in_default.ensures.0 c.turns.invariant.count)
     ∙ (c.turns.invariant.alike node other is_old is_new alike).1
+
+pub returns-clause-rises : goal.returns-clause-rises
+returns-clause-rises g c = λ apart. subst (λ (w : Compared). counted c.args.reads.now.0 2 ≤ w.reads) c.comparison.view_is c.turns.invariant.rises

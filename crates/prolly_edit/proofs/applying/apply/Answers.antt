@@ -1,12 +1,14 @@
-use Rattle.std.proofs.Common.{◌<◌, ◌^◌, List, length, sym, subst}
+use Rattle.std.proofs.Common.{◌<◌, ◌^◌, List, length, sym, subst, arith}
 use Rattle.tuple_codec.specs.Nodes.{Item}
 use Rattle.tuple_codec.specs.Edits.{edited}
 use Rattle.chunk_store.specs.Drafts.{chunks_of}
-use Rattle.chunk_store.proofs.FollowLemmas.{drafts_follow}
+use Rattle.chunk_store.specs.Kinds.{is_node}
+use Rattle.chunk_store.proofs.GrowthLemmas.{drafts_grow}
 use Rattle.tree_laws.specs.Found.{nodes_in}
 use Rattle.tree_laws.proofs.Standing.{trees_lead}
 use Rattle.prolly_edit.specs.Editing.{CanEdit}
-use Rattle.prolly_edit.specs.Fronts.{Front, load, rest}
+use Rattle.prolly_edit.specs.Fronts.{load, rest}
+use Rattle.prolly_tree.specs.Fronts.{Front}
 use Rattle.prolly_edit.specs.Stages.{Awaits, IsGoing}
 use Rattle.prolly_edit.proofs.StageLemmas.{awaits_none}
 use Rattle.prolly_edit.proofs.TurnLemmas.{root_begins, same_rows}
@@ -20,19 +22,19 @@ node_at-requires-after_bounds g c κs within =
 pub read-requires-after_bounds : goal.read-requires-after_bounds
 read-requires-after_bounds g c κs within =
     let start = chunks_of c.args.draft.now.chunks in
-    let edits = c.args.edits.now in (
+    let edits = c.args.edits.now in (omega arith, (
       start,
       edited c.requires.0 edits,
       root_begins g.D.Digester.address start c.args.root.now.0 edits c.requires.0 c.requires.1 c.in_ok-tower.tower (c.in_ok-tower.ensures g.D.Digester.address start)
           c.node_at.result c.node_at.ensures c.level-level.result c.level-level.ensures.level c.new-path.result c.new-path.ensures,
-    )
+    ))
 
 pub parts-init : goal.parts-init
 parts-init g c =
     let start = chunks_of c.args.draft.now.chunks in
     let edits = c.args.edits.now in
     record {
-      longer = c.in_ok-left.ensures.longer;
+      grows = c.in_ok-left.ensures.grows;
       going = λ rows can.
           (c.in_ok-left.ensures.ok start (edited rows edits)
           (root_begins g.D.Digester.address start c.args.root.now.0 edits rows can c.in_ok-tower.tower (c.in_ok-tower.ensures g.D.Digester.address start)
@@ -42,22 +44,22 @@ parts-init g c =
 pub turn-requires-after_bounds : goal.turn-requires-after_bounds
 turn-requires-after_bounds g c κs within =
     let start = chunks_of c.args.draft.now.chunks in
-    let whole = edited c.requires.0 c.args.edits.now in (
+    let whole = edited c.requires.0 c.args.edits.now in (omega arith, ((
       start,
       whole,
-      subst (λ (f : Front). IsGoing g.D.Digester.address start (chunks_of c.parts.draft.chunks) c.parts.tower f c.parts.left.now whole) c.in-Some.ensures
+      subst (λ (f : Front). IsGoing g.D.Digester.address start (chunks_of c.parts.draft.chunks) c.parts.tower f c.parts.left.now whole) c.in-Some.ensures.front
           (c.parts.invariant.going c.requires.0 c.requires.1),
-    )
+    ), c.in-Some.ensures.known))
 
 pub parts-preserved : goal.parts-preserved
 parts-preserved g c =
     let start = chunks_of c.args.draft.now.chunks in
     record {
-      longer = drafts_follow.in_steps c.args.draft.now.chunks c.parts.draft.chunks c.turn.new.draft.chunks c.parts.invariant.longer c.in_ok-left-2.ensures.longer;
+      grows = drafts_grow.in_steps is_node c.args.draft.now c.parts.draft c.turn.new.draft c.parts.invariant.grows c.in_ok-left-2.ensures.grows;
       going = λ rows can.
           let whole = edited rows c.args.edits.now in
           (c.in_ok-left-2.ensures.ok start whole
-          (subst (λ (f : Front). IsGoing g.D.Digester.address start (chunks_of c.parts.draft.chunks) c.parts.tower f c.parts.left.now whole) c.in-Some.ensures
+          (subst (λ (f : Front). IsGoing g.D.Digester.address start (chunks_of c.parts.draft.chunks) c.parts.tower f c.parts.left.now whole) c.in-Some.ensures.front
           (c.parts.invariant.going rows can))).going;
     }
 
@@ -66,16 +68,16 @@ parts-smaller g c =
     let start = chunks_of c.args.draft.now.chunks in
     let whole = edited c.requires.0 c.args.edits.now in
     let is = c.in_ok-left-2.ensures.ok start whole
-    (subst (λ (f : Front). IsGoing g.D.Digester.address start (chunks_of c.parts.draft.chunks) c.parts.tower f c.parts.left.now whole) c.in-Some.ensures
+    (subst (λ (f : Front). IsGoing g.D.Digester.address start (chunks_of c.parts.draft.chunks) c.parts.tower f c.parts.left.now whole) c.in-Some.ensures.front
     (c.parts.invariant.going c.requires.0 c.requires.1)) in
-    subst (λ (f : Front). load (nodes_in start) c.turn.new.path < load (nodes_in start) f) (sym c.in-Some.ensures) is.less
+    subst (λ (f : Front). load (nodes_in start) c.turn.new.path < load (nodes_in start) f) (sym c.in-Some.ensures.front) is.less
 
 pub put_edits-requires-after_bounds : goal.put_edits-requires-after_bounds
 put_edits-requires-after_bounds g c κs within =
     let start = chunks_of c.args.draft.now.chunks in
     let whole = edited c.requires.0 c.args.edits.now in (
       whole,
-      subst (λ (f : Front). Awaits g.D.Digester.address (chunks_of c.parts.draft.chunks) c.parts.tower (edited (rest (nodes_in start) f) c.parts.left.now) whole) c.in_default.ensures
+      subst (λ (f : Front). Awaits g.D.Digester.address (chunks_of c.parts.draft.chunks) c.parts.tower (edited (rest (nodes_in start) f) c.parts.left.now) whole) c.in_default.ensures.front
           (c.parts.invariant.going c.requires.0 c.requires.1).awaits,
     )
 
@@ -86,7 +88,7 @@ finish-requires-after_bounds g c κs within =
       whole,
       awaits_none g.D.Digester.address (chunks_of c.put_edits.new.draft.chunks) c.put_edits.new.tower whole
           (c.in_ok-put_edits.ensures.ok whole
-          (subst (λ (f : Front). Awaits g.D.Digester.address (chunks_of c.parts.draft.chunks) c.parts.tower (edited (rest (nodes_in start) f) c.parts.left.now) whole) c.in_default.ensures
+          (subst (λ (f : Front). Awaits g.D.Digester.address (chunks_of c.parts.draft.chunks) c.parts.tower (edited (rest (nodes_in start) f) c.parts.left.now) whole) c.in_default.ensures.front
           (c.parts.invariant.going c.requires.0 c.requires.1).awaits)),
     )
 
@@ -104,11 +106,11 @@ returns-clause-ok g c rows tree =
     c.finish.ensures.ok whole
     (awaits_none a (chunks_of c.put_edits.new.draft.chunks) c.put_edits.new.tower whole
     (c.in_ok-put_edits.ensures.ok whole
-    (subst (λ (f : Front). Awaits a (chunks_of c.parts.draft.chunks) c.parts.tower (edited (rest (nodes_in start) f) c.parts.left.now) whole) c.in_default.ensures
+    (subst (λ (f : Front). Awaits a (chunks_of c.parts.draft.chunks) c.parts.tower (edited (rest (nodes_in start) f) c.parts.left.now) whole) c.in_default.ensures.front
     (c.parts.invariant.going rows can).awaits)))
 
-pub returns-clause-longer : goal.returns-clause-longer
-returns-clause-longer g c =
-    drafts_follow.in_steps c.args.draft.now.chunks c.put_edits.new.draft.chunks c.finish.new.draft.chunks
-    (drafts_follow.in_steps c.args.draft.now.chunks c.parts.draft.chunks c.put_edits.new.draft.chunks c.parts.invariant.longer c.in_ok-put_edits.ensures.longer)
-    c.finish.ensures.longer
+pub returns-clause-grows : goal.returns-clause-grows
+returns-clause-grows g c =
+    drafts_grow.in_steps is_node c.args.draft.now c.put_edits.new.draft c.finish.new.draft
+    (drafts_grow.in_steps is_node c.args.draft.now c.parts.draft c.put_edits.new.draft c.parts.invariant.grows c.in_ok-put_edits.ensures.grows)
+    c.finish.ensures.grows

@@ -3,11 +3,11 @@ use Rattle.std.proofs.lemmas.Result.{IfOk-weaker}
 use Rattle.tuple_codec.specs.Edits.{edited}
 use Rattle.chunk_store.specs.Drafts.{chunks_of}
 use Rattle.tree_laws.specs.Found.{nodes_in}
-use Rattle.node_chunker.proofs.ClimbLemmas.{grows}
+use Rattle.node_chunker.proofs.ClimbLemmas.{extended}
 use Rattle.node_chunker.proofs.TowerLemmas.{extends_both}
 use Rattle.prolly_edit.specs.Fronts.{rest}
 use Rattle.prolly_edit.specs.Stages.{Awaits, IsRead}
-use Rattle.prolly_edit.proofs.TurnLemmas.{inner_read, leaf_awaits, leaf_read, node, stored_now}
+use Rattle.prolly_edit.proofs.TurnLemmas.{inner_read, leaf_awaits, leaf_read, leaf_stays, node, stored_now}
 use Rattle.prolly_edit.proofs.applying.read.Goals as goal
 
 pub read_names-requires-after_bounds : goal.read_names-requires-after_bounds
@@ -15,12 +15,13 @@ read_names-requires-after_bounds g c κs within =
     let a = g.D.Digester.address in
     let now = chunks_of c.args.draft.now.chunks in
     let before = c.requires.2 in
-    let inner = c.if-level-gt0.true in (
+    let inner = c.if-level-gt0.true in (omega arith, (
       node a c.requires.0 now c.args.tower.now c.args.level c.args.address.now.0 c.args.path.now c.args.edits.now c.requires.1 before,
       stored_now a c.requires.0 now c.args.tower.now c.args.level c.args.address.now.0 c.args.path.now c.args.edits.now c.requires.1 before,
       inner,
       before.some inner,
-    )
+      before.stays,
+    ))
 
 pub read_rows-requires-after_bounds : goal.read_rows-requires-after_bounds
 read_rows-requires-after_bounds g c κs within =
@@ -34,6 +35,7 @@ read_rows-requires-after_bounds g c κs within =
       c.requires.1,
       stored_now a c.requires.0 now c.args.tower.now c.args.level c.args.address.now.0 c.args.path.now c.args.edits.now c.requires.1 before,
       leaf,
+      leaf_stays a c.requires.0 now c.args.tower.now c.args.level c.args.address.now.0 c.args.path.now c.args.edits.now c.requires.1 before leaf,
       leaf_awaits a c.requires.0 now c.args.tower.now c.args.level c.args.address.now.0 c.args.path.now c.args.edits.now c.requires.1 before leaf,
     )
 
@@ -62,7 +64,7 @@ returns-else-level-gt0-clause-ok g c start whole before =
     let stored = stored_now a start old c.args.tower.now level k path c.args.edits.now whole before in
     let awaits = leaf_awaits a start old c.args.tower.now level k path c.args.edits.now whole before leaf in
     let more = rest (nodes_in start) path in
-    let extends = extends_both start old new before.extends (grows c.args.draft.now.chunks c.read_rows.new.draft.chunks c.read_rows.ensures.longer) in
+    let extends = extends_both start old new before.extends (extended c.args.draft.now c.read_rows.new.draft c.read_rows.ensures.grows) in
     IfOk-weaker c.read_rows.result (λ left. Awaits a new tower (edited more left.now) whole) (λ left. IsRead a start new tower level k path path left.now whole)
     (λ left later. leaf_read a start old c.args.tower.now level k path c.args.edits.now whole before new tower left.now extends later)
     (c.read_rows.ensures.ok here more whole stored leaf awaits)

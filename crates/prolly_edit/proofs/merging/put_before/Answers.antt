@@ -4,7 +4,8 @@ use Rattle.tuple_codec.specs.Edits.{edited, order, putting}
 use Rattle.std.specs.Ordering.{is_lt}
 use Rattle.tuple_codec.specs.declared.edits.Edit.{Edit}
 use Rattle.chunk_store.specs.Drafts.{chunks_of}
-use Rattle.chunk_store.proofs.FollowLemmas.{drafts_follow}
+use Rattle.chunk_store.specs.Kinds.{is_node}
+use Rattle.chunk_store.proofs.GrowthLemmas.{drafts_grow}
 use Rattle.prolly_edit.specs.Stages.{Awaits, IsFirstBefore}
 use Rattle.prolly_edit.proofs.EditLemmas.{edit_before}
 use Rattle.prolly_edit.proofs.merging.put_before.Goals as goal
@@ -26,7 +27,7 @@ put_edit-requires-after_bounds g c κs within =
 
 pub lower-preserved : goal.lower-preserved
 lower-preserved g c = record {
-  longer = drafts_follow.in_steps c.args.draft.now.chunks c.lower.draft.chunks c.put_edit.new.draft.chunks c.lower.invariant.longer c.in_ok-put_edit.ensures.longer;
+  grows = drafts_grow.in_steps is_node c.args.draft.now c.lower.draft c.put_edit.new.draft c.lower.invariant.grows c.in_ok-put_edit.ensures.grows;
   awaits = λ row rows whole same awaits.
       let P : List Item → Type 0 = λ l. Awaits g.D.Digester.address (chunks_of c.lower.draft.chunks) c.lower.tower l whole in
       let next = next_edit c.args.key.now c.lower.left.now c.in-Some.edit.now c.in-Some.others.now row rows same c.in-Some.ensures in

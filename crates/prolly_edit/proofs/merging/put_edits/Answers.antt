@@ -4,7 +4,8 @@ use Rattle.tuple_codec.specs.Nodes.{Item}
 use Rattle.tuple_codec.specs.Edits.{putting, puts}
 use Rattle.tuple_codec.specs.declared.edits.Edit.{Edit}
 use Rattle.chunk_store.specs.Drafts.{chunks_of}
-use Rattle.chunk_store.proofs.FollowLemmas.{drafts_follow}
+use Rattle.chunk_store.specs.Kinds.{is_node}
+use Rattle.chunk_store.proofs.GrowthLemmas.{drafts_grow}
 use Rattle.prolly_edit.specs.Stages.{Awaits}
 use Rattle.prolly_edit.proofs.merging.put_edits.Goals as goal
 
@@ -23,7 +24,7 @@ put_edit-requires-after_bounds g c κs within =
 
 pub loop-edit-preserved : goal.loop-edit-preserved
 loop-edit-preserved g c = record {
-  longer = drafts_follow.in_steps c.args.draft.now.chunks c.loop-edit.draft.chunks c.put_edit.new.draft.chunks c.loop-edit.invariant.longer c.in_ok-put_edit.ensures.longer;
+  grows = drafts_grow.in_steps is_node c.args.draft.now c.loop-edit.draft c.put_edit.new.draft c.loop-edit.invariant.grows c.in_ok-put_edit.ensures.grows;
   awaits = λ whole awaits.
       let P : List Item → Type 0 = λ l. Awaits g.D.Digester.address (chunks_of c.loop-edit.draft.chunks) c.loop-edit.tower l whole in
       let next = next_edit c.args.edits.now c.loop-edit.edit-index c.edit-item.result c.loop-edit-test.true c.edit-item.is in
