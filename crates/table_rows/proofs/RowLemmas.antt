@@ -1,5 +1,5 @@
 -- Rows as items: one row has one item, and one address stands for one list of rows.
-use Rattle.std.proofs.Common.{List, map, refl}
+use Rattle.std.proofs.Common.{map, refl}
 use Rattle.tuple_codec.specs.Spellings.{KeepsOrder}
 use Rattle.schema_model.specs.PlainTables.{is_row, key_types, primary_key, row_item}
 use Rattle.schema_model.proofs.FitLemmas.{key_types_fit, primary_key_fits}

@@ -1,5 +1,5 @@
 -- A schema and rows for tests.
-use Rattle.std.specs.Prelude.{ℤ, pos, true, false, List, [], ◌∷◌, None, codes}
+use Rattle.std.specs.Prelude.{ℤ, true, false, [], ◌∷◌, None, codes}
 use Rattle.tuple_codec.specs.Rows.{Cells}
 use Rattle.tuple_codec.specs.declared.values.SqlType.TheVariants as kind
 use Rattle.tuple_codec.specs.declared.values.Value.{Value}
