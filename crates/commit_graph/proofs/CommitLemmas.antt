@@ -18,7 +18,7 @@ use Rattle.schema_model.proofs.PartLemmas.{IsReader, bytes_again, bytes_takes, i
 use Rattle.commit_graph.specs.Commits.{HasOneSpelling, IsCommit, is_address, parts_of}
 use Rattle.commit_graph.specs.declared.commits.CommitRecord.{CommitRecord}
 use Rattle.tuple_codec.specs.declared.addresses.Address.{Address}
-use Rattle.commit_graph.specs.Reading.{address_at, commit_of, number_at, parents_at}
+use Rattle.commit_graph.specs.Reading.{address_at, after_parents as parents_passed, commit_of, height_in, number_at, parents_at, root_in}
 
 -- ---- addresses
 
@@ -99,6 +99,27 @@ commit_again c h =
     (ap uncounted (sym (append-nil fifth)) ∙ counted_again c.message [])
     ∙ ap (λ (n : ℤ). Some (record { root = c.root; parents = c.parents; height = c.height; date = n; committer = c.committer; message = c.message }))
     (number_back form.Row c.date h.limits.date_fits)
+
+-- ---- single parts
+
+pub root_again : (c : CommitParts) → IsCommit c → root_in (commit_bytes c) ≡ Some c.root
+unfolding root_in
+root_again c h = ap (λ (o : Option (List ℕ × List ℕ)). o >>= λ root. Some root.0) (bytes_again 20 c.root _ (eqb-true _ _ h.addresses.root))
+
+after_again : (parents : List (List ℕ)) (rest : List ℕ) → list_all is_address parents ≡ true
+    → parents_passed (length parents ∷ (flat_map (λ parent. parent) parents ++ rest)) ≡ Some rest
+after_again parents rest h = ap (option_map (λ (x : List ℕ × List ℕ). x.1)) (bytes_again (20 * length parents) (flat_map (λ parent. parent) parents) rest (addresses_length parents h))
+
+abbrev found_height : List ℕ → Option ℕ
+found_height rest = option_map (λ (x : ℕ × List ℕ). x.0) (number_at rest)
+
+pub height_again : (c : CommitParts) → IsCommit c → height_in (commit_bytes c) ≡ Some c.height
+unfolding height_in
+height_again c h =
+    let third = to_be_bytes w64 (cast_unsigned w64 c.date) ++ (counted c.committer ++ counted c.message) in
+    ap (λ (o : Option (List ℕ × List ℕ)). o >>= λ root. parents_passed root.1 >>= found_height) (bytes_again 20 c.root _ (eqb-true _ _ h.addresses.root))
+    ∙ ap (λ (o : Option (List ℕ)). o >>= found_height) (after_again c.parents (to_be_bytes w64 c.height ++ third) h.addresses.parents)
+    ∙ ap (option_map (λ (x : ℕ × List ℕ). x.0)) (number_again c.height third h.limits.height)
 
 pub one_spelling : HasOneSpelling
 one_spelling a b ha hb same = some_is a b (sym (commit_again a ha) ∙ ap commit_of same ∙ commit_again b hb)

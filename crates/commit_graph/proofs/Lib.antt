@@ -1,2 +1,3 @@
 mod CommitLemmas
 mod Vectors
+mod StandingLemmas

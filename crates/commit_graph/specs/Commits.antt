@@ -1,9 +1,11 @@
 -- Commits, and which commit stands at an address.
-use Rattle.std.specs.Prelude.{◌≡◌, ◌<◌, ◌≤◌, ◌≤ℤ◌, ◌==◌, ◌^◌, ℕ, Bool, pos, true, List, length, map, Some}
+use Rattle.std.specs.Prelude.{◌≡◌, ◌<◌, ◌≤◌, ◌≤ℤ◌, ◌==◌, ◌^◌, ℕ, Bool, pos, true, false, List, length, map, Option, Some, None}
 use Rattle.std.specs.List.{list_all}
 use Rattle.tuple_codec.specs.Rows.{fits_bits}
+use Rattle.schema_model.specs.Limits.{most_committer_bytes, most_message_bytes, most_parents}
 use Rattle.schema_model.specs.WrittenForms.{CommitParts, commit_bytes}
 use Rattle.chunk_store.specs.Chunks.{Chunks}
+use Rattle.chunk_store.specs.Kinds.{is_commit}
 use Rattle.commit_graph.specs.declared.commits.CommitRecord.{CommitRecord}
 
 -- a record's parts
@@ -28,12 +30,12 @@ pub record HasAddresses (commit : CommitParts) : Type 0 where
 
 -- at most two parents, a date from 1970 on, a short committer and message
 pub record KeepsLimits (commit : CommitParts) : Type 0 where
-  pub few : length commit.parents ≤ 2
+  pub few : length commit.parents ≤ most_parents
   pub height : commit.height < 2 ^ 64
   pub date : pos 0 ≤ℤ commit.date
   pub date_fits : fits_bits 63 commit.date ≡ true
-  pub committer : length commit.committer ≤ 32
-  pub message : length commit.message ≤ 8192
+  pub committer : length commit.committer ≤ most_committer_bytes
+  pub message : length commit.message ≤ most_message_bytes
 
 -- what a commit is
 pub record IsCommit (commit : CommitParts) : Type 0 where
@@ -48,6 +50,11 @@ pub record IsCommitFound (chunks : Chunks) (k : List ℕ) (commit : CommitParts)
 -- some commit's are
 abbrev pub HasCommit : Chunks → List ℕ → Type 0
 HasCommit chunks k = (commit : CommitParts) × IsCommitFound chunks k commit
+
+-- something is found, and it is a commit's by its first byte
+abbrev pub is_commit_found : Option (List ℕ) → Bool
+is_commit_found None = false
+is_commit_found (Some bytes) = is_commit bytes
 
 -- two commits with the same bytes are one
 abbrev pub HasOneSpelling : Type 0

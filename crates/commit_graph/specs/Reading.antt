@@ -1,6 +1,7 @@
 -- Reading a commit from left to right.
-use Rattle.std.specs.Prelude.{ℕ, ◌==◌, nat_lt, if◌then◌else◌, List, [], ◌∷◌, length, take, drop, Option, None, Some}
+use Rattle.std.specs.Prelude.{ℕ, ◌*◌, ◌==◌, nat_lt, if◌then◌else◌, List, [], ◌∷◌, length, take, drop, Option, None, Some}
 use Rattle.std.specs.Int.{w64, cast_signed, from_be_bytes}
+use Rattle.std.specs.Option.{option_map}
 use Rattle.tuple_codec.specs.Fields.{bytes_at}
 use Rattle.tuple_codec.specs.Fronts.{uncounted}
 use Rattle.schema_model.specs.Reading.{◌>>=◌, items_at}
@@ -34,3 +35,22 @@ commit_of bytes = do
   committer ← uncounted date.1
   message ← uncounted committer.1
   Some (record { root = root.0; parents = parents.0; height = height.0; date = cast_signed w64 date.0; committer = committer.0; message = message.0 })
+
+-- a commit's database, and its height, without the rest
+unfoldable pub root_in : List ℕ → Option (List ℕ)
+root_in bytes = do
+  rest ← after_kind bytes
+  root ← address_at rest
+  Some root.0
+
+-- the bytes after a count in one byte and that many addresses
+abbrev pub after_parents : List ℕ → Option (List ℕ)
+after_parents [] = None
+after_parents (count ∷ rest) = option_map (λ x. x.1) (bytes_at (20 * count) rest)
+
+unfoldable pub height_in : List ℕ → Option ℕ
+height_in bytes = do
+  rest ← after_kind bytes
+  root ← address_at rest
+  parents ← after_parents root.1
+  option_map (λ x. x.0) (number_at parents)

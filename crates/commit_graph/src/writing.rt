@@ -1,18 +1,17 @@
 //! Commits written into drafts.
 
-ghost use Rattle.std.specs.Prelude.{◌≡◌, ◌⊎◌, ◌<◌, ◌≤◌, ◌++◌, [], ◌∷◌, true, length, map, OnOk, OnErr, IfOk, IfErr};
+ghost use Rattle.std.specs.Prelude.{◌≡◌, ◌<◌, ◌≤◌, ◌++◌, ◌∷◌, true, length, map, OnOk, IfOk};
 ghost use Rattle.std.specs.Int.{w64, cast_unsigned, to_be_bytes};
 ghost use Rattle.tuple_codec.specs.RowBytes.{counted};
 ghost use Rattle.std.specs.List.{flat_map, list_all};
 ghost use Rattle.schema_model.specs.WrittenForms.{commit_bytes};
-ghost use Rattle.chunk_store.specs.Chunks.{IsHeld, bytes_at};
-ghost use Rattle.chunk_store.specs.Clashes.{IsCause};
-ghost use Rattle.chunk_store.specs.Drafts.{TakesAtMostOnePage, chunks_of, put_in};
+ghost use Rattle.chunk_store.specs.Drafts.{Grows, Puts, chunks_of};
+ghost use Rattle.chunk_store.specs.Kinds.{is_commit};
 ghost use Rattle.commit_graph.specs.Commits.{IsCommit, IsCommitFound, KeepsLimits, is_address, parts_of};
 
 use crate::commits::CommitRecord;
 use crate::fields::push_number;
-use chunk_store::{Draft, PutFault};
+use chunk_store::{Draft, PutFault, law_of_growth};
 use std::alloc::{AllocError, Global};
 use tuple_codec::{Address, Blob, Digester, Sequence, Text, push_long};
 
@@ -23,15 +22,11 @@ pub fn write_commit<D: Digester>(
     commit: &CommitRecord,
 ) -> Result<Address, PutFault>
     requires { KeepsLimits (parts_of commit.now) }
-    ensures address { IfOk result (λ address. address.0 ≡ D.address (commit_bytes (parts_of commit.now))) }
-    ensures exact { OnOk result (draft.new.chunks ≡ put_in D.address (commit_bytes (parts_of commit.now)) draft.old.chunks) }
-    ensures held { OnOk result (IsHeld D.address (chunks_of draft.new.chunks) (D.address (commit_bytes (parts_of commit.now))) (commit_bytes (parts_of commit.now))) }
+    ensures puts { Puts D.address (commit_bytes (parts_of commit.now)) draft.old draft.new result }
     ensures found { IfOk result (λ address. IsCommitFound (chunks_of draft.new.chunks) address.0 (parts_of commit.now)) }
-    ensures cause { IfErr result (IsCause (chunks_of draft.old.chunks) (bytes_at ((D.address (commit_bytes (parts_of commit.now)), commit_bytes (parts_of commit.now)) ∷ []))) }
-    ensures same { OnErr result (draft.new ≡ draft.old) }
-    ensures pages { TakesAtMostOnePage draft.old draft.new }
-    ensures steps { (draft.new.chunks ≡ draft.old.chunks) ⊎ (draft.new.chunks ≡ put_in D.address (commit_bytes (parts_of commit.now)) draft.old.chunks) }
+    ensures grows { Grows is_commit draft.old draft.new }
 {
+    law_of_growth();
     let bytes = commit_bytes(alloc, commit)?;
     draft.put(bytes.as_slice())
 }

@@ -4,7 +4,7 @@ pub mod ItemLemmas
 pub mod PartLemmas
 mod SamenessLemmas
 mod SchemaLemmas
-mod SizeLemmas
+pub mod SizeLemmas
 mod ValueLemmas
 pub mod TellingLemmas
 mod Vectors

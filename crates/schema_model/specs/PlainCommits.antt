@@ -61,6 +61,10 @@ abbrev pub greatest : List ℕ → ℕ
 greatest [] = 0
 greatest (n ∷ ns) = if nat_lt (greatest ns) n then n else greatest ns
 
+-- one more, under its address
+abbrev pub with_commit : List ℕ → PlainCommit → Commits → Commits
+with_commit k commit commits other = if bytes_eq other k then Some commit else commits other
+
 -- a commit's parents are there, and its height is 1 plus the greatest of theirs, 1 without parents
 pub record IsGrown (commits : Commits) (commit : PlainCommit) : Type 0 where
   pub parents : list_all (is_known commits) commit.parents ≡ true

@@ -1,16 +1,16 @@
--- What is found where an address stands for a plain table or database.
-use Rattle.std.proofs.Common.{◌≡◌, ℕ, suc, ◌^◌, ◌<◌, true, ltb, eq-eqb, List, [], ◌∷◌, length, map, Some, refl, sym, ap, subst, ◌∙◌}
-use Rattle.std.specs.List.{AllByRecursion, list_all}
+-- What is found where an address stands for a plain table or database, and that it stands for one.
+use Rattle.std.proofs.Common.{◌≡◌, ℕ, suc, ◌^◌, ◌<◌, true, ltb, eq-eqb, List, [], ◌∷◌, ◌++◌, length, map, drop, Some, refl, sym, ap, subst, ◌∙◌, append_assoc}
+use Rattle.std.specs.List.{AllByRecursion, flat_map, list_all}
 use Rattle.std.specs.Ordering.{nat_cmp, is_lt}
 use Rattle.std.specs.Cmp.Lexicographic.{slice_cmp}
 use Rattle.std.proofs.lemmas.Bool.{and_parts, and_from}
+use Rattle.tuple_codec.specs.Fields.{bytes_at, short, short_at}
 use Rattle.tuple_codec.specs.Nodes.{Item}
 use Rattle.tuple_codec.specs.Texts.{is_utf8}
 use Rattle.tuple_codec.specs.Trees.{root}
 use Rattle.tuple_codec.specs.declared.addresses.Address.{Address}
 use Rattle.schema_model.specs.PlainTables as plain
 use Rattle.schema_model.specs.PlainTables.{NamedTable, PlainDatabase, PlainTable, conflict_items, index_items, rises, row_items, violation_items}
-use Rattle.schema_model.specs.SchemaBytes.{schema_bytes}
 use Rattle.schema_model.specs.Schemas.{is_name}
 use Rattle.schema_model.specs.Spellings as spelled
 use Rattle.schema_model.specs.WrittenForms.{Entry, database_address, database_bytes, database_form, table_address, table_bytes, table_form}
@@ -18,15 +18,23 @@ use Rattle.schema_model.specs.WrittenForms as written
 use Rattle.schema_model.specs.declared.schemas.IndexDef.{IndexDef}
 use Rattle.chunk_store.specs.Chunks.{Chunks, Extends, IsHeld}
 use Rattle.chunk_store.specs.Standing.{IsTree}
+use Rattle.tree_laws.specs.Standing.{Exactly}
 use Rattle.tree_laws.proofs.Growing.{there_later, tree_later}
+use Rattle.tree_laws.proofs.One.{one_tree}
 use Rattle.tree_laws.proofs.Standing.{trees_lead}
 use Rattle.table_root.specs.Databases.{IsDatabaseFound, entry_of, fits_name, has_address, names_rise, written_database}
-use Rattle.table_root.specs.Standing.{DatabasesStand, HasTrees, IsDatabaseAt, IsTableAt, TablesStand, named_tables, table_of_lists}
+use Rattle.table_root.specs.Standing.{DatabasesStand, HasOwnTrees, HasTrees, IsDatabaseAt, IsTableAt, IsTableOf, IsUnindexedOf, TableValuesStand, TablesStand, named_tables, table_of_lists, without_indexes}
 use Rattle.table_root.specs.Tables.{IsTableFound, is_address, written_table}
 use Rattle.table_root.specs.declared.records.NamedTable as stored
+use Rattle.table_root.specs.declared.records.Table as stored_tables
 use Rattle.table_root.proofs.FormLemmas.{databases_one}
 use Rattle.table_root.proofs.ReadLemmas.{tables_one}
-use Rattle.schema_model.proofs.PartLemmas.{some_is}
+use Rattle.schema_model.proofs.PartLemmas.{bytes_again, short_again, some_is}
+use Rattle.schema_model.proofs.SizeLemmas.{schemas_are_short}
+use Rattle.schema_model.proofs.TellingLemmas.{items_tell}
+
+abbrev named_as : List ℕ → PlainTable → NamedTable
+named_as name table = record { name = name; table = table }
 
 module _ (address : List ℕ → List ℕ) (chunks : Chunks) where
   -- a root has twenty bytes
@@ -55,11 +63,11 @@ module _ (address : List ℕ → List ℕ) (chunks : Chunks) where
       ap (λ (l : List (List ℕ)). table_form table.schema (root address (row_items table)) l (root address (conflict_items table)) (root address (violation_items table)))
       (index_bytes_are table table.schema.indexes)
 
-  table_found : (k : List ℕ) (table : PlainTable) → IsTableAt address chunks k table → length (schema_bytes table.schema) < 2 ^ 32 → IsTableFound chunks k (table_of_lists address table)
-  table_found k table stands size = record {
+  table_found : (k : List ℕ) (table : PlainTable) → IsTableAt address chunks k table → IsTableFound chunks k (table_of_lists address table)
+  table_found k table stands = record {
     is_table = record {
       schema = stands.is_table.schema;
-      size = size;
+      size = schemas_are_short table.schema stands.is_table.schema;
       count = count_is table table.schema.indexes;
       roots = record {
         rows = root_is (row_items table) stands.trees.rows;
@@ -149,17 +157,27 @@ module _ (address : List ℕ → List ℕ) (old new : Chunks) (more : Extends ol
   indexes_later table [] h = tt
   indexes_later table (index ∷ indexes) h = (tree_later address old new more (root address (index_items table index)) (index_items table index) h.0, indexes_later table indexes h.1)
 
+  trees_later : (table : PlainTable) → HasTrees address old table → HasTrees address new table
+  trees_later table trees = record {
+    rows = tree_later address old new more (root address (row_items table)) (row_items table) trees.rows;
+    indexes = indexes_later table table.schema.indexes trees.indexes;
+    conflicts = tree_later address old new more (root address (conflict_items table)) (conflict_items table) trees.conflicts;
+    violations = tree_later address old new more (root address (violation_items table)) (violation_items table) trees.violations;
+  }
+
+  own_later : (table : PlainTable) → HasOwnTrees address old table → HasOwnTrees address new table
+  own_later table trees = record {
+    rows = tree_later address old new more (root address (row_items table)) (row_items table) trees.rows;
+    conflicts = tree_later address old new more (root address (conflict_items table)) (conflict_items table) trees.conflicts;
+    violations = tree_later address old new more (root address (violation_items table)) (violation_items table) trees.violations;
+  }
+
   table_later : (k : List ℕ) (table : PlainTable) → IsTableAt address old k table → IsTableAt address new k table
   table_later k table h = record {
     is_table = h.is_table;
     named = h.named;
     there = there_later address old new more (table_bytes address table) h.there;
-    trees = record {
-      rows = tree_later address old new more (root address (row_items table)) (row_items table) h.trees.rows;
-      indexes = indexes_later table table.schema.indexes h.trees.indexes;
-      conflicts = tree_later address old new more (root address (conflict_items table)) (conflict_items table) h.trees.conflicts;
-      violations = tree_later address old new more (root address (violation_items table)) (violation_items table) h.trees.violations;
-    };
+    trees = trees_later table h.trees;
   }
 
   tables_later : (database : PlainDatabase) → AllByRecursion (λ named. IsTableAt address old (table_address address named.table) named.table) database
@@ -175,22 +193,126 @@ module _ (address : List ℕ → List ℕ) (old new : Chunks) (more : Extends ol
     tables = tables_later database h.tables;
   }
 
+-- ---- one address, one thing
+
+module _ (address : List ℕ → List ℕ) (chunks : Chunks) where
+  -- lists with trees of one root are one
+  by_root : (rows others : List Item) → IsTree address chunks (root address rows) rows → IsTree address chunks (root address others) others
+      → root address rows ≡ root address others → rows ≡ others
+  by_root rows others a b e = one_tree address chunks (root address others) rows others (subst (λ (k : List ℕ). IsTree address chunks k rows) e a) b
+
+  own_trees : (table : PlainTable) → HasTrees address chunks table → HasOwnTrees address chunks table
+  own_trees table trees = record { rows = trees.rows; conflicts = trees.conflicts; violations = trees.violations }
+
+  same_lists : (table other : PlainTable) → plain.IsTable table → plain.IsTable other → HasOwnTrees address chunks table → HasOwnTrees address chunks other
+      → without_indexes (table_of_lists address table) ≡ without_indexes (table_of_lists address other) → table ≡ other
+  same_lists table other is_table is_other trees others e =
+      items_tell.tables table other is_table is_other (ap (λ (t : stored_tables.Table). t.schema) e)
+      (by_root (row_items table) (row_items other) trees.rows others.rows (ap (λ (t : stored_tables.Table). t.rows.0) e))
+      (by_root (conflict_items table) (conflict_items other) trees.conflicts others.conflicts (ap (λ (t : stored_tables.Table). t.conflicts.0) e))
+      (by_root (violation_items table) (violation_items other) trees.violations others.violations (ap (λ (t : stored_tables.Table). t.violations.0) e))
+
+  unindexed_same : (t u : stored_tables.Table) (table other : PlainTable) → IsUnindexedOf address chunks t table → IsUnindexedOf address chunks u other → Exactly (t ≡ u) (table ≡ other)
+  unindexed_same t u table other a b = (
+    λ same. same_lists table other a.is_table b.is_table a.trees b.trees (sym a.value ∙ same ∙ b.value),
+    λ same. a.value ∙ ap (λ (x : PlainTable). without_indexes (table_of_lists address x)) same ∙ sym b.value,
+  )
+
+  values_same : (t u : stored_tables.Table) (table other : PlainTable) → IsTableOf address chunks t table → IsTableOf address chunks u other → Exactly (t ≡ u) (table ≡ other)
+  values_same t u table other a b = (
+    λ same. same_lists table other a.is_table b.is_table (own_trees table a.trees) (own_trees other b.trees) (ap without_indexes (sym a.value ∙ same ∙ b.value)),
+    λ same. a.value ∙ ap (table_of_lists address) same ∙ sym b.value,
+  )
+
+  one_table : spelled.HasOneSpelling → (k : List ℕ) (table other : PlainTable) → IsTableAt address chunks k table → IsTableAt address chunks k other → table ≡ other
+  one_table one k table other a b =
+      let found = table_found address chunks k table a in
+      let others = table_found address chunks k other b in
+      let same = tables_one one (table_of_lists address table) (table_of_lists address other) found.is_table others.is_table (some_is _ _ (sym found.held ∙ others.held)) in
+      same_lists table other a.is_table b.is_table (own_trees table a.trees) (own_trees other b.trees) (ap without_indexes same)
+
+  tables_same : spelled.HasOneSpelling → (k l : List ℕ) (table other : PlainTable) → IsTableAt address chunks k table → IsTableAt address chunks l other → Exactly (k ≡ l) (table ≡ other)
+  tables_same one k l table other a b = (
+    λ same. one_table one l table other (subst (λ (j : List ℕ). IsTableAt address chunks j table) same a) b,
+    λ same. sym a.named ∙ ap (table_address address) same ∙ b.named,
+  )
+
+  -- a name behind its length, and an address, each with what follows
+  name_one : (a b x y : List ℕ) → short a ++ x ≡ short b ++ y → (a ≡ b) × (x ≡ y)
+  name_one a b x y e =
+      let same = some_is (a, x) (b, y) (sym (short_again a x) ∙ ap short_at e ∙ short_again b y) in
+      (ap (λ (p : List ℕ × List ℕ). p.0) same, ap (λ (p : List ℕ × List ℕ). p.1) same)
+
+  address_one : (a b x y : List ℕ) → length a ≡ 20 → length b ≡ 20 → a ++ x ≡ b ++ y → (a ≡ b) × (x ≡ y)
+  address_one a b x y m n e =
+      let same = some_is (a, x) (b, y) (sym (bytes_again 20 a x m) ∙ ap (bytes_at 20) e ∙ bytes_again 20 b y n) in
+      (ap (λ (p : List ℕ × List ℕ). p.0) same, ap (λ (p : List ℕ × List ℕ). p.1) same)
+
+  entries_bytes : PlainDatabase → List ℕ
+  entries_bytes database = flat_map (λ (entry : Entry). short entry.name ++ entry.address) (map (written.entry_of address) database)
+
+  named_one : (a b : NamedTable) → a.name ≡ b.name → a.table ≡ b.table → a ≡ b
+  named_one a b name table = ap (λ (x : List ℕ). named_as x a.table) name ∙ ap (named_as b.name) table
+
+  entries_one : spelled.HasOneSpelling → (a b : PlainDatabase) → AllByRecursion (λ named. IsTableAt address chunks (table_address address named.table) named.table) a
+      → AllByRecursion (λ named. IsTableAt address chunks (table_address address named.table) named.table) b → entries_bytes a ≡ entries_bytes b → a ≡ b
+  unfolding entries_bytes
+  entries_one one [] [] p q e = refl
+  entries_one one [] (other ∷ others) p q e = absurd cc
+  entries_one one (named ∷ more) [] p q e = absurd cc
+  entries_one one (named ∷ more) (other ∷ others) p q e =
+      let split = λ (n : NamedTable) (l : PlainDatabase). append_assoc (short n.name) (table_address address n.table) (entries_bytes l) in
+      let first = name_one named.name other.name _ _ (sym (split named more) ∙ e ∙ split other others) in
+      let second = address_one (table_address address named.table) (table_address address other.table) _ _ p.0.there.1 q.0.there.1 first.1 in
+      let table = (tables_same one (table_address address named.table) (table_address address other.table) named.table other.table p.0 q.0).0 second.0 in
+      ap (λ (n : NamedTable). n ∷ more) (named_one named other first.0 table) ∙ ap (λ (l : PlainDatabase). other ∷ l) (entries_one one more others p.1 q.1 second.1)
+
+  one_database : spelled.HasOneSpelling → (k : List ℕ) (database other : PlainDatabase) → IsDatabaseAt address chunks k database → IsDatabaseAt address chunks k other → database ≡ other
+  unfolding entries_bytes
+  one_database one k database other a b =
+      let bytes : database_bytes address database ≡ database_bytes address other =
+      some_is _ _ (sym a.there.0 ∙ ap chunks (a.named ∙ sym b.named) ∙ b.there.0) in
+      entries_one one database other a.tables b.tables (ap (drop 3) bytes)
+
+  databases_same : spelled.HasOneSpelling → (k l : List ℕ) (database other : PlainDatabase) → IsDatabaseAt address chunks k database → IsDatabaseAt address chunks l other
+      → Exactly (k ≡ l) (database ≡ other)
+  databases_same one k l database other a b = (
+    λ same. one_database one l database other (subst (λ (j : List ℕ). IsDatabaseAt address chunks j database) same a) b,
+    λ same. sym a.named ∙ ap (database_address address) same ∙ b.named,
+  )
+
 pub tables_stand : spelled.HasOneSpelling → TablesStand
 tables_stand one = record {
   found = table_found;
-  same = λ address chunks k table read stands size found.
-      let there = table_found address chunks k table stands size in
+  same = λ address chunks k table read stands found.
+      let there = table_found address chunks k table stands in
       tables_one one read (table_of_lists address table) found.is_table there.is_table (some_is _ _ (sym found.held ∙ there.held));
   stands = table_stands;
   later = λ address old new k table more. table_later address old new more k table;
+  one = λ address chunks. one_table address chunks one;
+  exactly = λ address chunks. tables_same address chunks one;
 }
 
-pub databases_stand : DatabasesStand
-databases_stand = record {
+pub table_values_stand : spelled.HasOneSpelling → TableValuesStand
+table_values_stand one = record {
+  read = λ address chunks k contents table stands found.
+      record { is_table = stands.is_table; trees = stands.trees; value = (tables_stand one).same address chunks k contents table stands found };
+  put = λ address chunks k contents table is held twenty.
+      table_stands address chunks k contents is.is_table is.trees (subst (λ (t : stored_tables.Table). IsHeld address chunks k (written_table t)) is.value held) twenty;
+  later = λ address old new contents table more is. record { is_table = is.is_table; trees = trees_later address old new more contents is.trees; value = is.value };
+  exactly = values_same;
+  unindexed_later = λ address old new contents table more is. record { is_table = is.is_table; trees = own_later address old new more contents is.trees; value = is.value };
+  unindexed_exactly = unindexed_same;
+}
+
+pub databases_stand : spelled.HasOneSpelling → DatabasesStand
+databases_stand one = record {
   found = database_found;
   same = λ address chunks k database read stands few found.
       let there = database_found address chunks k database stands few in
       databases_one read (named_tables address database) found.is_database there.is_database (some_is _ _ (sym found.held ∙ there.held));
   stands = database_stands;
   later = λ address old new k database more. database_later address old new more k database;
+  one = λ address chunks. one_database address chunks one;
+  exactly = λ address chunks. databases_same address chunks one;
 }

@@ -1,13 +1,13 @@
 -- Which plain table or database an address stands for.
-use Rattle.std.specs.Prelude.{◌≡◌, ◌<◌, ◌^◌, ℕ, List, length, map}
+use Rattle.std.specs.Prelude.{◌≡◌, ◌<◌, ◌^◌, ℕ, List, [], length, map}
 use Rattle.std.specs.List.{AllByRecursion}
 use Rattle.tuple_codec.specs.Trees.{root}
 use Rattle.schema_model.specs.PlainTables as plain
 use Rattle.schema_model.specs.PlainTables.{PlainDatabase, PlainTable, conflict_items, index_items, row_items, violation_items}
-use Rattle.schema_model.specs.SchemaBytes.{schema_bytes}
 use Rattle.schema_model.specs.WrittenForms.{database_address, database_bytes, table_address, table_bytes}
 use Rattle.chunk_store.specs.Chunks.{Chunks, Extends, IsHeld}
 use Rattle.chunk_store.specs.Standing.{IsThere, IsTree}
+use Rattle.tree_laws.specs.Standing.{Exactly}
 use Rattle.table_root.specs.Databases.{IsDatabaseFound, written_database}
 use Rattle.table_root.specs.Tables.{IsTableFound, written_table}
 use Rattle.table_root.specs.declared.records.NamedTable.{NamedTable}
@@ -44,20 +44,61 @@ table_of_lists address table = record {
   violations = record { 0 = root address (violation_items table) };
 }
 
+-- a table with the roots of a plain table's lists, whose trees are found
+pub record IsTableOf (address : List ℕ → List ℕ) (chunks : Chunks) (table : Table) (contents : PlainTable) : Type 0 where
+  pub is_table : plain.IsTable contents
+  pub trees : HasTrees address chunks contents
+  pub value : table ≡ table_of_lists address contents
+
+-- the trees of a table's lists but those of its indexes
+pub record HasOwnTrees (address : List ℕ → List ℕ) (chunks : Chunks) (table : PlainTable) : Type 0 where
+  pub rows : IsTree address chunks (root address (row_items table)) (row_items table)
+  pub conflicts : IsTree address chunks (root address (conflict_items table)) (conflict_items table)
+  pub violations : IsTree address chunks (root address (violation_items table)) (violation_items table)
+
+abbrev pub without_indexes : Table → Table
+without_indexes table = record { schema = table.schema; rows = table.rows; indexes = []; conflicts = table.conflicts; violations = table.violations }
+
+-- the same of a table whose indexes are still to be made: it has no root of an index
+pub record IsUnindexedOf (address : List ℕ → List ℕ) (chunks : Chunks) (table : Table) (contents : PlainTable) : Type 0 where
+  pub is_table : plain.IsTable contents
+  pub trees : HasOwnTrees address chunks contents
+  pub value : table ≡ without_indexes (table_of_lists address contents)
+
 -- the tables of a plain database, by name and address
 abbrev pub named_tables : (List ℕ → List ℕ) → PlainDatabase → List NamedTable
 named_tables address database = map (λ named. record { name = named.name; table = record { 0 = table_address address named.table } }) database
 
 -- where a table stands it is found, and what is found there has the roots of its lists; where such a table is put and its
--- trees are found, it stands; and it stands when more is found
+-- trees are found, it stands; it stands when more is found; an address stands for one table; and what two addresses stand for in
+-- one place is the same exactly where the addresses are
 pub record TablesStand : Type 0 where
   pub found : (address : List ℕ → List ℕ) (chunks : Chunks) (k : List ℕ) (table : PlainTable) → IsTableAt address chunks k table
-      → length (schema_bytes table.schema) < 2 ^ 32 → IsTableFound chunks k (table_of_lists address table)
+      → IsTableFound chunks k (table_of_lists address table)
   pub same : (address : List ℕ → List ℕ) (chunks : Chunks) (k : List ℕ) (table : PlainTable) (read : Table) → IsTableAt address chunks k table
-      → length (schema_bytes table.schema) < 2 ^ 32 → IsTableFound chunks k read → read ≡ table_of_lists address table
+      → IsTableFound chunks k read → read ≡ table_of_lists address table
   pub stands : (address : List ℕ → List ℕ) (chunks : Chunks) (k : List ℕ) (table : PlainTable) → plain.IsTable table → HasTrees address chunks table
       → IsHeld address chunks k (written_table (table_of_lists address table)) → length k ≡ 20 → IsTableAt address chunks k table
   pub later : (address : List ℕ → List ℕ) (old new : Chunks) (k : List ℕ) (table : PlainTable) → Extends old new → IsTableAt address old k table → IsTableAt address new k table
+  pub one : (address : List ℕ → List ℕ) (chunks : Chunks) (k : List ℕ) (table other : PlainTable) → IsTableAt address chunks k table → IsTableAt address chunks k other → table ≡ other
+  pub exactly : (address : List ℕ → List ℕ) (chunks : Chunks) (k l : List ℕ) (table other : PlainTable) → IsTableAt address chunks k table → IsTableAt address chunks l other
+      → Exactly (k ≡ l) (table ≡ other)
+
+-- the same of tables' values: one is read where a table stands, and one that is put stands; and they are the same exactly where
+-- their contents are
+pub record TableValuesStand : Type 0 where
+  pub read : (address : List ℕ → List ℕ) (chunks : Chunks) (k : List ℕ) (contents : PlainTable) (table : Table) → IsTableAt address chunks k contents
+      → IsTableFound chunks k table → IsTableOf address chunks table contents
+  pub put : (address : List ℕ → List ℕ) (chunks : Chunks) (k : List ℕ) (contents : PlainTable) (table : Table) → IsTableOf address chunks table contents
+      → IsHeld address chunks k (written_table table) → length k ≡ 20 → IsTableAt address chunks k contents
+  pub later : (address : List ℕ → List ℕ) (old new : Chunks) (contents : PlainTable) (table : Table) → Extends old new → IsTableOf address old table contents
+      → IsTableOf address new table contents
+  pub exactly : (address : List ℕ → List ℕ) (chunks : Chunks) (table read : Table) (contents other : PlainTable) → IsTableOf address chunks table contents
+      → IsTableOf address chunks read other → Exactly (table ≡ read) (contents ≡ other)
+  pub unindexed_later : (address : List ℕ → List ℕ) (old new : Chunks) (contents : PlainTable) (table : Table) → Extends old new → IsUnindexedOf address old table contents
+      → IsUnindexedOf address new table contents
+  pub unindexed_exactly : (address : List ℕ → List ℕ) (chunks : Chunks) (table read : Table) (contents other : PlainTable) → IsUnindexedOf address chunks table contents
+      → IsUnindexedOf address chunks read other → Exactly (table ≡ read) (contents ≡ other)
 
 -- the same of databases: what is found names the tables
 pub record DatabasesStand : Type 0 where
@@ -69,3 +110,7 @@ pub record DatabasesStand : Type 0 where
       → AllByRecursion (λ named. IsTableAt address chunks (table_address address named.table) named.table) database
       → IsHeld address chunks k (written_database (named_tables address database)) → length k ≡ 20 → IsDatabaseAt address chunks k database
   pub later : (address : List ℕ → List ℕ) (old new : Chunks) (k : List ℕ) (database : PlainDatabase) → Extends old new → IsDatabaseAt address old k database → IsDatabaseAt address new k database
+  pub one : (address : List ℕ → List ℕ) (chunks : Chunks) (k : List ℕ) (database other : PlainDatabase) → IsDatabaseAt address chunks k database → IsDatabaseAt address chunks k other
+      → database ≡ other
+  pub exactly : (address : List ℕ → List ℕ) (chunks : Chunks) (k l : List ℕ) (database other : PlainDatabase) → IsDatabaseAt address chunks k database
+      → IsDatabaseAt address chunks l other → Exactly (k ≡ l) (database ≡ other)

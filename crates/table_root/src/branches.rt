@@ -1,16 +1,15 @@
 //! Branch records written into drafts, and read back.
 
-ghost use Rattle.std.specs.Prelude.{◌≡◌, ◌⊎◌, ◌≤◌, ◌++◌, [], ◌∷◌, true, length, OnOk, OnErr, IfOk, IfErr};
+ghost use Rattle.std.specs.Prelude.{◌≡◌, ◌≤◌, ◌++◌, [], ◌∷◌, true, length, OnOk, OnErr, IfOk, IfErr};
 ghost use Rattle.tuple_codec.specs.Fronts.{Gives};
 ghost use Rattle.schema_model.specs.WrittenForms.{branch_bytes, merging_bytes};
-ghost use Rattle.chunk_store.specs.Chunks.{IsHeld, bytes_at};
-ghost use Rattle.chunk_store.specs.Clashes.{IsCause};
-ghost use Rattle.chunk_store.specs.Drafts.{TakesAtMostOnePage, chunks_of, put_in};
+ghost use Rattle.chunk_store.specs.Drafts.{Grows, Puts, chunks_of};
+ghost use Rattle.chunk_store.specs.Kinds.{is_branch};
 ghost use Rattle.table_root.specs.Branches.{HasBranch, IsBranch, IsBranchFound, is_address_or_none};
 ghost use Rattle.table_root.specs.Reading.{branch_of, merging_of};
 
 use crate::fields::{address_at, after_kind, push_address};
-use chunk_store::{Draft, PutFault};
+use chunk_store::{Draft, PutFault, law_of_growth};
 use std::alloc::{AllocError, Global};
 use tuple_codec::{Address, Blob, BranchRecord, Digester, Unread};
 
@@ -20,15 +19,11 @@ pub fn write_branch<D: Digester>(
     draft: &mut Draft<D>,
     branch: &BranchRecord,
 ) -> Result<Address, PutFault>
-    ensures address { IfOk result (λ address. address.0 ≡ D.address (branch_bytes branch.now)) }
-    ensures exact { OnOk result (draft.new.chunks ≡ put_in D.address (branch_bytes branch.now) draft.old.chunks) }
-    ensures held { OnOk result (IsHeld D.address (chunks_of draft.new.chunks) (D.address (branch_bytes branch.now)) (branch_bytes branch.now)) }
+    ensures puts { Puts D.address (branch_bytes branch.now) draft.old draft.new result }
     ensures found { IfOk result (λ address. IsBranchFound (chunks_of draft.new.chunks) address.0 branch.now) }
-    ensures cause { IfErr result (IsCause (chunks_of draft.old.chunks) (bytes_at ((D.address (branch_bytes branch.now), branch_bytes branch.now) ∷ []))) }
-    ensures same { OnErr result (draft.new ≡ draft.old) }
-    ensures pages { TakesAtMostOnePage draft.old draft.new }
-    ensures steps { (draft.new.chunks ≡ draft.old.chunks) ⊎ (draft.new.chunks ≡ put_in D.address (branch_bytes branch.now) draft.old.chunks) }
+    ensures grows { Grows is_branch draft.old draft.new }
 {
+    law_of_growth();
     let bytes = branch_bytes(alloc, branch)?;
     draft.put(bytes.as_slice())
 }

@@ -1,19 +1,18 @@
 //! Databases written into drafts, and read back.
 
-ghost use Rattle.std.specs.Prelude.{◌≡◌, ◌⊎◌, ◌≤◌, ◌++◌, [], ◌∷◌, true, length, OnOk, OnErr, IfOk, IfErr};
+ghost use Rattle.std.specs.Prelude.{◌≡◌, ◌≤◌, ◌++◌, [], ◌∷◌, true, length, OnOk, OnErr, IfOk, IfErr};
 ghost use Rattle.std.specs.Int.{w16, to_be_bytes};
 ghost use Rattle.std.specs.List.{list_all};
 ghost use Rattle.tuple_codec.specs.Fronts.{Gives};
-ghost use Rattle.chunk_store.specs.Chunks.{IsHeld, bytes_at};
-ghost use Rattle.chunk_store.specs.Clashes.{IsCause};
-ghost use Rattle.chunk_store.specs.Drafts.{TakesAtMostOnePage, chunks_of, put_in};
+ghost use Rattle.chunk_store.specs.Drafts.{Grows, Puts, chunks_of};
+ghost use Rattle.chunk_store.specs.Kinds.{is_database};
 ghost use Rattle.table_root.specs.Databases.{HasDatabase, IsDatabase, IsDatabaseFound, has_short_name, names_rise, written_database};
 ghost use Rattle.table_root.specs.Reading.{database_of};
 
 use crate::fields::{after_kind, two_at};
 use crate::parts::{items_at, push_items};
 use crate::records::NamedTable;
-use chunk_store::{Draft, PutFault};
+use chunk_store::{Draft, PutFault, law_of_growth};
 use std::alloc::{AllocError, Global};
 use tuple_codec::{Address, Blob, Digester, Unread};
 
@@ -26,15 +25,11 @@ pub fn write_database<D: Digester>(
     requires few { length tables.now ≤ 256 }
     requires names { list_all has_short_name tables.now ≡ true }
     requires rise { names_rise tables.now ≡ true }
-    ensures address { IfOk result (λ address. address.0 ≡ D.address (written_database tables.now)) }
-    ensures exact { OnOk result (draft.new.chunks ≡ put_in D.address (written_database tables.now) draft.old.chunks) }
-    ensures held { OnOk result (IsHeld D.address (chunks_of draft.new.chunks) (D.address (written_database tables.now)) (written_database tables.now)) }
+    ensures puts { Puts D.address (written_database tables.now) draft.old draft.new result }
     ensures found { IfOk result (λ address. IsDatabaseFound (chunks_of draft.new.chunks) address.0 tables.now) }
-    ensures cause { IfErr result (IsCause (chunks_of draft.old.chunks) (bytes_at ((D.address (written_database tables.now), written_database tables.now) ∷ []))) }
-    ensures same { OnErr result (draft.new ≡ draft.old) }
-    ensures pages { TakesAtMostOnePage draft.old draft.new }
-    ensures steps { (draft.new.chunks ≡ draft.old.chunks) ⊎ (draft.new.chunks ≡ put_in D.address (written_database tables.now) draft.old.chunks) }
+    ensures grows { Grows is_database draft.old draft.new }
 {
+    law_of_growth();
     let bytes = database_bytes(alloc, tables)?;
     draft.put(bytes.as_slice())
 }

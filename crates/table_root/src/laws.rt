@@ -1,7 +1,7 @@
 //! Laws, for proofs above: call one where a proof needs it. None does anything.
 
 ghost use Rattle.table_root.specs.Spellings.{HaveOneSpelling};
-ghost use Rattle.table_root.specs.Standing.{DatabasesStand, TablesStand};
+ghost use Rattle.table_root.specs.Standing.{DatabasesStand, TableValuesStand, TablesStand};
 
 use schema_model::law_of_schemas;
 
@@ -12,14 +12,17 @@ pub fn law_of_written_forms()
     law_of_schemas();
 }
 
-/// Where an address stands for a plain table, the table found there has the roots of its lists.
+/// Where an address stands for a plain table, the table found there has the roots of its lists; and it stands for one.
 pub fn law_of_tables()
-    ensures { TablesStand }
+    ensures tables { TablesStand }
+    ensures values { TableValuesStand }
 {
     law_of_schemas();
 }
 
-/// Where an address stands for a plain database, the database found there names its tables.
+/// Where an address stands for a plain database, the database found there names its tables; and it stands for one.
 pub fn law_of_databases()
     ensures { DatabasesStand }
-{}
+{
+    law_of_schemas();
+}

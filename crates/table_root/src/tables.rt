@@ -1,14 +1,13 @@
 //! Tables written into drafts, and read back.
 
-ghost use Rattle.std.specs.Prelude.{◌≡◌, ◌⊎◌, ◌<◌, ◌≤◌, ◌^◌, ◌++◌, [], ◌∷◌, true, length, OnOk, OnErr, IfOk, IfErr};
+ghost use Rattle.std.specs.Prelude.{◌≡◌, ◌<◌, ◌≤◌, ◌^◌, ◌++◌, [], ◌∷◌, true, length, OnOk, OnErr, IfOk, IfErr};
 ghost use Rattle.std.specs.Int.{w32, to_be_bytes};
 ghost use Rattle.std.specs.List.{flat_map};
 ghost use Rattle.tuple_codec.specs.Fronts.{Gives};
 ghost use Rattle.schema_model.specs.Limits.{is_within_limits};
 ghost use Rattle.schema_model.specs.Schemas.{is_schema};
-ghost use Rattle.chunk_store.specs.Chunks.{IsHeld, bytes_at};
-ghost use Rattle.chunk_store.specs.Clashes.{IsCause};
-ghost use Rattle.chunk_store.specs.Drafts.{TakesAtMostOnePage, chunks_of, put_in};
+ghost use Rattle.chunk_store.specs.Drafts.{Grows, Puts, chunks_of};
+ghost use Rattle.chunk_store.specs.Kinds.{is_table};
 ghost use Rattle.table_root.specs.Finds.{Finds};
 ghost use Rattle.table_root.specs.Reading.{schema_text, table_of};
 ghost use Rattle.table_root.specs.Tables.{HasRoots, HasTable, IsTable, IsTableFound, written_table};
@@ -16,7 +15,7 @@ ghost use Rattle.table_root.specs.Tables.{HasRoots, HasTable, IsTable, IsTableFo
 use crate::fields::{address_at, after_kind, four_at, push_address};
 use crate::parts::{items_at, push_items};
 use crate::records::Table;
-use chunk_store::{Draft, PutFault};
+use chunk_store::{Draft, PutFault, law_of_growth};
 use schema_model::{Schema, law_of_schemas, read_schema, write_schema};
 use std::alloc::{AllocError, Global};
 use tuple_codec::{Address, Blob, Digester, Unread, bytes_at};
@@ -30,15 +29,11 @@ pub fn write_table<D: Digester>(
     requires schema { is_schema table.now.schema ≡ true }
     requires limits { is_within_limits table.now.schema ≡ true }
     requires count { length table.now.indexes ≡ length table.now.schema.indexes }
-    ensures address { IfOk result (λ address. address.0 ≡ D.address (written_table table.now)) }
-    ensures exact { OnOk result (draft.new.chunks ≡ put_in D.address (written_table table.now) draft.old.chunks) }
-    ensures held { OnOk result (IsHeld D.address (chunks_of draft.new.chunks) (D.address (written_table table.now)) (written_table table.now)) }
+    ensures puts { Puts D.address (written_table table.now) draft.old draft.new result }
     ensures found { IfOk result (λ address. IsTableFound (chunks_of draft.new.chunks) address.0 table.now) }
-    ensures cause { IfErr result (IsCause (chunks_of draft.old.chunks) (bytes_at ((D.address (written_table table.now), written_table table.now) ∷ []))) }
-    ensures same { OnErr result (draft.new ≡ draft.old) }
-    ensures pages { TakesAtMostOnePage draft.old draft.new }
-    ensures steps { (draft.new.chunks ≡ draft.old.chunks) ⊎ (draft.new.chunks ≡ put_in D.address (written_table table.now) draft.old.chunks) }
+    ensures grows { Grows is_table draft.old draft.new }
 {
+    law_of_growth();
     let bytes = table_bytes(alloc, table)?;
     draft.put(bytes.as_slice())
 }

@@ -92,12 +92,6 @@ joined_again key full place (value ∷ row) e =
 pub joined_is : (key : List ℕ) (row : Cells) (count : ℕ) → length row ≡ count → joined_from key (key_of key row) 0 count (unkeyed_from key 0 row) ≡ row
 joined_is key row count e = ap (λ (n : ℕ). joined_from key (key_of key row) 0 n (unkeyed_from key 0 row)) (sym e) ∙ joined_again key row 0 row refl
 
--- rows with the same parts are one
-pub same_row : (key : List ℕ) (a b : Cells) → length a ≡ length b → key_of key a ≡ key_of key b → unkeyed_from key 0 a ≡ unkeyed_from key 0 b → a ≡ b
-same_row key a b n cells others =
-    sym (joined_is key a (length b) n) ∙ ap (λ (l : Cells). joined_from key l 0 (length b) (unkeyed_from key 0 a)) cells
-    ∙ ap (λ (l : Cells). joined_from key (key_of key b) 0 (length b) l) others ∙ joined_is key b (length b) refl
-
 pub joined_at : (key other : List ℕ) (row cells rest : Cells) (count : ℕ) → other ≡ key → cells ≡ key_of key row → count ≡ length row → rest ≡ unkeyed_from key 0 row
     → joined_from other cells 0 count rest ≡ row
 joined_at key other row cells rest count same is_key is_count is_rest =

@@ -5,7 +5,8 @@ use Rattle.tuple_codec.specs.Rows.{Cells, key_of}
 use Rattle.tuple_codec.specs.declared.values.SqlType.TheVariants as kind
 use Rattle.tuple_codec.specs.declared.values.Value.TheVariants as cell
 use Rattle.schema_model.specs.PlainTables.{key_types, row_item, unkeyed_from}
-use Rattle.table_rows.specs.Places.{body_types, joined_from, keyed_cell}
+use Rattle.schema_model.specs.PlainTables.{body_types}
+use Rattle.table_rows.specs.Places.{joined_from, keyed_cell}
 use Rattle.table_rows.specs.Samples.{id_in_the_middle, sample_row}
 
 item_of_a_word : row_item id_in_the_middle (sample_row (cell.Text (97 ∷ [])) (pos 1))

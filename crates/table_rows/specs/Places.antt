@@ -1,13 +1,9 @@
 -- How a row is taken apart into its key and its other cells, and put together again.
-use Rattle.std.specs.Prelude.{ℕ, zero, suc, ◌==◌, if◌then◌else◌, List, [], ◌∷◌, drop, Option, None, Some, position, slice_get}
+use Rattle.std.specs.Prelude.{ℕ, zero, suc, ◌==◌, List, [], ◌∷◌, drop, Option, None, Some, position, slice_get}
 use Rattle.std.specs.Option.{option_and_then}
 use Rattle.tuple_codec.specs.Rows.{Cells}
-use Rattle.tuple_codec.specs.declared.values.SqlType.{SqlType}
 use Rattle.tuple_codec.specs.declared.values.Value.{Value}
 use Rattle.tuple_codec.specs.declared.values.Value.TheVariants as cell
-use Rattle.schema_model.specs.PlainTables.{is_keyed}
-use Rattle.schema_model.specs.declared.schemas.Column.{Column}
-use Rattle.schema_model.specs.declared.schemas.Schema.{Schema}
 
 -- the cell of a position, where it is one of the key's; cells are those of the key
 abbrev pub keyed_cell : List ℕ → Cells → ℕ → Option Value

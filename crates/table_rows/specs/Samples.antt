@@ -1,5 +1,5 @@
 -- A schema and rows for tests.
-use Rattle.std.specs.Prelude.{ℤ, pos, true, false, List, [], ◌∷◌, None, codes}
+use Rattle.std.specs.Prelude.{ℤ, true, false, [], ◌∷◌, None, codes}
 use Rattle.tuple_codec.specs.Rows.{Cells}
 use Rattle.tuple_codec.specs.declared.values.SqlType.TheVariants as kind
 use Rattle.tuple_codec.specs.declared.values.Value.{Value}
@@ -21,6 +21,3 @@ id_in_the_middle = record {
 -- a word, an id, and no amount
 abbrev pub sample_row : Value → ℤ → Cells
 sample_row word id = word ∷ cell.Int id ∷ cell.Null ∷ []
-
-abbrev pub two_rows : List Cells
-two_rows = sample_row cell.Null (pos 1) ∷ sample_row cell.Null (pos 2) ∷ []

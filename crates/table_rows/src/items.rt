@@ -6,9 +6,8 @@ ghost use Rattle.tuple_codec.specs.KeyBytes.{key_bytes};
 ghost use Rattle.tuple_codec.specs.Limits.{are_types};
 ghost use Rattle.tuple_codec.specs.RowBytes.{row_bytes};
 ghost use Rattle.tuple_codec.specs.Rows.{Cells, fits_all};
-ghost use Rattle.schema_model.specs.PlainTables.{body_bytes, is_row, key_types, primary_key, row_item};
+ghost use Rattle.schema_model.specs.PlainTables.{body_bytes, body_types, is_row, key_types, primary_key, row_item};
 ghost use Rattle.schema_model.specs.Schemas.{is_schema};
-ghost use Rattle.table_rows.specs.Places.{body_types};
 ghost use Rattle.table_rows.specs.Rows.{IsRowOf};
 
 use crate::cells::{body_cells, joined, key_cells};

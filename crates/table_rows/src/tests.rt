@@ -1,20 +1,13 @@
-ghost use Rattle.std.specs.Prelude.{◌≡◌, true, false, None, IfOk, map};
-ghost use Rattle.tuple_codec.specs.Trees.{bytes_of};
-ghost use Rattle.schema_model.specs.PlainTables.{is_row, row_item};
+ghost use Rattle.std.specs.Prelude.{◌≡◌, true, false, None, IfOk};
+ghost use Rattle.schema_model.specs.PlainTables.{is_row};
 ghost use Rattle.schema_model.specs.Schemas.{is_schema};
-ghost use Rattle.chunk_store.specs.Drafts.{chunks_of};
-ghost use Rattle.prolly_tree.specs.Samples.{by_length};
-ghost use Rattle.table_rows.specs.Rows.{AreRowsAt};
-ghost use Rattle.table_rows.specs.Samples.{id_in_the_middle, sample_row, two_rows};
+ghost use Rattle.table_rows.specs.Samples.{id_in_the_middle, sample_row};
 
 use super::*;
-use chunk_region::PagePool;
-use chunk_store::{Draft, Store};
-use node_format::write_leaf;
 use schema_model::{Column, Schema, is_schema};
 use std::alloc::{AllocError, Global};
 use std::test::Fail;
-use tuple_codec::{Address, Blob, Digester, Row, Sequence, SqlType, Text, Value, value_fits};
+use tuple_codec::{Row, Sequence, SqlType, Text, Value, value_fits};
 
 fn column(alloc: Global, name: &[u8], kind: SqlType, not_null: bool) -> Result<Column, AllocError>
     ensures { IfOk result (λ column. column ≡ record { name = name.now; kind = kind; not_null = not_null; default = None }) }
@@ -82,76 +75,5 @@ fn a_row_is_an_item(rt: HostRuntime) -> Result<(), Fail> {
     let row = sample_row(alloc, word, 1)?;
     let key = [1, 0x80, 0, 0, 0, 0, 0, 0, 1];
     assert!(rt; has_item(alloc, &schema, &row, &key, &[1, 0, 1, 0x61, 0])?);
-    Ok(())
-}
-
-/// Names bytes by how many they are, so that the trees of a test can be computed.
-struct ByLength;
-
-impl Digester for ByLength {
-    ghost use Rattle.prolly_tree.specs.Samples.{by_length};
-
-    ghost address = { by_length };
-
-    fn address_of(bytes: &[u8]) -> Address {
-        let mut address = [0; 20];
-        address[19] = (bytes.len() % 256) as u8;
-        Address(address)
-    }
-}
-
-#[test]
-fn no_rows_are_read(rt: HostRuntime) -> Result<(), Fail> {
-    let alloc = rt.alloc();
-    let pool = PagePool::with_pages(alloc, 1)?;
-    let mut draft: Draft<ByLength> = Draft::new(Store::new(alloc), pool);
-    let schema = id_in_the_middle(alloc)?;
-    assert!(rt; is_schema(&schema));
-    let leaf = write_leaf(alloc, &[])?;
-    assert!(rt; leaf.as_slice() == &[1, 0, 0, 0][..]);
-    let root = draft.put(leaf.as_slice())?;
-    let rows = read_rows(alloc, &draft, &schema, &root)?;
-    assert!(rt; rows.as_slice().is_empty());
-    Ok(())
-}
-
-/// The leaf of two rows.
-fn leaf_of_two(alloc: Global, schema: &Schema) -> Result<Blob, AllocError>
-    requires schema { is_schema schema.now ≡ true }
-    requires sample { schema.now ≡ id_in_the_middle }
-    ensures { IfOk result (λ bytes. bytes ≡ bytes_of 0 (map (row_item id_in_the_middle) two_rows)) }
-{
-    let first = sample_row(alloc, Value::Null, 1)?;
-    let second = sample_row(alloc, Value::Null, 2)?;
-    let items = [
-        row_item(alloc, schema, first.as_slice())?,
-        row_item(alloc, schema, second.as_slice())?,
-    ];
-    write_leaf(alloc, &items)
-}
-
-/// The address of the tree of two rows, all in one leaf.
-fn plant_two(draft: &mut Draft<ByLength>, alloc: Global, schema: &Schema) -> Result<Address, Fail>
-    requires schema { is_schema schema.now ≡ true }
-    requires sample { schema.now ≡ id_in_the_middle }
-    ensures { IfOk result (λ root. AreRowsAt by_length (chunks_of draft.new.chunks) root.0 id_in_the_middle two_rows) }
-{
-    let leaf = leaf_of_two(alloc, schema)?;
-    Ok(draft.put(leaf.as_slice())?)
-}
-
-#[test]
-fn two_rows_are_read(rt: HostRuntime) -> Result<(), Fail> {
-    let alloc = rt.alloc();
-    let pool = PagePool::with_pages(alloc, 1)?;
-    let mut draft: Draft<ByLength> = Draft::new(Store::new(alloc), pool);
-    let schema = id_in_the_middle(alloc)?;
-    assert!(rt; is_schema(&schema));
-    let root = plant_two(&mut draft, alloc, &schema)?;
-    let rows = read_rows(alloc, &draft, &schema, &root)?;
-    let rows = rows.as_slice();
-    assert_eq!(rt; rows.len(), 2);
-    assert!(rt; rows[0] == sample_row(alloc, Value::Null, 1)?);
-    assert!(rt; rows[1] == sample_row(alloc, Value::Null, 2)?);
     Ok(())
 }

@@ -1,9 +1,8 @@
 //! The types of a row's cells, as they stand in its item.
 
 ghost use Rattle.std.specs.Prelude.{◌≡◌, true, IfOk};
-ghost use Rattle.schema_model.specs.PlainTables.{is_keyed, key_types};
+ghost use Rattle.schema_model.specs.PlainTables.{body_types, is_keyed, key_types};
 ghost use Rattle.schema_model.specs.Schemas.{is_schema};
-ghost use Rattle.table_rows.specs.Places.{body_types};
 
 use schema_model::Schema;
 use std::alloc::{AllocError, Global};

@@ -1,8 +1,10 @@
 -- Why puts are refused: where all chunks are named, two byte strings have one address.
-use Rattle.std.proofs.Common.{ℕ, List, [], ◌∷◌, ◌++◌, refl, sym, subst}
+use Rattle.std.proofs.Common.{◌≡◌, ℕ, Bool, cond, List, [], ◌∷◌, ◌++◌, Some, None, Result, Ok, Err, IfErr, refl, sym, ap, ◌∙◌, subst}
+use Rattle.std.specs.Cmp.Lexicographic.{bytes_decides}
+use Rattle.tuple_codec.specs.declared.addresses.Address.{Address}
 use Rattle.chunk_store.specs.Chunks.{AreNamed, Chunk, bytes_at}
 use Rattle.chunk_store.specs.Clashes.{IsCause, IsReason}
-use Rattle.chunk_store.specs.Drafts.{DraftParts, IsSound, Longer, chunks_of}
+use Rattle.chunk_store.specs.Drafts.{Drafting, DraftParts, IsSound, Longer, Puts, chunks_of}
 use Rattle.chunk_store.specs.Laws.{ChunksFollow}
 use Rattle.chunk_store.specs.declared.faults.PutFault.{PutFault}
 use Rattle.chunk_store.specs.declared.faults.PutFault.TheVariants.{Memory, Collision}
@@ -40,3 +42,16 @@ fault_of_reason address draft (Collision clash) follow named sound reason = reco
   second = reason.is_brought;
   differ = reason.differ;
 }
+
+-- what a put was refused for is that other bytes are held at the address of those that were brought
+pub cause_of_put : (a : List ℕ → List ℕ) (bytes : List ℕ) (old new : Drafting) (result : Result Address PutFault) → Puts a bytes old new result
+    → IfErr result (IsCause (chunks_of old.chunks) (bytes_at ((a bytes, bytes) ∷ [])))
+cause_of_put a bytes old new (Ok k) puts = tt
+cause_of_put a bytes old new (Err Memory) puts = tt
+cause_of_put a bytes old new (Err (Collision clash)) puts =
+    let named : a bytes ≡ clash.address.0 = ap a (sym puts.brought) ∙ puts.cause.is_brought in
+    record {
+      is_held = ap (λ (d : Drafting). chunks_of d.chunks clash.address.0) (sym puts.same) ∙ puts.cause.is_held;
+      is_brought = ap (λ (b : Bool). cond b (Some bytes) None) ((bytes_decides (a bytes) clash.address.0).1 named) ∙ ap Some (sym puts.brought);
+      differ = puts.cause.differ;
+    }

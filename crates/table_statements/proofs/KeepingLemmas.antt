@@ -42,19 +42,7 @@ schema_of table h =
     (and_parts (list_all is_word_text (names_of table.schema)) (is_schema (plain_schema table.schema) && is_within_limits (plain_schema table.schema)) sound).1 in
     record { is_schema = both.0; limits = both.1 }
 
-last_part : (rest last : Bool) → rest && last ≡ true → last ≡ true
-last_part rest last h = (and_parts rest last h).1
-
-pub size_fits : (schema : plain_schemas.Schema) → is_within_limits (plain_schema schema) ≡ true → length (schema_bytes (plain_schema schema)) < 2 ^ 32
-size_fits schema h =
-    let small = leb-true (length (schema_bytes (plain_schema schema))) 32768 (last_part _ (nat_le (length (schema_bytes (plain_schema schema))) 32768) h) in
-    omega (arith, small)
-
 -- ---- while a draft grows
-
-pub longer_steps : (address : List ℕ → List ℕ) (bytes : List ℕ) (old new : DraftParts) → DraftsFollow → (new ≡ old) ⊎ (new ≡ put_in address bytes old) → Longer old new
-longer_steps address bytes old new laws (inl e) = subst (λ (d : DraftParts). Longer old d) (sym e) (laws.longer_itself old)
-longer_steps address bytes old new laws (inr e) = subst (λ (d : DraftParts). Longer old d) (sym e) (laws.longer_put address bytes old)
 
 module _ (address : List ℕ → List ℕ) (old new : Chunks) (more : Extends old new) where
   pub trees_later : (table : plain.Table) → HasTrees address old (plain_table table) → HasTrees address new (plain_table table)
@@ -114,11 +102,11 @@ module _ (address : List ℕ → List ℕ) (chunks : Chunks) (k : List ℕ) wher
 
   pub table_found : TablesStand → (table : plain.Table) → IsTableKept address chunks k table → (read : Table) × IsTableFound chunks k read
   table_found laws table kept =
-      (table_of_lists address (plain_table table), laws.found address chunks k (plain_table table) kept.stands (size_fits table.schema (schema_of table kept.sound).limits))
+      (table_of_lists address (plain_table table), laws.found address chunks k (plain_table table) kept.stands)
 
   pub table_read : TablesStand → (table : plain.Table) → IsTableKept address chunks k table → (read : Table) → IsTableFound chunks k read
       → read ≡ table_of_lists address (plain_table table)
-  table_read laws table kept read found = laws.same address chunks k (plain_table table) read kept.stands (size_fits table.schema (schema_of table kept.sound).limits) found
+  table_read laws table kept read found = laws.same address chunks k (plain_table table) read kept.stands found
 
 -- ---- what is put
 

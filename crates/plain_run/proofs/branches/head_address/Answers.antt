@@ -8,4 +8,4 @@ returns g c =
     let address = g.D.Digester.address in
     let same = commit_is address c.args.epoch _ c.args.root.0 _ _ _ c.requires.root (ap (map (λ parent. parent.0)) c.new.ensures)
     (to_z-of_z c.ranges.epoch) c.in_ok-from_slice.ensures c.in_ok-from_slice-2.ensures in
-    subst (λ parts. IfOk c.write_commit.result (λ named. named.0 ≡ address (commit_bytes parts))) (sym same) c.write_commit.ensures.address
+    subst (λ parts. IfOk c.write_commit.result (λ named. named.0 ≡ address (commit_bytes parts))) (sym same) c.write_commit.ensures.puts.address

@@ -28,4 +28,4 @@ returns g c =
     let address = g.D.Digester.address in
     let same : c.as_slice.result.now ≡ map (named_of address) c.args.tables.now = search rules in
     subst (λ k. IfOk c.write_database.result (λ named. named.0 ≡ k)) (ap (λ named. address (written_database named)) same ∙ written_is address c.args.tables.now)
-    c.write_database.ensures.address
+    c.write_database.ensures.puts.address

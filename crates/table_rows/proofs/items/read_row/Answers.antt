@@ -5,7 +5,7 @@ use Rattle.tuple_codec.specs.Rows.{fits_all}
 use Rattle.tuple_codec.specs.declared.values.SqlType.{SqlType}
 use Rattle.schema_model.specs.PlainTables.{primary_key, unkeyed_from}
 use Rattle.table_rows.specs.Places.{joined_from}
-use Rattle.table_rows.proofs.FitLemmas.{body_fits, body_types_fit, key_types_fit, primary_key_fits, row_length}
+use Rattle.schema_model.proofs.FitLemmas.{body_fits, body_types_fit, key_types_fit, primary_key_fits, row_length}
 use Rattle.table_rows.proofs.PlaceLemmas.{joined_at}
 use Rattle.table_rows.proofs.items.read_row.Goals as goal
 

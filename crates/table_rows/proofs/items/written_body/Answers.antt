@@ -3,8 +3,8 @@ use Rattle.tuple_codec.specs.Limits.{are_types}
 use Rattle.tuple_codec.specs.Rows.{Cells, fits_all}
 use Rattle.tuple_codec.specs.declared.values.SqlType.{SqlType}
 use Rattle.schema_model.specs.PlainTables.{unkeyed_from}
-use Rattle.table_rows.specs.Places.{body_types}
-use Rattle.table_rows.proofs.FitLemmas.{body_fits, body_types_fit}
+use Rattle.schema_model.specs.PlainTables.{body_types}
+use Rattle.schema_model.proofs.FitLemmas.{body_fits, body_types_fit}
 use Rattle.table_rows.proofs.items.written_body.Goals as goal
 
 pub encode_row-requires-clause-types : goal.encode_row-requires-clause-types

@@ -3,7 +3,7 @@ use Rattle.tuple_codec.specs.Limits.{are_types}
 use Rattle.tuple_codec.specs.Rows.{Cells, fits_all, key_of}
 use Rattle.tuple_codec.specs.declared.values.SqlType.{SqlType}
 use Rattle.schema_model.specs.PlainTables.{key_types, primary_key}
-use Rattle.table_rows.proofs.FitLemmas.{key_types_fit, primary_key_fits}
+use Rattle.schema_model.proofs.FitLemmas.{key_types_fit, primary_key_fits}
 use Rattle.table_rows.proofs.items.written_key.Goals as goal
 
 pub encode_key-requires-clause-types : goal.encode_key-requires-clause-types

@@ -2,4 +2,4 @@ use Rattle.table_rows.proofs.RowLemmas.{items_follow}
 use Rattle.table_rows.proofs.laws.law_of_row_items.Goals as goal
 
 pub returns : goal.returns
-returns c = items_follow c.keys_keep_order.ensures.whole c.keys_are_one_spelling.ensures c.rows_are_one_spelling.ensures c.law_of_rows.ensures
+returns c = items_follow c.keys_keep_order.ensures.whole

@@ -1,5 +1,5 @@
 use Rattle.std.proofs.Common.{◌≡◌, ◌++◌, drop}
-use Rattle.table_rows.specs.Places.{unkeyed_types}
+use Rattle.schema_model.specs.PlainTables.{unkeyed_types}
 use Rattle.table_rows.proofs.types.body_types.Given as goal
 
 abbrev pub invariant-loop-position : goal.invariant-loop-position

@@ -1,7 +1,7 @@
 use Rattle.std.proofs.Common.{◌≡◌, ℕ, List, length, ltb, true, sym, subst}
 use Rattle.std.specs.List.{list_all}
 use Rattle.schema_model.specs.declared.schemas.Column.{Column}
-use Rattle.table_rows.proofs.FitLemmas.{form_of, kind_step, place_below}
+use Rattle.schema_model.proofs.FitLemmas.{form_of, kind_step, place_below}
 use Rattle.table_rows.proofs.types.key_types.Goals as goal
 
 pub loop-position-preserved : goal.loop-position-preserved
