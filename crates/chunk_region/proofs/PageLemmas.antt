@@ -1,12 +1,12 @@
-use Rattle.std.proofs.Common.{◌≡◌, ℕ, zero, suc, ◌+◌, ◌-◌, ◌<◌, ◌≤◌, cond, List, [], ◌∷◌, ◌++◌, length, take, drop, get_or, set, Some, None, sym, refl, ap, ◌∙◌, subst, arith, slice_get, Vec}
-use Rattle.std.specs.declared.alloc.Global.{Global}
+use Rattle.std.proofs.Common.{◌≡◌, ℕ, zero, suc, ◌+◌, ◌-◌, ◌<◌, ◌≤◌, ◌&&◌, nat_le, nat_lt, Bool, true, false, cond, List, [], ◌∷◌, ◌++◌, length, take, drop, get_or, set, Option, Some, None, IsSome, sym, refl, ap, ◌∙◌, subst, arith, slice_get}
 use Rattle.std.specs.Option.{option_and_then}
-use Rattle.std.proofs.lemmas.List.{append-nil, append_assoc, length-append, length-map, map-set, take-map, get_or-map, get_or-take, take_all, take-append-le, drop-append-le, length-drop, length-take, drop-take, take-take, take-append-drop}
+use Rattle.std.proofs.Math.Seq.{drop-append_seam, take-set-lt}
+use Rattle.std.proofs.lemmas.List.{append-nil, append_assoc, length-append, length-take-le, get_or-take, take_all, take-append-le, drop-append-le, length-drop, length-take, drop-take, take-take, take-append-drop}
 use Rattle.std.proofs.lemmas.Option.{cond_some}
-use Rattle.std.proofs.lemmas.Bool.{leb-true, le-leb}
+use Rattle.std.proofs.lemmas.Bool.{and_from, leb-true, le-leb, lt-ltb, ltb-true}
 use Rattle.chunk_region.specs.declared.span.Span.{Span}
 use Rattle.chunk_region.specs.declared.mark.Mark.{Mark}
-use Rattle.chunk_region.specs.Pages.{Pages, pages_of, part_of, Stands, on_last_page, mark_of, cut, cut_pages, IsLater, IsLaterPage, IsBefore, IsWritten, WritesOn}
+use Rattle.chunk_region.specs.Pages.{Pages, bytes_at, part_of, Stands, has_room, on_last_page, mark_of, cut, cut_page, cut_pages, place_on, write_on_last, IsLater, IsLaterPage, IsBefore, IsWritten, WritesOn}
 
 page_itself : (pages : Pages) (page : List ℕ) → IsLaterPage pages page page
 page_itself [] page = ([], sym (append-nil page))
@@ -112,36 +112,156 @@ last_is (p ∷ []) (suc n) page is _ = absurd (omega arith)
 last_is (p ∷ q ∷ pages) zero page is _ = absurd (omega arith)
 last_is (p ∷ q ∷ pages) (suc n) page count is = last_is (q ∷ pages) n page (omega arith) is
 
--- the last page is the last piece
-pub last_piece : (pieces : List (Vec ℕ Global)) (n : ℕ) (piece : Vec ℕ Global) → n ≡ length pieces → (n ≡ 0 → ⊥) → piece ≡ get_or pieces (n - 1) piece
-    → on_last_page (pages_of pieces) ≡ length piece.items
-last_piece pieces zero piece _ some _ = absurd (some refl)
-last_piece pieces (suc n) piece count _ is =
-    let before : suc n - 1 ≡ n = omega arith in
-    let P : ℕ → Type 0 = λ k. piece ≡ get_or pieces k piece in
-    let at : piece ≡ get_or pieces n piece = subst P before is in
-    let within : n < length pieces = omega arith in
-    last_is (pages_of pieces) n piece.items (length-map pieces (λ p. p.items) ∙ sym count)
-    (ap (λ p. p.items) at ∙ sym (get_or-map (λ p. p.items) pieces n piece piece.items within))
+pub is_written : (pages : Pages) (span : Span) (bytes : List ℕ) → Stands pages span bytes → IsWritten pages span
+is_written pages span bytes held = rw held refl
 
--- so many pieces, with the last of them cut
-pub cut_last_piece : (pieces : List (Vec ℕ Global)) (n last : ℕ) (piece cut_one : Vec ℕ Global) → (n ≡ 0 → ⊥) → n ≤ length pieces
-    → piece ≡ get_or (take n pieces) (n - 1) piece → cut_one.items ≡ take last piece.items
-    → pages_of (set (take n pieces) (n - 1) cut_one) ≡ cut_pages n last (pages_of pieces)
-cut_last_piece pieces zero last piece cut_one some _ _ _ = absurd (some refl)
-cut_last_piece pieces (suc n) last piece cut_one _ within is cut_is =
+-- the last of so many pages
+pub last_taken : (pages : Pages) (used : ℕ) (page : List ℕ) → (used ≡ 0 → ⊥) → used ≤ length pages → page ≡ get_or pages (used - 1) page
+    → on_last_page (take used pages) ≡ length page
+last_taken pages zero page some _ _ = absurd (some refl)
+last_taken pages (suc n) page _ within is =
     let before : suc n - 1 ≡ n = omega arith in
-    let P : ℕ → Type 0 = λ k. piece ≡ get_or (take (suc n) pieces) k piece in
-    let inside : n < length pieces = omega arith in
-    let at : piece ≡ get_or pieces n piece = subst P before is ∙ get_or-take (suc n) pieces n piece (omega arith) in
-    let counted = length-map pieces (λ p. p.items) in
-    let seen : piece.items ≡ get_or (pages_of pieces) n piece.items =
-    ap (λ p. p.items) at ∙ sym (get_or-map (λ p. p.items) pieces n piece piece.items inside) in
-    ap (λ k. pages_of (set (take (suc n) pieces) k cut_one)) before
-    ∙ map-set (λ p. p.items) (take (suc n) pieces) n cut_one
-    ∙ ap (λ l. set l n cut_one.items) (sym (take-map (λ p. p.items) (suc n) pieces))
-    ∙ ap (λ b. set (take (suc n) (pages_of pieces)) n b) cut_is
-    ∙ sym (cut_last (pages_of pieces) n last piece.items (omega arith) seen)
+    let P : ℕ → Type 0 = λ k. page ≡ get_or pages k page in
+    last_is (take (suc n) pages) n page (length-take-le (suc n) pages within) (subst P before is ∙ sym (get_or-take (suc n) pages n page (omega arith)))
+
+-- so many pages, with the last of them cut
+pub cut_taken_last : (pages : Pages) (used last : ℕ) (page cut_one : List ℕ) → (used ≡ 0 → ⊥) → used ≤ length pages → page ≡ get_or pages (used - 1) page
+    → cut_one ≡ take last page → take used (set pages (used - 1) cut_one) ≡ cut_pages used last pages
+cut_taken_last pages zero last page cut_one some _ _ _ = absurd (some refl)
+cut_taken_last pages (suc n) last page cut_one _ within is cut_is =
+    let before : suc n - 1 ≡ n = omega arith in
+    let P : ℕ → Type 0 = λ k. page ≡ get_or pages k page in
+    ap (λ k. take (suc n) (set pages k cut_one)) before ∙ take-set-lt (suc n) pages n cut_one (omega arith)
+    ∙ ap (λ b. set (take (suc n) pages) n b) cut_is ∙ sym (cut_last pages n last page (omega arith) (subst P before is))
+
+-- what is cut of more pages is cut of the first ones
+pub cut_of_taken : (pages : Pages) (n used last : ℕ) → n ≤ used → cut_pages n last (take used pages) ≡ cut_pages n last pages
+cut_of_taken pages zero used last _ = refl
+cut_of_taken [] (suc n) zero last within = absurd (omega arith)
+cut_of_taken [] (suc n) (suc used) last within = refl
+cut_of_taken (p ∷ pages) (suc n) zero last within = absurd (omega arith)
+cut_of_taken (p ∷ pages) (suc n) (suc used) last within = ap (λ l. cut_page n last p ∷ l) (cut_of_taken pages n used last (omega arith))
+
+-- ---- writing on the last page
+
+and_both : (t u : Bool) → t && u ≡ true → (t ≡ true) × (u ≡ true)
+and_both true u is = (refl, is)
+and_both false u is = cc
+
+pub used_some : (pages : Pages) (used : ℕ) → 0 < length (take used pages) → used ≡ 0 → ⊥
+used_some pages zero some _ = omega arith
+used_some pages (suc n) some is = omega arith
+
+pub room_is : (more : ℕ) (pages : Pages) → has_room more pages ≡ true → (0 < length pages) × (on_last_page pages + more ≤ 65536)
+room_is more pages is =
+    let parts = and_both (nat_lt 0 (length pages)) (nat_le (on_last_page pages + more) 65536) is in
+    (ltb-true 0 (length pages) parts.0, leb-true (on_last_page pages + more) 65536 parts.1)
+
+pub written_last : (pages : Pages) (n : ℕ) (page bytes : List ℕ) → n + 1 ≡ length pages → page ≡ get_or pages n page → set pages n (page ++ bytes) ≡ write_on_last bytes pages
+written_last [] n page bytes count is = absurd (omega arith)
+written_last (p ∷ []) zero page bytes count is = ap (λ l. (l ++ bytes) ∷ []) is
+written_last (p ∷ []) (suc n) page bytes count is = absurd (omega arith)
+written_last (p ∷ q ∷ pages) zero page bytes count is = absurd (omega arith)
+written_last (p ∷ q ∷ pages) (suc n) page bytes count is = ap (λ l. p ∷ l) (written_last (q ∷ pages) n page bytes (omega arith) is)
+
+pub written_taken : (pages : Pages) (used : ℕ) (page bytes written : List ℕ) → (used ≡ 0 → ⊥) → used ≤ length pages → page ≡ get_or pages (used - 1) page
+    → written ≡ page ++ bytes → take used (set pages (used - 1) written) ≡ write_on_last bytes (take used pages)
+written_taken pages zero page bytes written some _ _ _ = absurd (some refl)
+written_taken pages (suc n) page bytes written _ within is here =
+    let before : suc n - 1 ≡ n = omega arith in
+    let count = length-take-le (suc n) pages within in
+    let P : ℕ → Type 0 = λ k. page ≡ get_or pages k page in
+    ap (λ k. take (suc n) (set pages k written)) before ∙ take-set-lt (suc n) pages n written (omega arith) ∙ ap (set (take (suc n) pages) n) here
+    ∙ written_last (take (suc n) pages) n page bytes (omega arith) (subst P before is ∙ sym (get_or-take (suc n) pages n page (omega arith)))
+
+pub later_written : (pages : Pages) (bytes : List ℕ) → IsLater pages (write_on_last bytes pages)
+later_written [] bytes = tt
+later_written (p ∷ []) bytes = ((bytes, refl), tt)
+later_written (p ∷ q ∷ pages) bytes = (refl, later_written (q ∷ pages) bytes)
+
+part_after : (page bytes : List ℕ) → part_of (length page) (length bytes) (page ++ bytes) ≡ Some bytes
+part_after page bytes =
+    let longer = length-append page bytes in
+    let fits : length page + length bytes ≤ length (page ++ bytes) = omega arith in
+    ap (λ b. cond b (Some (take (length bytes) (drop (length page) (page ++ bytes)))) None) (le-leb (length page + length bytes) (length (page ++ bytes)) fits)
+    ∙ ap (λ l. Some (take (length bytes) l)) (drop-append_seam page bytes) ∙ ap Some (take_all (length bytes) bytes (omega arith))
+
+part_written : (pages : Pages) (n : ℕ) (bytes : List ℕ) → n + 1 ≡ length pages
+    → option_and_then (part_of (on_last_page pages) (length bytes)) (slice_get (write_on_last bytes pages) n) ≡ Some bytes
+part_written [] n bytes count = absurd (omega arith)
+part_written (p ∷ []) zero bytes count = part_after p bytes
+part_written (p ∷ []) (suc n) bytes count = absurd (omega arith)
+part_written (p ∷ q ∷ pages) zero bytes count = absurd (omega arith)
+part_written (p ∷ q ∷ pages) (suc n) bytes count = part_written (q ∷ pages) n bytes (omega arith)
+
+pub written_stands : (pages : Pages) (bytes : List ℕ) (span : Span) → 0 < length pages
+    → span ≡ record { page = length pages - 1; start = on_last_page pages; len = length bytes } → Stands (write_on_last bytes pages) span bytes
+written_stands pages bytes span some is =
+    let P : Span → Type 0 = λ s. Stands (write_on_last bytes pages) s bytes in
+    subst P (sym is) (part_written pages (length pages - 1) bytes (omega arith))
+
+-- on a page that was just taken
+pub written_new : (pages : Pages) (bytes : List ℕ) → write_on_last bytes (pages ++ [] ∷ []) ≡ pages ++ bytes ∷ []
+written_new [] bytes = refl
+written_new (p ∷ []) bytes = refl
+written_new (p ∷ q ∷ pages) bytes = ap (λ l. p ∷ l) (written_new (q ∷ pages) bytes)
+
+last_new : (pages : Pages) → on_last_page (pages ++ [] ∷ []) ≡ 0
+last_new [] = refl
+last_new (p ∷ []) = refl
+last_new (p ∷ q ∷ pages) = last_new (q ∷ pages)
+
+pub room_new : (more : ℕ) (pages : Pages) → more ≤ 65536 → has_room more (pages ++ [] ∷ []) ≡ true
+room_new more pages fits =
+    let count = length-append pages ([] ∷ []) in
+    let last = last_new pages in
+    let some : 0 < length (pages ++ [] ∷ []) = omega arith in
+    let short : on_last_page (pages ++ [] ∷ []) + more ≤ 65536 = omega arith in
+    and_from (nat_lt 0 (length (pages ++ [] ∷ []))) (nat_le (on_last_page (pages ++ [] ∷ []) + more) 65536) (lt-ltb 0 (length (pages ++ [] ∷ [])) some)
+    (le-leb (on_last_page (pages ++ [] ∷ []) + more) 65536 short)
+
+-- placing is to write on the last page, of those that there are or with a new one
+placed_case : (t : Bool) (bytes : List ℕ) (pages opened : Pages) → opened ≡ cond t pages (pages ++ [] ∷ [])
+    → write_on_last bytes opened ≡ cond t (write_on_last bytes pages) (pages ++ bytes ∷ [])
+placed_case true bytes pages opened is = ap (write_on_last bytes) is
+placed_case false bytes pages opened is = ap (write_on_last bytes) is ∙ written_new pages bytes
+
+pub placed_is : (bytes : List ℕ) (pages opened : Pages) → opened ≡ cond (has_room (length bytes) pages) pages (pages ++ [] ∷ [])
+    → write_on_last bytes opened ≡ place_on bytes pages
+placed_is bytes pages opened is = placed_case (has_room (length bytes) pages) bytes pages opened is
+
+later_case : (t : Bool) (bytes : List ℕ) (pages : Pages) → IsLater pages (cond t (write_on_last bytes pages) (pages ++ bytes ∷ []))
+later_case true bytes pages = later_written pages bytes
+later_case false bytes pages = later_placed pages bytes
+
+pub later_place : (bytes : List ℕ) (pages : Pages) → IsLater pages (place_on bytes pages)
+later_place bytes pages = later_case (has_room (length bytes) pages) bytes pages
+
+-- ---- the pages in use, and free ones behind them
+
+part_taken : (pages : Pages) (used at start len : ℕ) (bytes : List ℕ) → option_and_then (part_of start len) (slice_get (take used pages) at) ≡ Some bytes
+    → option_and_then (part_of start len) (slice_get pages at) ≡ Some bytes
+part_taken pages zero at start len bytes held = cc
+part_taken [] (suc used) at start len bytes held = held
+part_taken (p ∷ pages) (suc used) zero start len bytes held = held
+part_taken (p ∷ pages) (suc used) (suc at) start len bytes held = part_taken pages used at start len bytes held
+
+pub taken_stands : (pages : Pages) (used : ℕ) (span : Span) (bytes : List ℕ) → Stands (take used pages) span bytes → Stands pages span bytes
+taken_stands pages used span bytes held = part_taken pages used span.page span.start span.len bytes held
+
+some_is : (o : Option (List ℕ)) → IsSome o → (x : List ℕ) × (o ≡ Some x)
+some_is None none = absurd (cc)
+some_is (Some x) _ = (x, refl)
+
+pub taken_written : (pages : Pages) (used : ℕ) (span : Span) → IsWritten (take used pages) span → IsWritten pages span
+taken_written pages used span written =
+    let found = some_is (bytes_at (take used pages) span) written in
+    is_written pages span found.0 (taken_stands pages used span found.0 found.1)
+
+pub stands_taken : (pages : Pages) (used : ℕ) (span : Span) (bytes : List ℕ) → IsWritten (take used pages) span → Stands pages span bytes → Stands (take used pages) span bytes
+stands_taken pages used span bytes written held =
+    let found = some_is (bytes_at (take used pages) span) written in
+    found.1 ∙ sym (taken_stands pages used span found.0 found.1) ∙ held
 
 -- a part of a page ends where the page does, or before
 part_ends : (start len : ℕ) (page bytes : List ℕ) → part_of start len page ≡ Some bytes → start + len ≤ length page
@@ -204,9 +324,6 @@ stays pages mark span bytes before held = stays_in pages mark.pages mark.last sp
 
 pub stood : (pages : Pages) (mark : Mark) (span : Span) (bytes : List ℕ) → Stands (cut mark pages) span bytes → Stands pages span bytes
 stood pages mark span bytes held = stood_in pages mark.pages mark.last span.page span.start span.len bytes held
-
-pub is_written : (pages : Pages) (span : Span) (bytes : List ℕ) → Stands pages span bytes → IsWritten pages span
-is_written pages span bytes held = rw held refl
 
 pub writes_on : WritesOn
 writes_on = record {

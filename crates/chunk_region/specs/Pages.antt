@@ -1,15 +1,10 @@
-use Rattle.std.specs.Prelude.{◌≡◌, ℕ, zero, suc, ◌+◌, ◌<◌, ◌≤◌, nat_le, List, [], ◌∷◌, ◌++◌, length, take, drop, map, slice_get, Vec, Option, Some, None, IsSome, option_and_then, if◌then◌else◌, sum_by}
-use Rattle.std.specs.declared.alloc.Global.{Global}
+use Rattle.std.specs.Prelude.{◌≡◌, ℕ, zero, suc, ◌+◌, ◌<◌, ◌≤◌, nat_le, nat_lt, ◌&&◌, Bool, List, [], ◌∷◌, ◌++◌, length, take, drop, slice_get, Option, Some, None, IsSome, option_and_then, if◌then◌else◌}
 use Rattle.chunk_region.specs.declared.span.Span.{Span}
 use Rattle.chunk_region.specs.declared.mark.Mark.{Mark}
 
 -- the bytes written on each page, in the order in which the pages were taken
 abbrev pub Pages : Type 0
 Pages = List (List ℕ)
-
--- pieces, each written on a page of its own
-abbrev pub pages_of : List (Vec ℕ Global) → Pages
-pages_of pieces = map (λ piece. piece.items) pieces
 
 -- the bytes of a page from one place on, so many of them, where that many are written there
 abbrev pub part_of : ℕ → ℕ → List ℕ → Option (List ℕ)
@@ -27,15 +22,25 @@ Stands pages span bytes = bytes_at pages span ≡ Some bytes
 abbrev pub IsWritten : Pages → Span → Type 0
 IsWritten pages span = IsSome (bytes_at pages span)
 
--- how many bytes are written on all pages together
-abbrev pub bytes_written : Pages → ℕ
-bytes_written pages = sum_by length pages
-
 -- how many bytes are written on the last page
 abbrev pub on_last_page : Pages → ℕ
 on_last_page [] = 0
 on_last_page (page ∷ []) = length page
 on_last_page (page ∷ next ∷ pages) = on_last_page (next ∷ pages)
+
+-- so many bytes more have room on the last page, which holds 65,536
+abbrev pub has_room : ℕ → Pages → Bool
+has_room more pages = nat_lt 0 (length pages) && nat_le (on_last_page pages + more) 65536
+
+-- the pages after bytes were written at the end of the last one
+abbrev pub write_on_last : List ℕ → Pages → Pages
+write_on_last bytes [] = []
+write_on_last bytes (page ∷ []) = (page ++ bytes) ∷ []
+write_on_last bytes (page ∷ next ∷ pages) = page ∷ write_on_last bytes (next ∷ pages)
+
+-- the pages after a piece was placed: it lies on the last page where it has room there, and else on a page more
+abbrev pub place_on : List ℕ → Pages → Pages
+place_on bytes pages = if has_room (length bytes) pages then write_on_last bytes pages else pages ++ bytes ∷ []
 
 -- the mark of a region with these pages: where its writing ends
 abbrev pub mark_of : Pages → Mark

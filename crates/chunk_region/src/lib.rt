@@ -7,6 +7,7 @@
 
 mod laws;
 mod mark;
+mod page;
 mod pool;
 mod region;
 mod sealed;
@@ -43,7 +44,7 @@ mod tests {
 
     #[test]
     fn what_is_sealed_is_read_by_the_same_spans(rt: HostRuntime) {
-        let pool = PagePool::with_pages(rt.alloc(), 1).expect(&rt, "memory for a page");
+        let pool = PagePool::with_pages(rt.alloc(), 2).expect(&rt, "memory for two pages");
         let mut region = Region::new(pool);
         let empty = region.place(b"").expect(&rt, "memory for nothing");
         let word = region.place(b"word").expect(&rt, "memory for a word");
@@ -51,5 +52,27 @@ mod tests {
         assert_eq!(rt; sealed.bytes(word), b"word".as_slice());
         assert_eq!(rt; sealed.bytes(empty), b"".as_slice());
         assert_eq!(rt; pool.free_pages(), 1);
+    }
+
+    #[test]
+    fn pages_come_from_the_pool_and_go_back_to_it(rt: HostRuntime) {
+        let pool = PagePool::with_pages(rt.alloc(), 2).expect(&rt, "memory for two pages");
+        let mut region = Region::new(pool);
+        let first = region.mark();
+        let page = [7u8; 65_536];
+        let _one = region.place(&page).expect(&rt, "a free page");
+        let _two = region.place(&page).expect(&rt, "a free page");
+        assert_eq!(rt; region.free_pages(), 0);
+        let _three = region.place(b"!").expect(&rt, "memory for a page");
+        region.back_to(first);
+        assert_eq!(rt; region.free_pages(), 3);
+        let _again = region.place(&page).expect(&rt, "a free page");
+        assert_eq!(rt; region.free_pages(), 2);
+        region.refill(16).expect(&rt, "memory for pages");
+        assert_eq!(rt; region.free_pages(), 16);
+        region.clear();
+        let mut pool = region.release();
+        pool.refill(3).expect(&rt, "pages enough");
+        assert_eq!(rt; pool.free_pages(), 17);
     }
 }

@@ -1,73 +1,155 @@
 //! A region: pieces of bytes, placed one after another and undone from the end.
 
-ghost use Rattle.std.specs.Prelude.{◌≡◌, ◌+◌, ◌≤◌, [], ◌∷◌, ◌++◌, length, IfOk, OnOk, OnErr};
-ghost use Rattle.chunk_region.specs.Holding.{all_pages, TakesAtMostOne};
-ghost use Rattle.chunk_region.specs.Pages.{AllBefore, IsLater, IsWritten, Keeps, KeepsBefore, LeadsBack, Stands, bytes_written, cut, mark_of, on_last_page, pages_of};
+ghost use Rattle.std.specs.Prelude.{◌≡◌, ◌+◌, ◌-◌, ◌≤◌, ◌<◌, true, [], ◌∷◌, ◌++◌, length, max, take, min, IfOk, IsOk, OnOk, OnErr, if◌then◌else◌};
+ghost use Rattle.std.specs.Vec.{vec_capacity};
+ghost use Rattle.chunk_region.specs.Holding.{IsSame, TakesAtMostOne, all_pages};
+ghost use Rattle.chunk_region.specs.Pages.{AllBefore, IsLater, IsWritten, Keeps, KeepsBefore, LeadsBack, Stands, cut, cut_pages, has_room, mark_of, on_last_page, place_on, write_on_last};
 
+use crate::page::{PAGE_BYTES, Page};
+use crate::pool::fill;
 use crate::{Mark, PagePool, Sealed, Span};
 use std::alloc::AllocError;
 use std::marker::Model;
 
 /// Pieces of bytes over a pool of pages. A contract sees the bytes written on each page and the numbers of pages.
 ///
-/// In this form each piece lies in memory of its own, made to its measure, and counts as a page written on; no page
-/// of the pool is taken. A region that has 2^32 pieces answers want of memory to a further one, since no span could
-/// name it.
+/// A piece lies in one page, behind the piece before it where there is room. A region that has 2^32 - 1 pages answers
+/// want of memory in place of one more.
 #[derive(Debug, Drop)]
 pub struct Region {
-    pieces: Vec<Vec<u8>>,
-    pool: PagePool,
+    /// The pages in use, and behind them the free ones.
+    pages: Vec<Page>,
+    used: usize,
+    /// An empty list, for the free pages when the region is sealed.
+    spare: Vec<Page>,
 }
 
 impl Model for Region {
+    ghost use Rattle.std.specs.Prelude.{◌≡◌, ◌-◌, ◌<◌, ◌≤◌, ◌^◌, [], length, take};
+    ghost use Rattle.std.specs.Vec.{vec_capacity};
     ghost use Rattle.chunk_region.specs.Holding.{Holding};
-    ghost use Rattle.chunk_region.specs.Pages.{pages_of};
 
     ghost Value = { Holding };
 
-    ghost view = { λ region. record { pages = pages_of region.pieces.items; free = region.pool; taken = 0 } };
+    ghost view = { λ region. record { pages = take region.used region.pages.items; free = length region.pages.items - region.used; taken = region.used; room = vec_capacity region.spare } };
+
+    ghost invariant = { λ region. (region.used ≤ length region.pages.items) × (length region.pages.items < 2 ^ 32) × (region.spare.items ≡ []) };
 }
 
 /// The bytes of the piece that `span` names, or a part of one.
-pub(crate) fn read(pieces: &[Vec<u8>], span: Span) -> &[u8]
-    requires { IsWritten (pages_of pieces.now) span }
-    ensures { Stands (pages_of pieces.now) span result.now }
+pub(crate) fn read(pages: &[Page], span: Span) -> &[u8]
+    requires { IsWritten pages.now span }
+    ensures { Stands pages.now span result.now }
 {
-    let piece = &pieces[span.page as usize];
+    let page = &pages[span.page as usize];
+    let bytes = page.as_slice();
     let start = span.start as usize;
-    &piece[start..start + span.len as usize]
+    &bytes[start..start + span.len as usize]
 }
 
 impl Region {
     /// A region that holds nothing, over the pool's free pages.
     pub fn new(pool: PagePool) -> Region
-        ensures { result ≡ record { pages = []; free = pool; taken = 0 } }
+        ensures { result ≡ record { pages = []; free = pool.free; taken = 0; room = pool.room } }
     {
-        let pieces = Vec::new(*pool.pages.allocator());
-        Region { pieces, pool }
+        let PagePool { pages, spare } = pool;
+        Region {
+            pages,
+            used: 0,
+            spare,
+        }
     }
 
     /// Copies `bytes` into the region; the span names them until a mark taken before is gone back to.
+    ///
+    /// It takes no memory while the pool has a free page.
     pub fn place(&mut self, bytes: &[u8]) -> Result<Span, AllocError>
         requires { length bytes.now ≤ 65536 }
         ensures stands { IfOk result (λ span. Stands self.new.pages span bytes.now) }
         ensures length { IfOk result (λ span. span.len ≡ length bytes.now) }
+        ensures exact { OnOk result (self.new.pages ≡ place_on bytes.now self.old.pages) }
         ensures later { IsLater self.old.pages self.new.pages }
         ensures keeps { Keeps self.old.pages self.new.pages }
-        ensures written { OnOk result (bytes_written self.new.pages ≡ bytes_written self.old.pages + length bytes.now) }
         ensures pages { TakesAtMostOne self.old self.new }
-        ensures same { OnErr result (self.new ≡ self.old) }
+        ensures same { OnErr result (IsSame self.old self.new) }
+        ensures room { self.old.room ≤ self.new.room }
+        ensures succeeds { 0 < self.old.free → IsOk result }
     {
-        let Ok(page) = u32::try_from(self.pieces.len()) else {
+        self.make_room(bytes.len())?;
+        Ok(self.write(bytes))
+    }
+
+    /// Takes a page to write on, if so many bytes more have no room on the last one.
+    fn make_room(&mut self, more: usize) -> Result<(), AllocError>
+        requires { more ≤ 65536 }
+        ensures pages { OnOk result (self.new.pages ≡ (if has_room more self.old.pages then self.old.pages else self.old.pages ++ [] ∷ [])) }
+        ensures has { OnOk result (has_room more self.new.pages ≡ true) }
+        ensures counts { TakesAtMostOne self.old self.new }
+        ensures same { OnErr result (IsSame self.old self.new) }
+        ensures room { self.old.room ≤ self.new.room }
+        ensures succeeds { 0 < self.old.free → IsOk result }
+    {
+        if self.has_room(more) {
+            return Ok(());
+        }
+        self.open_page()
+    }
+
+    /// Whether so many bytes more have room on the last page.
+    fn has_room(&self, more: usize) -> bool
+        requires { more ≤ 65536 }
+        ensures { result ≡ has_room more self.now.pages }
+    {
+        self.used > 0 && on_last(&self.pages, self.used) + more <= PAGE_BYTES
+    }
+
+    /// Takes a page to write on.
+    fn open_page(&mut self) -> Result<(), AllocError>
+        ensures pages { OnOk result (self.new.pages ≡ self.old.pages ++ [] ∷ []) }
+        ensures taken { OnOk result (self.new.taken ≡ self.old.taken + 1) }
+        ensures counts { TakesAtMostOne self.old self.new }
+        ensures same { OnErr result (IsSame self.old self.new) }
+        ensures room { self.old.room ≤ self.new.room }
+        ensures succeeds { 0 < self.old.free → IsOk result }
+    {
+        if self.used == self.pages.len() {
+            self.make_page()?;
+        }
+        empty(&mut self.pages, self.used);
+        self.used += 1;
+        Ok(())
+    }
+
+    /// Makes one free page more.
+    fn make_page(&mut self) -> Result<(), AllocError>
+        ensures pages { self.new.pages ≡ self.old.pages }
+        ensures taken { self.new.taken ≡ self.old.taken }
+        ensures ok { OnOk result (self.new.free ≡ self.old.free + 1) }
+        ensures err { OnErr result (self.new.free ≡ self.old.free) }
+        ensures room { self.old.room ≤ self.new.room }
+    {
+        let count = self.pages.len();
+        if count >= u32::MAX as usize {
             return Err(AllocError);
-        };
-        add_piece(&mut self.pieces, bytes)?;
-        let len = bytes.len() as u32;
-        Ok(Span {
-            page,
-            start: 0,
-            len,
-        })
+        }
+        fill(&mut self.pages, &mut self.spare, count + 1)
+    }
+
+    /// Writes on the room that the last page has.
+    fn write(&mut self, bytes: &[u8]) -> Span
+        requires { has_room (length bytes.now) self.old.pages ≡ true }
+        ensures pages { self.new.pages ≡ write_on_last bytes.now self.old.pages }
+        ensures span { result ≡ record { page = length self.old.pages - 1; start = on_last_page self.old.pages; len = length bytes.now } }
+        ensures free { self.new.free ≡ self.old.free }
+        ensures taken { self.new.taken ≡ self.old.taken }
+        ensures room { self.new.room ≡ self.old.room }
+    {
+        let start = write_last(&mut self.pages, self.used, bytes);
+        Span {
+            page: (self.used - 1) as u32,
+            start: start as u32,
+            len: bytes.len() as u32,
+        }
     }
 
     /// The bytes that were placed at `span`, in constant time.
@@ -75,7 +157,7 @@ impl Region {
         requires { IsWritten self.now.pages span }
         ensures { Stands self.now.pages span result.now }
     {
-        read(&self.pieces, span)
+        read(&self.pages, span)
     }
 
     /// Where the writing ends now, to go back to.
@@ -83,10 +165,9 @@ impl Region {
         ensures at { result ≡ mark_of self.now.pages }
         ensures before { AllBefore result self.now.pages }
     {
-        let last = on_last_piece(&self.pieces);
         Mark {
-            pages: self.pieces.len(),
-            last,
+            pages: self.used,
+            last: on_last(&self.pages, self.used),
         }
     }
 
@@ -96,59 +177,153 @@ impl Region {
         ensures back { LeadsBack mark self.old.pages self.new.pages }
         ensures stays { KeepsBefore mark self.old.pages self.new.pages }
         ensures pages { all_pages self.new ≡ all_pages self.old }
+        ensures taken { self.new.taken ≡ min mark.pages self.old.taken }
+        ensures room { self.new.room ≡ self.old.room }
     {
-        cut_back(&mut self.pieces, mark);
+        if self.used < mark.pages {
+            return;
+        }
+        self.used = mark.pages;
+        cut_last(&mut self.pages, mark.pages, mark.last);
+    }
+
+    /// Undoes all that was placed.
+    pub fn clear(&mut self)
+        ensures pages { self.new.pages ≡ [] }
+        ensures free { self.new.free ≡ all_pages self.old }
+        ensures taken { self.new.taken ≡ 0 }
+        ensures room { self.new.room ≡ self.old.room }
+    {
+        self.used = 0;
+    }
+
+    /// How many pages of the pool are free.
+    pub fn free_pages(&self) -> u32
+        ensures { result ≡ self.now.free }
+    {
+        (self.pages.len() - self.used) as u32
+    }
+
+    /// Raises the pool's free pages to `n` where they are fewer, or changes nothing.
+    pub fn refill(&mut self, n: u32) -> Result<(), AllocError>
+        ensures pages { self.new.pages ≡ self.old.pages }
+        ensures taken { self.new.taken ≡ self.old.taken }
+        ensures raised { OnOk result (self.new.free ≡ max self.old.free n) }
+        ensures lists { OnOk result (self.new.free ≤ self.new.room) }
+        ensures same { OnErr result (self.new.free ≡ self.old.free) }
+        ensures room { self.old.room ≤ self.new.room }
+    {
+        let count = self.pages.len().max(self.used + n as usize);
+        if count > u32::MAX as usize {
+            return Err(AllocError);
+        }
+        fill(&mut self.pages, &mut self.spare, count)
     }
 
     /// Gives up all that was placed, and gives back the pool with all its pages free.
     pub fn release(self) -> PagePool
-        ensures { result ≡ all_pages self }
+        ensures free { result.free ≡ all_pages self }
+        ensures room { result.room ≡ self.room }
     {
-        self.pool
+        let Region { pages, spare, .. } = self;
+        PagePool { pages, spare }
     }
 
     /// Keeps what was placed, to be read by the same spans, and gives back the pool with the pages not in use.
+    ///
+    /// It takes no memory. Where the list for those pages wasn't made beforehand, as it is by `with_pages` and `refill`
+    /// and whenever a page is made, pages that it has no room for are given up.
     pub fn seal(self) -> (Sealed, PagePool)
         ensures kept { result.0 ≡ self.pages }
-        ensures pool { result.1 ≡ self.free }
+        ensures pool { self.free ≤ self.room → result.1.free ≡ self.free }
+        ensures most { result.1.free ≤ self.free }
     {
-        let Region { pieces, pool } = self;
-        (Sealed { pieces }, pool)
+        let Region {
+            mut pages,
+            used,
+            mut spare,
+        } = self;
+        let alloc = *pages.allocator();
+        move_free(&mut pages, used, &mut spare);
+        let pool = PagePool {
+            pages: spare,
+            spare: Vec::new(alloc),
+        };
+        (Sealed { pages }, pool)
     }
 }
 
-/// Adds a copy of `bytes` as the last piece, or changes nothing.
-fn add_piece(pieces: &mut Vec<Vec<u8>>, bytes: &[u8]) -> Result<(), AllocError>
-    ensures ok { OnOk result (pages_of pieces.new.items ≡ pages_of pieces.old.items ++ bytes.now ∷ []) }
-    ensures err { OnErr result (pieces.new.items ≡ pieces.old.items) }
+/// How many bytes are written on the last of the pages in use: none where none is.
+fn on_last(pages: &[Page], used: usize) -> usize
+    requires { used ≤ length pages.now }
+    ensures count { result ≡ on_last_page (take used pages.now) }
+    ensures most { result ≤ 65536 }
 {
-    let piece = Vec::from_slice(*pieces.allocator(), bytes)?;
-    pieces.push(piece)?;
-    Ok(())
-}
-
-/// How many bytes the last piece has: none where there is no piece.
-fn on_last_piece(pieces: &[Vec<u8>]) -> usize
-    ensures { result ≡ on_last_page (pages_of pieces.now) }
-{
-    let count = pieces.len();
-    if count == 0 {
+    if used == 0 {
         return 0;
     }
-    pieces[count - 1].len()
+    let page = &pages[used - 1];
+    page.len()
 }
 
-/// Cuts the pieces back to a mark. A piece is never written on after it was placed, so a mark of the same region
-/// leaves the last one whole.
-fn cut_back(pieces: &mut Vec<Vec<u8>>, mark: Mark)
-    ensures { pages_of pieces.new.items ≡ cut mark (pages_of pieces.old.items) }
+/// Empties a page.
+fn empty(pages: &mut Vec<Page>, at: usize)
+    requires { at < length pages.old.items }
+    ensures pages { take (at + 1) pages.new.items ≡ take at pages.old.items ++ [] ∷ [] }
+    ensures count { length pages.new.items ≡ length pages.old.items }
 {
-    if pieces.len() < mark.pages {
+    let page = &mut pages[at];
+    page.cut(0);
+}
+
+/// Writes at the end of the last of the pages in use; from which byte on.
+fn write_last(pages: &mut Vec<Page>, used: usize, bytes: &[u8]) -> usize
+    requires used { used ≤ length pages.old.items }
+    requires room { has_room (length bytes.now) (take used pages.old.items) ≡ true }
+    ensures pages { take used pages.new.items ≡ write_on_last bytes.now (take used pages.old.items) }
+    ensures count { length pages.new.items ≡ length pages.old.items }
+    ensures start { result ≡ on_last_page (take used pages.old.items) }
+    ensures most { result ≤ 65536 }
+{
+    let page = &mut pages[used - 1];
+    let start = page.len();
+    page.add(bytes);
+    start
+}
+
+/// Cuts the last of the pages in use.
+fn cut_last(pages: &mut Vec<Page>, used: usize, last: usize)
+    requires { used ≤ length pages.old.items }
+    ensures pages { take used pages.new.items ≡ cut_pages used last pages.old.items }
+    ensures count { length pages.new.items ≡ length pages.old.items }
+{
+    if used == 0 {
         return;
     }
-    pieces.truncate(mark.pages);
-    if mark.pages == 0 {
-        return;
+    let page = &mut pages[used - 1];
+    page.cut(last);
+}
+
+/// Moves the pages not in use into a list, as many as it has room for or finds memory for.
+fn move_free(pages: &mut Vec<Page>, used: usize, free: &mut Vec<Page>)
+    requires used { used ≤ length pages.old.items }
+    requires none { free.old.items ≡ [] }
+    ensures kept { pages.new.items ≡ take used pages.old.items }
+    ensures all { length pages.old.items - used ≤ vec_capacity free.old → length free.new.items ≡ length pages.old.items - used }
+    ensures most { length free.new.items ≤ length pages.old.items - used }
+{
+    'pages: while pages.len() > used {
+        if let Some(page) = pages.pop() {
+            keep(free, page);
+        }
     }
-    pieces[mark.pages - 1].truncate(mark.last);
+}
+
+/// Puts a page into a list, if that has room or finds memory.
+fn keep(pages: &mut Vec<Page>, page: Page)
+    ensures kept { length pages.old.items < vec_capacity pages.old → length pages.new.items ≡ length pages.old.items + 1 }
+    ensures most { length pages.new.items ≤ length pages.old.items + 1 }
+    ensures room { vec_capacity pages.old ≤ vec_capacity pages.new }
+{
+    let _given_up = pages.push(page);
 }

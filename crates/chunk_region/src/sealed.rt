@@ -4,22 +4,22 @@ ghost use Rattle.std.specs.Prelude.{◌≡◌};
 ghost use Rattle.chunk_region.specs.Pages.{IsWritten, Stands};
 
 use crate::Span;
+use crate::page::Page;
 use crate::region::read;
 use std::marker::Model;
 
 /// What a region held when it was sealed, to be read by the same spans.
 #[derive(Debug, Drop)]
 pub struct Sealed {
-    pub(crate) pieces: Vec<Vec<u8>>,
+    pub(crate) pages: Vec<Page>,
 }
 
 impl Model for Sealed {
     ghost use Rattle.std.specs.Prelude.{ℕ, List};
-    ghost use Rattle.chunk_region.specs.Pages.{pages_of};
 
     ghost Value = { List (List ℕ) };
 
-    ghost view = { λ sealed. pages_of sealed.pieces.items };
+    ghost view = { λ sealed. sealed.pages.items };
 }
 
 impl Sealed {
@@ -28,6 +28,6 @@ impl Sealed {
         requires { IsWritten self.now span }
         ensures { Stands self.now span result.now }
     {
-        read(&self.pieces, span)
+        read(&self.pages, span)
     }
 }

@@ -1,6 +1,6 @@
 use Rattle.std.proofs.Common.{◌≡◌, inl, inr, ℕ, Bool, true, false, List, [], ◌∷◌, ◌++◌, length, take, Option, Some, None, is_some, if◌then◌else◌, sym, refl, ap, ◌∙◌, subst}
 use Rattle.std.proofs.lemmas.List.{append-nil, append_assoc, take_at}
-use Rattle.chunk_store.specs.Chunks.{Chunk, bytes_at, Listed, Extends, Agree, AreNamed}
+use Rattle.chunk_store.specs.Chunks.{Chunk, bytes_at, Listed, Lists, Extends, Agree, AreNamed}
 use Rattle.chunk_store.specs.Drafts.{DraftParts, chunks_of, Longer}
 use Rattle.chunk_store.specs.Laws.{ChunksFollow, DraftsFollow}
 use Rattle.chunk_store.proofs.ChunkLemmas.{either, either_some, at_join, left_first, found_listed, listed_is, listed_left, listed_right, single_join, single_agree}
@@ -14,6 +14,11 @@ listed_named a (c ∷ cs) k bytes named (inr later) = listed_named a cs k bytes 
 named_join : (a : List ℕ → List ℕ) (xs ys : List Chunk) → AreNamed a xs → AreNamed a ys → AreNamed a (xs ++ ys)
 named_join a [] ys left right = right
 named_join a (x ∷ xs) ys left right = (left.0, named_join a xs ys left.1 right)
+
+named_fewer : (a : List ℕ → List ℕ) (xs ys : List Chunk) → Lists xs ys → AreNamed a ys → AreNamed a xs
+named_fewer a [] ys lists named = tt
+named_fewer a (x ∷ xs) ys lists named =
+    (listed_named a ys x.0 x.1 named (lists x.0 x.1 (inl (refl, refl))), named_fewer a xs ys (λ k bytes listed. lists k bytes (inr listed)) named)
 
 right_case : (o p : Option (List ℕ)) (bytes : List ℕ) → ((others : List ℕ) → o ≡ Some others → others ≡ bytes) → p ≡ Some bytes → either o p ≡ Some bytes
 right_case None p bytes agrees held = held
@@ -37,6 +42,7 @@ chunks_follow = record {
   is_found = listed_is;
   is_named = λ a cs k bytes named held. listed_named a cs k bytes named (found_listed cs k bytes held);
   named_join = named_join;
+  named_fewer = named_fewer;
   listed_either = λ xs ys. (listed_left xs ys, listed_right xs ys);
   lists_extends = λ xs ys single lists k bytes held. listed_is ys k bytes single (lists k bytes (found_listed xs k bytes held));
   extends_left = left_first;

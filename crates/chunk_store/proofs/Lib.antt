@@ -1,6 +1,9 @@
+pub mod BuildLemmas
 pub mod ChunkLemmas
 pub mod ClashLemmas
 pub mod DraftLemmas
+pub mod FewLemmas
 pub mod FollowLemmas
 pub mod GrowthLemmas
+pub mod JoinLemmas
 pub mod PlacingLemmas

@@ -5,6 +5,7 @@ use Rattle.chunk_store.specs.declared.faults.PutFault.{PutFault}
 use Rattle.chunk_store.specs.Chunks.{Chunk, bytes_at, Listed, Lists, IsSingle, Extends, Agree, AreNamed}
 use Rattle.chunk_store.specs.Drafts.{Drafting, DraftParts, Grows, IsNamed, IsSound, Longer, Puts, chunks_of, cut_to, put_in}
 use Rattle.chunk_store.specs.Kinds.{is_either}
+use Rattle.chunk_store.specs.Stores.{IsSealed, IsUnion, StaysFew, joined}
 
 -- what is found and what is listed, in lists and in joined lists
 pub record ChunksFollow : Type 0 where
@@ -12,6 +13,7 @@ pub record ChunksFollow : Type 0 where
   pub is_found : (cs : List Chunk) (k bytes : List ℕ) → IsSingle cs → Listed cs k bytes → bytes_at cs k ≡ Some bytes
   pub is_named : (a : List ℕ → List ℕ) (cs : List Chunk) (k bytes : List ℕ) → AreNamed a cs → bytes_at cs k ≡ Some bytes → a bytes ≡ k
   pub named_join : (a : List ℕ → List ℕ) (xs ys : List Chunk) → AreNamed a xs → AreNamed a ys → AreNamed a (xs ++ ys)
+  pub named_fewer : (a : List ℕ → List ℕ) (xs ys : List Chunk) → Lists xs ys → AreNamed a ys → AreNamed a xs
   pub listed_either : (xs ys : List Chunk) → Lists xs (xs ++ ys) × Lists ys (xs ++ ys)
   pub lists_extends : (xs ys : List Chunk) → IsSingle ys → Lists xs ys → Extends (bytes_at xs) (bytes_at ys)
   pub extends_left : (xs ys : List Chunk) → Extends (bytes_at xs) (bytes_at (xs ++ ys))
@@ -41,3 +43,9 @@ pub record DraftsGrow : Type 0 where
   pub is_longer : (kind : List ℕ → Bool) (d e : Drafting) → Grows kind d e → Longer d.chunks e.chunks
   pub by_put : (kind : List ℕ → Bool) (a : List ℕ → List ℕ) (bytes : List ℕ) (d e : Drafting) (result : Result Address PutFault) → kind bytes ≡ true
       → Puts a bytes d e result → Grows kind d e
+
+-- few segments stay where sealed ones are appended, and what is joined or sealed lists nothing new
+pub record SegmentsFollow : Type 0 where
+  pub few : StaysFew
+  pub union_lists : (xs ys zs : List Chunk) → IsUnion xs ys zs → Lists zs (xs ++ ys)
+  pub sealed_lists : (segments : List (List Chunk)) (own sealed : List Chunk) → IsSealed segments own sealed → Lists sealed (joined segments ++ own)

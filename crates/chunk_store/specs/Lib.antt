@@ -1,3 +1,4 @@
+pub mod Building
 pub mod Chunks
 pub mod Clashes
 pub mod Digests

@@ -52,9 +52,10 @@ InOrder (c ∷ cs) = AllByRecursion (λ later. IsBefore later.before c.span) cs 
 abbrev pub AllFit : List Chunk → Type 0
 AllFit chunks = AllByRecursion (λ c. length c.1 ≤ 65536) chunks
 
--- chunks that are sealed: each is on the pages, and one address has one byte string
-pub record AreSealed (pages : Pages) (placed : List Placed) : Type 0 where
+-- chunks that lie on pages: each is there and no longer than a page, and one address has one byte string
+pub record ArePlaced (pages : Pages) (placed : List Placed) : Type 0 where
   pub all_written : AllWritten pages placed
+  pub fit : AllFit (chunks_in pages placed)
   pub single : IsSingle (chunks_in pages placed)
 
 -- chunks over a store: each is on the pages, in order, under its address and no longer than a page, and one address has one byte string,

@@ -1,6 +1,7 @@
--- Stores: the chunks of several segments, one segment after another.
-use Rattle.std.specs.Prelude.{ℕ, List, [], ◌∷◌, ◌++◌}
-use Rattle.chunk_store.specs.Chunks.{Chunk}
+-- Stores: the chunks of several segments, one segment after another; and how segments are joined and dropped.
+use Rattle.std.specs.Prelude.{◌≡◌, ◌⊎◌, ℕ, ◌+◌, ◌*◌, ◌^◌, ◌-◌, ◌<◌, ◌≤◌, nat_lt, Bool, true, false, ◌&&◌, List, [], ◌∷◌, ◌++◌, length, if◌then◌else◌, is_some}
+use Rattle.std.specs.List.{AllByRecursion, list_all}
+use Rattle.chunk_store.specs.Chunks.{Chunk, Listed, Lists, bytes_at}
 
 -- what a store has: its segments, each the list of its chunks, and for how many segments more it has room
 pub record Stored : Type 0 where
@@ -15,3 +16,48 @@ joined (segment ∷ segments) = segment ++ joined segments
 -- all chunks of a store
 abbrev pub all_chunks : Stored → List Chunk
 all_chunks store = joined store.segments
+
+-- no segment is empty
+abbrev pub AreSome : List (List Chunk) → Type 0
+AreSome segments = AllByRecursion (λ segment. 0 < length segment) segments
+
+-- the one list and the other together list what the third does
+pub record IsUnion (some others both : List Chunk) : Type 0 where
+  pub left : Lists some both
+  pub right : Lists others both
+  pub only : (k bytes : List ℕ) → Listed both k bytes → Listed some k bytes ⊎ Listed others k bytes
+
+-- each address of the first list is one of the second
+abbrev pub is_within : List Chunk → List Chunk → Bool
+is_within segment other = list_all (λ c. is_some (bytes_at other c.0)) segment
+
+abbrev pub has_none : List (List Chunk) → Bool
+has_none [] = true
+has_none (segment ∷ segments) = false
+
+-- the segments without those at the end whose chunks another one has, too
+abbrev pub drop_held : List Chunk → List (List Chunk) → List (List Chunk)
+drop_held other [] = []
+drop_held other (segment ∷ segments) =
+    if has_none (drop_held other segments) && is_within segment other then [] else segment ∷ drop_held other segments
+
+-- the segments of a store after one was appended: it takes the place of those at the end whose chunks it has, unless it is empty
+abbrev pub with_segment : List Chunk → List (List Chunk) → List (List Chunk)
+with_segment [] segments = segments
+with_segment (c ∷ segment) segments = drop_held (c ∷ segment) segments ++ (c ∷ segment) ∷ []
+
+-- the segments from the first one on that has less than twice as many chunks as those after it and so many more
+abbrev pub joins : ℕ → List (List Chunk) → List (List Chunk)
+joins more [] = []
+joins more (segment ∷ segments) =
+    if nat_lt (length segment) (2 * (more + length (joined segments))) then segment ∷ segments else joins more segments
+
+-- what chunks over the segments of a store are sealed to: it has these chunks and those of the segments that are joined to them
+pub record IsSealed (segments : List (List Chunk)) (own sealed : List Chunk) : Type 0 where
+  pub union : IsUnion own (joined (joins (length own) segments)) sealed
+  pub size : length sealed ≤ length own + length (joined (joins (length own) segments))
+
+-- where what was sealed over a store is appended to that store, k segments have 2 ^ (k - 1) chunks or more
+abbrev pub StaysFew : Type 0
+StaysFew = (segments : List (List Chunk)) (own sealed : List Chunk) → AreSome segments → IsSealed segments own sealed → 0 < length (with_segment sealed segments)
+    → 2 ^ (length (with_segment sealed segments) - 1) ≤ length (joined (with_segment sealed segments))

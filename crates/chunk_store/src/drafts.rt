@@ -1,13 +1,15 @@
 //! A draft: chunks of its own over a store.
 
-ghost use Rattle.std.specs.Prelude.{ℕ, List, ◌≡◌, ◌⊎◌, ◌++◌, ◌<◌, ◌≤◌, [], ◌∷◌, if◌then◌else◌, length, option_map, slice_get, take, Some, None, is_some, IfOk, IfErr, OnOk, OnErr};
+ghost use Rattle.std.specs.Prelude.{ℕ, List, ◌≡◌, ◌⊎◌, ◌++◌, ◌<◌, ◌≤◌, [], ◌∷◌, if◌then◌else◌, length, max, option_map, slice_get, take, Some, None, is_some, IfOk, IfErr, OnOk, OnErr};
 ghost use Rattle.std.specs.Arc.{arc_value};
 ghost use Rattle.chunk_region.specs.Pages.{Pages};
 ghost use Rattle.chunk_store.specs.Chunks.{Agree, AreNamed, IsHeld, IsSingle, bytes_at};
 ghost use Rattle.chunk_store.specs.Clashes.{IsCause};
 ghost use Rattle.chunk_store.specs.Drafts.{IsSound, Puts, TakesAtMostOnePage, chunks_of, cut_to, pages_in};
-ghost use Rattle.chunk_store.specs.Stores.{all_chunks};
+ghost use Rattle.chunk_store.specs.Building.{gather};
+ghost use Rattle.chunk_store.specs.Stores.{IsSealed, all_chunks};
 
+use crate::building::Building;
 use crate::faults::{PutFault, is_there};
 use crate::index::{Index, Placed};
 use crate::segments::Segment;
@@ -57,7 +59,7 @@ impl<D: Digester> Draft<D> {
     pub fn new(store: Store, pool: PagePool) -> Draft<D>
         ensures chunks { result.chunks ≡ record { base = all_chunks store; own = [] } }
         ensures segments { result.segments ≡ store.segments }
-        ensures free { result.free ≡ pool }
+        ensures free { result.free ≡ pool.free }
         ensures taken { result.taken ≡ 0 }
     {
         let index = Index::new(store.allocator());
@@ -234,47 +236,74 @@ impl<D: Digester> Draft<D> {
     pub fn restart(&mut self, base: Store)
         ensures chunks { self.new.chunks ≡ record { base = all_chunks base; own = [] } }
         ensures segments { self.new.segments ≡ base.segments }
-        ensures pages { pages_in self.new ≡ pages_in self.old }
+        ensures free { self.new.free ≡ pages_in self.old }
+        ensures taken { self.new.taken ≡ 0 }
     {
-        self.back_to(DraftMark { own: 0 });
+        self.region.clear();
+        self.index.cut(0);
         self.base = base;
+    }
+
+    /// How many pages of the pool are free.
+    pub fn free_pages(&self) -> u32
+        ensures { result ≡ self.now.free }
+    {
+        self.region.free_pages()
+    }
+
+    /// Raises the pool's free pages to `n` where they are fewer, or changes nothing.
+    pub fn refill(&mut self, n: u32) -> Result<(), AllocError>
+        ensures chunks { self.new.chunks ≡ self.old.chunks }
+        ensures segments { self.new.segments ≡ self.old.segments }
+        ensures taken { self.new.taken ≡ self.old.taken }
+        ensures raised { OnOk result (self.new.free ≡ max self.old.free n) }
+        ensures same { OnErr result (self.new ≡ self.old) }
+    {
+        self.region.refill(n)
     }
 
     /// Drops the draft and gives back its pool, with all pages free.
     pub fn release(self) -> PagePool
-        ensures { result ≡ pages_in self }
+        ensures { result.free ≡ pages_in self }
     {
         self.region.release()
     }
 
-    /// Seals the own chunks, to be appended to a store, and gives back the pool with the pages not in use.
+    /// Seals the own chunks, to be appended to a store, and gives back the pool, with all pages free.
+    ///
+    /// The store's last segments are joined to them, from the first one on that has less than twice as many chunks as come
+    /// after it, so that a store to which this is appended has few segments. The segment's bytes lie on pages of its own.
     pub fn seal(self) -> Result<(Arc<Segment>, PagePool), SealFault<D>>
-        ensures own { IfOk result (λ sealed. arc_value sealed.0 ≡ self.chunks.own) }
-        ensures pool { IfOk result (λ sealed. sealed.1 ≡ self.free) }
+        ensures sealed { IfOk result (λ sealed. IsSealed self.segments self.chunks.own (arc_value sealed.0)) }
+        ensures pool { IfOk result (λ sealed. sealed.1.free ≡ pages_in self) }
         ensures same { IfErr result (λ fault. fault ≡ SealFault.Memory self) }
     {
-        let alloc = self.index.allocator();
-        let Ok(empty) = Segment::empty(alloc) else {
-            return Err(SealFault::Memory(self));
-        };
-        let Ok(mut sealed) = Arc::new(alloc, empty) else {
-            return Err(SealFault::Memory(self));
-        };
-        let Some(place) = Arc::get_mut(&mut sealed) else {
-            return Err(SealFault::Memory(self));
-        };
-        let (segment, pool) = self.into_segment();
-        *place = segment;
-        Ok((sealed, pool))
+        match self.gathered() {
+            Ok(segment) => Ok((segment, self.release())),
+            Err(_) => Err(SealFault::Memory(self)),
+        }
     }
 
-    /// The own chunks as a segment, and the pages not in use.
-    fn into_segment(self) -> (Segment, PagePool)
-        ensures own { result.0 ≡ self.chunks.own }
-        ensures pool { result.1 ≡ self.free }
+    /// The own chunks, and those of the segments that are joined to them.
+    fn gathered(&self) -> Result<Arc<Segment>, AllocError>
+        ensures { IfOk result (λ sealed. IsSealed self.now.segments self.now.chunks.own (arc_value sealed)) }
     {
-        let Draft { index, region, .. } = self;
-        let (sealed, pool) = region.seal();
-        (Segment { index, sealed }, pool)
+        let alloc = self.index.allocator();
+        let mut building = Building::new(alloc)?;
+        self.gather_own(&mut building)?;
+        let from = self.base.joined_from(self.index.len());
+        self.base.gather_from(from, &mut building)?;
+        Ok(Arc::new(alloc, building.seal())?)
+    }
+
+    /// Adds the own chunks to a segment that is put together.
+    fn gather_own(&self, building: &mut Building) -> Result<(), AllocError>
+        ensures { OnOk result (building.new ≡ gather building.old self.now.chunks.own) }
+    {
+        for at in 0..self.own_count() {
+            let (address, bytes) = self.own_chunk(at);
+            building.add(address, bytes)?;
+        }
+        Ok(())
     }
 }

@@ -1,6 +1,6 @@
 //! Laws about chunks and drafts, for the crates above.
 
-ghost use Rattle.chunk_store.specs.Laws.{ChunksFollow, DraftsFollow, DraftsGrow};
+ghost use Rattle.chunk_store.specs.Laws.{ChunksFollow, DraftsFollow, DraftsGrow, SegmentsFollow};
 
 /// What follows for lists of chunks: call it where a proof needs one of these facts. It does nothing.
 pub fn law_of_chunks()
@@ -15,4 +15,10 @@ pub fn law_of_drafts()
 /// How drafts grow by chunks of one kind: call it where a proof needs one of these facts. It does nothing.
 pub fn law_of_growth()
     ensures { DraftsGrow }
+{}
+
+/// How many segments a store has, and what is listed in them: call it where a proof needs one of these facts. It does
+/// nothing.
+pub fn law_of_segments()
+    ensures { SegmentsFollow }
 {}

@@ -4,6 +4,8 @@
 //! list of chunks holds at an address) and `specs/Drafts.antt` (what a draft holds, and what putting bytes adds).
 #![tactic(auto)]
 
+mod building;
+mod crossing;
 mod digests;
 mod drafts;
 mod faults;
@@ -12,10 +14,11 @@ mod laws;
 mod segments;
 mod stores;
 
+pub use crossing::law_of_crossing;
 pub use digests::Sha512Cut;
 pub use drafts::{Draft, DraftMark, SealFault};
 pub use faults::{Clash, PutFault};
-pub use laws::{law_of_chunks, law_of_drafts, law_of_growth};
+pub use laws::{law_of_chunks, law_of_drafts, law_of_growth, law_of_segments};
 pub use segments::Segment;
 pub use stores::Store;
 
@@ -99,19 +102,34 @@ mod tests {
         let Ok((segment, pool)) = copy.seal() else {
             panic!(rt; "no memory for a segment");
         };
-        assert_eq!(rt; pool.free_pages(), 0);
+        assert_eq!(rt; pool.free_pages(), 1);
         let mut store = Store::new(rt.alloc());
         store.reserve(1).expect(&rt, "memory for a segment");
         store.append(segment).expect(&rt, "no collision");
         let shared = store.share().expect(&rt, "memory for a store");
-        let found = store.get(&address).expect(&rt, "the chunk");
-        assert_eq!(rt; found, b"kept".as_slice());
         let found = shared.get(&address).expect(&rt, "the chunk");
         assert_eq!(rt; found, b"kept".as_slice());
         draft.restart(shared);
+        assert_eq!(rt; draft.free_pages(), 1);
+        draft.refill(4).expect(&rt, "memory for pages");
+        assert_eq!(rt; draft.free_pages(), 4);
         let found = draft.get(&address).expect(&rt, "the chunk");
         assert_eq!(rt; found, b"kept".as_slice());
-        law_of_chunks();
-        law_of_drafts();
+    }
+
+    #[test]
+    fn small_segments_are_joined(rt: HostRuntime) {
+        let mut store = Store::new(rt.alloc());
+        for text in ["a", "b", "c", "d", "e", "f"] {
+            let pool = PagePool::with_pages(rt.alloc(), 0).expect(&rt, "memory for a pool");
+            let shared = store.share().expect(&rt, "memory for a store");
+            let mut draft: Draft<Sha512Cut> = Draft::new(shared, pool);
+            let _address = draft.put(text.as_bytes()).expect(&rt, "memory for a chunk");
+            let Ok((segment, _pool)) = draft.seal() else {
+                panic!(rt; "no memory for a segment");
+            };
+            store.append(segment).expect(&rt, "no collision");
+        }
+        assert_eq!(rt; store.segments(), 2);
     }
 }

@@ -1,11 +1,11 @@
 //! A segment: chunks that were sealed together.
 
-ghost use Rattle.std.specs.Prelude.{◌≡◌, ◌<◌, [], length, option_map, slice_get, Some, IfOk};
+ghost use Rattle.std.specs.Prelude.{◌≡◌, ◌<◌, ◌≤◌, length, option_map, slice_get, Some, is_some};
 ghost use Rattle.chunk_store.specs.Chunks.{IsSingle, bytes_at};
+ghost use Rattle.chunk_store.specs.Stores.{is_within};
 
 use crate::index::Index;
-use chunk_region::{PagePool, Region, Sealed};
-use std::alloc::{AllocError, Global};
+use chunk_region::Sealed;
 use std::marker::Model;
 use tuple_codec::Address;
 
@@ -19,28 +19,16 @@ pub struct Segment {
 impl Model for Segment {
     ghost use Rattle.std.specs.Prelude.{List};
     ghost use Rattle.chunk_store.specs.Chunks.{Chunk};
-    ghost use Rattle.chunk_store.specs.Placing.{AreSealed, chunks_in};
+    ghost use Rattle.chunk_store.specs.Placing.{ArePlaced, chunks_in};
 
     ghost Value = { List Chunk };
 
     ghost view = { λ s. chunks_in s.sealed s.index.placed };
 
-    ghost invariant = { λ s. AreSealed s.sealed s.index.placed };
+    ghost invariant = { λ s. ArePlaced s.sealed s.index.placed };
 }
 
 impl Segment {
-    /// A segment without a chunk.
-    pub(crate) fn empty(alloc: Global) -> Result<Segment, AllocError>
-        ensures { IfOk result (λ segment. segment ≡ []) }
-    {
-        let pool = PagePool::with_pages(alloc, 0)?;
-        let (sealed, _pool) = Region::new(pool).seal();
-        Ok(Segment {
-            index: Index::new(alloc),
-            sealed,
-        })
-    }
-
     /// How many chunks it has.
     pub(crate) fn len(&self) -> usize
         ensures count { result ≡ length self.now }
@@ -55,6 +43,7 @@ impl Segment {
         requires { at < length self.now }
         ensures chunk { slice_get self.now at ≡ Some (result.0.0, result.1.now) }
         ensures found { bytes_at self.now result.0.0 ≡ Some result.1.now }
+        ensures size { length result.1.now ≤ 65536 }
     {
         let placed = self.index.at(at);
         (placed.address, self.sealed.bytes(placed.span))
@@ -68,5 +57,28 @@ impl Segment {
             Some(span) => Some(self.sealed.bytes(span)),
             None => None,
         }
+    }
+
+    /// Whether a chunk stands at an address.
+    fn has(&self, address: &Address) -> bool
+        ensures { result ≡ is_some (bytes_at self.now address.now.0) }
+    {
+        match self.get(address) {
+            Some(_) => true,
+            None => false,
+        }
+    }
+
+    /// Whether each of its addresses is one of another segment, too.
+    pub(crate) fn is_within(&self, other: &Segment) -> bool
+        ensures { result ≡ is_within self.now other.now }
+    {
+        for at in 0..self.len() {
+            let (address, _bytes) = self.chunk(at);
+            if !other.has(&address) {
+                return false;
+            }
+        }
+        true
     }
 }

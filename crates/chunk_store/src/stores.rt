@@ -1,12 +1,14 @@
 //! A store: segments, shared with those who look at it.
 
-ghost use Rattle.std.specs.Prelude.{◌≡◌, ◌+◌, ◌<◌, ◌≤◌, [], ◌∷◌, ◌++◌, vec_len, option_map, IfOk, IfErr, OnOk, OnErr, IsErrOf};
+ghost use Rattle.std.specs.Prelude.{ℕ, ◌≡◌, ◌+◌, ◌*◌, ◌<◌, nat_lt, if◌then◌else◌, ◌≤◌, [], ◌∷◌, ◌++◌, length, min, take, drop, vec_len, option_map, IfOk, IfErr, OnOk, OnErr, IsErrOf};
 ghost use Rattle.std.specs.Arc.{arc_value};
 ghost use Rattle.std.specs.Vec.{vec_capacity};
 ghost use Rattle.chunk_store.specs.Chunks.{Agree, IsSingle, bytes_at};
 ghost use Rattle.chunk_store.specs.Clashes.{Differ, IsCause};
-ghost use Rattle.chunk_store.specs.Stores.{all_chunks};
+ghost use Rattle.chunk_store.specs.Building.{gather};
+ghost use Rattle.chunk_store.specs.Stores.{AreSome, IsUnion, all_chunks, drop_held, joined, joins, with_segment};
 
+use crate::building::Building;
 use crate::faults::{PutFault, is_there};
 use crate::segments::Segment;
 use std::alloc::{AllocError, Global};
@@ -26,13 +28,13 @@ impl Model for Store {
     ghost use Rattle.std.specs.Vec.{vec_capacity};
     ghost use Rattle.std.specs.Arc.{arc_value};
     ghost use Rattle.chunk_store.specs.Chunks.{IsSingle};
-    ghost use Rattle.chunk_store.specs.Stores.{Stored, joined};
+    ghost use Rattle.chunk_store.specs.Stores.{AreSome, Stored, joined};
 
     ghost Value = { Stored };
 
     ghost view = { λ s. record { segments = map arc_value s.segments.items; room = vec_capacity s.segments - vec_len s.segments } };
 
-    ghost invariant = { λ s. IsSingle (joined (map arc_value s.segments.items)) };
+    ghost invariant = { λ s. IsSingle (joined (map arc_value s.segments.items)) × AreSome (map arc_value s.segments.items) };
 }
 
 impl Store {
@@ -49,9 +51,11 @@ impl Store {
         *self.segments.allocator()
     }
 
-    /// What every store has, for proofs: chunks of one address have the same bytes. It does nothing.
+    /// What every store has, for proofs: chunks of one address have the same bytes, and no segment is empty. It does
+    /// nothing.
     pub fn tell(&self)
-        ensures { IsSingle (all_chunks self.now) }
+        ensures single { IsSingle (all_chunks self.now) }
+        ensures some { AreSome self.now.segments }
     {
         let _segments = &self.segments;
     }
@@ -89,11 +93,21 @@ impl Store {
         None
     }
 
+    /// How many segments there are, or 2^32 - 1 where there are more.
+    pub fn segments(&self) -> u32
+        ensures { result ≡ min (length self.now.segments) 4294967295 }
+    {
+        u32::try_from(self.segments.len()).unwrap_or(u32::MAX)
+    }
+
     /// Adds a segment's chunks. A collision shows the bytes held here first.
     ///
-    /// In room that was reserved it takes no memory but to hold a collision.
+    /// Segments at the end whose chunks the new one has are dropped, and an empty one isn't added: so a store to which
+    /// each segment was appended that a draft over it was sealed to has few segments. In room that was reserved it takes
+    /// no memory but to hold a collision.
     pub fn append(&mut self, segment: Arc<Segment>) -> Result<(), PutFault>
-        ensures joined { OnOk result (all_chunks self.new ≡ all_chunks self.old ++ arc_value segment) }
+        ensures segments { OnOk result (self.new.segments ≡ with_segment (arc_value segment) self.old.segments) }
+        ensures union { OnOk result (IsUnion (all_chunks self.old) (arc_value segment) (all_chunks self.new)) }
         ensures agree { OnOk result (Agree (bytes_at (all_chunks self.old)) (bytes_at (arc_value segment))) }
         ensures room { self.old.room ≤ self.new.room + 1 }
         ensures cause { IfErr result (IsCause (bytes_at (all_chunks self.old)) (bytes_at (arc_value segment))) }
@@ -102,7 +116,57 @@ impl Store {
         ensures kept { OnErr result (self.old.room ≤ self.new.room) }
     {
         self.allows(&segment)?;
-        push_segment(&mut self.segments, segment)?;
+        if segment.len() == 0 {
+            return Ok(());
+        }
+        let from = self.kept(&segment);
+        replace_from(&mut self.segments, from, segment)?;
+        Ok(())
+    }
+
+    /// How many segments stay where those at the end are dropped whose chunks another one has.
+    fn kept(&self, other: &Segment) -> usize
+        ensures kept { take result self.now.segments ≡ drop_held other.now self.now.segments }
+        ensures most { result ≤ length self.now.segments }
+    {
+        let mut kept = self.segments.len();
+        'segments: while kept > 0 {
+            let segment = &self.segments[kept - 1];
+            if !segment.is_within(other) {
+                return kept;
+            }
+            kept -= 1;
+        }
+        kept
+    }
+
+    /// The segments that are joined to so many new chunks: from which one on.
+    pub(crate) fn joined_from(&self, more: usize) -> usize
+        ensures from { drop result self.now.segments ≡ joins more self.now.segments }
+        ensures most { result ≤ length self.now.segments }
+    {
+        let mut from = self.segments.len();
+        let mut at = self.segments.len();
+        let mut after = more;
+        'segments: while at > 0 {
+            at -= 1;
+            let segment = &self.segments[at];
+            let size = segment.len();
+            from = earlier(is_few(size, after), at, from);
+            after = after.saturating_add(size);
+        }
+        from
+    }
+
+    /// Adds the chunks of the segments from one on to a segment that is put together.
+    pub(crate) fn gather_from(&self, from: usize, building: &mut Building) -> Result<(), AllocError>
+        requires { from ≤ length self.now.segments }
+        ensures { OnOk result (building.new ≡ gather building.old (joined (drop from self.now.segments))) }
+    {
+        for at in from..self.segments.len() {
+            let segment = &self.segments[at];
+            building.add_all(segment)?;
+        }
         Ok(())
     }
 
@@ -121,13 +185,33 @@ impl Store {
     }
 }
 
-/// Adds a segment at the end, or changes nothing.
-fn push_segment(segments: &mut Vec<Arc<Segment>>, segment: Arc<Segment>) -> Result<(), AllocError>
-    ensures ok { OnOk result (segments.new.items ≡ segments.old.items ++ segment ∷ []) }
+/// Whether a segment has less than twice as many chunks as come after it, the number of which is cut off at 2^64 - 1.
+fn is_few(size: usize, after: usize) -> bool
+    ensures { (whole : ℕ) → after ≡ min whole 18446744073709551615 → result ≡ nat_lt size (2 * whole) }
+{
+    size / 2 < after
+}
+
+fn earlier(is_joined: bool, at: usize, from: usize) -> usize
+    ensures { result ≡ (if is_joined then at else from) }
+{
+    if is_joined { at } else { from }
+}
+
+/// Puts a segment in place of those from one on, or changes nothing.
+fn replace_from(
+    segments: &mut Vec<Arc<Segment>>,
+    kept: usize,
+    segment: Arc<Segment>,
+) -> Result<(), AllocError>
+    requires { kept ≤ length segments.old.items }
+    ensures ok { OnOk result (segments.new.items ≡ take kept segments.old.items ++ segment ∷ []) }
     ensures err { OnErr result (segments.new.items ≡ segments.old.items) }
     ensures full { OnErr result (vec_capacity segments.old ≤ vec_len segments.old) }
     ensures capacity { vec_capacity segments.old ≤ vec_capacity segments.new }
 {
-    segments.push(segment)?;
+    segments.reserve(1)?;
+    segments.truncate(kept);
+    segments.push_reserved(segment);
     Ok(())
 }

@@ -1,7 +1,8 @@
-use Rattle.std.proofs.Common.{◌≡◌, subst, List, Some, slice_get}
+use Rattle.std.proofs.Common.{◌≡◌, ◌≤◌, length, subst, List, Some, slice_get}
 use Rattle.chunk_region.specs.Pages.{IsWritten}
 use Rattle.chunk_store.specs.declared.index.Placed.{Placed}
 use Rattle.chunk_store.specs.Chunks.{Chunk, bytes_at}
+use Rattle.chunk_store.specs.Placing.{chunks_in}
 use Rattle.chunk_store.proofs.PlacingLemmas.{all_get, chunk_get, chunk_found}
 use Rattle.chunk_store.proofs.segments.Segment.chunk.Goals as goal
 
@@ -18,3 +19,8 @@ pub returns-clause-found : goal.returns-clause-found
 returns-clause-found c =
     let P : List Chunk → Type 0 = λ l. bytes_at l c.at-placed.result.address.0 ≡ Some c.bytes.result.now in
     subst P c.self.view_is (chunk_found c.self.inside.sealed c.self.inside.index.placed c.args.at c.at-placed.result c.bytes.result.now c.self.invariant.single c.at-placed.ensures.at c.bytes.ensures)
+
+pub returns-clause-size : goal.returns-clause-size
+returns-clause-size c =
+    all_get (λ (x : Chunk). length x.1 ≤ 65536) (chunks_in c.self.inside.sealed c.self.inside.index.placed) c.args.at (c.at-placed.result.address.0, c.bytes.result.now)
+    c.self.invariant.fit (chunk_get c.self.inside.sealed c.self.inside.index.placed c.args.at c.at-placed.result c.bytes.result.now c.at-placed.ensures.at c.bytes.ensures)

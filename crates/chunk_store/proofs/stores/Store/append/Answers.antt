@@ -1,27 +1,48 @@
-use Rattle.std.proofs.Common.{◌∷◌, [], ◌++◌, map, subst, sym, ap, ◌∙◌, List}
+use Rattle.std.proofs.Common.{◌≡◌, ℕ, ◌∷◌, [], ◌++◌, List, length, map, take, subst, sym, ap, ◌∙◌}
 use Rattle.std.specs.Arc.{arc_value}
-use Rattle.std.proofs.lemmas.List.{map-append}
-use Rattle.chunk_store.specs.Chunks.{Chunk, Agree, IsSingle, bytes_at}
-use Rattle.chunk_store.specs.Stores.{Stored, all_chunks, joined}
-use Rattle.chunk_store.proofs.ChunkLemmas.{joined_push, single_join}
+use Rattle.std.proofs.lemmas.List.{map-append, take-map}
+use Rattle.chunk_store.specs.Chunks.{Agree, Chunk, IsSingle, bytes_at}
+use Rattle.chunk_store.specs.Stores.{AreSome, IsUnion, Stored, all_chunks, drop_held, joined, with_segment}
+use Rattle.chunk_store.proofs.JoinLemmas.{with_are_some, with_single, with_some, with_union}
 use Rattle.chunk_store.proofs.stores.Store.append.Goals as goal
+
+-- the segments up to a place and a new one, seen as lists
+replaced : {X : Type 0} (items new : List X) (x : X) (view : X → List Chunk) (segments : List (List Chunk)) (n : ℕ) → new ≡ take n items ++ x ∷ []
+    → map view items ≡ segments → map view new ≡ take n segments ++ view x ∷ []
+replaced items new x view segments n is seen =
+    ap (map view) is ∙ map-append view (take n items) (x ∷ []) ∙ ap (λ (l : List (List Chunk)). l ++ view x ∷ []) (sym (take-map view n items) ∙ ap (take n) seen)
+
+pub returns-clause-segments : goal.returns-clause-segments
+returns-clause-segments c =
+    let segment = arc_value c.args.segment in
+    let segments = c.args.self.now.segments in
+    let P : List Chunk → Type 0 = λ l. length l ≡ 0 → ⊥ in
+    let some : length segment ≡ 0 → ⊥ = λ none. c.if-len-eq0.false (c.len.ensures.count ∙ ap length c.deref-2.ensures ∙ none) in
+    replaced c.self.inside.segments.items c.replace_from.new.segments.items c.args.segment arc_value segments c.kept-from.result c.in_ok-replace_from.ensures.ok
+    (ap (λ (s : Stored). s.segments) c.self.view_is)
+    ∙ ap (λ (l : List (List Chunk)). l ++ segment ∷ []) (c.kept-from.ensures.kept ∙ ap (λ (l : List Chunk). drop_held l segments) c.deref-3.ensures)
+    ∙ sym (with_some segment segments some)
 
 pub invariant_of-self-2 : goal.invariant_of-self-2
 invariant_of-self-2 c =
-    let before = joined (map arc_value c.self.inside.segments.items) in
     let segment = arc_value c.args.segment in
-    let pushed = ap (λ l. joined (map arc_value l)) c.in_ok-push_segment.ensures.ok
-    ∙ ap joined (map-append arc_value c.self.inside.segments.items (c.args.segment ∷ []))
-    ∙ joined_push (map arc_value c.self.inside.segments.items) segment in
-    let P : List Chunk → Type 0 = λ l. Agree (bytes_at l) (bytes_at c.deref.result.now) in
-    let Q : List Chunk → Type 0 = λ l. Agree (bytes_at before) (bytes_at l) in
-    let agree = subst Q c.deref.ensures (subst P (sym (ap all_chunks c.self.view_is)) c.in_ok-allows.ensures.agree) in
-    subst IsSingle (sym pushed) (single_join before segment c.self.invariant (subst IsSingle c.deref.ensures c.allows.ensures.single) agree)
+    let before = map arc_value c.self.inside.segments.items in
+    let seen : before ≡ c.args.self.now.segments = ap (λ (s : Stored). s.segments) c.self.view_is in
+    let P : List (List Chunk) → Type 0 = λ l. IsSingle (joined l) × AreSome l in
+    let Q : List (List Chunk) → Type 0 = λ l. Agree (bytes_at (joined l)) (bytes_at segment) in
+    let R : List Chunk → Type 0 = λ l. Agree (bytes_at (all_chunks c.args.self.now)) (bytes_at l) in
+    let agree = subst Q (sym seen) (subst R c.deref.ensures c.in_ok-allows.ensures.agree) in
+    let one = subst IsSingle c.deref.ensures c.allows.ensures.single in
+    subst P (sym (returns-clause-segments c ∙ ap (with_segment segment) (sym seen)))
+    (with_single segment before c.self.invariant.0 one agree, with_are_some segment before c.self.invariant.1)
 
-pub returns-clause-joined : goal.returns-clause-joined
-returns-clause-joined c =
+pub returns-clause-union : goal.returns-clause-union
+returns-clause-union c =
     let segment = arc_value c.args.segment in
-    ap (λ l. joined (map arc_value l)) c.in_ok-push_segment.ensures.ok
-    ∙ ap joined (map-append arc_value c.self.inside.segments.items (c.args.segment ∷ []))
-    ∙ joined_push (map arc_value c.self.inside.segments.items) segment
-    ∙ ap (λ (s : Stored). all_chunks s ++ segment) c.self.view_is
+    let segments = c.args.self.now.segments in
+    let seen = ap (λ (s : Stored). s.segments) c.self.view_is in
+    let P : List (List Chunk) → Type 0 = λ l. IsUnion (joined segments) segment (joined l) in
+    let Q : List (List Chunk) → Type 0 = λ l. IsSingle (joined l) in
+    let R : List Chunk → Type 0 = λ l. Agree (bytes_at (all_chunks c.args.self.now)) (bytes_at l) in
+    subst P (sym (returns-clause-segments c))
+    (with_union segment segments (subst Q seen c.self.invariant.0) (subst R c.deref.ensures c.in_ok-allows.ensures.agree))

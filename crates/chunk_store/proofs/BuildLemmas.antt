@@ -1,0 +1,111 @@
+-- Chunks gathered into a segment.
+use Rattle.std.proofs.Common.{◌≡◌, ◌⊎◌, inl, inr, ℕ, ◌+◌, ◌≤◌, Bool, true, false, cond, List, [], ◌∷◌, ◌++◌, length, drop, Option, Some, None, is_some, sym, refl, ap, ◌∙◌, subst, slice_get, arith}
+use Rattle.std.proofs.lemmas.List.{append-nil, drop_more, length-append}
+use Rattle.std.proofs.lemmas.Option.{slice_get_within, get_or_from_slice_get}
+use Rattle.chunk_region.specs.Pages.{Pages, Stands, IsWritten, Keeps}
+use Rattle.chunk_region.proofs.PageLemmas.{is_written}
+use Rattle.chunk_store.specs.declared.index.Placed.{Placed}
+use Rattle.chunk_store.specs.Building.{gather, with_chunk}
+use Rattle.chunk_store.specs.Chunks.{Chunk, bytes_at, Listed, IsSingle}
+use Rattle.chunk_store.specs.Placing.{AllFit, ArePlaced, chunks_in, span_at, written}
+use Rattle.chunk_store.proofs.ChunkLemmas.{found_listed, listed_either, listed_left, listed_right, single_fewer, single_left, single_push}
+use Rattle.chunk_store.proofs.PlacingLemmas.{absent_span, all_push, all_stay, chunks_push, found_at, kept_written}
+use Rattle.std.specs.Option.{option_map}
+
+-- one more chunk was placed
+pub placed_push : (old new : Pages) (cs : List Placed) (c : Placed) (bytes : List ℕ) → ArePlaced old cs → Keeps old new → Stands new c.span bytes → length bytes ≤ 65536
+    → span_at cs c.address.0 ≡ None → ArePlaced new (cs ++ c ∷ [])
+placed_push old new cs c bytes placed keeps held fits absent =
+    let stay = all_stay old new cs keeps in
+    let pushed = chunks_push old new cs c bytes placed.all_written stay held in
+    let none : bytes_at (chunks_in old cs) c.address.0 ≡ None = found_at old cs c.address.0 ∙ ap (option_map (written old)) absent in
+    record {
+      all_written = all_push (λ x. IsWritten new x.span) cs c (kept_written old new cs placed.all_written stay) (is_written new c.span bytes held);
+      fit = subst AllFit (sym pushed) (all_push (λ x. length x.1 ≤ 65536) (chunks_in old cs) (c.address.0, bytes) placed.fit fits);
+      single = subst IsSingle (sym pushed) (single_push [] (chunks_in old cs) c.address.0 bytes placed.single (λ others held. absurd (nothing others held)) none);
+    }
+  where
+    nothing : (others : List ℕ) → ◌≡◌ {A = Option (List ℕ)} None (Some others) → ⊥
+    nothing others is = cc
+
+pub with_there : (cs : List Chunk) (c : Chunk) (x : List ℕ) → bytes_at cs c.0 ≡ Some x → with_chunk cs c ≡ cs
+with_there cs c x held = ap (λ (o : Option (List ℕ)). cond (is_some o) cs (cs ++ c ∷ [])) held
+
+pub with_absent : (cs : List Chunk) (c : Chunk) → bytes_at cs c.0 ≡ None → with_chunk cs c ≡ cs ++ c ∷ []
+with_absent cs c none = ap (λ (o : Option (List ℕ)). cond (is_some o) cs (cs ++ c ∷ [])) none
+
+pub drop_next : {X : Type 0} (xs : List X) (n : ℕ) (x : X) → slice_get xs n ≡ Some x → drop n xs ≡ x ∷ drop (n + 1) xs
+drop_next xs n x is = drop_more xs n x (slice_get_within xs n x is) ∙ ap (λ y. y ∷ drop (n + 1) xs) (get_or_from_slice_get xs n x x is)
+
+pub gather_next : (cs more : List Chunk) (n : ℕ) (c : Chunk) → slice_get more n ≡ Some c → gather (with_chunk cs c) (drop (n + 1) more) ≡ gather cs (drop n more)
+gather_next cs more n c is = sym (ap (gather cs) (drop_next more n c is))
+
+pub gather_join : (cs xs ys : List Chunk) → gather cs (xs ++ ys) ≡ gather (gather cs xs) ys
+gather_join cs [] ys = refl
+gather_join cs (x ∷ xs) ys = gather_join (with_chunk cs x) xs ys
+
+-- ---- what is listed after gathering
+
+case_keeps : (t : Bool) (cs : List Chunk) (c : Chunk) (k bytes : List ℕ) → Listed cs k bytes → Listed (cond t cs (cs ++ c ∷ [])) k bytes
+case_keeps true cs c k bytes listed = listed
+case_keeps false cs c k bytes listed = listed_left cs (c ∷ []) k bytes listed
+
+pub gather_keeps : (cs xs : List Chunk) (k bytes : List ℕ) → Listed cs k bytes → Listed (gather cs xs) k bytes
+gather_keeps cs [] k bytes listed = listed
+gather_keeps cs (x ∷ xs) k bytes listed = gather_keeps (with_chunk cs x) xs k bytes (case_keeps (is_some (bytes_at cs x.0)) cs x k bytes listed)
+
+case_only : (t : Bool) (cs : List Chunk) (c : Chunk) (k bytes : List ℕ) → Listed (cond t cs (cs ++ c ∷ [])) k bytes → Listed (cs ++ c ∷ []) k bytes
+case_only true cs c k bytes listed = listed_left cs (c ∷ []) k bytes listed
+case_only false cs c k bytes listed = listed
+
+with_only : (cs : List Chunk) (c : Chunk) (k bytes : List ℕ) → Listed (with_chunk cs c) k bytes → Listed (cs ++ c ∷ []) k bytes
+with_only cs c k bytes = case_only (is_some (bytes_at cs c.0)) cs c k bytes
+
+pub gather_only : (cs xs : List Chunk) (k bytes : List ℕ) → Listed (gather cs xs) k bytes → Listed cs k bytes ⊎ Listed xs k bytes
+gather_only cs [] k bytes listed = inl listed
+gather_only cs (x ∷ xs) k bytes listed =
+    elim (gather_only (with_chunk cs x) xs k bytes listed) [
+      | inl front ↦ elim (listed_either cs (x ∷ []) k bytes (with_only cs x k bytes front)) [
+        | inl before ↦ inl before
+        | inr here ↦ inr (elim here [ inl is ↦ inl is | inr none ↦ absurd none ])
+      ]
+      | inr later ↦ inr (inr later)
+    ]
+
+has_case : (o : Option (List ℕ)) (cs : List Chunk) (c : Chunk) (k bytes : List ℕ) → bytes_at cs c.0 ≡ o → (c.0 ≡ k) × (c.1 ≡ bytes) → ((y : List ℕ) → Listed cs c.0 y → y ≡ c.1)
+    → Listed (with_chunk cs c) k bytes
+has_case None cs c k bytes none is same = subst (λ l. Listed l k bytes) (sym (with_absent cs c none)) (listed_right cs (c ∷ []) k bytes (inl is))
+has_case (Some y) cs c k bytes held is same =
+    let listed = found_listed cs c.0 y held in
+    let P : List ℕ → Type 0 = λ j. Listed cs j bytes in
+    let Q : List ℕ → Type 0 = λ b. Listed cs c.0 b in
+    subst (λ l. Listed l k bytes) (sym (with_there cs c y held)) (subst P is.0 (subst Q (same y listed ∙ is.1) listed))
+
+-- of chunks that are single none is left out
+pub gather_has : (cs xs : List Chunk) (k bytes : List ℕ) → IsSingle (cs ++ xs) → Listed xs k bytes → Listed (gather cs xs) k bytes
+gather_has cs [] k bytes single none = absurd none
+gather_has cs (x ∷ xs) k bytes single (inl is) =
+    gather_keeps (with_chunk cs x) xs k bytes
+    (has_case (bytes_at cs x.0) cs x k bytes refl is
+    (λ y listed. single x.0 y x.1 (listed_left cs (x ∷ xs) x.0 y listed) (listed_right cs (x ∷ xs) x.0 x.1 (inl (refl, refl)))))
+gather_has cs (x ∷ xs) k bytes single (inr later) =
+    gather_has (with_chunk cs x) xs k bytes
+    (single_fewer (with_chunk cs x ++ xs) (cs ++ x ∷ xs) (λ j b listed.
+    elim (listed_either (with_chunk cs x) xs j b listed) [
+      | inl front ↦ elim (listed_either cs (x ∷ []) j b (with_only cs x j b front)) [
+        | inl before ↦ listed_left cs (x ∷ xs) j b before
+        | inr here ↦ listed_right cs (x ∷ xs) j b (elim here [ inl at ↦ inl at | inr none ↦ absurd none ])
+      ]
+      | inr after ↦ listed_right cs (x ∷ xs) j b (inr after)
+    ]) single) later
+
+case_size : (t : Bool) (cs : List Chunk) (c : Chunk) → length (cond t cs (cs ++ c ∷ [])) ≤ length cs + 1
+case_size true cs c = omega arith
+case_size false cs c = let longer = length-append cs (c ∷ []) in omega arith
+
+pub gather_size : (cs xs : List Chunk) → length (gather cs xs) ≤ length cs + length xs
+gather_size cs [] = omega arith
+gather_size cs (x ∷ xs) =
+    let rest = gather_size (with_chunk cs x) xs in
+    let here : length (with_chunk cs x) ≤ length cs + 1 = case_size (is_some (bytes_at cs x.0)) cs x in
+    omega arith

@@ -1,0 +1,238 @@
+-- Segments that are dropped, joined and appended.
+use Rattle.std.proofs.Common.{◌≡◌, ◌⊎◌, inl, inr, ℕ, zero, suc, ◌+◌, ◌*◌, ◌^◌, ◌-◌, ◌<◌, ◌≤◌, nat_lt, Bool, true, false, ◌&&◌, cond, List, [], ◌∷◌, ◌++◌, length, map, get_or, take, drop, Option, Some, None, is_some, sym, refl, ap, ◌∙◌, subst, slice_get, arith}
+use Rattle.std.specs.List.{AllByRecursion, list_all}
+use Rattle.std.proofs.lemmas.List.{append-nil, length-append}
+use Rattle.std.proofs.lemmas.Bool.{ltb-true}
+use Rattle.chunk_store.specs.Building.{gather}
+use Rattle.chunk_store.specs.Chunks.{Agree, Chunk, bytes_at, IsSingle, Listed, Lists}
+use Rattle.chunk_store.specs.Stores.{AreSome, IsSealed, IsUnion, StaysFew, drop_held, has_none, is_within, joined, joins, with_segment}
+use Rattle.chunk_store.proofs.BuildLemmas.{drop_next, gather_has, gather_join, gather_keeps, gather_only, gather_size}
+use Rattle.chunk_store.proofs.ChunkLemmas.{found_listed, joined_push, listed_either, listed_finds, listed_is, listed_left, listed_right, single_fewer, single_join, take_next}
+
+-- ---- dropping from the end
+
+none_case : (n w : Bool) (xs : List (List Chunk)) (s : List Chunk) → w ≡ false → has_none (cond (n && w) [] (s ∷ xs)) ≡ false
+none_case n true xs s is = cc
+none_case true false xs s is = refl
+none_case false false xs s is = refl
+
+push_same : (n m w : Bool) (D E : List (List Chunk)) (s : List Chunk) → n ≡ m → D ≡ E → cond (n && w) [] (s ∷ D) ≡ cond (m && w) [] (s ∷ E)
+push_same n m w D E s is same = ap (λ (b : Bool). cond (b && w) [] (s ∷ D)) is ∙ ap (λ (l : List (List Chunk)). cond (m && w) [] (s ∷ l)) same
+
+one_held : (w : Bool) (s : List Chunk) → w ≡ true → ◌≡◌ {A = List (List Chunk)} (cond (true && w) [] (s ∷ [])) []
+one_held true s is = refl
+one_held false s is = cc
+
+pub drop_last_held : (other : List Chunk) (xs : List (List Chunk)) (s : List Chunk) → is_within s other ≡ true → drop_held other (xs ++ s ∷ []) ≡ drop_held other xs
+drop_last_held other [] s within = one_held (is_within s other) s within
+drop_last_held other (x ∷ xs) s within =
+    let same = drop_last_held other xs s within in
+    push_same _ _ (is_within x other) (drop_held other (xs ++ s ∷ [])) (drop_held other xs) x (ap has_none same) same
+
+one_kept : (w : Bool) (s : List Chunk) → w ≡ false → ◌≡◌ {A = List (List Chunk)} (cond (true && w) [] (s ∷ [])) (s ∷ [])
+one_kept true s is = cc
+one_kept false s is = refl
+
+more_kept : (w : Bool) (x s : List Chunk) (xs D : List (List Chunk)) → D ≡ xs ++ s ∷ [] → cond (has_none D && w) [] (x ∷ D) ≡ x ∷ (xs ++ s ∷ [])
+more_kept w x s [] D is = ap (λ (l : List (List Chunk)). cond (has_none l && w) [] (x ∷ l)) is
+more_kept w x s (y ∷ xs) D is = ap (λ (l : List (List Chunk)). cond (has_none l && w) [] (x ∷ l)) is
+
+pub drop_last_kept : (other : List Chunk) (xs : List (List Chunk)) (s : List Chunk) → is_within s other ≡ false → drop_held other (xs ++ s ∷ []) ≡ xs ++ s ∷ []
+drop_last_kept other [] s kept = one_kept (is_within s other) s kept
+drop_last_kept other (x ∷ xs) s kept = more_kept (is_within x other) x s xs (drop_held other (xs ++ s ∷ [])) (drop_last_kept other xs s kept)
+
+-- ---- what is listed after dropping
+
+case_fewer : (t : Bool) (s : List Chunk) (D ss : List (List Chunk)) (k bytes : List ℕ) → Listed (joined (cond t [] (s ∷ D))) k bytes → Lists (joined D) (joined ss)
+    → Listed (s ++ joined ss) k bytes
+case_fewer true s D ss k bytes none fewer = absurd none
+case_fewer false s D ss k bytes listed fewer =
+    elim (listed_either s (joined D) k bytes listed) [ inl here ↦ listed_left s (joined ss) k bytes here | inr later ↦ listed_right s (joined ss) k bytes (fewer k bytes later) ]
+
+pub drop_fewer : (other : List Chunk) (segments : List (List Chunk)) → Lists (joined (drop_held other segments)) (joined segments)
+drop_fewer other [] k bytes none = none
+drop_fewer other (s ∷ ss) k bytes listed =
+    case_fewer (has_none (drop_held other ss) && is_within s other) s (drop_held other ss) ss k bytes listed (drop_fewer other ss)
+
+some_case : (o : Option (List ℕ)) → is_some o ≡ true → (y : List ℕ) × (o ≡ Some y)
+some_case None is = absurd (cc)
+some_case (Some y) is = (y, refl)
+
+and_both : (t u : Bool) → t && u ≡ true → (t ≡ true) × (u ≡ true)
+and_both true u is = (refl, is)
+and_both false u is = cc
+
+-- a chunk of a segment that is within another one has an address there
+pub within_finds : (segment other : List Chunk) (k bytes : List ℕ) → is_within segment other ≡ true → Listed segment k bytes → (y : List ℕ) × (bytes_at other k ≡ Some y)
+within_finds [] other k bytes within none = absurd none
+within_finds (c ∷ segment) other k bytes within (inl here) =
+    let found = some_case (bytes_at other c.0) (and_both (is_some (bytes_at other c.0)) (is_within segment other) within).0 in
+    (found.0, ap (bytes_at other) (sym here.0) ∙ found.1)
+within_finds (c ∷ segment) other k bytes within (inr later) =
+    within_finds segment other k bytes (and_both (is_some (bytes_at other c.0)) (is_within segment other) within).1 later
+
+pub within_next : (segment other : List Chunk) (n : ℕ) (c : Chunk) → slice_get segment n ≡ Some c
+    → is_within (drop n segment) other ≡ (is_some (bytes_at other c.0) && is_within (drop (n + 1) segment) other)
+within_next segment other n c is = ap (λ (l : List Chunk). is_within l other) (drop_next segment n c is)
+
+abbrev Left : List Chunk → List (List Chunk) → List ℕ → List ℕ → Type 0
+Left other kept k bytes = Listed (joined kept) k bytes ⊎ ((y : List ℕ) × (bytes_at other k ≡ Some y))
+
+none_listed : (D : List (List Chunk)) (k bytes : List ℕ) → has_none D ≡ true → Listed (joined D) k bytes → ⊥
+none_listed [] k bytes is none = none
+none_listed (s ∷ D) k bytes is _ = cc
+
+left_here : (n w : Bool) (other s : List Chunk) (D : List (List Chunk)) (k bytes : List ℕ) → w ≡ is_within s other → Listed s k bytes
+    → Left other (cond (n && w) [] (s ∷ D)) k bytes
+left_here true true other s D k bytes is here = inr (within_finds s other k bytes (sym is) here)
+left_here true false other s D k bytes is here = inl (listed_left s (joined D) k bytes here)
+left_here false w other s D k bytes is here = inl (listed_left s (joined D) k bytes here)
+
+left_later : (n w : Bool) (other s : List Chunk) (D : List (List Chunk)) (k bytes : List ℕ) → n ≡ has_none D → Left other D k bytes
+    → Left other (cond (n && w) [] (s ∷ D)) k bytes
+left_later n w other s D k bytes is (inr found) = inr found
+left_later true true other s D k bytes is (inl later) = absurd (none_listed D k bytes (sym is) later)
+left_later true false other s D k bytes is (inl later) = inl (listed_right s (joined D) k bytes later)
+left_later false w other s D k bytes is (inl later) = inl (listed_right s (joined D) k bytes later)
+
+pub drop_left : (other : List Chunk) (segments : List (List Chunk)) (k bytes : List ℕ) → Listed (joined segments) k bytes → Left other (drop_held other segments) k bytes
+drop_left other [] k bytes none = absurd none
+drop_left other (s ∷ ss) k bytes listed =
+    elim (listed_either s (joined ss) k bytes listed) [
+      | inl here ↦ left_here (has_none (drop_held other ss)) (is_within s other) other s (drop_held other ss) k bytes refl here
+      | inr later ↦ left_later (has_none (drop_held other ss)) (is_within s other) other s (drop_held other ss) k bytes refl (drop_left other ss k bytes later)
+    ]
+
+case_some : (t : Bool) (s : List Chunk) (D : List (List Chunk)) → 0 < length s → AreSome D → AreSome (cond t [] (s ∷ D))
+case_some true s D some all = tt
+case_some false s D some all = (some, all)
+
+drop_some : (other : List Chunk) (segments : List (List Chunk)) → AreSome segments → AreSome (drop_held other segments)
+drop_some other [] some = tt
+drop_some other (s ∷ ss) some = case_some (has_none (drop_held other ss) && is_within s other) s (drop_held other ss) some.0 (drop_some other ss some.1)
+
+some_push : (xs : List (List Chunk)) (s : List Chunk) → AreSome xs → 0 < length s → AreSome (xs ++ s ∷ [])
+some_push [] s all some = (some, tt)
+some_push (x ∷ xs) s all some = (all.0, some_push xs s all.1 some)
+
+-- ---- a segment more
+
+pub with_none : (segment : List Chunk) (segments : List (List Chunk)) → length segment ≡ 0 → with_segment segment segments ≡ segments
+with_none [] segments none = refl
+with_none (c ∷ segment) segments none = absurd (omega arith)
+
+pub with_some : (segment : List Chunk) (segments : List (List Chunk)) → (length segment ≡ 0 → ⊥) → with_segment segment segments ≡ drop_held segment segments ++ segment ∷ []
+with_some [] segments some = absurd (some refl)
+with_some (c ∷ segment) segments some = refl
+
+pub with_are_some : (segment : List Chunk) (segments : List (List Chunk)) → AreSome segments → AreSome (with_segment segment segments)
+with_are_some [] segments some = some
+with_are_some (c ∷ segment) segments some = some_push (drop_held (c ∷ segment) segments) (c ∷ segment) (drop_some (c ∷ segment) segments some) (omega arith)
+
+pushed_union : (segment : List Chunk) (segments : List (List Chunk)) → IsSingle (joined segments) → Agree (bytes_at (joined segments)) (bytes_at segment)
+    → IsUnion (joined segments) segment (joined (drop_held segment segments ++ segment ∷ []))
+pushed_union segment segments single agree =
+    let both = joined_push (drop_held segment segments) segment in
+    let kept = joined (drop_held segment segments) in
+    record {
+      left = λ k bytes listed. subst (λ l. Listed l k bytes) (sym both) (elim (drop_left segment segments k bytes listed) [
+        | inl stays ↦ listed_left kept segment k bytes stays
+        | inr found ↦ listed_right kept segment k bytes (let P : List ℕ → Type 0 = Listed segment k in
+            subst P (sym (agree k bytes found.0 (listed_is (joined segments) k bytes single listed) found.1)) (found_listed segment k found.0 found.1))
+      ]);
+      right = λ k bytes listed. subst (λ l. Listed l k bytes) (sym both) (listed_right kept segment k bytes listed);
+      only = λ k bytes listed. elim (listed_either kept segment k bytes (subst (λ l. Listed l k bytes) both listed)) [
+        | inl stays ↦ inl (drop_fewer segment segments k bytes stays)
+        | inr new ↦ inr new
+      ];
+    }
+
+pub with_union : (segment : List Chunk) (segments : List (List Chunk)) → IsSingle (joined segments) → Agree (bytes_at (joined segments)) (bytes_at segment)
+    → IsUnion (joined segments) segment (joined (with_segment segment segments))
+with_union [] segments single agree = record { left = λ k bytes listed. listed; right = λ k bytes none. absurd none; only = λ k bytes listed. inl listed }
+with_union (c ∷ segment) segments single agree = pushed_union (c ∷ segment) segments single agree
+
+pub union_single : (xs ys zs : List Chunk) → IsUnion xs ys zs → IsSingle (xs ++ ys) → IsSingle zs
+union_single xs ys zs union single =
+    single_fewer zs (xs ++ ys) (λ k bytes listed.
+    elim (union.only k bytes listed) [ inl x ↦ listed_left xs ys k bytes x | inr y ↦ listed_right xs ys k bytes y ]) single
+
+pub with_single : (segment : List Chunk) (segments : List (List Chunk)) → IsSingle (joined segments) → IsSingle segment → Agree (bytes_at (joined segments)) (bytes_at segment)
+    → IsSingle (joined (with_segment segment segments))
+with_single segment segments single one agree =
+    union_single (joined segments) segment (joined (with_segment segment segments)) (with_union segment segments single agree) (single_join (joined segments) segment single one agree)
+
+-- ---- joining
+
+joins_case : (t : Bool) (s : List Chunk) (ss J : List (List Chunk)) → Lists (joined J) (joined ss) → Lists (joined (cond t (s ∷ ss) J)) (s ++ joined ss)
+joins_case true s ss J fewer k bytes listed = listed
+joins_case false s ss J fewer k bytes listed = listed_right s (joined ss) k bytes (fewer k bytes listed)
+
+pub joins_fewer : (more : ℕ) (segments : List (List Chunk)) → Lists (joined (joins more segments)) (joined segments)
+joins_fewer more [] k bytes none = none
+joins_fewer more (s ∷ ss) k bytes listed =
+    joins_case (nat_lt (length s) (2 * (more + length (joined ss)))) s ss (joins more ss) (joins_fewer more ss) k bytes listed
+
+-- what is gathered of own chunks and of joined segments is what they are sealed to
+pub sealed_is : (segments : List (List Chunk)) (own : List Chunk) → IsSingle (joined segments ++ own)
+    → IsSealed segments own (gather (gather [] own) (joined (joins (length own) segments)))
+sealed_is segments own single =
+    let others = joined (joins (length own) segments) in
+    let mine : IsSingle own = single_fewer own (joined segments ++ own) (listed_right (joined segments) own) single in
+    let apart : IsSingle (gather [] own ++ others) =
+    single_fewer (gather [] own ++ others) (joined segments ++ own) (λ k bytes listed.
+    elim (listed_either (gather [] own) others k bytes listed) [
+      | inl first ↦ elim (gather_only [] own k bytes first) [ inl none ↦ absurd none | inr is ↦ listed_right (joined segments) own k bytes is ]
+      | inr second ↦ listed_left (joined segments) own k bytes (joins_fewer (length own) segments k bytes second)
+    ]) single in
+    let first = gather_size [] own in
+    let second = gather_size (gather [] own) others in
+    record {
+      union = record {
+        left = λ k bytes listed. gather_keeps (gather [] own) others k bytes (gather_has [] own k bytes mine listed);
+        right = λ k bytes listed. gather_has (gather [] own) others k bytes apart listed;
+        only = λ k bytes listed. elim (gather_only (gather [] own) others k bytes listed) [
+          | inl front ↦ elim (gather_only [] own k bytes front) [ inl none ↦ absurd none | inr is ↦ inl is ]
+          | inr later ↦ inr later
+        ];
+      };
+      size = omega arith;
+    }
+
+-- ---- places of segments
+
+pub segment_at : {X : Type 0} (items : List X) (view : X → List Chunk) (segments : List (List Chunk)) (n : ℕ) (x : X) (s : List Chunk) → map view items ≡ segments
+    → n < length items → x ≡ get_or items n x → s ≡ view x → slice_get segments n ≡ Some s
+segment_at [] view segments n x s is within at seen = absurd (omega arith)
+segment_at (y ∷ items) view segments zero x s is within at seen = ap (λ (l : List (List Chunk)). slice_get l 0) (sym is) ∙ ap Some (sym (seen ∙ ap view at))
+segment_at (y ∷ items) view segments (suc n) x s is within at seen =
+    ap (λ (l : List (List Chunk)). slice_get l (suc n)) (sym is) ∙ segment_at items view (map view items) n x s refl (omega arith) at seen
+
+pub segment_next : (segments : List (List Chunk)) (before at : ℕ) (s : List Chunk) → before + 1 ≡ at → slice_get segments before ≡ Some s
+    → drop before segments ≡ s ∷ drop at segments
+segment_next segments before at s next is = drop_next segments before s is ∙ ap (λ n. s ∷ drop n segments) next
+
+earlier_case : (t : Bool) (before from : ℕ) (segments rest J : List (List Chunk)) → drop before segments ≡ rest → drop from segments ≡ J
+    → drop (cond t before from) segments ≡ cond t rest J
+earlier_case true before from segments rest J here later = here
+earlier_case false before from segments rest J here later = later
+
+pub joins_next : (more : ℕ) (segments : List (List Chunk)) (before at from earlier : ℕ) (s : List Chunk) (t : Bool) → drop before segments ≡ s ∷ drop at segments
+    → t ≡ nat_lt (length s) (2 * (more + length (joined (drop at segments)))) → earlier ≡ cond t before from → drop from segments ≡ joins more (drop at segments)
+    → drop earlier segments ≡ joins more (drop before segments)
+joins_next more segments before at from earlier s t next few is held =
+    ap (λ n. drop n segments) is ∙ earlier_case t before from segments (s ∷ drop at segments) (joins more (drop at segments)) next held
+    ∙ ap (λ (b : Bool). cond b (s ∷ drop at segments) (joins more (drop at segments))) few ∙ sym (ap (joins more) next)
+
+pub size_next : (segments : List (List Chunk)) (before at : ℕ) (s : List Chunk) → drop before segments ≡ s ∷ drop at segments
+    → length (joined (drop before segments)) ≡ length s + length (joined (drop at segments))
+size_next segments before at s next = ap (λ (l : List (List Chunk)). length (joined l)) next ∙ length-append s (joined (drop at segments))
+
+pub gather_segment : (chunks : List Chunk) (segments : List (List Chunk)) (at : ℕ) (s : List Chunk) → slice_get segments at ≡ Some s
+    → gather (gather chunks s) (joined (drop (at + 1) segments)) ≡ gather chunks (joined (drop at segments))
+gather_segment chunks segments at s is =
+    sym (gather_join chunks s (joined (drop (at + 1) segments))) ∙ ap (λ (l : List (List Chunk)). gather chunks (joined l)) (sym (drop_next segments at s is))
+
+pub take_segment : (segments : List (List Chunk)) (before at : ℕ) (s : List Chunk) → before + 1 ≡ at → slice_get segments before ≡ Some s
+    → take at segments ≡ take before segments ++ s ∷ []
+take_segment segments before at s next is = ap (λ n. take n segments) (sym next) ∙ take_next segments before s is
