@@ -65,7 +65,7 @@ fn names_of<D: Digester>(alloc: Global, node: &NodeRef<'_>) -> Result<Vec<Name>,
     ensures names { IfOk result (λ names. reverse (map item_of names.items) ≡ node.now.items) }
     ensures known { IfOk result (λ names. AreKnown D.address node.now.level names.items) }
 {
-    let mut names = Vec::new(alloc);
+    let mut names = Vec::with_capacity(alloc, usize::from(node.count()))?;
     let mut size = size_of(node);
     let mut at = node.count();
     'names: while at > 0 {
