@@ -1,8 +1,10 @@
--- What a table keeps of what creates it.
+-- What a table keeps of what creates and alters it.
 use Rattle.std.proofs.Common.{◌≡◌, ◌≤◌, ◌∙◌, inl, inr, sym, ℕ, true, false, ◌&&◌, ◌||◌, List, [], ◌∷◌, Option, None, Some, length, arith}
 use Rattle.std.specs.List.{AllByRecursion, list_all, list_any}
 use Rattle.std.proofs.lemmas.Bool.{and_parts, false≢true, lt-ltb, or_parts}
 use Rattle.std.proofs.lemmas.Bool.Decides.{leb_tells}
+use Rattle.sql_ast.specs.declared.statements.AlterAction.{AlterAction}
+use Rattle.sql_ast.specs.declared.statements.AlterAction.TheVariants as action
 use Rattle.sql_ast.specs.declared.statements.Statement.TheVariants as statement
 use Rattle.sql_ast.specs.declared.statements.Write.TheVariants as write
 use Rattle.sql_ast.specs.declared.tables.Element.{Element}
@@ -10,16 +12,16 @@ use Rattle.sql_ast.specs.declared.tables.Element.TheVariants as element
 use Rattle.sql_features.specs.Depths.{is_deep}
 use Rattle.sql_features.specs.Features.{is_long}
 use Rattle.sql_rules.specs.Defaults.{has_outside_default}
-use Rattle.sql_rules.specs.Names.{are_long, element_long, is_long_if, is_long_worded, is_system_name, names_long}
+use Rattle.sql_rules.specs.Names.{action_long, are_long, element_long, is_long_if, is_long_worded, is_system_name, names_long}
 use Rattle.sql_rules.specs.Outside.{makes_some_long, statement_outside}
 use Rattle.sql_rules.specs.Tables.{element_outside, elements_outside}
 use Rattle.sql_rules.specs.Writes.{is_misplaced}
-use Rattle.canonical_laws.specs.Sound.{is_attribute, is_element, is_expr, is_filled, is_names, is_perhaps}
+use Rattle.canonical_laws.specs.Sound.{is_action, is_altering, is_attribute, is_element, is_expr, is_filled, is_names, is_perhaps}
 use Rattle.canonical_laws.specs.Written.{is_name}
 use Rattle.canonical_laws.proofs.StoredTexts.{stores_text}
-use Rattle.canonical_laws.proofs.StringTexts.{to_test}
+use Rattle.tuple_codec.proofs.Utf8Lemmas.{to_test}
 use Rattle.canonical_laws.proofs.TextUtf8.{name_text}
-use Rattle.sound_laws.specs.Laws.{CreatesKept, IfGiven, IsKept, IsKeptName}
+use Rattle.sound_laws.specs.Laws.{AltersKept, IsKeptAction, CreatesKept, IfGiven, IsKept, IsKeptName}
 use Rattle.sound_laws.proofs.Readers.{filled_all}
 
 short : (name : List ℕ) → is_long name ≡ false → length name ≤ 64
@@ -82,3 +84,16 @@ creates_kept c inside sound =
     let each = (or_parts _ (list_any (element_outside es) es) fit).1 in
     let is = and_parts (is_name c.table) (is_filled is_element es) sound in
     (name_kept c.table is.0 brief.0, elements_kept es es each brief.1 (filled_all is_element es is.1))
+
+action_kept : (done : AlterAction) → action_long done ≡ false → is_action done ≡ true → IsKeptAction done
+action_kept (action.Add column) brief is = name_kept column.name (and_parts (is_name column.name) (list_all is_altering column.attributes) is).0 brief
+action_kept (action.Drop name) brief is = name_kept name is brief
+action_kept (action.Modify column) brief is = name_kept column.name (and_parts (is_name column.name) (list_all is_altering column.attributes) is).0 brief
+
+pub alters_kept : AltersKept
+alters_kept a inside sound =
+    let s = statement.Write (write.Alter a) in
+    let parts = or_parts (is_long_worded s) (statement_outside s) inside in
+    let brief = or_parts (is_long a.table) (action_long a.action) parts.0 in
+    let is = and_parts (is_name a.table) (is_action a.action) sound in
+    (name_kept a.table is.0 brief.0, action_kept a.action brief.1 is.1)
