@@ -10,9 +10,9 @@ use Rattle.sql_values.specs.Numbers.{negated}
 use Rattle.sql_values.specs.Worths.{Truth, is_unknown}
 use Rattle.expr_eval.specs.Binding.{Outcome, and_then, bound_compare, bound_is_not_null, bound_is_null, bound_negate, bound_not, minus_of, truth_if, typed}
 use Rattle.expr_eval.specs.Binding as binding
-use Rattle.expr_eval.specs.Valuing.{Worthy, comparison, negation, one, step, two, worth}
+use Rattle.expr_eval.specs.Valuing.{Worthy, comparison, negation, one, two, worth}
 use Rattle.expr_eval.specs.declared.bound.BoundExpr.{BoundExpr}
-use Rattle.expr_eval.specs.declared.bound.Node.{Node, fold-Node, fold-roll-Node, out-Node}
+use Rattle.expr_eval.specs.declared.bound.Node.{Node, out-Node}
 use Rattle.expr_eval.specs.declared.bound.Node.TheOpen.{Node-F}
 use Rattle.expr_eval.specs.declared.bound.Node.TheVariants as n
 use Rattle.expr_eval.specs.declared.bound.Node.TheVariants.{outs-Compare, outs-Constant, outs-IsNotNull, outs-IsNull, outs-Negate, outs-Not, rolls-Compare, rolls-IsNotNull, rolls-IsNull, rolls-Negate, rolls-Not}

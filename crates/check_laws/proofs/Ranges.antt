@@ -7,12 +7,12 @@ use Rattle.sql_values.specs.Logic.{Truth3, and3}
 use Rattle.sql_values.specs.Worths.{of_truth, truth}
 use Rattle.sql_values.specs.declared.kinds.Kind.TheVariants as kind
 use Rattle.expr_eval.specs.declared.bound.BoundExpr.{BoundExpr}
-use Rattle.expr_eval.specs.declared.bound.Node.{Node, fold-Node, fold-roll-Node}
+use Rattle.expr_eval.specs.declared.bound.Node.{Node}
 use Rattle.expr_eval.specs.declared.bound.Node.TheVariants as n
 use Rattle.expr_eval.specs.declared.bound.Node.TheVariants.{outs-Between, rolls-Between}
 use Rattle.expr_eval.specs.Binding.{Outcome, and_node, and_then, bound_between, bound_chain, bound_compare, high_end, logic_kind, low_end, mismatch, truth_if}
 use Rattle.expr_eval.specs.Binding as binding
-use Rattle.expr_eval.specs.Valuing.{Worthy, between, compared, comparison, conjunction, step, two, worth}
+use Rattle.expr_eval.specs.Valuing.{Worthy, between, compared, comparison, conjunction, two, worth}
 use Rattle.expr_eval.proofs.WorthNodes.{worth_and, worth_between, worth_compare}
 use Rattle.check_laws.proofs.Chains.{plain_and}
 use Rattle.check_laws.proofs.Nodes.{Alike, Same, plain, same}

@@ -3,14 +3,13 @@ use Rattle.std.proofs.Common.{◌≡◌, ◌∙◌, sym, ap, refl, subst, ◌&&�
 use Rattle.std.specs.List.{AllByRecursion, list_all}
 use Rattle.std.specs.Option.{option_map}
 use Rattle.std.proofs.lemmas.Bool.{and_parts, false≢true}
-use Rattle.sql_ast.specs.declared.expressions.Comparison.{Comparison}
 use Rattle.sql_ast.specs.declared.expressions.Comparison.TheVariants as comparison
 use Rattle.sql_ast.specs.declared.expressions.Expr.{Expr, fold-roll-Expr, roll-Expr}
 use Rattle.sql_ast.specs.declared.expressions.Expr.TheOpen.{Expr-F}
 use Rattle.sql_ast.specs.declared.expressions.Expr.TheVariants as e
 use Rattle.sql_ast.specs.declared.expressions.Expr.TheVariants.{rolls-Not, rolls-Compare, rolls-IsNull, rolls-IsNotNull, rolls-Negate, rolls-Literal, rolls-Name, rolls-Qualified, rolls-CountAll, rolls-Count, rolls-Sum, rolls-Min, rolls-Max, rolls-ActiveBranch, rolls-Variable}
 use Rattle.sql_ast.specs.declared.expressions.Term.{Term}
-use Rattle.sql_ast.proofs.ListNodes.{fold_and, fold_factors, fold_in, fold_or}
+use Rattle.sql_ast.proofs.ListNodes.{fold_and, fold_factors, fold_or}
 use Rattle.sql_values.specs.Kinds.{product_kind}
 use Rattle.sql_values.specs.Numbers.{times}
 use Rattle.sql_values.specs.Worths.{cell_of}

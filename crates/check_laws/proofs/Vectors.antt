@@ -11,12 +11,8 @@ use Rattle.sql_values.specs.Numbers.{negated}
 use Rattle.sql_values.specs.Worths.{cell_of}
 use Rattle.std.specs.Option.{option_map}
 use Rattle.sql_values.specs.declared.kinds.Kind.TheVariants as kind
-use Rattle.expr_eval.specs.Binding.{Outcome, and_then, bound, bound_chain, bound_negate, logic_kind, minus_of, or_node, step}
-use Rattle.expr_eval.specs.Valuing.{Worthy, one, value, worth}
-use Rattle.expr_eval.specs.Valuing as valuing
-use Rattle.expr_eval.specs.declared.bound.BoundExpr.{BoundExpr}
-use Rattle.expr_eval.specs.declared.bound.Node.{fold-Node, fold-roll-Node}
-use Rattle.expr_eval.specs.declared.bound.Node.TheOpen.{Node-F}
+use Rattle.expr_eval.specs.Binding.{and_then, bound, bound_chain, bound_negate, logic_kind, minus_of, or_node, step}
+use Rattle.expr_eval.specs.Valuing.{one, value, worth}
 use Rattle.expr_eval.specs.declared.bound.Node.TheVariants as n
 use Rattle.expr_eval.specs.declared.bound.Node.TheVariants.{outs-MinusOnly, outs-Or, rolls-Constant, rolls-MinusOnly}
 use Rattle.expr_eval.proofs.BoundNodes.{bound_of_literal, bound_of_negate}

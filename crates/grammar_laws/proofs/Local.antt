@@ -1,7 +1,6 @@
 -- A reader goes by the pieces that it takes and the next one: two runs on pieces that begin alike go alike until both are past what they share.
 use Rattle.std.proofs.Common.{◌≡◌, ◌≤◌, ◌<◌, ◌+◌, ◌∙◌, sym, ap, refl, subst, ℕ, zero, suc, true, false, Bool, cond, List, [], ◌∷◌, ◌++◌, length, drop, Option, Some, None, Ok, Err, ◌⊎◌, inl, inr, arith}
 use Rattle.sql_grammar.specs.declared.pieces.Piece.{Piece}
-use Rattle.grammar_laws.proofs.Chains.{chain_ends}
 use Rattle.sql_grammar.specs.Reading.{Outcome, Reader, and_then, pure, stop, begins, behind as linked_behind, seen, taken, one, linked, chain, chain_from}
 
 -- what is left of the shared pieces, where some of them are
@@ -148,37 +147,87 @@ module _ (A : Type 0) (test : Piece → Bool) (item : Reader A) (local : Local A
         | false ↦ tt
       ]
 
-module _ (A : Type 0) (link : Reader (Option A)) (local : Local (Option A) link) (takes_one : (ts : List Piece) → Takes A (length ts) (link ts)) (nothing : link [] ≡ Ok (None, [])) where
-  turns_local : (n : ℕ) (found : List A) → Local (List A) (chain_from link n found)
-  unfolding chain_from
-  turns_local zero found = stays (List A) found
-  turns_local (suc n) found =
-      after (Option A) (List A) link (linked (chain_from link n) found) local (elim [ None ↦ stays (List A) found | Some x ↦ turns_local n (found ++ x ∷ []) ])
+-- two readers that answer alike
+pub as_another : (A : Type 0) (one_ two : Reader A) → ((ts : List Piece) → one_ ts ≡ two ts) → Local A two → Local A one_
+as_another A one_ two same local shared behind other =
+    subst (λ o. Alike A shared behind other o (one_ (shared ++ other))) (sym (same (shared ++ behind)))
+    (subst (λ o. Alike A shared behind other (two (shared ++ behind)) o) (sym (same (shared ++ other))) (local shared behind other))
+
+-- a turn of a loop: what was read so far, with what a link gives, or as it is
+abbrev pub turned : {S X : Type 0} → (S → Reader S) → (S → X → S) → S → Option X → Reader S
+turned go_on add so_far (Some x) = go_on (add so_far x)
+turned go_on add so_far None = pure so_far
+
+-- a loop that has as many turns as there are pieces, of which each takes one
+module _ (S X : Type 0) (from : ℕ → S → Reader S) (add : S → X → S) (link : Reader (Option X)) (ends : (s : S) (ts : List Piece) → from zero s ts ≡ Ok (s, ts))
+    (turns_by : (n : ℕ) (s : S) (ts : List Piece) → from (suc n) s ts ≡ and_then (link ts) (turned (from n) add s)) (local : Local (Option X) link)
+    (takes_one : (ts : List Piece) → Takes X (length ts) (link ts)) (nothing : link [] ≡ Ok (None, [])) where
+  turns_local : (n : ℕ) (s : S) → Local S (from n s)
+  turns_local zero s = as_another S (from zero s) (pure s) (ends s) (stays S s)
+  turns_local (suc n) s =
+      as_another S (from (suc n) s) (λ ts. and_then (link ts) (turned (from n) add s)) (turns_by n s)
+      (after (Option X) S link (turned (from n) add s) local (elim [ None ↦ stays S s | Some x ↦ turns_local n (add s x) ]))
+
+  past_end : (n : ℕ) (s : S) → from n s [] ≡ Ok (s, [])
+  past_end zero s = ends s []
+  past_end (suc n) s = turns_by n s [] ∙ ap (λ o. and_then o (turned (from n) add s)) nothing
 
   -- one count of turns does as well as another, where both are enough
-  enough : (n m : ℕ) (found : List A) (ts : List Piece) → length ts ≤ n → length ts ≤ m → chain_from link n found ts ≡ chain_from link m found ts
-  unfolding chain_from
-  enough n m found [] one_ two = chain_ends A link [] n found nothing ∙ sym (chain_ends A link [] m found nothing)
-  enough zero m found (t ∷ ts) one_ two = absurd (omega arith)
-  enough (suc n) zero found (t ∷ ts) one_ two = absurd (omega arith)
-  enough (suc n) (suc m) found (t ∷ ts) one_ two = go (link (t ∷ ts)) (takes_one (t ∷ ts)) (λ x us few. enough n m (found ++ x ∷ []) us (omega arith) (omega arith))
+  enough : (n m : ℕ) (s : S) (ts : List Piece) → length ts ≤ n → length ts ≤ m → from n s ts ≡ from m s ts
+  enough n m s [] one_ two = past_end n s ∙ sym (past_end m s)
+  enough zero m s (t ∷ ts) one_ two = absurd (omega arith)
+  enough (suc n) zero s (t ∷ ts) one_ two = absurd (omega arith)
+  enough (suc n) (suc m) s (t ∷ ts) one_ two =
+      turns_by n s (t ∷ ts) ∙ go (link (t ∷ ts)) (takes_one (t ∷ ts)) (λ x us few. enough n m (add s x) us (omega arith) (omega arith)) ∙ sym (turns_by m s (t ∷ ts))
     where
-      go : (o : Outcome (Option A)) → Takes A (suc (length ts)) o
-          → ((x : A) (us : List Piece) → length us < suc (length ts) → chain_from link n (found ++ x ∷ []) us ≡ chain_from link m (found ++ x ∷ []) us)
-          → and_then o (linked (chain_from link n) found) ≡ and_then o (linked (chain_from link m) found)
+      go : (o : Outcome (Option X)) → Takes X (suc (length ts)) o → ((x : X) (us : List Piece) → length us < suc (length ts) → from n (add s x) us ≡ from m (add s x) us)
+          → and_then o (turned (from n) add s) ≡ and_then o (turned (from m) add s)
       go (Ok (None, us)) few same = refl
       go (Ok (Some x, us)) few same = same x us few
       go (Err k) few same = refl
 
-  pub chain_from_local : (found : List A) → Local (List A) (λ ts. chain_from link (length ts) found ts)
-  chain_from_local found shared behind other =
+  pub loop_local : (s : S) → Local S (λ ts. from (length ts) s ts)
+  loop_local s shared behind other =
       let n = length (shared ++ behind) + length (shared ++ other) in
-      let from = λ (ts : List Piece). chain_from link n found ts in
-      subst (λ o. Alike (List A) shared behind other o (chain_from link (length (shared ++ other)) found (shared ++ other)))
-      (enough n (length (shared ++ behind)) found (shared ++ behind) (omega arith) (omega arith))
-      (subst (λ o. Alike (List A) shared behind other (from (shared ++ behind)) o) (enough n (length (shared ++ other)) found (shared ++ other) (omega arith) (omega arith))
-      (turns_local n found shared behind other))
+      let run = λ (ts : List Piece). from n s ts in
+      subst (λ o. Alike S shared behind other o (from (length (shared ++ other)) s (shared ++ other))) (enough n (length (shared ++ behind)) s (shared ++ behind) (omega arith) (omega arith))
+      (subst (λ o. Alike S shared behind other (run (shared ++ behind)) o) (enough n (length (shared ++ other)) s (shared ++ other) (omega arith) (omega arith)) (turns_local n s shared behind other))
+
+module _ (A : Type 0) (link : Reader (Option A)) (local : Local (Option A) link) (takes_one : (ts : List Piece) → Takes A (length ts) (link ts)) (nothing : link [] ≡ Ok (None, [])) where
+  linked_is : (n : ℕ) (found : List A) (o : Outcome (Option A)) → and_then o (linked (chain_from link n) found) ≡ and_then o (turned (chain_from link n) (λ xs x. xs ++ x ∷ []) found)
+  linked_is n found (Ok (Some x, us)) = refl
+  linked_is n found (Ok (None, us)) = refl
+  linked_is n found (Err k) = refl
+
+  pub chain_from_local : (found : List A) → Local (List A) (λ ts. chain_from link (length ts) found ts)
+  unfolding chain_from
+  chain_from_local = loop_local (List A) A (chain_from link) (λ xs x. xs ++ x ∷ []) link (λ found ts. refl) (λ n found ts. linked_is n found (link ts)) local takes_one nothing
 
   pub chain_local : Local (List A) (chain link)
   unfolding chain
   chain_local = chain_from_local []
+
+-- a link that drops its first piece, where it reads anything
+pub takes_of_short : (A : Type 0) (n : ℕ) (o : Outcome (Option A)) → Short (Option A) n o → Takes A (suc n) o
+takes_of_short A n (Ok (Some x, us)) few = omega arith
+takes_of_short A n (Ok (None, us)) few = tt
+takes_of_short A n (Err k) few = tt
+
+pub short_after : (A B : Type 0) (n : ℕ) (o : Outcome A) (next : A → Reader B) → Short A n o → ((x : A) → Local B (next x)) → Short B n (and_then o next)
+short_after A B n (Ok read) next few goes = shorter_still B (length read.1) n (next read.0 read.1) few (short B (next read.0) (goes read.0) read.1)
+short_after A B n (Err k) next few goes = few
+
+-- A reader that is chosen by the next pieces, of which it takes as many as there may be in doubt.
+-- Where the pieces that are shared leave doubt, both take all of them.
+pub chosen_by : (A : Type 0) (test : List Piece → Bool) (one_ two : Reader A) (shared behind other : List Piece) → Local A one_ → Local A two
+    → (test (shared ++ behind) ≡ test (shared ++ other)) ⊎ (Short A (length behind) (one_ (shared ++ behind)) × Short A (length behind) (two (shared ++ behind)))
+    → Alike A shared behind other (cond (test (shared ++ behind)) (one_ (shared ++ behind)) (two (shared ++ behind))) (cond (test (shared ++ other)) (one_ (shared ++ other)) (two (shared ++ other)))
+chosen_by A test one_ two shared behind other first second (inl same) =
+    subst (λ b. Alike A shared behind other (cond (test (shared ++ behind)) (one_ (shared ++ behind)) (two (shared ++ behind))) (cond b (one_ (shared ++ other)) (two (shared ++ other)))) same
+    (elim (test (shared ++ behind)) as (λ b. Alike A shared behind other (cond b (one_ (shared ++ behind)) (two (shared ++ behind))) (cond b (one_ (shared ++ other)) (two (shared ++ other)))) [
+      | true ↦ first shared behind other
+      | false ↦ second shared behind other
+    ])
+chosen_by A test one_ two shared behind other first second (inr few) =
+    alike_of_short A shared behind other _ (cond (test (shared ++ other)) (one_ (shared ++ other)) (two (shared ++ other)))
+    (elim (test (shared ++ behind)) as (λ b. Short A (length behind) (cond b (one_ (shared ++ behind)) (two (shared ++ behind)))) [ true ↦ few.0 | false ↦ few.1 ])

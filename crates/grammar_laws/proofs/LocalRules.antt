@@ -19,29 +19,30 @@ use Rattle.sql_grammar.specs.Pieces.{function_of, is_keyword, is_sign, name_of, 
 use Rattle.sql_grammar.specs.Reading.{Outcome, Reader, and_then, pure, eat, eat_keyword, expect, expect_keyword, skip, sees, sees_keyword, name, list, chain, comma}
 use Rattle.sql_grammar.specs.Expressions.{column, branch, null_test, called, called_by, literal_ahead, test_ahead, term_ahead, enclosed, count, call, call_of, other_atom, literal_or_other, plain_atom, atom_by, atom, unary, factor, product, term_by, term, sum, listed, limits, negated_by, negated, tested_by, tested, comparison, negation, conjunct, conjunction, disjunct, disjunction, chained, expression}
 use Rattle.grammar_laws.specs.Laws.{StopsForGood}
-use Rattle.grammar_laws.proofs.Local.{Alike, Local, Short, Takes, past, after, stays, stops, takes, ahead, eats, wants, one_local, short, shorter, shorter_still, alike_of_short, some_takes, link_local, link_takes, chain_from_local, chain_local}
+use Rattle.grammar_laws.specs.Spelling.{mark}
+use Rattle.grammar_laws.proofs.Local.{Alike, Local, Short, Takes, past, after, stays, stops, takes, ahead, eats, wants, one_local, short, shorter, shorter_still, alike_of_short, short_after, some_takes, link_local, link_takes, chain_from_local, chain_local}
 use Rattle.grammar_laws.proofs.Rungs.{not_called}
 
-eat_local : (s : Sign) → Local Bool (eat s)
+pub eat_local : (s : Sign) → Local Bool (eat s)
 unfolding sees
 eat_local s = eats Bool (is_sign s) true false
 
-eat_keyword_local : (w : Keyword) → Local Bool (eat_keyword w)
+pub eat_keyword_local : (w : Keyword) → Local Bool (eat_keyword w)
 unfolding sees_keyword
 eat_keyword_local w = eats Bool (is_keyword w) true false
 
-expect_local : (s : Sign) → Local (Unit {0}) (expect s)
+pub expect_local : (s : Sign) → Local (Unit {0}) (expect s)
 unfolding sees
 expect_local s = wants (Unit {0}) (is_sign s) tt
 
-expect_keyword_local : (w : Keyword) → Local (Unit {0}) (expect_keyword w)
+pub expect_keyword_local : (w : Keyword) → Local (Unit {0}) (expect_keyword w)
 unfolding sees_keyword
 expect_keyword_local w = wants (Unit {0}) (is_keyword w) tt
 
 skip_local : Local (Unit {0}) skip
 skip_local = takes (Unit {0}) tt
 
-name_local : Local (List ℕ) name
+pub name_local : Local (List ℕ) name
 unfolding name
 name_local = one_local (List ℕ) name_of
 
@@ -68,10 +69,10 @@ null_test_local a =
     after Bool Expr (eat_keyword word.Not) _ (eat_keyword_local word.Not)
     (λ negated. after (Unit {0}) Expr (expect_keyword word.Null) _ (expect_keyword_local word.Null) (λ u. stays Expr (cond negated (e.IsNotNull a) (e.IsNull a))))
 
-mapped : (A B : Type 0) (f : A → B) (reader : Reader A) → Local A reader → Local B (λ ts. and_then (reader ts) (λ x. pure (f x)))
+pub mapped : (A B : Type 0) (f : A → B) (reader : Reader A) → Local A reader → Local B (λ ts. and_then (reader ts) (λ x. pure (f x)))
 mapped A B f reader is = after A B reader (λ x. pure (f x)) is (λ x. stays B (f x))
 
-behind_skip : (A : Type 0) (reader : Reader A) → Local A reader → Local A (λ ts. reader (drop 1 ts))
+pub behind_skip : (A : Type 0) (reader : Reader A) → Local A reader → Local A (λ ts. reader (drop 1 ts))
 behind_skip A reader is = after (Unit {0}) A skip (λ u. reader) skip_local (λ u. is)
 
 module _ (inner : Reader Expr) (local : Local Expr inner) where
@@ -149,11 +150,13 @@ module _ (inner : Reader Expr) (local : Local Expr inner) where
       → Local Expr (λ ts. and_then (first ts) (λ x us. and_then (chain link us) (λ xs. pure (f x xs))))
   behind_first A f first link one_ others = after Expr Expr first _ one_ (λ x. after (List A) Expr (chain link) _ others (λ xs. stays Expr (f x xs)))
 
+  factors_local : Local (List Expr) (chain (factor inner))
+  unfolding sees
+  factors_local = chain_local Expr (factor inner) (link_local Expr (is_sign sign.Star) (unary inner) unary_local) (link_takes Expr (is_sign sign.Star) (unary inner) unary_local) refl
+
   product_local : Local Expr (product inner)
-  unfolding product sees
-  product_local =
-      behind_first Expr (chained e.Factors) (unary inner) (factor inner) unary_local
-      (chain_local Expr (factor inner) (link_local Expr (is_sign sign.Star) (unary inner) unary_local) (link_takes Expr (is_sign sign.Star) (unary inner) unary_local) refl)
+  unfolding product
+  product_local = behind_first Expr (chained e.Factors) (unary inner) (factor inner) unary_local factors_local
 
   term_by_local : (t : Option Term) → Local (Option (Term × Expr)) (term_by inner t)
   term_by_local (Some t) =
@@ -177,9 +180,12 @@ module _ (inner : Reader Expr) (local : Local Expr inner) where
   unfolding term term_ahead
   no_term = refl
 
+  terms_local : Local (List (Term × Expr)) (chain (term inner))
+  terms_local = chain_local (Term × Expr) (term inner) term_local term_takes no_term
+
   sum_local : Local Expr (sum inner)
   unfolding sum
-  sum_local = behind_first (Term × Expr) (chained e.Terms) (product inner) (term inner) product_local (chain_local (Term × Expr) (term inner) term_local term_takes no_term)
+  sum_local = behind_first (Term × Expr) (chained e.Terms) (product inner) (term inner) product_local terms_local
 
   list_local : Local (List Expr) (list inner)
   unfolding list sees
@@ -237,22 +243,108 @@ module _ (inner : Reader Expr) (local : Local Expr inner) where
   unfolding negation
   negation_local = after Bool Expr (eat_keyword word.Not) _ (eat_keyword_local word.Not) (elim [ true ↦ mapped Expr Expr e.Not (comparison inner) comparison_local | false ↦ comparison_local ])
 
+  conjuncts_local : Local (List Expr) (chain (conjunct inner))
+  unfolding sees_keyword
+  conjuncts_local = chain_local Expr (conjunct inner) (link_local Expr (is_keyword word.And) (negation inner) negation_local) (link_takes Expr (is_keyword word.And) (negation inner) negation_local) refl
+
   conjunction_local : Local Expr (conjunction inner)
-  unfolding conjunction sees_keyword
-  conjunction_local =
-      behind_first Expr (chained e.And) (negation inner) (conjunct inner) negation_local
-      (chain_local Expr (conjunct inner) (link_local Expr (is_keyword word.And) (negation inner) negation_local) (link_takes Expr (is_keyword word.And) (negation inner) negation_local) refl)
+  unfolding conjunction
+  conjunction_local = behind_first Expr (chained e.And) (negation inner) (conjunct inner) negation_local conjuncts_local
+
+  disjuncts_local : Local (List Expr) (chain (disjunct inner))
+  unfolding sees_keyword
+  disjuncts_local =
+      chain_local Expr (disjunct inner) (link_local Expr (is_keyword word.Or) (conjunction inner) conjunction_local) (link_takes Expr (is_keyword word.Or) (conjunction inner) conjunction_local) refl
 
   disjunction_local : Local Expr (disjunction inner)
-  unfolding disjunction sees_keyword
-  disjunction_local =
-      behind_first Expr (chained e.Or) (conjunction inner) (disjunct inner) conjunction_local
-      (chain_local Expr (disjunct inner) (link_local Expr (is_keyword word.Or) (conjunction inner) conjunction_local) (link_takes Expr (is_keyword word.Or) (conjunction inner) conjunction_local) refl)
+  unfolding disjunction
+  disjunction_local = behind_first Expr (chained e.Or) (conjunction inner) (disjunct inner) conjunction_local disjuncts_local
 
-expression_local : (depth : ℕ) → Local Expr (expression depth)
+  -- Pieces that an atom takes, whatever follows, and that begin with no minus and no NOT: each rule takes them.
+  module _ (front : List Piece) (taken_all : (ts : List Piece) → Short Expr (length ts) (atom inner (front ++ ts))) (no_minus : (ts : List Piece) → sees sign.Minus (front ++ ts) ≡ false)
+      (no_not : (ts : List Piece) → sees_keyword word.Not (front ++ ts) ≡ false) where
+    unary_takes : (ts : List Piece) → Short Expr (length ts) (unary inner (front ++ ts))
+    unfolding unary
+    unary_takes ts =
+        subst (λ b. Short Expr (length ts) (and_then {A = Bool} {B = Expr} (cond b (Ok (true, drop 1 (front ++ ts))) (Ok (false, front ++ ts))) (λ minus. cond minus (λ us. and_then (atom inner us) (λ x. pure (e.Negate x))) (atom inner))))
+        (sym (no_minus ts)) (taken_all ts)
+
+    product_takes : (ts : List Piece) → Short Expr (length ts) (product inner (front ++ ts))
+    unfolding product
+    product_takes ts =
+        short_after Expr Expr (length ts) (unary inner (front ++ ts)) (λ x us. and_then (chain (factor inner) us) (λ xs. pure (chained e.Factors x xs))) (unary_takes ts)
+        (λ x. after (List Expr) Expr (chain (factor inner)) _ factors_local (λ xs. stays Expr (chained e.Factors x xs)))
+
+    sum_takes : (ts : List Piece) → Short Expr (length ts) (sum inner (front ++ ts))
+    unfolding sum
+    sum_takes ts =
+        short_after Expr Expr (length ts) (product inner (front ++ ts)) (λ x us. and_then (chain (term inner) us) (λ xs. pure (chained e.Terms x xs))) (product_takes ts)
+        (λ x. after (List (Term × Expr)) Expr (chain (term inner)) _ terms_local (λ xs. stays Expr (chained e.Terms x xs)))
+
+    comparison_takes : (ts : List Piece) → Short Expr (length ts) (comparison inner (front ++ ts))
+    unfolding comparison
+    comparison_takes ts = short_after Expr Expr (length ts) (sum inner (front ++ ts)) (tested inner) (sum_takes ts) tested_local
+
+    negation_takes : (ts : List Piece) → Short Expr (length ts) (negation inner (front ++ ts))
+    unfolding negation
+    negation_takes ts =
+        subst (λ b. Short Expr (length ts) (and_then {A = Bool} {B = Expr} (cond b (Ok (true, drop 1 (front ++ ts))) (Ok (false, front ++ ts))) (λ is_not. cond is_not (λ us. and_then (comparison inner us) (λ x. pure (e.Not x))) (comparison inner))))
+        (sym (no_not ts)) (comparison_takes ts)
+
+    conjunction_takes : (ts : List Piece) → Short Expr (length ts) (conjunction inner (front ++ ts))
+    unfolding conjunction
+    conjunction_takes ts =
+        short_after Expr Expr (length ts) (negation inner (front ++ ts)) (λ x us. and_then (chain (conjunct inner) us) (λ xs. pure (chained e.And x xs))) (negation_takes ts)
+        (λ x. after (List Expr) Expr (chain (conjunct inner)) _ conjuncts_local (λ xs. stays Expr (chained e.And x xs)))
+
+    disjunction_takes : (ts : List Piece) → Short Expr (length ts) (disjunction inner (front ++ ts))
+    unfolding disjunction
+    disjunction_takes ts =
+        short_after Expr Expr (length ts) (conjunction inner (front ++ ts)) (λ x us. and_then (chain (disjunct inner) us) (λ xs. pure (chained e.Or x xs))) (conjunction_takes ts)
+        (λ x. after (List Expr) Expr (chain (disjunct inner)) _ disjuncts_local (λ xs. stays Expr (chained e.Or x xs)))
+
+  -- a name, and a name before a point
+  quoted_taken : (n : List ℕ) (ts : List Piece) → Short Expr (length ts) (atom inner (piece.Quoted n ∷ ts))
+  unfolding atom called plain_atom literal_ahead other_atom column name sees same_sign
+  quoted_taken n ts =
+      subst (λ f. Short Expr (length ts) (atom_by inner f (piece.Quoted n ∷ ts))) (sym (not_called (piece.Quoted n) ts refl)) (short Expr (behind_name n) (behind_name_local n) ts)
+
+  second_name : (first : List ℕ) (ts : List Piece) → Short Expr (length ts) (behind_name first (mark sign.Point ∷ ts))
+  unfolding sees same_sign
+  second_name first ts = short Expr (λ us. and_then (name us) (λ second. pure (e.Qualified first second))) (after (List ℕ) Expr name _ name_local (λ second. stays Expr (e.Qualified first second))) ts
+
+  word_point_taken : (n : List ℕ) (ts : List Piece) → Short Expr (length ts) (atom inner (piece.Word n ∷ mark sign.Point ∷ ts))
+  unfolding atom called plain_atom literal_ahead other_atom column name sees same_sign
+  word_point_taken n ts = second_name n ts
+
+  quoted_point_taken : (n : List ℕ) (ts : List Piece) → Short Expr (length ts) (atom inner (piece.Quoted n ∷ mark sign.Point ∷ ts))
+  unfolding atom called plain_atom literal_ahead other_atom column name sees same_sign
+  quoted_point_taken n ts = second_name n ts
+
+pub expression_local : (depth : ℕ) → Local Expr (expression depth)
 unfolding expression
 expression_local zero = stops Expr
 expression_local (suc depth) = disjunction_local (expression depth) (expression_local depth)
+
+-- a name is taken by any expression, and so is a name before a point
+module _ (depth : ℕ) where
+  pub word_takes : (n : List ℕ) (ts : List Piece) → Short Expr (length ts) (expression (suc depth) (piece.Word n ∷ ts))
+  unfolding expression atom sees sees_keyword same_sign
+  word_takes n = disjunction_takes (expression depth) (expression_local depth) (piece.Word n ∷ []) (λ ts. word_taken (expression depth) (expression_local depth) n ts (called (piece.Word n ∷ ts))) (λ ts. refl) (λ ts. refl)
+
+  pub quoted_takes : (n : List ℕ) (ts : List Piece) → Short Expr (length ts) (expression (suc depth) (piece.Quoted n ∷ ts))
+  unfolding expression sees sees_keyword same_sign
+  quoted_takes n = disjunction_takes (expression depth) (expression_local depth) (piece.Quoted n ∷ []) (quoted_taken (expression depth) (expression_local depth) n) (λ ts. refl) (λ ts. refl)
+
+  pub word_point_takes : (n : List ℕ) (ts : List Piece) → Short Expr (length ts) (expression (suc depth) (piece.Word n ∷ mark sign.Point ∷ ts))
+  unfolding expression sees sees_keyword same_sign
+  word_point_takes n =
+      disjunction_takes (expression depth) (expression_local depth) (piece.Word n ∷ mark sign.Point ∷ []) (word_point_taken (expression depth) (expression_local depth) n) (λ ts. refl) (λ ts. refl)
+
+  pub quoted_point_takes : (n : List ℕ) (ts : List Piece) → Short Expr (length ts) (expression (suc depth) (piece.Quoted n ∷ mark sign.Point ∷ ts))
+  unfolding expression sees sees_keyword same_sign
+  quoted_point_takes n =
+      disjunction_takes (expression depth) (expression_local depth) (piece.Quoted n ∷ mark sign.Point ∷ []) (quoted_point_taken (expression depth) (expression_local depth) n) (λ ts. refl) (λ ts. refl)
 
 -- two runs that are alike stop alike behind one piece
 same_stop : (shared behind other : List Piece) (o two : Outcome Expr) → Alike Expr shared behind other o two → o ≡ Err (suc (length behind)) → two ≡ Err (suc (length other))

@@ -1,6 +1,6 @@
 -- The kind of what is bound, from its parts.
 use Rattle.std.proofs.Common.{◌≡◌, ◌∙◌, sym, ap, refl, subst, ◌^◌, ◌-◌, ◌==◌, ◌&&◌, ℕ, pos, negsuc, Bool, true, false, cond, List, [], ◌∷◌, ◌++◌, map, fold, Option, None, Some, Ok, Err, not}
-use Rattle.std.specs.Prelude.{nat_lt, slice_get, slice_index_or}
+use Rattle.std.specs.Prelude.{nat_lt, slice_get}
 use Rattle.std.specs.List.{AllByRecursion}
 use Rattle.std.specs.Option.{option_map, option_map_or}
 use Rattle.std.proofs.lemmas.Bool.{and_from, and_parts, eq-eqb}
@@ -21,16 +21,16 @@ use Rattle.sql_values.specs.declared.kinds.Kind.TheVariants as kind
 use Rattle.sql_values.specs.Kinds.{are_comparable, decimal, is_bool, is_counted, kind_of, product_kind, sum_kind}
 use Rattle.sql_values.specs.Logic.{Truth3}
 use Rattle.sql_values.specs.Numbers.{negated, times}
-use Rattle.sql_values.specs.Worths.{Worth, Truth, is_unknown, of_truth, worth_of}
+use Rattle.sql_values.specs.Worths.{Worth, is_unknown, of_truth, worth_of}
 use Rattle.expr_eval.specs.Binding.{Outcome, and_then, bound, bound_between, bound_chain, bound_column, bound_compare, bound_in, bound_is_not_null, bound_is_null, bound_literal, bound_negate, bound_not, bound_sum, column_at, column_typed, decimal_node, decimal_typed, extended, lengthened, logic_kind, longer_if, longer_sum_if, opened_chain, opened_sum, terms_node, truth_if, typed, whole_node}
 use Rattle.expr_eval.specs.Binding as binding
 use Rattle.expr_eval.specs.Scopes.{place_named, place_qualified}
-use Rattle.expr_eval.specs.Valuing.{Worthy, added, among, between, chained, comparison, conjunction, counted, disjunction, negation, one, step, total, two, worth}
+use Rattle.expr_eval.specs.Valuing.{Worthy, added, among, between, chained, conjunction, counted, disjunction, one, total, two, worth}
 use Rattle.expr_eval.specs.declared.bound.BoundExpr.{BoundExpr}
 use Rattle.expr_eval.specs.declared.bound.Chain.{Chain}
 use Rattle.expr_eval.specs.declared.bound.Ends.{Ends}
 use Rattle.expr_eval.specs.declared.bound.Sum.{Sum}
-use Rattle.expr_eval.specs.declared.bound.Node.{Node, fold-Node, fold-roll-Node, out-Node}
+use Rattle.expr_eval.specs.declared.bound.Node.{Node, out-Node}
 use Rattle.expr_eval.specs.declared.bound.Node.TheOpen.{Node-F}
 use Rattle.expr_eval.specs.declared.bound.Node.TheVariants as n
 use Rattle.expr_eval.specs.declared.bound.Node.TheVariants.{outs-And, outs-Between, outs-Column, outs-Compare, outs-Constant, outs-Factors, outs-In, outs-IsNotNull, outs-IsNull, outs-MinusOnly, outs-Negate, outs-Not, outs-Or, outs-OutOfRange, outs-Terms, rolls-Between, rolls-Column, rolls-Compare, rolls-Constant, rolls-IsNotNull, rolls-IsNull, rolls-MinusOnly, rolls-Negate, rolls-Not, rolls-OutOfRange}

@@ -1,5 +1,5 @@
 -- Cells of a kind: those of a row that fits, what an expression's value is, and what a column keeps.
-use Rattle.std.proofs.Common.{◌≡◌, ◌≤◌, ◌∙◌, sym, ap, refl, subst, ◌^◌, ◌==◌, ◌&&◌, ℤ, zero, suc, pos, negsuc, Bool, true, false, cond, List, [], ◌∷◌, map, Some, Result, Ok, Err, arith}
+use Rattle.std.proofs.Common.{◌≡◌, ◌≤◌, ◌∙◌, sym, ap, refl, subst, ◌^◌, ◌==◌, ◌&&◌, ℤ, zero, suc, pos, negsuc, Bool, true, false, cond, List, [], ◌∷◌, Some, Result, Ok, Err, arith}
 use Rattle.std.specs.Prelude.{nat_le, nat_lt, unsigned_abs}
 use Rattle.std.specs.List.{list_all}
 use Rattle.std.proofs.Math.Nat.{pow-le-pow_right}

@@ -255,13 +255,14 @@ list_sound {A} {test} {item} is = bind is (λ x such. record {
 
 -- ---- what is ahead
 
-pub ahead : {A B : Type 0} {test : B → Bool} (view : Piece → Option A) → ((t : Piece) (x : A) → view t ≡ Some x → IsMinus t → ⊥) → (by_ : Option A → Reader B)
-    → ((x : A) (ts : List Piece) → Fine (drop 1 ts) → Gives B test (by_ (Some x) ts)) → Sound B test (by_ None) → Sound B test (λ ts. by_ (seen view ts) ts)
-ahead {A} {B} {test} view not_minus by_ goes none = record { runs = runs_by }
+pub ahead : {A B : Type 0} {such : A → Bool} {test : B → Bool} (view : Piece → Option A) → ((t : Piece) (x : A) → view t ≡ Some x → (such x ≡ true) × (IsMinus t → ⊥))
+    → (by_ : Option A → Reader B) → ((x : A) → such x ≡ true → (ts : List Piece) → Fine (drop 1 ts) → Gives B test (by_ (Some x) ts)) → Sound B test (by_ None)
+    → Sound B test (λ ts. by_ (seen view ts) ts)
+ahead {A} {B} {such} {test} view views_ by_ goes none = record { runs = runs_by }
   where
     at : (t : Piece) (ts : List Piece) (o : Option A) → Fine (t ∷ ts) → view t ≡ o → Gives B test (by_ o (t ∷ ts))
     at t ts None fine is = none.runs (t ∷ ts) fine
-    at t ts (Some x) fine is = goes x (t ∷ ts) (behind_piece t ts fine (not_minus t x is))
+    at t ts (Some x) fine is = let found = views_ t x is in goes x found.0 (t ∷ ts) (behind_piece t ts fine found.1)
 
     runs_by : (ts : List Piece) → Fine ts → Gives B test (by_ (seen view ts) ts)
     runs_by [] fine = none.runs [] fine

@@ -11,7 +11,7 @@ use Rattle.sql_grammar.specs.declared.pieces.Piece.TheVariants as piece
 use Rattle.sql_grammar.specs.Pieces.{is_sign, same_sign}
 use Rattle.sql_grammar.specs.Reading.{name}
 use Rattle.canonical_laws.specs.Written.{are_given, is_name}
-use Rattle.sound_laws.proofs.Readers.{Fine, filled_all, stops, weaken, Gives, IsMinus, Sound, all_added, any_sound, anything, behind_piece, bind, chosen, eats, eats_keyword, eats_word, expects_keyword, filled_added, gives, list_sound, loosens, names_one, perhaps_named, some, wholes_one}
+use Rattle.sound_laws.proofs.Readers.{Fine, filled_all, stops, weaken, Gives, Sound, all_added, any_sound, anything, behind_piece, bind, chosen, eats, eats_keyword, eats_word, expects_keyword, filled_added, gives, list_sound, loosens, names_one, perhaps_named, some, wholes_one}
 use Rattle.sql_ast.specs.declared.selects.Clauses.{Clauses}
 use Rattle.sql_ast.specs.declared.selects.ColumnName.{ColumnName}
 use Rattle.sql_ast.specs.declared.selects.Direction.{Direction}
@@ -28,10 +28,10 @@ use Rattle.sql_ast.specs.declared.selects.Query.{Query}
 use Rattle.sql_ast.specs.declared.selects.Select.{Select}
 use Rattle.sql_ast.specs.declared.selects.Sorting.{Sorting}
 use Rattle.sql_ast.specs.declared.selects.Source.{Source}
-use Rattle.sql_selects.specs.Selects.{alias, all_of, alone, alone_or_stop, begins_all_of, begins_join, bounds, clauses, column_name, direction, filter, from_clause, groups, item, items, join, joins, joins_from, key, keys, limit, listing, listing_from, named, named_from, named_in, offset, one_item, query, selection, sorting, source, added, first_of}
-use Rattle.sql_selects.specs.declared.chosen.Choice.{Choice}
-use Rattle.sql_selects.specs.declared.chosen.Listing.{Listing}
-use Rattle.sql_selects.specs.declared.chosen.Shown.{Shown}
+use Rattle.sql_statements.specs.Selects.{alias, all_of, alone, alone_or_stop, begins_all_of, begins_join, bounds, clauses, column_name, direction, filter, from_clause, groups, item, items, join, joins, joins_from, key, keys, limit, listing, listing_from, named, named_from, named_in, offset, one_item, query, selection, sorting, source, added, first_of}
+use Rattle.sql_statements.specs.declared.chosen.Choice.{Choice}
+use Rattle.sql_statements.specs.declared.chosen.Listing.{Listing}
+use Rattle.sql_statements.specs.declared.chosen.Shown.{Shown}
 use Rattle.canonical_laws.specs.Sound.{is_clauses, is_column_name, is_expr, is_filled, is_from, is_item, is_items, is_join, is_key, is_named as is_named_expr, is_perhaps, is_query, is_select, is_sorting, is_source}
 
 alias_sound : Sound (Option (List ℕ)) (is_perhaps is_name) alias

@@ -10,7 +10,7 @@ use Rattle.sql_grammar.specs.declared.pieces.Piece.TheVariants as piece
 use Rattle.sql_grammar.specs.Pieces.{is_sign, same_sign}
 use Rattle.sql_grammar.specs.Reading.{Outcome}
 use Rattle.tuple_codec.specs.Texts.{is_utf8}
-use Rattle.canonical_laws.specs.Written.{is_given, is_name}
+use Rattle.canonical_laws.specs.Written.{is_given}
 use Rattle.sound_laws.proofs.Readers.{Fine, filled_all, weaken, Gives, IsMinus, Sound, any_sound, anything, behind_piece, bind, by_pieces, chosen, eats, eats_keyword, eats_word, expects, expects_keyword, expects_word, gives, list_sound, names_one, some, strings_one, views}
 use Rattle.sql_ast.specs.declared.statements.Assignment.{Assignment}
 use Rattle.sql_ast.specs.declared.statements.Call.{Call}
@@ -25,12 +25,12 @@ use Rattle.sql_statements.specs.Heads.{begins_session, begins_session_point, ope
 use Rattle.sql_statements.specs.Statements.{any_entry, any_statement, arguments, assignment, call, delete, finished, insert, named_columns, scope, scope_behind, scope_word, setting, statement_behind, statement_by, statement_of, tuple, update, whole_of, with_work}
 use Rattle.sql_statements.specs.declared.heads.Opening.{Opening}
 use Rattle.sql_statements.specs.declared.heads.Opening.TheVariants as opening
-use Rattle.canonical_laws.specs.Sound.{is_assignment, is_call, is_delete, is_entry, is_insert, is_names, is_perhaps, is_sound, is_tuple, is_update}
+use Rattle.canonical_laws.specs.Sound.{is_assignment, is_call, is_delete, is_entry, is_insert, is_names, is_perhaps, is_setting, is_sound, is_tuple, is_update}
 use Rattle.sound_laws.proofs.Tables.{names_sound}
 use Rattle.sql_grammar.specs.Pieces.{is_word}
 use Rattle.sound_laws.specs.Laws.{ReadsSound}
 use Rattle.sound_laws.proofs.Selects.{filter_sound, selection_sound}
-use Rattle.sound_laws.proofs.Tables.{create_sound, drop_sound}
+use Rattle.sound_laws.proofs.Tables.{alter_sound, create_sound, drop_sound}
 
 entries_sound : Sound Entry is_entry any_entry
 unfolding any_entry
@@ -114,9 +114,6 @@ switch_such (piece.Keyword w) x given is = (refl, λ minus. cc)
 switch_such (piece.Word n) x given is = (refl, λ minus. cc)
 switch_such t x given is = absurd (cc)
 
-abbrev is_setting : Setting → Bool
-is_setting x = is_name x.variable
-
 setting_sound : Sound Setting is_setting setting
 unfolding setting same_sign
 setting_sound = bind scope_sound (λ u a. bind names_one (λ n named. bind (expects sign.Equal refl) (λ v b. bind (views switch_of switch_such) (λ on c. gives named))))
@@ -139,6 +136,7 @@ with_work_sound x is = bind (eats_word (codes "work")) (λ b a. gives is)
 statement_by_sound : (o : Opening) → Sound Statement is_sound (statement_by o)
 statement_by_sound opening.Create = bind create_sound (λ x is. gives is)
 statement_by_sound opening.Drop = bind drop_sound (λ x is. gives is)
+statement_by_sound opening.Alter = bind alter_sound (λ x is. gives is)
 statement_by_sound opening.Insert = bind insert_sound (λ x is. gives is)
 statement_by_sound opening.Update = bind update_sound (λ x is. gives is)
 statement_by_sound opening.Delete = bind delete_sound (λ x is. gives is)

@@ -1,7 +1,10 @@
 -- Whatever statement a text is, it is sound; and what a sound statement creates can be kept.
-use Rattle.std.specs.Prelude.{◌≡◌, ◌≤◌, ℕ, true, false, List, length, Option, None, Some, Ok}
+use Rattle.std.specs.Prelude.{◌≡◌, ◌≤◌, ℕ, true, false, List, ◌∷◌, ◌++◌, length, Option, None, Some, Ok, Err}
 use Rattle.std.specs.List.{AllByRecursion}
 use Rattle.sql_ast.specs.declared.places.Last.TheVariants.{Other}
+use Rattle.sql_ast.specs.declared.statements.Alter.{Alter}
+use Rattle.sql_ast.specs.declared.statements.AlterAction.{AlterAction}
+use Rattle.sql_ast.specs.declared.statements.AlterAction.TheVariants as action
 use Rattle.sql_ast.specs.declared.statements.Statement.{Statement}
 use Rattle.sql_ast.specs.declared.statements.Statement.TheVariants as statement
 use Rattle.sql_ast.specs.declared.statements.Write.TheVariants as write
@@ -27,7 +30,11 @@ ReadsSound = (pieces : List Piece) (s : Statement) → are_given Other pieces �
 abbrev pub ParsesSound : Type 0
 ParsesSound = (statement : List ℕ) (s : Statement) → is_utf8 statement ≡ true → parsed statement ≡ Ok s → (outside s ≡ false) × (is_sound s ≡ true)
 
--- What a table keeps of what creates it.
+-- where reading stops at a piece, it stops there whatever stands behind that piece
+abbrev pub StatementsStop : Type 0
+StatementsStop = (front : List Piece) (t : Piece) (behind other : List Piece) → statement_of (front ++ t ∷ behind) ≡ Err (length (t ∷ behind)) → statement_of (front ++ t ∷ other) ≡ Err (length (t ∷ other))
+
+-- What a table keeps of what creates and alters it.
 
 abbrev pub IsKeptName : List ℕ → Type 0
 IsKeptName name = (is_utf8 name ≡ true) × (1 ≤ length name) × (length name ≤ 64)
@@ -49,3 +56,12 @@ IsKept (element.ForeignKey key) = IfGiven key.name × IsKeptName key.parent × A
 abbrev pub CreatesKept : Type 0
 CreatesKept = (create : CreateTable) → outside (statement.Write (write.Create create)) ≡ false → is_sound (statement.Write (write.Create create)) ≡ true
     → IsKeptName create.table × AllByRecursion IsKept create.elements
+
+abbrev pub IsKeptAction : AlterAction → Type 0
+IsKeptAction (action.Add column) = IsKeptName column.name
+IsKeptAction (action.Drop name) = IsKeptName name
+IsKeptAction (action.Modify column) = IsKeptName column.name
+
+-- of a sound ALTER in the language
+abbrev pub AltersKept : Type 0
+AltersKept = (alter : Alter) → outside (statement.Write (write.Alter alter)) ≡ false → is_sound (statement.Write (write.Alter alter)) ≡ true → IsKeptName alter.table × IsKeptAction alter.action

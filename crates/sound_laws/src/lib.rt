@@ -5,4 +5,4 @@
 
 mod laws;
 
-pub use laws::{law_of_created_tables, law_of_sound_statements};
+pub use laws::{law_of_kept_tables, law_of_sound_statements, law_of_statement_stops};

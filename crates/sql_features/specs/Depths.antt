@@ -3,13 +3,14 @@
 -- That text has each operation in parentheses, and the list of an IN in parentheses of its own. NOT IN is the NOT of
 -- IN, BETWEEN is `((a >= low) AND (a <= high))`, and NOT BETWEEN the NOT of that. Parentheses in strings don't count.
 use Rattle.std.specs.Prelude.{ℕ, Bool, ◌+◌, List, [], ◌∷◌, map, max, min, nat_lt}
+use Rattle.sql_ast.specs.Limits.{most_open}
 use Rattle.sql_ast.specs.declared.expressions.Expr.{Expr, fold-Expr}
 use Rattle.sql_ast.specs.declared.expressions.Expr.TheOpen.{Expr-F}
 use Rattle.sql_features.specs.Nesting.{greatest}
 
--- in one more pair of parentheses, counted up to 65
+-- in one more pair of parentheses, counted up to one more than may be open
 abbrev pub enclosed : ℕ → ℕ
-enclosed n = min (n + 1) 65
+enclosed n = min (n + 1) (most_open + 1)
 
 -- `(a op b)`
 abbrev pub paired : ℕ → ℕ → ℕ
@@ -56,6 +57,6 @@ depth_at (Expr-F.Variable name) = 0
 abbrev pub depth : Expr → ℕ
 depth expr = fold-Expr ℕ depth_at expr
 
--- more than 64 are open at one place
+-- more are open at one place than may be
 abbrev pub is_deep : Expr → Bool
-is_deep expr = nat_lt 64 (depth expr)
+is_deep expr = nat_lt most_open (depth expr)

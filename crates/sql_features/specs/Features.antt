@@ -2,6 +2,7 @@
 use Rattle.std.specs.Prelude.{ℕ, Bool, true, false, ◌||◌, List, [], ◌∷◌, length, map, nat_lt, not, codes}
 use Rattle.std.specs.Str.{bytes_eq}
 use Rattle.std.specs.List.{list_any}
+use Rattle.sql_ast.specs.Limits.{most_name_bytes}
 use Rattle.sql_ast.specs.declared.expressions.Expr.{Expr, fold-Expr}
 use Rattle.sql_ast.specs.declared.expressions.Expr.TheOpen.{Expr-F}
 use Rattle.sql_features.specs.declared.features.Feature.{Feature}
@@ -28,9 +29,9 @@ parts (Expr-F.Min a) = a ∷ []
 parts (Expr-F.Max a) = a ∷ []
 parts node = []
 
--- a name of more than 64 bytes
+-- a name of more bytes than a name may have
 abbrev pub is_long : List ℕ → Bool
-is_long name = nat_lt 64 (length name)
+is_long name = nat_lt most_name_bytes (length name)
 
 abbrev pub is_variable : List ℕ → Bool
 is_variable name = list_any (bytes_eq name) (codes "autocommit" ∷ codes "dolt_allow_commit_conflicts" ∷ codes "dolt_force_transaction_commit" ∷ [])

@@ -2,10 +2,7 @@ ghost use Rattle.std.specs.Prelude.{◌≡◌, map, List, ℕ};
 ghost use Rattle.sql_features.specs.Depths.{chained, depth, enclosed, is_deep, paired, ranged};
 ghost use Rattle.sql_features.specs.Nesting.{greatest};
 
-use sql_ast::{Expr, Term};
-
-/// How many parentheses may be open at one place of a CHECK's canonical text.
-const MOST_OPEN: u8 = 64;
+use sql_ast::{Expr, MOST_OPEN, Term};
 
 /// Whether an expression's canonical text has too many parentheses open at one place.
 pub fn is_too_deep(expr: &Expr) -> bool
@@ -16,7 +13,7 @@ pub fn is_too_deep(expr: &Expr) -> bool
 
 /// How many parentheses are open at one place of an expression's canonical text, counted up to one more than may be.
 #[cycle(depths)]
-fn open_at_once(expr: &Expr) -> u8
+fn open_at_once(expr: &Expr) -> usize
     ensures { result ≡ depth expr.now }
 {
     match expr {
@@ -57,7 +54,7 @@ fn open_at_once(expr: &Expr) -> u8
 }
 
 #[cycle(depths)]
-fn most_open(list: &[Expr]) -> u8
+fn most_open(list: &[Expr]) -> usize
     ensures { result ≡ greatest (map depth list.now) }
 {
     let mut most = 0;
@@ -70,7 +67,7 @@ fn most_open(list: &[Expr]) -> u8
 
 /// As `first` and the others have, each operation with what stands before it as its left operand.
 #[cycle(depths)]
-fn open_in_chain(first: u8, list: &[Expr]) -> u8
+fn open_in_chain(first: usize, list: &[Expr]) -> usize
     ensures { result ≡ chained first (map depth list.now) }
 {
     let mut open = first;
@@ -82,7 +79,7 @@ fn open_in_chain(first: u8, list: &[Expr]) -> u8
 }
 
 #[cycle(depths)]
-fn open_in_sum(first: u8, list: &[(Term, Expr)]) -> u8
+fn open_in_sum(first: usize, list: &[(Term, Expr)]) -> usize
     ensures { result ≡ chained first (map (λ term. depth term.1) list.now) }
 {
     let mut open = first;
@@ -93,19 +90,19 @@ fn open_in_sum(first: u8, list: &[(Term, Expr)]) -> u8
     open
 }
 
-fn enclose(inside: u8) -> u8
+fn enclose(inside: usize) -> usize
     ensures { result ≡ enclosed inside }
 {
     inside.saturating_add(1).min(MOST_OPEN + 1)
 }
 
-fn pair(a: u8, b: u8) -> u8
+fn pair(a: usize, b: usize) -> usize
     ensures { result ≡ paired a b }
 {
     enclose(a.max(b))
 }
 
-fn range(a: u8, low: u8, high: u8) -> u8
+fn range(a: usize, low: usize, high: usize) -> usize
     ensures { result ≡ ranged a low high }
 {
     pair(pair(a, low), pair(a, high))

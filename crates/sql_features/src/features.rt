@@ -3,7 +3,7 @@ ghost use Rattle.std.specs.List.{list_any};
 ghost use Rattle.sql_features.specs.Features.{has, shows, is_long, is_variable, is_aggregate, is_session_word, has_long_name, is_other_variable};
 ghost use Rattle.sql_ast.specs.declared.expressions.Expr.{out-Expr};
 
-use sql_ast::{Expr, Term};
+use sql_ast::{Expr, MOST_NAME_BYTES, Term};
 use tuple_codec::Text;
 
 /// What a part of an expression can be.
@@ -18,8 +18,6 @@ pub enum Feature {
     /// `@@` and a name that no variable has.
     OtherVariable,
 }
-
-const MOST_NAME_BYTES: usize = 64;
 
 /// Whether a name has more bytes than a name may have.
 pub fn is_long_name(name: &Text) -> bool

@@ -4,8 +4,6 @@
 mod depths;
 mod features;
 mod nesting;
-#[cfg(test)]
-mod tests;
 
 pub use depths::is_too_deep;
 pub use features::{Feature, has_feature, is_aggregate_node, is_long_name, is_variable_name};

@@ -20,7 +20,7 @@ misplaced at = Err (record { number = 1064; at = at })
 bad_tokens : (parsed (codes "ALTER ?") ≡ misplaced 6) × (parsed (codes "foo 99999999999999999999") ≡ refused 1264)
 bad_tokens = (refl, refl)
 
-other_words : (parsed (codes "ALTER TABLE") ≡ refused 9013) × (parsed (codes "distinct t") ≡ refused 9013)
+other_words : (parsed (codes "COLUMN t") ≡ refused 9013) × (parsed (codes "distinct t") ≡ refused 9013)
 other_words = (refl, refl)
 
 -- 64 parentheses may be open, and one that is closed early counts against those that are opened later

@@ -1,5 +1,6 @@
 -- What is refused before the grammar: a first word that begins no statement, and too many open parentheses.
 use Rattle.std.specs.Prelude.{ℕ, Bool, true, false, ◌+◌, ◌-◌, ◌||◌, nat_lt, not, is_some, if◌then◌else◌, List, [], ◌∷◌}
+use Rattle.sql_ast.specs.Limits.{most_open}
 use Rattle.sql_ast.specs.declared.signs.Sign.TheVariants as sign
 use Rattle.sql_grammar.specs.declared.pieces.Piece.{Piece}
 use Rattle.sql_grammar.specs.declared.pieces.Piece.TheVariants as piece
@@ -15,9 +16,6 @@ is_other_word _ = false
 abbrev pub begins_nothing : List Piece → Bool
 begins_nothing [] = false
 begins_nothing (t ∷ ts) = is_other_word t
-
-abbrev pub most_open : ℕ
-most_open = 64
 
 abbrev pub counted : Bool → ℕ → ℕ
 counted test count = if test then count + 1 else count

@@ -14,28 +14,48 @@ pub fn parse_check(alloc: Global, text: &[u8]) -> Result<Expr, AllocError>
     requires canonical { is_some (spec.canonical_expression text.now) ≡ true }
     ensures { IfOk result (λ expr. spec.canonical_expression text.now ≡ Some expr) }
 {
-    match lex(alloc, text) {
-        Ok(tokens) => expression_in(alloc, text, tokens.as_slice()),
-        Err(ReadFault::Memory) => Err(AllocError),
-        Err(ReadFault::Refused(_)) => unreachable!(),
+    match read_check(alloc, text)? {
+        Some(expr) => Ok(expr),
+        None => unreachable!(),
     }
 }
 
-fn expression_in(alloc: Global, text: &[u8], tokens: &[Token]) -> Result<Expr, AllocError>
-    requires { is_some (spec.expression_in text.now tokens.now) ≡ true }
-    ensures { IfOk result (λ expr. spec.expression_in text.now tokens.now ≡ Some expr) }
+/// The same of any text: nothing where its tokens, read as a canonical text's, are no expression.
+pub fn read_check(alloc: Global, text: &[u8]) -> Result<Option<Expr>, AllocError>
+    requires { length text.now < 2 ^ 32 }
+    ensures { IfOk result (λ expr. expr ≡ spec.canonical_expression text.now) }
+{
+    match lex(alloc, text) {
+        Ok(tokens) => expression_in(alloc, text, tokens.as_slice()),
+        Err(ReadFault::Memory) => Err(AllocError),
+        Err(ReadFault::Refused(_)) => Ok(None),
+    }
+}
+
+fn expression_in(alloc: Global, text: &[u8], tokens: &[Token]) -> Result<Option<Expr>, AllocError>
+    ensures { IfOk result (λ expr. expr ≡ spec.expression_in text.now tokens.now) }
 {
     let pieces = canonical_pieces_of(alloc, text, tokens)?;
     expression_of(alloc, pieces.as_slice())
 }
 
-fn expression_of(alloc: Global, pieces: &[Piece]) -> Result<Expr, AllocError>
-    requires { is_some (spec.all_of (any pieces.now)) ≡ true }
-    ensures { IfOk result (λ expr. spec.all_of (any pieces.now) ≡ Some expr) }
+fn expression_of(alloc: Global, pieces: &[Piece]) -> Result<Option<Expr>, AllocError>
+    ensures { IfOk result (λ expr. expr ≡ spec.all_of (any pieces.now)) }
 {
-    match read_any(alloc, &mut Cursor::new(pieces)) {
-        Ok(expr) => Ok(expr),
+    let mut cursor = Cursor::new(pieces);
+    match read_any(alloc, &mut cursor) {
+        Ok(expr) => Ok(alone(expr, cursor.rest())),
         Err(Stop::Memory) => Err(AllocError),
-        Err(Stop::At(_)) => unreachable!(),
+        Err(Stop::At(_)) => Ok(None),
+    }
+}
+
+/// What was read, where nothing is left behind it.
+fn alone<T: Drop>(read: T, rest: &[Piece]) -> Option<T>
+    ensures { result ≡ spec.alone read rest.now }
+{
+    match rest {
+        [] => Some(read),
+        _ => None,
     }
 }

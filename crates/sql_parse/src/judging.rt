@@ -6,7 +6,7 @@ ghost use Rattle.sql_parse.specs.Parsing as spec;
 use crate::faults::refused;
 use sql_ast::{ReadFault, Statement};
 use sql_rules::{is_misused, is_outside};
-use std::alloc::Global;
+use std::alloc::{AllocError, Global};
 
 /// The statement, where nothing in it is refused by the text alone.
 pub fn judge(alloc: Global, statement: Statement) -> Result<Statement, ReadFault>
@@ -15,17 +15,17 @@ pub fn judge(alloc: Global, statement: Statement) -> Result<Statement, ReadFault
     if is_outside(alloc, &statement)? {
         return Err(refused(9013));
     }
-    if misuses_procedure(&statement) {
+    if misuses_procedure(alloc, &statement)? {
         return Err(refused(9008));
     }
     Ok(statement)
 }
 
-fn misuses_procedure(statement: &Statement) -> bool
-    ensures { result ≡ spec.is_misused statement.now }
+fn misuses_procedure(alloc: Global, statement: &Statement) -> Result<bool, AllocError>
+    ensures { IfOk result (λ answer. answer ≡ spec.is_misused statement.now) }
 {
     match statement {
-        Statement::Call(call) => is_misused(call),
-        _ => false,
+        Statement::Call(call) => is_misused(alloc, call),
+        _ => Ok(false),
     }
 }

@@ -8,7 +8,9 @@ mod openings;
 mod parsing;
 mod places;
 #[cfg(test)]
+mod tables;
+#[cfg(test)]
 mod tests;
 
-pub use checking::parse_check;
+pub use checking::{parse_check, read_check};
 pub use parsing::parse;

@@ -1,13 +1,10 @@
-ghost use Rattle.std.specs.Prelude.{◌≡◌, ◌+◌, ◌-◌, ◌≤◌, ℕ, is_some, nat_lt};
-ghost use Rattle.sql_parse.specs.Openings.{begins_nothing, counted, is_hopeless, is_other_word, most_open, opens_too_many};
-ghost use Rattle.sql_statements.specs.Heads.{keyword_opening, word_opening};
+ghost use Rattle.std.specs.Prelude.{◌≡◌, ◌+◌, ◌-◌, ◌≤◌, ℕ, nat_lt};
+ghost use Rattle.sql_ast.specs.Limits.{most_open};
+ghost use Rattle.sql_parse.specs.Openings.{begins_nothing, counted, is_hopeless, is_other_word, opens_too_many};
 
-use sql_ast::{Keyword, Sign};
+use sql_ast::{MOST_OPEN, Sign};
 use sql_grammar::{Piece, is_sign};
-use tuple_codec::Text;
-
-/// How many parentheses may be open at once.
-const MOST_OPEN: usize = 64;
+use sql_statements::opening_of;
 
 /// Whether pieces are outside the language whatever the grammar says of them.
 pub fn is_beyond_grammar(pieces: &[Piece]) -> bool
@@ -30,36 +27,13 @@ fn is_another_word(piece: &Piece) -> bool
     ensures { result ≡ is_other_word piece.now }
 {
     match piece {
-        Piece::Keyword(word) => !begins_with_keyword(*word),
-        Piece::Word(name) => !begins_with_name(name),
+        Piece::Keyword(_) => opening_of(piece).is_none(),
+        Piece::Word(_) => opening_of(piece).is_none(),
         _ => false,
     }
 }
 
-fn begins_with_keyword(word: Keyword) -> bool
-    ensures { result ≡ is_some (keyword_opening word) }
-{
-    match word {
-        Keyword::Create
-        | Keyword::Drop
-        | Keyword::Insert
-        | Keyword::Update
-        | Keyword::Delete
-        | Keyword::Select
-        | Keyword::Start
-        | Keyword::Set
-        | Keyword::Call => true,
-        _ => false,
-    }
-}
-
-fn begins_with_name(name: &Text) -> bool
-    ensures { result ≡ is_some (word_opening name.now) }
-{
-    name.is(b"begin") || name.is(b"commit") || name.is(b"rollback")
-}
-
-/// Whether at some piece more than 64 parentheses are open.
+/// Whether at some piece more parentheses are open than may be.
 fn nests_too_deep(pieces: &[Piece]) -> bool
     ensures { result ≡ opens_too_many pieces.now }
 {

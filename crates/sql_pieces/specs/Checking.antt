@@ -9,8 +9,8 @@ use Rattle.sql_grammar.specs.Reading.{Outcome}
 use Rattle.sql_grammar.specs.declared.pieces.Piece.{Piece}
 use Rattle.sql_pieces.specs.Values.{canonical_pieces_of}
 
--- an expression behind which nothing is left
-abbrev pub alone : Expr → List Piece → Option Expr
+-- what was read, where nothing is left behind it
+abbrev pub alone : {A : Type 0} → A → List Piece → Option A
 alone x [] = Some x
 alone x (t ∷ ts) = None
 

@@ -9,8 +9,6 @@ mod numbers;
 mod reading;
 mod slices;
 mod strings;
-#[cfg(test)]
-mod tests;
 mod words;
 
 pub use reading::{canonical_pieces_of, pieces_of};

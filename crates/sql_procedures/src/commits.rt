@@ -1,15 +1,17 @@
-ghost use Rattle.std.specs.Prelude.{◌≡◌};
-ghost use Rattle.sql_procedures.specs.Arguments.{no_commit, commit_argument, commit_from, commit_message, commit_option, is_commit, takes_commit, with_all, with_empty, with_message, with_named};
+ghost use Rattle.std.specs.Prelude.{◌≡◌, IfOk};
+ghost use Rattle.sql_procedures.specs.Arguments.{no_commit, commit_argument, commit_from, commit_message, commit_of, commit_option, committed, staging_of, with_all, with_empty, with_message, with_named};
 
-use crate::arguments::{is_message_text, is_option};
+use crate::arguments::{copied, is_message_text, is_option};
+use crate::requests::{CommitRequest, Staging};
+use std::alloc::{AllocError, Global};
 use tuple_codec::Text;
 
 /// What the arguments of DOLT_COMMIT have said so far.
-#[derive(Clone, Copy, Debug, PartialEq, Eq)]
+#[derive(Debug, Drop)]
 pub struct Commit {
     /// The next argument is the message.
     pub awaits_message: bool,
-    pub message: bool,
+    pub message: Option<Text>,
     /// `-a`, or as a part of `-am`.
     pub named: bool,
     /// `-A`, or as a part of `-Am`.
@@ -18,52 +20,87 @@ pub struct Commit {
     pub empty: bool,
 }
 
-/// Whether DOLT_COMMIT takes these arguments.
-pub fn commit_takes(arguments: &[Text]) -> bool
-    ensures { result ≡ takes_commit arguments.now }
+/// What the arguments of DOLT_COMMIT ask for.
+pub fn read_commit(alloc: Global, arguments: &[Text]) -> Result<Option<CommitRequest>, AllocError>
+    ensures { IfOk result (λ request. request ≡ commit_of arguments.now) }
 {
-    match read_commit(arguments) {
-        Some(seen) => seen.message && !seen.awaits_message,
-        None => false,
+    match take_all(alloc, arguments)? {
+        Some(seen) => Ok(request_in(seen)),
+        None => Ok(None),
     }
 }
 
-fn read_commit(arguments: &[Text]) -> Option<Commit>
-    ensures { result ≡ commit_from no_commit arguments.now }
+fn request_in(seen: Commit) -> Option<CommitRequest>
+    ensures { result ≡ committed seen }
+{
+    if seen.awaits_message {
+        return None;
+    }
+    let staging = staging_in(seen.named, seen.all);
+    let allow_empty = seen.empty;
+    match seen.message {
+        Some(message) => Some(CommitRequest {
+            message,
+            staging,
+            allow_empty,
+        }),
+        None => None,
+    }
+}
+
+fn staging_in(named: bool, all: bool) -> Staging
+    ensures { result ≡ staging_of named all }
+{
+    if all {
+        Staging::All
+    } else if named {
+        Staging::Known
+    } else {
+        Staging::AsIs
+    }
+}
+
+fn take_all(alloc: Global, arguments: &[Text]) -> Result<Option<Commit>, AllocError>
+    ensures { IfOk result (λ seen. seen ≡ commit_from no_commit arguments.now) }
 {
     let mut seen = Commit {
         awaits_message: false,
-        message: false,
+        message: None,
         named: false,
         all: false,
         empty: false,
     };
     for argument in arguments {
-        seen = take_argument(seen, argument)?;
+        match take_argument(alloc, seen, argument)? {
+            Some(next) => seen = next,
+            None => return Ok(None),
+        }
     }
-    Some(seen)
+    Ok(Some(seen))
 }
 
-fn take_argument(seen: Commit, argument: &Text) -> Option<Commit>
-    ensures { result ≡ commit_argument seen argument.now }
+fn take_argument(alloc: Global, seen: Commit, argument: &Text) -> Result<Option<Commit>, AllocError>
+    ensures { IfOk result (λ next. next ≡ commit_argument seen argument.now) }
 {
     if seen.awaits_message {
-        take_message(seen, argument)
+        take_message(alloc, seen, argument)
     } else {
-        take_option(seen, argument)
+        Ok(take_option(seen, argument))
     }
 }
 
-fn take_message(seen: Commit, argument: &Text) -> Option<Commit>
-    ensures { result ≡ commit_message seen argument.now }
+fn take_message(alloc: Global, seen: Commit, argument: &Text) -> Result<Option<Commit>, AllocError>
+    ensures { IfOk result (λ next. next ≡ commit_message seen argument.now) }
 {
     if is_message_text(argument) {
-        Some(Commit {
+        let message = copied(alloc, argument)?;
+        Ok(Some(Commit {
             awaits_message: false,
+            message: Some(message),
             ..seen
-        })
+        }))
     } else {
-        None
+        Ok(None)
     }
 }
 
@@ -90,12 +127,11 @@ fn take_option(seen: Commit, argument: &Text) -> Option<Commit>
 fn await_message(seen: Commit) -> Option<Commit>
     ensures { result ≡ with_message seen }
 {
-    if seen.message {
+    if seen.message.is_some() {
         return None;
     }
     Some(Commit {
         awaits_message: true,
-        message: true,
         ..seen
     })
 }

@@ -1,11 +1,14 @@
-//! The procedures of the language, and which arguments they take.
+//! The procedures of the language, and what their arguments ask for.
 #![tactic(auto)]
 
 mod arguments;
 mod commits;
 mod merges;
 mod procedures;
-#[cfg(test)]
-mod tests;
+mod requests;
 
-pub use procedures::{Procedure, procedure_named, takes_arguments};
+pub use procedures::{Procedure, arguments_of, procedure_named};
+pub use requests::{
+    BranchRequest, CheckoutRequest, CommitRequest, MergeOf, MergeRequest, NewBranch, Request,
+    Reset, Resolution, Side, Staging, Tables, Verification,
+};

@@ -1,26 +1,34 @@
-ghost use Rattle.std.specs.Prelude.{◌≡◌};
-ghost use Rattle.sql_procedures.specs.Arguments.{is_abort, is_merge, merge_argument, merge_from, merge_message, merge_name, merge_option, no_merge, takes_merge, with_merge_message, with_no_ff};
+ghost use Rattle.std.specs.Prelude.{◌≡◌, IfOk};
+ghost use Rattle.sql_procedures.specs.Arguments.{is_abort, merge_argument, merge_from, merge_message, merge_name, merge_of, merge_option, merged, no_merge, with_merge_message, with_no_ff};
 
-use crate::arguments::{is_message_text, is_option, is_point_name};
+use crate::arguments::{copied, is_message_text, is_option, is_point_name};
+use crate::requests::{MergeOf, MergeRequest};
+use std::alloc::{AllocError, Global};
 use tuple_codec::Text;
 
 /// What the arguments of DOLT_MERGE have said so far.
-#[derive(Clone, Copy, Debug, PartialEq, Eq)]
+#[derive(Debug, Drop)]
 pub struct Merge {
     /// The next argument is the message.
     pub awaits_message: bool,
-    pub message: bool,
+    pub message: Option<Text>,
     /// The name of what is merged.
-    pub name: bool,
+    pub name: Option<Text>,
     /// `--no-ff`.
     pub no_ff: bool,
 }
 
-/// Whether DOLT_MERGE takes these arguments.
-pub fn merge_takes(arguments: &[Text]) -> bool
-    ensures { result ≡ takes_merge arguments.now }
+/// What the arguments of DOLT_MERGE ask for.
+pub fn read_merge(alloc: Global, arguments: &[Text]) -> Result<Option<MergeRequest>, AllocError>
+    ensures { IfOk result (λ request. request ≡ merge_of arguments.now) }
 {
-    aborts(arguments) || merges(arguments)
+    if aborts(arguments) {
+        return Ok(Some(MergeRequest::Abort));
+    }
+    match take_all(alloc, arguments)? {
+        Some(seen) => Ok(request_in(seen)),
+        None => Ok(None),
+    }
 }
 
 fn aborts(arguments: &[Text]) -> bool
@@ -32,62 +40,76 @@ fn aborts(arguments: &[Text]) -> bool
     }
 }
 
-fn merges(arguments: &[Text]) -> bool
-    ensures { result ≡ is_merge (merge_from no_merge arguments.now) }
+fn request_in(seen: Merge) -> Option<MergeRequest>
+    ensures { result ≡ merged seen }
 {
-    match read_merge(arguments) {
-        Some(seen) => seen.name && !seen.awaits_message,
-        None => false,
+    if seen.awaits_message {
+        return None;
+    }
+    let no_ff = seen.no_ff;
+    let message = seen.message;
+    match seen.name {
+        Some(name) => Some(MergeRequest::Merge(MergeOf {
+            name,
+            no_ff,
+            message,
+        })),
+        None => None,
     }
 }
 
-fn read_merge(arguments: &[Text]) -> Option<Merge>
-    ensures { result ≡ merge_from no_merge arguments.now }
+fn take_all(alloc: Global, arguments: &[Text]) -> Result<Option<Merge>, AllocError>
+    ensures { IfOk result (λ seen. seen ≡ merge_from no_merge arguments.now) }
 {
     let mut seen = Merge {
         awaits_message: false,
-        message: false,
-        name: false,
+        message: None,
+        name: None,
         no_ff: false,
     };
     for argument in arguments {
-        seen = take_argument(seen, argument)?;
+        match take_argument(alloc, seen, argument)? {
+            Some(next) => seen = next,
+            None => return Ok(None),
+        }
     }
-    Some(seen)
+    Ok(Some(seen))
 }
 
-fn take_argument(seen: Merge, argument: &Text) -> Option<Merge>
-    ensures { result ≡ merge_argument seen argument.now }
+fn take_argument(alloc: Global, seen: Merge, argument: &Text) -> Result<Option<Merge>, AllocError>
+    ensures { IfOk result (λ next. next ≡ merge_argument seen argument.now) }
 {
     if seen.awaits_message {
-        take_message(seen, argument)
+        take_message(alloc, seen, argument)
     } else {
-        take_option(seen, argument)
+        take_option(alloc, seen, argument)
     }
 }
 
-fn take_message(seen: Merge, argument: &Text) -> Option<Merge>
-    ensures { result ≡ merge_message seen argument.now }
+fn take_message(alloc: Global, seen: Merge, argument: &Text) -> Result<Option<Merge>, AllocError>
+    ensures { IfOk result (λ next. next ≡ merge_message seen argument.now) }
 {
     if is_message_text(argument) {
-        Some(Merge {
+        let message = copied(alloc, argument)?;
+        Ok(Some(Merge {
             awaits_message: false,
+            message: Some(message),
             ..seen
-        })
+        }))
     } else {
-        None
+        Ok(None)
     }
 }
 
-fn take_option(seen: Merge, argument: &Text) -> Option<Merge>
-    ensures { result ≡ merge_option seen argument.now }
+fn take_option(alloc: Global, seen: Merge, argument: &Text) -> Result<Option<Merge>, AllocError>
+    ensures { IfOk result (λ next. next ≡ merge_option seen argument.now) }
 {
     if is_option(argument, b"--no-ff") {
-        forbid_fast_forward(seen)
+        Ok(forbid_fast_forward(seen))
     } else if is_option(argument, b"-m") {
-        await_message(seen)
+        Ok(await_message(seen))
     } else {
-        take_name(seen, argument)
+        take_name(alloc, seen, argument)
     }
 }
 
@@ -106,21 +128,24 @@ fn forbid_fast_forward(seen: Merge) -> Option<Merge>
 fn await_message(seen: Merge) -> Option<Merge>
     ensures { result ≡ with_merge_message seen }
 {
-    if seen.message {
+    if seen.message.is_some() {
         return None;
     }
     Some(Merge {
         awaits_message: true,
-        message: true,
         ..seen
     })
 }
 
-fn take_name(seen: Merge, argument: &Text) -> Option<Merge>
-    ensures { result ≡ merge_name seen argument.now }
+fn take_name(alloc: Global, seen: Merge, argument: &Text) -> Result<Option<Merge>, AllocError>
+    ensures { IfOk result (λ next. next ≡ merge_name seen argument.now) }
 {
-    if seen.name || !is_point_name(argument) {
-        return None;
+    if seen.name.is_some() || !is_point_name(argument) {
+        return Ok(None);
     }
-    Some(Merge { name: true, ..seen })
+    let name = copied(alloc, argument)?;
+    Ok(Some(Merge {
+        name: Some(name),
+        ..seen
+    }))
 }

@@ -1,11 +1,13 @@
-ghost use Rattle.std.specs.Prelude.{◌≡◌};
-ghost use Rattle.sql_procedures.specs.Arguments.{procedure_of, takes};
+ghost use Rattle.std.specs.Prelude.{◌≡◌, IfOk};
+ghost use Rattle.sql_procedures.specs.Arguments.{procedure_of, request_of};
 
 use crate::arguments::{
-    add_takes, branch_takes, checkout_takes, reset_takes, resolve_takes, verify_takes,
+    read_add, read_branch, read_checkout, read_reset, read_resolve, read_verify,
 };
-use crate::commits::commit_takes;
-use crate::merges::merge_takes;
+use crate::commits::read_commit;
+use crate::merges::read_merge;
+use crate::requests::Request;
+use std::alloc::{AllocError, Global};
 use tuple_codec::Text;
 
 /// The procedures of the language.
@@ -46,18 +48,26 @@ pub fn procedure_named(name: &Text) -> Option<Procedure>
     }
 }
 
-/// Whether a procedure takes these arguments, whatever the database holds.
-pub fn takes_arguments(procedure: Procedure, arguments: &[Text]) -> bool
-    ensures { result ≡ takes procedure arguments.now }
+/// What a call of a procedure asks for, whatever the database holds; nothing where it doesn't take these arguments.
+pub fn arguments_of(
+    alloc: Global,
+    procedure: Procedure,
+    arguments: &[Text],
+) -> Result<Option<Request>, AllocError>
+    ensures { IfOk result (λ request. request ≡ request_of procedure arguments.now) }
 {
     match procedure {
-        Procedure::Add => add_takes(arguments),
-        Procedure::Reset => reset_takes(arguments),
-        Procedure::Commit => commit_takes(arguments),
-        Procedure::Branch => branch_takes(arguments),
-        Procedure::Checkout => checkout_takes(arguments),
-        Procedure::Merge => merge_takes(arguments),
-        Procedure::ConflictsResolve => resolve_takes(arguments),
-        Procedure::VerifyConstraints => verify_takes(arguments),
+        Procedure::Add => Ok(read_add(alloc, arguments)?.map(Request::Add)),
+        Procedure::Reset => Ok(read_reset(alloc, arguments)?.map(Request::Reset)),
+        Procedure::Commit => Ok(read_commit(alloc, arguments)?.map(Request::Commit)),
+        Procedure::Branch => Ok(read_branch(alloc, arguments)?.map(Request::Branch)),
+        Procedure::Checkout => Ok(read_checkout(alloc, arguments)?.map(Request::Checkout)),
+        Procedure::Merge => Ok(read_merge(alloc, arguments)?.map(Request::Merge)),
+        Procedure::ConflictsResolve => {
+            Ok(read_resolve(alloc, arguments)?.map(Request::ConflictsResolve))
+        }
+        Procedure::VerifyConstraints => {
+            Ok(read_verify(arguments).map(Request::VerifyConstraints))
+        }
     }
 }

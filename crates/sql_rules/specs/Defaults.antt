@@ -1,7 +1,7 @@
--- The defaults of columns: which can be assigned.
-use Rattle.std.specs.Prelude.{ℕ, ℤ, pos, neg_ℤ, Bool, true, false, ◌||◌, ◌-◌, ◌^◌, List, [], ◌∷◌, Option, Some, None, Result, Ok, Err, nat_le, not, if◌then◌else◌}
+-- The definitions of columns: types, NOT NULL, and which defaults can be assigned.
+use Rattle.std.specs.Prelude.{ℕ, ℤ, pos, neg_ℤ, Bool, true, false, ◌||◌, ◌-◌, ◌^◌, List, [], ◌∷◌, Option, Some, None, Result, Ok, Err, is_some, nat_le, not, if◌then◌else◌}
 use Rattle.std.specs.List.{list_any}
-use Rattle.std.specs.Option.{option_map}
+use Rattle.std.specs.Option.{option_and_then, option_map}
 use Rattle.sql_ast.specs.declared.expressions.Literal.{Literal}
 use Rattle.sql_ast.specs.declared.expressions.Literal.TheVariants as literal
 use Rattle.sql_ast.specs.declared.tables.Attribute.{Attribute}
@@ -18,6 +18,7 @@ use Rattle.sql_values.specs.declared.assigning.Misfit.{Misfit}
 use Rattle.sql_values.specs.declared.kinds.Kind.{Kind}
 use Rattle.sql_values.specs.declared.kinds.Kind.TheVariants as kind
 use Rattle.sql_rules.specs.Tables.{keys_column, type_of}
+use Rattle.sql_rules.specs.declared.defaults.Definition.{Definition}
 use Rattle.sql_rules.specs.declared.defaults.Given.{Given}
 
 abbrev pub given : Kind → Value → Given
@@ -56,18 +57,21 @@ negative_default value = None
 abbrev pub default_of : Bool → Literal → Option Given
 default_of minus value = if minus then negative_default value else plain_default value
 
-abbrev pub is_kept : Result Value Misfit → Bool
-is_kept (Ok value) = true
-is_kept (Err misfit) = false
+abbrev pub kept : Result Value Misfit → Option Value
+kept (Ok value) = Some value
+kept (Err misfit) = None
 
--- the column keeps this default
-abbrev pub is_assignable : SqlType → Bool → Option Given → Bool
-is_assignable type not_null (Some default) = is_kept (stored default.kind type not_null default.value)
-is_assignable type not_null None = false
+-- what the column keeps of this default, if it can be assigned
+abbrev pub kept_of : SqlType → Bool → Option Given → Option Value
+kept_of type not_null (Some default) = kept (stored default.kind type not_null default.value)
+kept_of type not_null None = None
 
-abbrev pub default_outside : SqlType → Bool → Attribute → Bool
-default_outside type not_null (attribute.Default minus value) = not (is_assignable type not_null (default_of minus value))
-default_outside type not_null other = false
+-- the column's default, if it has one: the last one counts, and each has to be kept; nothing where one isn't
+abbrev pub default_after : SqlType → Bool → Option Value → List Attribute → Option (Option Value)
+default_after type not_null so_far [] = Some so_far
+default_after type not_null so_far (attribute.Default minus value ∷ attributes) =
+    option_and_then (λ own. default_after type not_null (Some own) attributes) (kept_of type not_null (default_of minus value))
+default_after type not_null so_far (other ∷ attributes) = default_after type not_null so_far attributes
 
 -- the last NOT NULL or NULL counts
 abbrev pub refuses_null_after : Bool → List Attribute → Bool
@@ -81,9 +85,26 @@ abbrev pub is_not_null : List Element → ColumnElement → Bool
 is_not_null elements column = list_any (keys_column column.name) elements || refuses_null_after false column.attributes
 
 abbrev pub defaults_outside : Option SqlType → Bool → List Attribute → Bool
-defaults_outside (Some type) not_null attributes = list_any (default_outside type not_null) attributes
+defaults_outside (Some type) not_null attributes = not (is_some (default_after type not_null None attributes))
 defaults_outside None not_null attributes = false
 
 abbrev pub has_outside_default : List Element → Element → Bool
 has_outside_default elements (element.Column column) = defaults_outside (type_of column.kind) (is_not_null elements column) column.attributes
 has_outside_default elements other = false
+
+-- What a column's definition comes to; nothing where its type, or a default of it, is outside the language.
+
+abbrev pub typed : Bool → List Attribute → SqlType → Option Definition
+typed not_null attributes type =
+    option_map (λ default. record { kind = type; not_null = not_null; default = default }) (default_after type not_null None attributes)
+
+abbrev pub definition_of : Bool → ColumnElement → Option Definition
+definition_of not_null column = option_and_then (typed not_null column.attributes) (type_of column.kind)
+
+-- of a column that CREATE makes, among these elements
+abbrev pub created_column : List Element → ColumnElement → Option Definition
+created_column elements column = definition_of (is_not_null elements column) column
+
+-- of a column of ALTER, which is in no key of the text
+abbrev pub altered_column : ColumnElement → Option Definition
+altered_column column = definition_of (refuses_null_after false column.attributes) column

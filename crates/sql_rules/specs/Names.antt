@@ -22,6 +22,8 @@ use Rattle.sql_ast.specs.declared.statements.Statement.{Statement}
 use Rattle.sql_ast.specs.declared.statements.Statement.TheVariants as statement
 use Rattle.sql_ast.specs.declared.statements.Write.{Write}
 use Rattle.sql_ast.specs.declared.statements.Write.TheVariants as write
+use Rattle.sql_ast.specs.declared.statements.AlterAction.{AlterAction}
+use Rattle.sql_ast.specs.declared.statements.AlterAction.TheVariants as action
 use Rattle.sql_ast.specs.declared.statements.Insert.{Insert}
 use Rattle.sql_ast.specs.declared.statements.Entry.{Entry}
 use Rattle.sql_ast.specs.declared.statements.Entry.TheVariants as entry
@@ -95,13 +97,18 @@ assignment_long assignment = is_long assignment.column || names_long assignment.
 abbrev pub update_long : Update → Bool
 update_long update = is_long update.table || list_any assignment_long update.assignments || names_long_if update.filter
 
+abbrev pub action_long : AlterAction → Bool
+action_long (action.Add column) = is_long column.name
+action_long (action.Drop name) = is_long name
+action_long (action.Modify column) = is_long column.name
+
 abbrev pub write_long : Write → Bool
 write_long (write.Create create) = create_long create
 write_long (write.Drop drop) = is_long drop.table
 write_long (write.Insert insert) = insert_long insert
 write_long (write.Update update) = update_long update
 write_long (write.Delete delete) = is_long delete.table || names_long_if delete.filter
-write_long (write.Alter alter) = is_long alter.table
+write_long (write.Alter alter) = is_long alter.table || action_long alter.action
 
 abbrev pub named_long : NamedExpr → Bool
 named_long named = names_long named.expr || is_long_if named.name

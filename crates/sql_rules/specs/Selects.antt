@@ -1,7 +1,8 @@
 -- What a SELECT may not say.
-use Rattle.std.specs.Prelude.{ℕ, Bool, true, false, ◌||◌, ◌&&◌, ◌-◌, List, [], ◌∷◌, Option, Some, None, nat_le, not, slice_get}
+use Rattle.std.specs.Prelude.{ℕ, Bool, true, false, ◌||◌, ◌&&◌, ◌-◌, List, [], ◌∷◌, Option, Some, None, is_some, nat_le, not, slice_get, if◌then◌else◌}
 use Rattle.std.specs.Str.{bytes_eq}
-use Rattle.std.specs.List.{list_any, list_all}
+use Rattle.std.specs.List.{list_any, list_all, position}
+use Rattle.std.specs.Option.{option_map}
 use Rattle.sql_ast.specs.declared.expressions.Expr.{Expr, out-Expr}
 use Rattle.sql_ast.specs.declared.expressions.Expr.TheOpen.{Expr-F}
 use Rattle.sql_ast.specs.declared.expressions.Literal.{Literal}
@@ -25,6 +26,10 @@ use Rattle.sql_rules.specs.Names.{in_given, repeats_by}
 use Rattle.sql_features.specs.Nesting.{nests}
 use Rattle.sql_rules.specs.Writes.{is_misplaced, is_misplaced_if}
 use Rattle.sql_features.specs.declared.features.Feature.TheVariants as feature
+use Rattle.sql_rules.specs.declared.order_keys.Key.{Key}
+use Rattle.sql_rules.specs.declared.order_keys.Key.TheVariants.{AtItem, OverSources}
+use Rattle.sql_rules.specs.declared.selects.GroupItem.{GroupItem}
+use Rattle.sql_rules.specs.declared.selects.GroupItem.TheVariants.{AggregateCall, GroupColumn}
 
 -- The sources.
 
@@ -63,24 +68,28 @@ is_written_as (Expr-F.Name name) (column.Name other) = bytes_eq name other
 is_written_as (Expr-F.Qualified source name) (column.Qualified other_source other) = bytes_eq source other_source && bytes_eq name other
 is_written_as node other = false
 
-abbrev pub is_group : List ColumnName → Expr → Bool
-is_group groups expr = list_any (is_written_as (out-Expr expr)) groups
+abbrev pub grouped_as : List ColumnName → Expr → Option GroupItem
+grouped_as groups expr =
+    if is_call expr then Some AggregateCall else option_map (λ place. GroupColumn place) (position (is_written_as (out-Expr expr)) groups)
 
--- what a grouped SELECT may show
+-- what an item of a grouped SELECT is; nothing where it may show no such item
+abbrev pub group_item : List ColumnName → Item → Option GroupItem
+group_item groups (item.AllOf source) = None
+group_item groups (item.One named) = grouped_as groups named.expr
+
 abbrev pub is_of_groups : List ColumnName → Item → Bool
-is_of_groups groups (item.AllOf source) = false
-is_of_groups groups (item.One named) = is_call named.expr || is_group groups named.expr
+is_of_groups groups shown = is_some (group_item groups shown)
 
 abbrev pub are_of_groups : List ColumnName → Items → Bool
 are_of_groups groups items.All = false
 are_of_groups groups (items.Listed list) = list_all (is_of_groups groups) list
 
-abbrev pub is_some : {A : Type 0} → List A → Bool
-is_some [] = false
-is_some (x ∷ xs) = true
+abbrev pub is_filled : {A : Type 0} → List A → Bool
+is_filled [] = false
+is_filled (x ∷ xs) = true
 
 abbrev pub is_grouped : Query → Bool
-is_grouped query = is_some query.clauses.groups || in_items (has feature.Aggregate) query.items
+is_grouped query = is_filled query.clauses.groups || in_items (has feature.Aggregate) query.items
 
 abbrev pub is_ungrouped_item_shown : Query → Bool
 is_ungrouped_item_shown query = is_grouped query && not (are_of_groups query.clauses.groups query.items)
@@ -91,10 +100,13 @@ abbrev pub is_one : Item → Bool
 is_one (item.AllOf source) = false
 is_one (item.One named) = true
 
--- this many items, counted from one, reach one that is no `*`
-abbrev pub numbers : Items → ℕ → Bool
-numbers items.All n = false
-numbers (items.Listed list) n = nat_le 1 n && in_given is_one (slice_get list (n - 1))
+abbrev pub one_numbered : List Item → ℕ → Option Key
+one_numbered list n = if nat_le 1 n && in_given is_one (slice_get list (n - 1)) then Some (AtItem (n - 1)) else None
+
+-- the item of this number, counted from one, where it is no `*`
+abbrev pub numbered : Items → ℕ → Option Key
+numbered items.All n = None
+numbered (items.Listed list) n = one_numbered list n
 
 -- a column's own name
 abbrev pub is_column_named : List ℕ → Expr-F Expr → Bool
@@ -111,23 +123,34 @@ abbrev pub is_item_named : List ℕ → Item → Bool
 is_item_named name (item.AllOf source) = false
 is_item_named name (item.One named) = is_named_by name named.name named.expr
 
-abbrev pub names_item : Items → List ℕ → Bool
-names_item items.All name = false
-names_item (items.Listed list) name = list_any (is_item_named name) list
+-- the place of the first item of this name
+abbrev pub item_named : Items → List ℕ → Option ℕ
+item_named items.All name = None
+item_named (items.Listed list) name = position (is_item_named name) list
 
-abbrev pub is_literal_key : Items → Bool → Literal → Bool
-is_literal_key shown open_to_sources (literal.Whole n) = numbers shown n
-is_literal_key shown open_to_sources value = open_to_sources
+abbrev pub over_sources : Bool → Option Key
+over_sources open_to_sources = if open_to_sources then Some OverSources else None
+
+abbrev pub item_or_sources : Option ℕ → Bool → Option Key
+item_or_sources (Some place) open_to_sources = Some (AtItem place)
+item_or_sources None open_to_sources = over_sources open_to_sources
+
+abbrev pub literal_key : Items → Bool → Literal → Option Key
+literal_key shown open_to_sources (literal.Whole n) = numbered shown n
+literal_key shown open_to_sources value = over_sources open_to_sources
+
+abbrev pub key_at : Items → Bool → Expr-F Expr → Option Key
+key_at shown open_to_sources (Expr-F.Literal value) = literal_key shown open_to_sources value
+key_at shown open_to_sources (Expr-F.Name name) = item_or_sources (item_named shown name) open_to_sources
+key_at shown open_to_sources node = over_sources open_to_sources
 
 -- a whole literal is an item's number; a name that an item has is that item; else the key is an expression over the
--- sources, where there may be such keys
-abbrev pub is_key : Items → Bool → Expr-F Expr → Bool
-is_key shown open_to_sources (Expr-F.Literal value) = is_literal_key shown open_to_sources value
-is_key shown open_to_sources (Expr-F.Name name) = names_item shown name || open_to_sources
-is_key shown open_to_sources node = open_to_sources
+-- sources, where there may be such keys; nothing where it is no key
+abbrev pub key_of : Items → Bool → Expr → Option Key
+key_of shown open_to_sources expr = key_at shown open_to_sources (out-Expr expr)
 
 abbrev pub key_outside : Items → Bool → OrderKey → Bool
-key_outside shown open_to_sources key = is_misplaced key.expr || not (is_key shown open_to_sources (out-Expr key.expr))
+key_outside shown open_to_sources key = is_misplaced key.expr || not (is_some (key_of shown open_to_sources key.expr))
 
 -- the rows that are shown stand for one combination of the sources' rows each
 abbrev pub is_open_to_sources : Query → Bool

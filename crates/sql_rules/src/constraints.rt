@@ -1,13 +1,13 @@
 ghost use Rattle.std.specs.Prelude.{◌≡◌, IfOk};
 ghost use Rattle.std.specs.List.{count_by};
+ghost use Rattle.sql_rules.specs.Constraints as spec;
 ghost use Rattle.sql_rules.specs.Constraints.{is_free, is_unique_mark, made_name, makes_long, one_if_none, unnamed, unnamed_in, word_of};
-ghost use Rattle.sql_features.specs.Features.{is_long};
 
+use crate::names::some_is_long;
 use crate::tables::has_constraint;
 use sql_ast::{Attribute, Element};
-use sql_features::is_long_name;
 use std::alloc::{AllocError, Global};
-use tuple_codec::Text;
+use tuple_codec::{Sequence, Text};
 
 /// The sorts of constraints, whose made names differ in a word.
 #[derive(Clone, Copy)]
@@ -19,8 +19,6 @@ pub enum Sort {
 }
 
 /// Whether a name that is made for a constraint without one has more bytes than a name may have.
-///
-/// A number of constraints that no machine counts is told as want of memory, since no memory holds so many.
 pub fn makes_long_name(
     alloc: Global,
     table: &Text,
@@ -29,22 +27,36 @@ pub fn makes_long_name(
 ) -> Result<bool, AllocError>
     ensures { IfOk result (λ made. made ≡ makes_long table.now elements.now sort) }
 {
+    let names = made_names(alloc, table, elements, sort)?;
+    Ok(some_is_long(names.as_slice()))
+}
+
+/// The names that are made for the constraints of a sort that have none, in the text's order.
+///
+/// A number of constraints that no machine counts is told as want of memory, since no memory holds so many.
+pub fn made_names(
+    alloc: Global,
+    table: &Text,
+    elements: &[Element],
+    sort: Sort,
+) -> Result<Sequence<Text>, AllocError>
+    ensures { IfOk result (λ names. names ≡ spec.made_names table.now elements.now sort) }
+{
     let mut left = count_unnamed(elements, sort)?;
     let most = left.checked_add(elements.len()).ok_or(AllocError)?;
+    let mut names = Sequence::new(alloc);
     for turn in 0..most {
         if left == 0 {
-            return Ok(false);
+            return Ok(names);
         }
         let name = make_name(alloc, table, sort, turn + 1)?;
         if !is_unused(elements, &name) {
             continue;
         }
-        if is_long_name(&name) {
-            return Ok(true);
-        }
+        names.push(name)?;
         left -= 1;
     }
-    Ok(false)
+    Ok(names)
 }
 
 fn is_unused(elements: &[Element], name: &Text) -> bool

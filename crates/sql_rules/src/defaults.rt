@@ -1,7 +1,8 @@
-ghost use Rattle.std.specs.Prelude.{◌≡◌, IfOk, true, false};
+ghost use Rattle.std.specs.Prelude.{◌≡◌, IfOk, None, true, false};
 ghost use Rattle.std.specs.List.{list_any};
 ghost use Rattle.tuple_codec.specs.Limits.{is_type};
-ghost use Rattle.sql_rules.specs.Defaults.{default_of, default_outside, defaults_outside, fraction, has_outside_default, is_assignable, is_kept, is_not_null, negative_default, negative_fraction, negative_whole, plain_default, positive_fraction, refuses_null_after, whole};
+ghost use Rattle.sql_rules.specs.Defaults as spec;
+ghost use Rattle.sql_rules.specs.Defaults.{default_after, default_of, defaults_outside, definition_of, fraction, has_outside_default, is_not_null, kept, kept_of, negative_default, negative_fraction, negative_whole, plain_default, positive_fraction, refuses_null_after, typed, whole};
 ghost use Rattle.sql_rules.specs.Tables.{is_key_mark, keys_column, type_of};
 
 use crate::names::contains_name;
@@ -18,6 +19,16 @@ const MOST_WHOLE: u64 = (1 << 63) - 1;
 pub struct Given {
     pub kind: Kind,
     pub value: Value,
+}
+
+/// What a column's definition comes to.
+#[derive(Drop)]
+pub struct Definition {
+    pub kind: SqlType,
+    /// A column of the primary key is NOT NULL whatever it says.
+    pub not_null: bool,
+    /// As the column keeps it; a default of NULL isn't the same as none.
+    pub default: Option<Value>,
 }
 
 /// Whether a column of these has a default that can't be assigned to it.
@@ -55,7 +66,8 @@ fn column_has_outside_default(
     match column_type(&column.kind) {
         Some(kind) => {
             let not_null = takes_no_null(elements, column);
-            some_default_misfits(alloc, &kind, not_null, column.attributes.as_slice())
+            let default = last_default(alloc, &kind, not_null, column.attributes.as_slice())?;
+            Ok(default.is_none())
         }
         None => Ok(false),
     }
@@ -108,57 +120,104 @@ fn refuses_null(attributes: &[Attribute]) -> bool
     refuses
 }
 
-fn some_default_misfits(
+/// The default that a column's attributes say, if any, as the column keeps it; nothing where it doesn't keep one of them.
+fn last_default(
     alloc: Global,
     kind: &SqlType,
     not_null: bool,
     attributes: &[Attribute],
-) -> Result<bool, AllocError>
+) -> Result<Option<Option<Value>>, AllocError>
     requires { is_type kind.now ≡ true }
-    ensures { IfOk result (λ outside. outside ≡ list_any (default_outside kind.now not_null) attributes.now) }
+    ensures { IfOk result (λ default. default ≡ default_after kind.now not_null None attributes.now) }
 {
+    let mut last = None;
     for attribute in attributes {
-        if default_misfits(alloc, kind, not_null, attribute)? {
-            return Ok(true);
+        match attribute {
+            Attribute::Default(minus, literal) => {
+                match kept_default(alloc, kind, not_null, *minus, literal)? {
+                    Some(value) => last = Some(value),
+                    None => return Ok(None),
+                }
+            }
+            Attribute::NotNull | Attribute::Null | Attribute::PrimaryKey | Attribute::Unique => {}
         }
     }
-    Ok(false)
+    Ok(Some(last))
 }
 
-fn default_misfits(
+fn kept_default(
     alloc: Global,
     kind: &SqlType,
     not_null: bool,
-    attribute: &Attribute,
-) -> Result<bool, AllocError>
+    minus: bool,
+    literal: &Literal,
+) -> Result<Option<Value>, AllocError>
     requires { is_type kind.now ≡ true }
-    ensures { IfOk result (λ outside. outside ≡ default_outside kind.now not_null attribute.now) }
+    ensures { IfOk result (λ value. value ≡ kept_of kind.now not_null (default_of minus literal.now)) }
 {
-    match attribute {
-        Attribute::Default(minus, literal) => {
-            let given = default_given(alloc, *minus, literal)?;
-            Ok(!fits_column(kind, not_null, given))
-        }
-        _ => Ok(false),
+    match default_given(alloc, minus, literal)? {
+        Some(Given { kind: own, value }) => Ok(value_kept(assign(&own, kind, not_null, value))),
+        None => Ok(None),
     }
 }
 
-fn fits_column(kind: &SqlType, not_null: bool, given: Option<Given>) -> bool
-    requires { is_type kind.now ≡ true }
-    ensures { result ≡ is_assignable kind.now not_null given }
+fn value_kept(assigned: Result<Value, Misfit>) -> Option<Value>
+    ensures { result ≡ kept assigned }
 {
-    match given {
-        Some(Given { kind: own, value }) => is_value(assign(&own, kind, not_null, value)),
-        None => false,
+    assigned.ok()
+}
+
+/// What the definition of a column that CREATE makes, among these elements, comes to; nothing where its type, or a
+/// default of it, is outside the language.
+pub fn created_column(
+    alloc: Global,
+    elements: &[Element],
+    column: &ColumnElement,
+) -> Result<Option<Definition>, AllocError>
+    ensures { IfOk result (λ made. made ≡ spec.created_column elements.now column.now) }
+{
+    define(alloc, takes_no_null(elements, column), column)
+}
+
+/// The same of a column that ALTER adds or modifies.
+pub fn altered_column(
+    alloc: Global,
+    column: &ColumnElement,
+) -> Result<Option<Definition>, AllocError>
+    ensures { IfOk result (λ made. made ≡ spec.altered_column column.now) }
+{
+    define(alloc, refuses_null(column.attributes.as_slice()), column)
+}
+
+fn define(
+    alloc: Global,
+    not_null: bool,
+    column: &ColumnElement,
+) -> Result<Option<Definition>, AllocError>
+    ensures { IfOk result (λ made. made ≡ definition_of not_null column.now) }
+{
+    match column_type(&column.kind) {
+        Some(kind) => define_typed(alloc, not_null, column.attributes.as_slice(), kind),
+        None => Ok(None),
     }
 }
 
-fn is_value(kept: Result<Value, Misfit>) -> bool
-    ensures { result ≡ is_kept kept }
+fn define_typed(
+    alloc: Global,
+    not_null: bool,
+    attributes: &[Attribute],
+    kind: SqlType,
+) -> Result<Option<Definition>, AllocError>
+    requires { is_type kind ≡ true }
+    ensures { IfOk result (λ made. made ≡ typed not_null attributes.now kind) }
 {
-    match kept {
-        Ok(_) => true,
-        Err(_) => false,
+    match last_default(alloc, &kind, not_null, attributes)? {
+        Some(default) => Ok(Some(Definition {
+            kind,
+            not_null,
+            default,
+        })),
+        None => Ok(None),
     }
 }
 

@@ -1,11 +1,11 @@
 ghost use Rattle.std.specs.Prelude.{◌≡◌};
 ghost use Rattle.std.specs.List.{list_any};
-ghost use Rattle.sql_rules.specs.Names.{are_long, assignment_long, clauses_long, column_long, contains, create_long, element_long, entry_long, foreign_key_long, from_long, in_given, insert_long, is_long_if, is_long_worded, is_system_name, item_long, items_long, join_long, key_long, named_long, names_long, names_long_if, query_long, repeats, select_long, source_long, update_long, write_long};
+ghost use Rattle.sql_rules.specs.Names.{action_long, are_long, assignment_long, clauses_long, column_long, contains, create_long, element_long, entry_long, foreign_key_long, from_long, in_given, insert_long, is_long_if, is_long_worded, is_system_name, item_long, items_long, join_long, key_long, named_long, names_long, names_long_if, query_long, repeats, select_long, source_long, update_long, write_long};
 
 use sql_ast::{
-    Assignment, Clauses, ColumnName, CreateTable, Element, Entry, Expr, ForeignKeyElement,
-    FromClause, Insert, Item, Items, Join, NamedExpr, OrderKey, Query, Select, Source, Statement,
-    Tuple, Update, Write,
+    AlterAction, Assignment, Clauses, ColumnName, CreateTable, Element, Entry, Expr,
+    ForeignKeyElement, FromClause, Insert, Item, Items, Join, NamedExpr, OrderKey, Query, Select,
+    Source, Statement, Tuple, Update, Write,
 };
 use sql_features::{Feature, has_feature, is_long_name};
 use tuple_codec::{Sequence, Text};
@@ -57,7 +57,17 @@ fn write_has_long(write: &Write) -> bool
         Write::Insert(insert) => insert_has_long(insert),
         Write::Update(update) => update_has_long(update),
         Write::Delete(delete) => is_long_name(&delete.table) || filter_has_long(&delete.filter),
-        Write::Alter(alter) => is_long_name(&alter.table),
+        Write::Alter(alter) => is_long_name(&alter.table) || action_has_long(&alter.action),
+    }
+}
+
+fn action_has_long(action: &AlterAction) -> bool
+    ensures { result ≡ action_long action.now }
+{
+    match action {
+        AlterAction::Add(column) => is_long_name(&column.name),
+        AlterAction::Drop(name) => is_long_name(name),
+        AlterAction::Modify(column) => is_long_name(&column.name),
     }
 }
 
@@ -95,7 +105,7 @@ fn foreign_key_has_long(key: &ForeignKeyElement) -> bool
         || some_is_long(key.parent_columns.as_slice())
 }
 
-fn some_is_long(names: &[Text]) -> bool
+pub fn some_is_long(names: &[Text]) -> bool
     ensures { result ≡ are_long names.now }
 {
     names.iter().any(|name| is_long_name(name))

@@ -1,46 +1,86 @@
 ghost use Rattle.std.specs.Prelude.{◌≡◌, slice_get};
-ghost use Rattle.std.specs.List.{list_any};
+ghost use Rattle.std.specs.List.{position};
 ghost use Rattle.sql_ast.specs.declared.expressions.Expr.{out-Expr};
-ghost use Rattle.sql_rules.specs.Selects.{is_column_named, is_item_named, is_key, is_literal_key, is_named_by, is_one, key_outside, names_item, numbers};
+ghost use Rattle.sql_rules.specs.Selects as spec;
+ghost use Rattle.sql_rules.specs.Selects.{is_column_named, is_item_named, is_named_by, is_one, key_of, key_outside, literal_key, numbered};
 ghost use Rattle.sql_rules.specs.Names.{in_given};
 
 use crate::writes::is_out_of_place;
 use sql_ast::{Expr, Item, Items, Literal, OrderKey};
 use tuple_codec::Text;
 
+/// What a key of ORDER BY orders by.
+#[derive(Clone, Copy, Debug, PartialEq, Eq)]
+pub enum Key {
+    /// The item at this place, counted from 0.
+    AtItem(usize),
+    /// The key's own expression, over the sources.
+    OverSources,
+}
+
 /// Whether a key of ORDER BY is none; `open_to_sources` says whether one may be an expression over the sources.
 pub fn is_outside_key(items: &Items, open_to_sources: bool, key: &OrderKey) -> bool
     ensures { result ≡ key_outside items.now open_to_sources key.now }
 {
-    is_out_of_place(&key.expr) || !orders(items, open_to_sources, &key.expr)
+    is_out_of_place(&key.expr) || order_key(items, open_to_sources, &key.expr).is_none()
 }
 
-fn orders(items: &Items, open_to_sources: bool, expr: &Expr) -> bool
-    ensures { result ≡ is_key items.now open_to_sources (out-Expr expr.now) }
+/// What a key of ORDER BY orders by; nothing where it is no key.
+pub fn order_key(items: &Items, open_to_sources: bool, expr: &Expr) -> Option<Key>
+    ensures { result ≡ key_of items.now open_to_sources expr.now }
 {
     match expr {
-        Expr::Literal(literal) => literal_orders(items, open_to_sources, literal),
-        Expr::Name(name) => has_item_named(items, name) || open_to_sources,
-        _ => open_to_sources,
+        Expr::Literal(literal) => literal_order(items, open_to_sources, literal),
+        Expr::Name(name) => item_or_sources(item_named(items, name), open_to_sources),
+        _ => over_sources(open_to_sources),
     }
 }
 
-fn literal_orders(items: &Items, open_to_sources: bool, literal: &Literal) -> bool
-    ensures { result ≡ is_literal_key items.now open_to_sources literal.now }
+fn item_or_sources(place: Option<usize>, open_to_sources: bool) -> Option<Key>
+    ensures { result ≡ spec.item_or_sources place open_to_sources }
+{
+    match place {
+        Some(place) => Some(Key::AtItem(place)),
+        None => over_sources(open_to_sources),
+    }
+}
+
+fn over_sources(open_to_sources: bool) -> Option<Key>
+    ensures { result ≡ spec.over_sources open_to_sources }
+{
+    if open_to_sources {
+        Some(Key::OverSources)
+    } else {
+        None
+    }
+}
+
+fn literal_order(items: &Items, open_to_sources: bool, literal: &Literal) -> Option<Key>
+    ensures { result ≡ literal_key items.now open_to_sources literal.now }
 {
     match literal {
-        Literal::Whole(number) => has_item_numbered(items, *number),
-        _ => open_to_sources,
+        Literal::Whole(number) => item_numbered(items, *number),
+        _ => over_sources(open_to_sources),
     }
 }
 
-/// Whether an item has this number, counted from 1, and is an expression.
-fn has_item_numbered(items: &Items, number: u64) -> bool
-    ensures { result ≡ numbers items.now number }
+/// The item of this number, counted from 1, where it is an expression.
+fn item_numbered(items: &Items, number: u64) -> Option<Key>
+    ensures { result ≡ numbered items.now number }
 {
     match items {
-        Items::All => false,
-        Items::Listed(list) => 1 <= number && is_one_at(list.as_slice(), number - 1),
+        Items::All => None,
+        Items::Listed(list) => one_numbered(list.as_slice(), number),
+    }
+}
+
+fn one_numbered(list: &[Item], number: u64) -> Option<Key>
+    ensures { result ≡ spec.one_numbered list.now number }
+{
+    if 1 <= number && is_one_at(list, number - 1) {
+        Some(Key::AtItem((number - 1) as usize))
+    } else {
+        None
     }
 }
 
@@ -62,19 +102,19 @@ fn is_expression(item: &Item) -> bool
     }
 }
 
-fn has_item_named(items: &Items, name: &Text) -> bool
-    ensures { result ≡ names_item items.now name.now }
+fn item_named(items: &Items, name: &Text) -> Option<usize>
+    ensures { result ≡ spec.item_named items.now name.now }
 {
     match items {
-        Items::All => false,
-        Items::Listed(list) => some_is_named(list.as_slice(), name),
+        Items::All => None,
+        Items::Listed(list) => first_named(list.as_slice(), name),
     }
 }
 
-fn some_is_named(list: &[Item], name: &Text) -> bool
-    ensures { result ≡ list_any (is_item_named name.now) list.now }
+fn first_named(list: &[Item], name: &Text) -> Option<usize>
+    ensures { result ≡ position (is_item_named name.now) list.now }
 {
-    list.iter().any(|item| is_item_of_name(item, name))
+    list.iter().position(|item| is_item_of_name(item, name))
 }
 
 fn is_item_of_name(item: &Item, name: &Text) -> bool

@@ -1,17 +1,17 @@
-ghost use Rattle.std.specs.Prelude.{◌≡◌, IfOk};
-ghost use Rattle.sql_rules.specs.Outside.{create_outside, is_none, makes_some_long, outside, statement_outside, write_outside};
+ghost use Rattle.std.specs.Prelude.{◌≡◌, is_some, not, IfOk};
+ghost use Rattle.sql_rules.specs.Outside.{action_outside, alter_outside, create_outside, makes_some_long, outside, statement_outside, write_outside};
 ghost use Rattle.sql_procedures.specs.Arguments.{procedure_of};
 ghost use Rattle.sql_rules.specs.Tables.{elements_outside};
 
 use crate::constraints::{Sort, makes_long_name};
-use crate::defaults::some_default_is_outside;
+use crate::defaults::{altered_column, some_default_is_outside};
 use crate::names::{has_long_name, is_kept_by_system};
 use crate::selects::is_outside_select;
 use crate::tables::{
     is_keyed_once, repeats_column_name, repeats_constraint_name, some_element_is_outside,
 };
 use crate::writes::{is_outside_delete, is_outside_insert, is_outside_update};
-use sql_ast::{Call, CreateTable, Element, Statement, Write};
+use sql_ast::{Alter, AlterAction, Call, CreateTable, Element, Statement, Write};
 use sql_features::is_variable_name;
 use sql_procedures::procedure_named;
 use std::alloc::{AllocError, Global};
@@ -42,12 +42,9 @@ fn is_outside_statement(alloc: Global, statement: &Statement) -> Result<bool, Al
 }
 
 fn is_other_procedure(call: &Call) -> bool
-    ensures { result ≡ is_none (procedure_of call.now.name) }
+    ensures { result ≡ not (is_some (procedure_of call.now.name)) }
 {
-    match procedure_named(&call.name) {
-        Some(_) => false,
-        None => true,
-    }
+    procedure_named(&call.name).is_none()
 }
 
 fn is_outside_write(alloc: Global, write: &Write) -> Result<bool, AllocError>
@@ -59,7 +56,26 @@ fn is_outside_write(alloc: Global, write: &Write) -> Result<bool, AllocError>
         Write::Insert(insert) => Ok(is_outside_insert(insert)),
         Write::Update(update) => Ok(is_outside_update(update)),
         Write::Delete(delete) => Ok(is_outside_delete(delete)),
-        Write::Alter(_) => Ok(true),
+        Write::Alter(alter) => is_outside_alter(alloc, alter),
+    }
+}
+
+fn is_outside_alter(alloc: Global, alter: &Alter) -> Result<bool, AllocError>
+    ensures { IfOk result (λ answer. answer ≡ alter_outside alter.now) }
+{
+    if is_kept_by_system(&alter.table) {
+        return Ok(true);
+    }
+    is_outside_action(alloc, &alter.action)
+}
+
+fn is_outside_action(alloc: Global, action: &AlterAction) -> Result<bool, AllocError>
+    ensures { IfOk result (λ answer. answer ≡ action_outside action.now) }
+{
+    match action {
+        AlterAction::Add(column) => Ok(altered_column(alloc, column)?.is_none()),
+        AlterAction::Drop(_) => Ok(false),
+        AlterAction::Modify(column) => Ok(altered_column(alloc, column)?.is_none()),
     }
 }
 

@@ -1,12 +1,13 @@
 ghost use Rattle.std.specs.Prelude.{◌≡◌};
-ghost use Rattle.std.specs.List.{list_all, list_any};
+ghost use Rattle.std.specs.List.{list_all, list_any, position};
 ghost use Rattle.std.specs.Str.{bytes_eq};
 ghost use Rattle.sql_ast.specs.declared.expressions.Expr.{out-Expr};
 ghost use Rattle.sql_ast.specs.declared.selects.ColumnName.TheVariants.{Name, Qualified};
 ghost use Rattle.sql_features.specs.Features.{has};
 ghost use Rattle.sql_rules.specs.Names.{repeats_by};
 ghost use Rattle.sql_features.specs.Nesting.{nests};
-ghost use Rattle.sql_rules.specs.Selects.{alone_outside, are_of_groups, from_outside, in_item, in_items, is_call, is_group, is_grouped, is_of_groups, is_open_to_sources, is_some, is_ungrouped_item_shown, is_written_as, items_outside, joined_name, key_outside, keys_outside, mixes_aggregates, name_or, query_outside, repeats_source, select_outside, source_name};
+ghost use Rattle.sql_rules.specs.Selects as spec;
+ghost use Rattle.sql_rules.specs.Selects.{alone_outside, are_of_groups, from_outside, grouped_as, in_item, in_items, is_call, is_filled, is_grouped, is_of_groups, is_open_to_sources, is_ungrouped_item_shown, is_written_as, items_outside, joined_name, key_outside, keys_outside, mixes_aggregates, name_or, query_outside, repeats_source, select_outside};
 ghost use Rattle.sql_rules.specs.Writes.{is_misplaced};
 
 use crate::order_keys::is_outside_key;
@@ -16,6 +17,14 @@ use sql_ast::{
 };
 use sql_features::{Feature, has_feature, is_aggregate_node, nests_aggregates};
 use tuple_codec::Text;
+
+/// What a grouped SELECT shows in an item.
+#[derive(Clone, Copy, Debug, PartialEq, Eq)]
+pub enum GroupItem {
+    /// The column of GROUP BY at this place, counted from 0.
+    GroupColumn(usize),
+    AggregateCall,
+}
 
 pub fn is_outside_select(select: &Select) -> bool
     ensures { result ≡ select_outside select.now }
@@ -53,14 +62,14 @@ fn has_repeated_source(from: &FromClause) -> bool
     ensures { result ≡ repeats_source from.now }
 {
     let joins = from.joins.as_slice();
-    joins_named(joins, name_of(&from.first)) || repeats_joined(joins)
+    joins_named(joins, source_name(&from.first)) || repeats_joined(joins)
 }
 
 fn repeats_joined(joins: &[Join]) -> bool
     ensures { result ≡ repeats_by joined_name joins.now }
 {
     for (at, join) in joins.iter().enumerate() {
-        if joins_named(&joins[at + 1..], name_of(&join.source)) {
+        if joins_named(&joins[at + 1..], source_name(&join.source)) {
             return true;
         }
     }
@@ -72,12 +81,12 @@ fn joins_named(joins: &[Join], name: &Text) -> bool
 {
     joins
         .iter()
-        .any(|join| name.is(name_of(&join.source).as_slice()))
+        .any(|join| name.is(source_name(&join.source).as_slice()))
 }
 
 /// The name that a source goes by.
-fn name_of(source: &Source) -> &Text
-    ensures { result.now ≡ source_name source.now }
+pub fn source_name(source: &Source) -> &Text
+    ensures { result.now ≡ spec.source_name source.now }
 {
     match &source.alias {
         Some(alias) => alias,
@@ -139,14 +148,15 @@ fn item_nests(item: &Item) -> bool
     }
 }
 
-fn is_grouped_query(query: &Query) -> bool
+/// Whether a SELECT has GROUP BY, or an aggregate in an item.
+pub fn is_grouped_query(query: &Query) -> bool
     ensures { result ≡ is_grouped query.now }
 {
     has_some(query.clauses.groups.as_slice()) || some_item_has(&query.items, Feature::Aggregate)
 }
 
 fn has_some(groups: &[ColumnName]) -> bool
-    ensures { result ≡ is_some groups.now }
+    ensures { result ≡ is_filled groups.now }
 {
     match groups {
         [] => false,
@@ -179,22 +189,39 @@ fn all_are_of_groups(list: &[Item], groups: &[ColumnName]) -> bool
 fn is_item_of_groups(item: &Item, groups: &[ColumnName]) -> bool
     ensures { result ≡ is_of_groups groups.now item.now }
 {
+    group_item(groups, item).is_some()
+}
+
+/// What an item of a grouped SELECT is; nothing where such a SELECT may not show it.
+pub fn group_item(groups: &[ColumnName], item: &Item) -> Option<GroupItem>
+    ensures { result ≡ spec.group_item groups.now item.now }
+{
     match item {
-        Item::AllOf(_) => false,
-        Item::One(named) => is_aggregate_call(&named.expr) || is_grouped_by(groups, &named.expr),
+        Item::AllOf(_) => None,
+        Item::One(named) => group_item_of(groups, &named.expr),
     }
 }
 
-fn is_aggregate_call(expr: &Expr) -> bool
+fn group_item_of(groups: &[ColumnName], expr: &Expr) -> Option<GroupItem>
+    ensures { result ≡ grouped_as groups.now expr.now }
+{
+    if is_aggregate_call(expr) {
+        return Some(GroupItem::AggregateCall);
+    }
+    group_written_as(groups, expr).map(GroupItem::GroupColumn)
+}
+
+fn group_written_as(groups: &[ColumnName], expr: &Expr) -> Option<usize>
+    ensures { result ≡ position (is_written_as (out-Expr expr.now)) groups.now }
+{
+    groups.iter().position(|column| is_column(expr, column))
+}
+
+/// Whether an expression is an aggregate's call as a whole.
+pub fn is_aggregate_call(expr: &Expr) -> bool
     ensures { result ≡ is_call expr.now }
 {
     is_aggregate_node(expr)
-}
-
-fn is_grouped_by(groups: &[ColumnName], expr: &Expr) -> bool
-    ensures { result ≡ is_group groups.now expr.now }
-{
-    groups.iter().any(|column| is_column(expr, column))
 }
 
 /// Whether an expression is a column, written alike.
@@ -235,7 +262,7 @@ fn has_outside_key(query: &Query) -> bool
 }
 
 /// Whether the rows that a SELECT orders stand for one combination of its sources' rows each.
-fn orders_combinations(query: &Query) -> bool
+pub fn orders_combinations(query: &Query) -> bool
     ensures { result ≡ is_open_to_sources query.now }
 {
     !(is_grouped_query(query) || query.distinct)

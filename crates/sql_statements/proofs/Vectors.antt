@@ -4,15 +4,22 @@ use Rattle.sql_ast.specs.declared.expressions.Expr.TheVariants as e
 use Rattle.sql_ast.specs.declared.expressions.Literal.TheVariants as literal
 use Rattle.sql_ast.specs.declared.selects.Select.TheVariants as select
 use Rattle.sql_ast.specs.declared.signs.Sign.TheVariants as sign
+use Rattle.sql_ast.specs.declared.statements.AlterAction.TheVariants as action
 use Rattle.sql_ast.specs.declared.statements.Statement.TheVariants as statement
+use Rattle.sql_ast.specs.declared.statements.Write.TheVariants as write
+use Rattle.sql_ast.specs.declared.tables.Attribute.TheVariants as attribute
+use Rattle.sql_ast.specs.declared.tables.TypeName.TheVariants as type
 use Rattle.sql_ast.specs.declared.words.Keyword.TheVariants as word
 use Rattle.sql_grammar.specs.declared.pieces.Piece.TheVariants.{Keyword, Word, Text, Whole, Sign}
 use Rattle.sql_grammar.specs.Pieces.{same_sign, same_keyword}
+use Rattle.sql_grammar.specs.Reading as reading
 use Rattle.sql_grammar.specs.Reading.{sees, sees_keyword, sees_word, sees_name, name, optional_name, string, list, chain, chain_from}
 use Rattle.sql_grammar.specs.Expressions.{column, called, test_ahead, term_ahead, literal_ahead, other_atom, plain_atom, atom, unary, product, term, sum, tested, comparison, negation, conjunction, disjunction, expression, any}
-use Rattle.sql_selects.specs.Selects.{named, begins_all_of, one_item, item, listing_from, listing, items, named_from, alone, selection}
+use Rattle.sql_statements.specs.Selects.{named, begins_all_of, one_item, item, listing_from, listing, items, named_from, alone, selection}
 use Rattle.sql_statements.specs.Heads.{begins_session_point, begins_session}
-use Rattle.sql_tables.specs.Tables.{names, actions, first_action, update_action, referenced, foreign_key, any_element, element_ahead, element_behind, elements, if_not_exists, create}
+use Rattle.sql_statements.specs.Alters.{alter, any_action, action_behind}
+use Rattle.sql_statements.specs.Tables as tables
+use Rattle.sql_statements.specs.Tables.{names, type_name, size, default, attributes, attributes_from, attribute_ahead, attribute_behind, actions, first_action, update_action, referenced, foreign_key, any_element, element_ahead, element_behind, elements, if_not_exists, create}
 use Rattle.sql_statements.specs.Statements.{scope_behind, scope_word, scope, setting, call, arguments, statement_behind, any_statement, statement_of}
 
 -- SET session = 1: the variable is `session`
@@ -56,3 +63,28 @@ wants_delete_before_update : statement_of (Keyword word.Create ∷ Keyword word.
     ∷ Keyword word.On ∷ Keyword word.Update ∷ Keyword word.Restrict ∷ Keyword word.On ∷ Keyword word.Delete ∷ Keyword word.Restrict ∷ Sign sign.CloseParenthesis ∷ []) ≡ Err 4
 unfolding same_sign same_keyword sees sees_keyword sees_name name list chain chain_from names actions first_action update_action referenced foreign_key any_element element_ahead element_behind elements if_not_exists create statement_behind any_statement statement_of
 wants_delete_before_update = refl
+
+-- ALTER TABLE t MODIFY modify VARCHAR(9) NOT NULL DEFAULT 'x'
+modifies_a_column : statement_of (Keyword word.Alter ∷ Keyword word.Table ∷ Word (codes "t") ∷ Word (codes "modify") ∷ Word (codes "modify") ∷ Word (codes "varchar") ∷ Sign sign.OpenParenthesis ∷ Whole 9
+    ∷ Sign sign.CloseParenthesis ∷ Keyword word.Not ∷ Keyword word.Null ∷ Keyword word.Default ∷ Text (codes "x") ∷ [])
+    ≡ Ok (statement.Write (write.Alter (record {
+      table = codes "t";
+      action = action.Modify (record {
+        name = codes "modify";
+        kind = type.Varchar 9;
+        attributes = attribute.NotNull ∷ attribute.Default false (literal.Text (codes "x")) ∷ [];
+      });
+    })))
+unfolding same_sign same_keyword sees sees_keyword sees_name name reading.whole reading.literal default size type_name tables.column attributes attributes_from attribute_ahead attribute_behind alter any_action action_behind statement_behind any_statement statement_of
+modifies_a_column = refl
+
+-- ALTER TABLE t DROP COLUMN x
+drops_a_column : statement_of (Keyword word.Alter ∷ Keyword word.Table ∷ Word (codes "t") ∷ Keyword word.Drop ∷ Keyword word.Column ∷ Word (codes "x") ∷ [])
+    ≡ Ok (statement.Write (write.Alter (record { table = codes "t"; action = action.Drop (codes "x") })))
+unfolding same_sign same_keyword sees sees_keyword sees_name name alter any_action action_behind statement_behind any_statement statement_of
+drops_a_column = refl
+
+-- ALTER TABLE t ADD x INT UNIQUE
+alters_make_no_keys : statement_of (Keyword word.Alter ∷ Keyword word.Table ∷ Word (codes "t") ∷ Keyword word.Add ∷ Word (codes "x") ∷ Word (codes "int") ∷ Keyword word.Unique ∷ []) ≡ Err 1
+unfolding same_sign same_keyword sees sees_keyword sees_name name type_name tables.column attributes attributes_from attribute_ahead attribute_behind alter any_action action_behind statement_behind any_statement statement_of
+alters_make_no_keys = refl

@@ -20,6 +20,7 @@ keyword_opening word.Select = Some opening.Select
 keyword_opening word.Start = Some opening.Start
 keyword_opening word.Set = Some opening.Set
 keyword_opening word.Call = Some opening.Call
+keyword_opening word.Alter = Some opening.Alter
 keyword_opening _ = None
 
 abbrev pub word_opening : List ℕ → Option Opening

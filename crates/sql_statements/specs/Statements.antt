@@ -1,6 +1,6 @@
 -- Statements:
 --
---     statement := CREATE TABLE .. | DROP TABLE .. | SELECT ..
+--     statement := CREATE TABLE .. | DROP TABLE .. | ALTER TABLE .. | SELECT ..
 --       | INSERT INTO name [( names )] VALUES tuple {, tuple}
 --       | UPDATE name SET name = expr {, name = expr} [WHERE expr]
 --       | DELETE FROM name [WHERE expr]
@@ -27,9 +27,10 @@ use Rattle.sql_grammar.specs.declared.stops.Stop.{Stop}
 use Rattle.sql_grammar.specs.declared.stops.Stop.TheVariants.{Memory, At}
 use Rattle.sql_grammar.specs.Expressions.{any}
 use Rattle.sql_grammar.specs.Reading.{Outcome, Reader, ◌>>=◌, ◌>>◌, ◌<$>◌, pure, skip, one, sees, eat, eat_keyword, eat_word, expect, expect_keyword, expect_word, name, string, list}
-use Rattle.sql_selects.specs.Selects.{filter, selection}
+use Rattle.sql_statements.specs.Selects.{filter, selection}
+use Rattle.sql_statements.specs.Alters.{alter}
 use Rattle.sql_statements.specs.Heads.{opening_of, switch_of, begins_session_point, begins_session}
-use Rattle.sql_tables.specs.Tables.{names, create, drop_table}
+use Rattle.sql_statements.specs.Tables.{names, create, drop_table}
 use Rattle.sql_statements.specs.declared.heads.Opening.{Opening}
 use Rattle.sql_statements.specs.declared.heads.Opening.TheVariants as opening
 
@@ -137,6 +138,9 @@ updated = (λ x. statement.Write (write.Update x)) <$> update
 abbrev pub deleted : Reader Statement
 deleted = (λ x. statement.Write (write.Delete x)) <$> delete
 
+abbrev pub altered : Reader Statement
+altered = (λ x. statement.Write (write.Alter x)) <$> alter
+
 abbrev pub selected : Reader Statement
 selected = statement.Select <$> selection
 
@@ -166,6 +170,7 @@ statement_by opening.Commit = with_work statement.Commit
 statement_by opening.Rollback = with_work statement.Rollback
 statement_by opening.Set = set
 statement_by opening.Call = called
+statement_by opening.Alter = altered
 
 -- behind a statement's first word
 unfoldable pub statement_behind : Opening → Reader Statement

@@ -22,6 +22,7 @@ pub enum Opening {
     Rollback,
     Set,
     Call,
+    Alter,
 }
 
 fn keyword_opening(word: Keyword) -> Option<Opening>
@@ -37,6 +38,7 @@ fn keyword_opening(word: Keyword) -> Option<Opening>
         Keyword::Start => Some(Opening::Start),
         Keyword::Set => Some(Opening::Set),
         Keyword::Call => Some(Opening::Call),
+        Keyword::Alter => Some(Opening::Alter),
         _ => None,
     }
 }
@@ -55,6 +57,7 @@ fn word_opening(name: &Text) -> Option<Opening>
     }
 }
 
+/// The statement that a piece begins.
 pub fn opening_of(piece: &Piece) -> Option<Opening>
     ensures { result ≡ spec.opening_of piece.now }
 {

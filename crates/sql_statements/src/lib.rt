@@ -4,11 +4,19 @@
 //! the statement that a list of pieces is, or how many pieces are left where no statement goes on.
 #![tactic(auto)]
 
+mod alters;
+mod chosen;
+mod clauses;
+mod elements;
 mod heads;
 mod reading;
 mod rows;
+mod selection;
 mod settings;
-#[cfg(test)]
-mod tests;
+mod sources;
+mod table_heads;
+mod tables;
+mod types;
 
+pub use heads::{Opening, opening_of};
 pub use reading::read_statement;

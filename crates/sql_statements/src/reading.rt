@@ -6,13 +6,14 @@ ghost use Rattle.sql_statements.specs.Heads.{opening_of};
 ghost use Rattle.sql_statements.specs.Statements as spec;
 ghost use Rattle.sql_statements.specs.Statements.{ReadsWhole};
 
+use crate::alters::read_alter;
 use crate::heads::{Opening, opening_of};
 use crate::rows::{delete, insert, update};
+use crate::selection::read_select;
 use crate::settings::{call, setting};
+use crate::tables::{read_create, read_drop};
 use sql_ast::{Statement, Write};
 use sql_grammar::{Cursor, Piece, Stop};
-use sql_selects::read_select;
-use sql_tables::{read_create, read_drop};
 use std::alloc::Global;
 
 fn created(alloc: Global, cursor: &mut Cursor<'_>) -> Result<Statement, Stop>
@@ -43,6 +44,12 @@ fn deleted(alloc: Global, cursor: &mut Cursor<'_>) -> Result<Statement, Stop>
     ensures { Reads (spec.deleted cursor.old) result cursor.new }
 {
     Ok(Statement::Write(Write::Delete(delete(alloc, cursor)?)))
+}
+
+fn altered(alloc: Global, cursor: &mut Cursor<'_>) -> Result<Statement, Stop>
+    ensures { Reads (spec.altered cursor.old) result cursor.new }
+{
+    Ok(Statement::Write(Write::Alter(read_alter(alloc, cursor)?)))
 }
 
 fn selected(alloc: Global, cursor: &mut Cursor<'_>) -> Result<Statement, Stop>
@@ -99,6 +106,7 @@ fn statement_behind(
         Opening::Rollback => with_work(cursor, Statement::Rollback),
         Opening::Set => set(alloc, cursor),
         Opening::Call => called(alloc, cursor),
+        Opening::Alter => altered(alloc, cursor),
     }
 }
 

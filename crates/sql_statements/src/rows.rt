@@ -4,10 +4,10 @@ ghost use Rattle.sql_grammar.specs.Reading as reading;
 ghost use Rattle.sql_grammar.specs.Reading.{Reads};
 ghost use Rattle.sql_statements.specs.Statements as spec;
 
+use crate::clauses::read_filter;
+use crate::elements::read_names;
 use sql_ast::{Assignment, Delete, Entry, Insert, Keyword, Sign, Tuple, Update};
 use sql_grammar::{Cursor, Stop, read_any};
-use sql_selects::read_filter;
-use sql_tables::read_names;
 use std::alloc::Global;
 use tuple_codec::{Sequence, Text};
 

@@ -4,10 +4,10 @@ use Rattle.std.specs.declared.cmp.Ordering.TheVariants.{Less, Equal, Greater}
 use Rattle.tuple_codec.specs.declared.values.SqlType.TheVariants as type
 use Rattle.tuple_codec.specs.declared.values.Value.TheVariants as cell
 use Rattle.sql_values.specs.declared.kinds.Kind.TheVariants as kind
-use Rattle.sql_values.specs.declared.assigning.Misfit.TheVariants.{OutOfRange, NotNull, TooLong, Mismatch}
+use Rattle.sql_values.specs.declared.assigning.Misfit.TheVariants.{OutOfRange, NotNull}
 use Rattle.sql_values.specs.Assigning.{stored}
-use Rattle.sql_values.specs.Kinds.{are_comparable, may_assign, product_kind, sum_kind}
-use Rattle.sql_values.specs.Logic.{and3, or3}
+use Rattle.sql_values.specs.Kinds.{product_kind, sum_kind}
+use Rattle.sql_values.specs.Logic.{and3}
 use Rattle.sql_values.specs.Numbers.{minus, negated, plus, times}
 use Rattle.sql_values.specs.Order.{worth_cmp}
 use Rattle.sql_values.specs.Totals.{total}

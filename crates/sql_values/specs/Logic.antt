@@ -1,6 +1,5 @@
 -- Logic of three values: true, false, and None for NULL.
-use Rattle.std.specs.Prelude.{Bool, true, false, Option, None, Some, List, [], ◌∷◌, not}
-use Rattle.std.specs.Option.{option_map}
+use Rattle.std.specs.Prelude.{Bool, true, false, Option, None, Some, not}
 
 abbrev pub Truth3 : Type 0
 Truth3 = Option Bool

@@ -1,6 +1,5 @@
 -- Exact numbers, and what sums and products of them are.
-use Rattle.std.specs.Prelude.{ℕ, ℤ, pos, negsuc, Bool, true, false, Option, None, Some, ◌+◌, ◌-◌, ◌*◌, ◌/◌, ◌^◌, max, ◌+ℤ◌, ◌-ℤ◌, ◌*ℤ◌, neg_ℤ, ◌&&◌, nat_lt, nat_le, unsigned_abs, if◌then◌else◌}
-use Rattle.std.specs.Option.{option_and_then}
+use Rattle.std.specs.Prelude.{ℕ, ℤ, pos, true, false, Option, None, Some, ◌+◌, ◌-◌, ◌^◌, max, ◌+ℤ◌, ◌-ℤ◌, ◌*ℤ◌, neg_ℤ, ◌&&◌, nat_lt, nat_le, unsigned_abs, if◌then◌else◌}
 use Rattle.tuple_codec.specs.Rows.{fits_bits}
 use Rattle.sql_values.specs.declared.numbers.Number.{Number}
 use Rattle.sql_values.specs.Worths.{Worth, Unknown, Whole, Truth, Scaled}

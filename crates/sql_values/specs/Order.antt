@@ -1,6 +1,5 @@
 -- How two values compare: numbers by what they are, texts and byte strings byte by byte.
 use Rattle.std.specs.Prelude.{Option, None, Some}
-use Rattle.std.specs.Option.{option_map}
 use Rattle.std.specs.Ordering.{nat_cmp, int_cmp}
 use Rattle.std.specs.declared.cmp.Ordering.{Ordering}
 use Rattle.std.specs.Cmp.Lexicographic.{slice_cmp}

@@ -1,5 +1,5 @@
 -- What an expression is worth on a row, and how a cell and its kind give it.
-use Rattle.std.specs.Prelude.{ℕ, ℤ, Bool, true, false, List, Option, None, Some}
+use Rattle.std.specs.Prelude.{ℕ, ℤ, Bool, true, false, List, None, Some}
 use Rattle.tuple_codec.specs.declared.values.Value.{Value}
 use Rattle.tuple_codec.specs.declared.values.Value.TheVariants as cell
 use Rattle.sql_values.specs.declared.kinds.Kind.{Kind}

@@ -5,5 +5,6 @@ use Rattle.sql_values.proofs.totals.total.Given as goal
 
 abbrev pub invariant-loop-cell : goal.invariant-loop-cell
 invariant-loop-cell l = record {
-    sum : fold added None l.cells ≡ fold added l.total (drop l.cell-index l.cells);
-    bound : nat_abs (unwrap_or l.total (pos 0)) ≤ l.cell-index * 2 ^ 63; }
+  sum : fold added None l.cells ≡ fold added l.total (drop l.cell-index l.cells);
+  bound : nat_abs (unwrap_or l.total (pos 0)) ≤ l.cell-index * 2 ^ 63;
+}

@@ -1,6 +1,0 @@
-use Rattle.std.proofs.Common.{◌≡◌, ◌-◌}
-use Rattle.sql_tables.specs.Tables.{attributes, attributes_from}
-use Rattle.sql_tables.proofs.types.attributes.Given as goal
-
-abbrev pub invariant-loop-turn : goal.invariant-loop-turn
-invariant-loop-turn l = attributes l.fn.cursor ≡ attributes_from (l._turn-end - l._turn) l.found l.cursor
