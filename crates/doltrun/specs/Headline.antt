@@ -8,7 +8,7 @@ use Rattle.schema_model.specs.WrittenForms.{commit_bytes, database_bytes}
 use Rattle.script_text.specs.Collisions.{AllTellTruly, IsCollision}
 use Rattle.script_text.specs.Input.{script, most_bytes}
 use Rattle.script_text.specs.Output.{clash_text, newline, text}
-use Rattle.script_text.specs.Shown.{IsShown}
+use Rattle.script_text.specs.Shown.{IsSameShown, IsShown}
 use Rattle.script_text.specs.declared.faults.BadScript.{BadScript}
 use Rattle.script_text.specs.declared.outputs.RunText.{RunText}
 use Rattle.script_text.specs.declared.scripts.Script.{Script}
@@ -53,7 +53,7 @@ HasScript (Some input) read = script input ≡ read
 
 -- The text that was written is that of a run which is the plain machine's run of the script, along the order and with
 -- the wants of memory and collisions that the text shows; the order is the script's own; each collision is one of two byte
--- strings of that address; and the text shows no other run.
+-- strings of that address; and whatever run has this text has the same sessions, printed replies, wants of memory, collisions and order.
 pub record IsAnswer (address : List ℕ → List ℕ) (read : Result Script BadScript) (written : List ℕ) : Type 0 where
   pub script : Script
   pub run : RunText
@@ -63,6 +63,7 @@ pub record IsAnswer (address : List ℕ → List ℕ) (read : Result Script BadS
   pub ordered : IsTextOrder script run.order
   pub shown : IsShown run
   pub prints : written ≡ text run
+  pub alone : (other : RunText) → IsShown other → text other ≡ written → IsSameShown run other
 
 -- the whole input was read, and the whole answer to its script was appended
 pub record WritesAnswer (address : List ℕ → List ℕ) (told left old new : Option (List ℕ)) : Type 0 where

@@ -1,5 +1,6 @@
 pub mod Alone
 pub mod Answers
+pub mod Endings
 pub mod Headline
 pub mod Opening
 pub mod Running

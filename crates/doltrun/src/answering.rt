@@ -4,7 +4,7 @@ ghost use Rattle.doltrun.specs.Stops.{Comes};
 
 use crate::lines::run_script;
 use chunk_store::{Clash, PutFault};
-use script_text::{BadScript, ScriptFault, print_output, push_clash, read_script};
+use script_text::{BadScript, ScriptFault, one_reading, print_output, push_clash, read_script};
 use std::alloc::{AllocError, Global};
 use tuple_codec::{Blob, Digester};
 use wire_io::Pacer;
@@ -68,6 +68,7 @@ pub fn answer<D: Digester, P: Pacer>(
 {
     let script = read_script(alloc, bytes, false)?;
     let run = run_script::<D, P>(alloc, pacer, script)?;
+    one_reading();
     Ok(print_output(alloc, &run)?)
 }
 

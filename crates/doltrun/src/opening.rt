@@ -62,11 +62,9 @@ fn put_database<D: Digester>(alloc: Global, draft: &mut Draft<D>) -> Result<Addr
 }
 
 /// An address has twenty bytes. It does nothing.
-fn know_length(address: Address)
-    ensures { length address.0 ≡ 20 }
-{
-    let _bytes = address.0;
-}
+fn know_length(_address: Address)
+    ensures { length _address.0 ≡ 20 }
+{}
 
 /// Puts the first commit, of the database at this address, into a draft that has it alone.
 fn put_commit<D: Digester>(

@@ -1,11 +1,6 @@
-ghost use Rattle.std.specs.Prelude.{◌≡◌, ◌≢◌, ◌⊎◌, ◌≤◌, true, false};
-ghost use Rattle.std.specs.Io.KnownBytes.{Appends};
 ghost use Rattle.chunk_store.specs.Digests.{cut_address};
-ghost use Rattle.wire_io.specs.Causes.{Rose};
-ghost use Rattle.wire_io.specs.Moves.{LosesAtMost};
-ghost use Rattle.script_text.specs.declared.faults.BadScript.{BadScript};
-ghost use Rattle.doltrun.specs.Headline.{WritesAnswer, is_form, most_taken, spelled, usage_line};
-ghost use Rattle.doltrun.specs.Stops.{FallsShort, IsTold, StopsThere, WritesCollision, WritesFault};
+ghost use Rattle.doltrun.specs.Endings.{IsEnding};
+ghost use Rattle.doltrun.specs.Headline.{spelled};
 
 use crate::status::Status;
 use crate::words::{USAGE, has_form};
@@ -33,32 +28,7 @@ pub fn run<R: Threads + Wait + Sync, S: Source, K: Sink, P: Pacer>(
     output: &mut K,
     pacer: &P,
 ) -> Status
-    // The whole input was read, and what was appended is the text of the plain machine's run of its script.
-    ensures done { result ≡ Status.Done → WritesAnswer cut_address (S.left input.old) (S.left input.new) (K.held output.old) (K.held output.new) }
-
-    // Words of no form are told by the usage line, before anything is read.
-    ensures form { is_form (spelled words.now) ≡ false → (result ≡ Status.Usage) ⊎ (result ≡ Status.Write) }
-    ensures untouched { is_form (spelled words.now) ≡ false → input.new ≡ input.old }
-    ensures usage { result ≡ Status.Usage
-        → (is_form (spelled words.now) ≡ false) × Appends (K.held output.old) (K.held output.new) usage_line }
-
-    // A script that breaks a rule is told by its first line that does, and the least rule.
-    ensures script { result ≡ Status.Script → WritesFault (S.left input.old) (K.held output.old) (K.held output.new) }
-    ensures faulty { is_form (spelled words.now) ≡ true → (bad : BadScript) → IsTold (S.left input.old) bad → StopsThere result }
-
-    // The two chunks that a database is opened with, where they have one address.
-    ensures collision { result ≡ Status.Collision → WritesCollision cut_address (S.left input.old) (K.held output.old) (K.held output.new) }
-
-    // The source or the sink failed, and counted it in this call.
-    ensures read { result ≡ Status.Read → Rose (S.faults input.old) (S.faults input.new) × (output.new ≡ output.old) }
-    ensures steady { S.steady input.old ≡ true → result ≢ Status.Read }
-    ensures write { result ≡ Status.Write → Rose (K.faults output.old) (K.faults output.new) }
-    ensures part { result ≡ Status.Write
-        → FallsShort cut_address (spelled words.now) (S.left input.old) (K.held output.old) (K.held output.new) (K.room output.old) }
-
-    ensures memory { result ≡ Status.Memory → output.new ≡ output.old }
-    ensures taken { LosesAtMost most_taken (S.left input.old) (S.left input.new) }
-    ensures counts { (S.faults input.old ≤ S.faults input.new) × (K.faults output.old ≤ K.faults output.new) }
+    ensures { IsEnding cut_address (spelled words.now) (record { left = S.left; faults = S.faults; steady = S.steady }) (record { held = K.held; faults = K.faults; room = K.room }) input.old input.new output.old output.new result }
 {
     run_with::<Sha512Cut, R, S, K, P>(rt, alloc, words, input, output, pacer)
 }
@@ -72,34 +42,22 @@ pub fn run_with<D: Digester, R: Threads + Wait + Sync, S: Source, K: Sink, P: Pa
     output: &mut K,
     pacer: &P,
 ) -> Status
-    // The whole input was read, and what was appended is the text of the plain machine's run of its script.
-    ensures done { result ≡ Status.Done → WritesAnswer D.address (S.left input.old) (S.left input.new) (K.held output.old) (K.held output.new) }
-
-    // Words of no form are told by the usage line, before anything is read.
-    ensures form { is_form (spelled words.now) ≡ false → (result ≡ Status.Usage) ⊎ (result ≡ Status.Write) }
-    ensures untouched { is_form (spelled words.now) ≡ false → input.new ≡ input.old }
-    ensures usage { result ≡ Status.Usage
-        → (is_form (spelled words.now) ≡ false) × Appends (K.held output.old) (K.held output.new) usage_line }
-
-    // A script that breaks a rule is told by its first line that does, and the least rule.
-    ensures script { result ≡ Status.Script → WritesFault (S.left input.old) (K.held output.old) (K.held output.new) }
-    ensures faulty { is_form (spelled words.now) ≡ true → (bad : BadScript) → IsTold (S.left input.old) bad → StopsThere result }
-
-    // The two chunks that a database is opened with, where they have one address.
-    ensures collision { result ≡ Status.Collision → WritesCollision D.address (S.left input.old) (K.held output.old) (K.held output.new) }
-
-    // The source or the sink failed, and counted it in this call.
-    ensures read { result ≡ Status.Read → Rose (S.faults input.old) (S.faults input.new) × (output.new ≡ output.old) }
-    ensures steady { S.steady input.old ≡ true → result ≢ Status.Read }
-    ensures write { result ≡ Status.Write → Rose (K.faults output.old) (K.faults output.new) }
-    ensures part { result ≡ Status.Write
-        → FallsShort D.address (spelled words.now) (S.left input.old) (K.held output.old) (K.held output.new) (K.room output.old) }
-
-    ensures memory { result ≡ Status.Memory → output.new ≡ output.old }
-    ensures taken { LosesAtMost most_taken (S.left input.old) (S.left input.new) }
-    ensures counts { (S.faults input.old ≤ S.faults input.new) × (K.faults output.old ≤ K.faults output.new) }
+    ensures { IsEnding D.address (spelled words.now) (record { left = S.left; faults = S.faults; steady = S.steady }) (record { held = K.held; faults = K.faults; room = K.room }) input.old input.new output.old output.new result }
 {
     let _ = rt;
+    run_alone::<D, S, K, P>(alloc, words, input, output, pacer)
+}
+
+// Without leave to start threads or to wait, so it is proved to return.
+fn run_alone<D: Digester, S: Source, K: Sink, P: Pacer>(
+    alloc: Global,
+    words: &[String],
+    input: &mut S,
+    output: &mut K,
+    pacer: &P,
+) -> Status
+    ensures { IsEnding D.address (spelled words.now) (record { left = S.left; faults = S.faults; steady = S.steady }) (record { held = K.held; faults = K.faults; room = K.room }) input.old input.new output.old output.new result }
+{
     if !has_form(words) {
         return write_last(output, USAGE, Status::Usage);
     }

@@ -5,6 +5,9 @@
 //! `Held::leave` and `Held::leave_marked`: on entering, the value fits one history, which begins with what the seat had
 //! seen, and in which its entries are those that it made. `Gate::close` says the same of the whole history and of each
 //! seat. The words of these clauses are in `specs/Words.antt` and `specs/History.antt`.
+//!
+//! A thread's own state keeps its seat in a [`Stand`], which takes the value call by call, or in a [`Worker`], beside what the
+//! thread works on. [`Gate::seat_workers`] and [`Gate::close_all`] are the two ends of a run in threads.
 #![tactic(auto)]
 
 mod entry;
