@@ -15,6 +15,3 @@ mod selecting;
 mod tables;
 
 pub use executing::{Executed, execute};
-
-#[cfg(test)]
-mod tests;
