@@ -1,0 +1,21 @@
+//! Schemas that two sides have each taken on from one base, merged by the names of their parts, and rows of one schema as rows of another.
+//!
+//! The crates above use the clauses of [`merge`] and [`project`].
+#![tactic(auto)]
+
+mod choosing;
+mod copies;
+mod covering;
+mod faults;
+mod finding;
+mod merging;
+mod names;
+mod parts;
+mod projecting;
+mod same;
+#[cfg(test)]
+mod tests;
+
+pub use faults::SchemaFault;
+pub use merging::merge;
+pub use projecting::project;
