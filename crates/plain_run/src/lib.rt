@@ -13,7 +13,3 @@ mod same;
 mod schemas;
 mod seats;
 mod stores;
-#[cfg(test)]
-mod tests;
-
-pub use runs::plain_output;
