@@ -1,0 +1,4 @@
+pub mod KeyByKey
+pub mod TableMerge
+pub mod RootMerge
+pub mod Changes

@@ -1,0 +1,6 @@
+ghost use Rattle.plain_merge.specs.Changes.{ChangesMerge};
+
+/// Edits of ours, made of the changes from base to theirs and decided one by one, leave what a merge over all keys gives.
+pub fn changes_merge()
+    ensures { ChangesMerge }
+{}
