@@ -13,3 +13,5 @@ mod same;
 mod schemas;
 mod seats;
 mod stores;
+
+pub use runs::plain_output;
