@@ -40,6 +40,7 @@ fn ended_at_pace<R: Threads + Wait + Sync, P: Pacer>(
 }
 
 /// Keeps what it was told: three decimal digits for each call, the session's and two of the statement's number.
+#[derive(Drop)]
 struct Calls {
     digits: AtomicU64,
 }
