@@ -2,18 +2,15 @@
 use Rattle.std.proofs.Common.{◌≡◌, ℕ, Bool, true, false, List, [], ◌∷◌, Option, None, Some, refl, sym, ap, ◌∙◌, subst}
 use Rattle.std.specs.Prelude.{bytes_eq, if◌then◌else◌}
 use Rattle.std.specs.Option.{option_map, option_and_then}
-use Rattle.std.specs.List.{AllByRecursion}
-use Rattle.std.specs.Ordering.{is_lt}
-use Rattle.tuple_codec.specs.Nodes.{Item, Rise, RiseAfter, is_after, leaf_item}
+use Rattle.tuple_codec.specs.Nodes.{Item, Rise, RiseAfter, leaf_item}
 use Rattle.tuple_codec.specs.Edits.{EditsRiseAfter, changed, edited, order, value_at}
 use Rattle.tuple_codec.specs.declared.edits.Change.{Change}
-use Rattle.tuple_codec.specs.declared.edits.Edit.{Edit}
 use Rattle.edit_laws.specs.ByKey.{AreLeafRows, as_edits, between, change_at, edit_at, over}
 use Rattle.edit_laws.proofs.Orders.{eq_key}
 use Rattle.edit_laws.proofs.Rising.{changed_rise, edited_all, edited_rise, edits_lower, rows_lower}
 use Rattle.edit_laws.proofs.Values.{above, changed_value, edited_value, edits_above, same_rows}
 use Rattle.plain_merge.specs.KeyByKey.{all_keys, before, gathered, kept, keys_with}
-use Rattle.plain_merge.specs.Changes.{ChangesMerge, IsRule, Rule, edit_for, edit_if, edits_for, keys_in, merged_rows, row_after, value_after}
+use Rattle.plain_merge.specs.Changes.{ChangesMerge, IsRule, Rule, edit_if, edits_for, keys_in, merged_rows, value_after}
 use Rattle.plain_merge.proofs.Keys.{KeysRise, has_key, keys_rise, lacks_value, with_lacks, with_rise}
 
 -- ---- what is gathered
@@ -42,13 +39,13 @@ gathered_value : (f : List ℕ → Option (List ℕ)) (at : List ℕ) (keys : Li
 gathered_value f at [] low rise = refl
 gathered_value f at (key ∷ keys) low rise =
     by (bytes_eq key at) refl (f key) refl (gathered_value f at keys (Some key) rise.1) (gathered_rise f keys (Some key) rise.1) where
-  by : (b : Bool) → bytes_eq key at ≡ b → (v : Option (List ℕ)) → f key ≡ v → value_at at (gathered (leaf_at f) keys) ≡ (if has_key at keys then f at else None)
-      → RiseAfter (Some key) (gathered (leaf_at f) keys)
-      → value_at at (before (option_map (leaf_item key) v) (gathered (leaf_at f) keys)) ≡ (if has_key at (key ∷ keys) then f at else None)
-  by true e None v more up = rw e (above at (gathered (leaf_at f) keys) (subst (λ k. RiseAfter (Some k) (gathered (leaf_at f) keys)) (eq_key key at e) up) ∙ sym v ∙ ap f (eq_key key at e))
-  by true e (Some w) v more up = rw e (sym v ∙ ap f (eq_key key at e))
-  by false e None v more up = rw e more
-  by false e (Some w) v more up = rw e more
+      by : (b : Bool) → bytes_eq key at ≡ b → (v : Option (List ℕ)) → f key ≡ v → value_at at (gathered (leaf_at f) keys) ≡ (if has_key at keys then f at else None)
+          → RiseAfter (Some key) (gathered (leaf_at f) keys)
+          → value_at at (before (option_map (leaf_item key) v) (gathered (leaf_at f) keys)) ≡ (if has_key at (key ∷ keys) then f at else None)
+      by true e None v more up = rw e (above at (gathered (leaf_at f) keys) (subst (λ k. RiseAfter (Some k) (gathered (leaf_at f) keys)) (eq_key key at e) up) ∙ sym v ∙ ap f (eq_key key at e))
+      by true e (Some w) v more up = rw e (sym v ∙ ap f (eq_key key at e))
+      by false e None v more up = rw e more
+      by false e (Some w) v more up = rw e more
 
 -- ---- what a merge comes to at a key
 
@@ -57,15 +54,15 @@ merged_value : (rule : Rule) → IsRule rule → (base ours theirs : List Item) 
 merged_value rule is base ours theirs at one two three =
     let keys = all_keys order (keys_in base) (keys_in ours) (keys_in theirs) in
     let rise = with_rise (keys_in base) None (keys_with order (keys_in ours) (keys_in theirs)) (keys_rise base None one)
-        (with_rise (keys_in ours) None (keys_in theirs) (keys_rise ours None two) (keys_rise theirs None three)) in
+    (with_rise (keys_in ours) None (keys_in theirs) (keys_rise ours None two) (keys_rise theirs None three)) in
     gathered_value (value_after rule base ours theirs) at keys None rise ∙ by (has_key at keys) refl where
-  by : (b : Bool) → has_key at (all_keys order (keys_in base) (keys_in ours) (keys_in theirs)) ≡ b
-      → (if b then value_after rule base ours theirs at else None) ≡ value_after rule base ours theirs at
-  by true e = refl
-  by false e =
-      let p = with_lacks at (keys_in base) (keys_with order (keys_in ours) (keys_in theirs)) e in
-      let q = with_lacks at (keys_in ours) (keys_in theirs) p.1 in
-      rw (lacks_value at base p.0, lacks_value at ours q.0, lacks_value at theirs q.1) (sym (ap (kept None) (is None None)))
+      by : (b : Bool) → has_key at (all_keys order (keys_in base) (keys_in ours) (keys_in theirs)) ≡ b
+          → (if b then value_after rule base ours theirs at else None) ≡ value_after rule base ours theirs at
+      by true e = refl
+      by false e =
+          let p = with_lacks at (keys_in base) (keys_with order (keys_in ours) (keys_in theirs)) e in
+          let q = with_lacks at (keys_in ours) (keys_in theirs) p.1 in
+          rw (lacks_value at base p.0, lacks_value at ours q.0, lacks_value at theirs q.1) (sym (ap (kept None) (is None None)))
 
 -- ---- what the edits of changes come to
 
@@ -84,16 +81,16 @@ edits_value : (rule : Rule) (ours : List Item) (at : List ℕ) (changes : List C
 edits_value rule ours at [] low rise = refl
 edits_value rule ours at (change ∷ changes) low rise =
     by (bytes_eq change.key at) refl (rule change.old (value_at change.key ours) change.new) refl (edits_value rule ours at changes (Some change.key) rise.1)
-      (edits_rise rule ours changes (Some change.key) rise.1) where
-  by : (b : Bool) → bytes_eq change.key at ≡ b → (v : Option (Option (List ℕ))) → rule change.old (value_at change.key ours) change.new ≡ v
-      → edit_at at (edits_for rule ours changes) ≡ decided rule (value_at at ours) (change_at at changes) → EditsRiseAfter (Some change.key) (edits_for rule ours changes)
-      → edit_at at (before (edit_if change.key v) (edits_for rule ours changes)) ≡ decided rule (value_at at ours) (change_at at (change ∷ changes))
-  by true e None v more up =
-      rw e (edits_above at (edits_for rule ours changes) (subst (λ k. EditsRiseAfter (Some k) (edits_for rule ours changes)) (eq_key change.key at e) up)
-        ∙ sym v ∙ ap (λ k. rule change.old (value_at k ours) change.new) (eq_key change.key at e))
-  by true e (Some w) v more up = rw e (sym v ∙ ap (λ k. rule change.old (value_at k ours) change.new) (eq_key change.key at e))
-  by false e None v more up = rw e more
-  by false e (Some w) v more up = rw e more
+    (edits_rise rule ours changes (Some change.key) rise.1) where
+      by : (b : Bool) → bytes_eq change.key at ≡ b → (v : Option (Option (List ℕ))) → rule change.old (value_at change.key ours) change.new ≡ v
+          → edit_at at (edits_for rule ours changes) ≡ decided rule (value_at at ours) (change_at at changes) → EditsRiseAfter (Some change.key) (edits_for rule ours changes)
+          → edit_at at (before (edit_if change.key v) (edits_for rule ours changes)) ≡ decided rule (value_at at ours) (change_at at (change ∷ changes))
+      by true e None v more up =
+          rw e (edits_above at (edits_for rule ours changes) (subst (λ k. EditsRiseAfter (Some k) (edits_for rule ours changes)) (eq_key change.key at e) up)
+          ∙ sym v ∙ ap (λ k. rule change.old (value_at k ours) change.new) (eq_key change.key at e))
+      by true e (Some w) v more up = rw e (sym v ∙ ap (λ k. rule change.old (value_at k ours) change.new) (eq_key change.key at e))
+      by false e None v more up = rw e more
+      by false e (Some w) v more up = rw e more
 
 over_kept : (ours : Option (List ℕ)) (found : Option (Option (List ℕ))) → over found ours ≡ kept ours found
 over_kept ours None = refl
@@ -119,12 +116,12 @@ changes_merge rule is base ours theirs one two three leaves =
     let up = edits_rise rule ours changes None changes_up in
     let keys = all_keys order (keys_in base) (keys_in ours) (keys_in theirs) in
     let keys_up = with_rise (keys_in base) None (keys_with order (keys_in ours) (keys_in theirs)) (keys_rise base None one)
-        (with_rise (keys_in ours) None (keys_in theirs) (keys_rise ours None two) (keys_rise theirs None three)) in
+    (with_rise (keys_in ours) None (keys_in theirs) (keys_rise ours None two) (keys_rise theirs None three)) in
     same_rows (edited ours edits) (merged_rows rule base ours theirs) None (edited_rise ours None edits two up)
-      (gathered_rise (value_after rule base ours theirs) keys None keys_up)
-      (edited_all (λ row. row.rows ≡ 1) (λ k v. refl) ours leaves edits) (gathered_leaves (value_after rule base ours theirs) keys)
-      (λ at. edited_value at ours None edits two up
-        ∙ ap (λ found. over found (value_at at ours)) (edits_value rule ours at changes None changes_up
-          ∙ ap (decided rule (value_at at ours)) (changed_value at base theirs None one three))
-        ∙ over_between rule is (value_at at base) (value_at at ours) (value_at at theirs)
-        ∙ sym (merged_value rule is base ours theirs at one two three))
+    (gathered_rise (value_after rule base ours theirs) keys None keys_up)
+    (edited_all (λ row. row.rows ≡ 1) (λ k v. refl) ours leaves edits) (gathered_leaves (value_after rule base ours theirs) keys)
+    (λ at. edited_value at ours None edits two up
+    ∙ ap (λ found. over found (value_at at ours)) (edits_value rule ours at changes None changes_up
+    ∙ ap (decided rule (value_at at ours)) (changed_value at base theirs None one three))
+    ∙ over_between rule is (value_at at base) (value_at at ours) (value_at at theirs)
+    ∙ sym (merged_value rule is base ours theirs at one two three))

@@ -1,14 +1,14 @@
 -- The keys of two rising lists, in one list.
-use Rattle.std.proofs.Common.{◌≡◌, ℕ, Bool, true, false, List, [], ◌∷◌, Option, None, Some, refl, sym, ap, ◌∙◌, subst}
-use Rattle.std.specs.Prelude.{bytes_eq, if◌then◌else◌, ◌||◌}
+use Rattle.std.proofs.Common.{◌≡◌, ℕ, Bool, true, false, List, [], ◌∷◌, Option, None, Some, refl, ap, ◌∙◌, subst}
+use Rattle.std.specs.Prelude.{bytes_eq, ◌||◌}
 use Rattle.std.specs.Ordering.{is_lt, match_ordering}
 use Rattle.std.specs.declared.cmp.Ordering.{Ordering}
 use Rattle.std.specs.declared.cmp.Ordering.TheVariants.{Less, Equal, Greater}
-use Rattle.tuple_codec.specs.Nodes.{Item, Rise, RiseAfter, is_after}
+use Rattle.tuple_codec.specs.Nodes.{Item, RiseAfter, is_after}
 use Rattle.tuple_codec.specs.Edits.{order, value_at}
-use Rattle.edit_laws.proofs.Orders.{less_is, less_trans, same_key, turned}
+use Rattle.edit_laws.proofs.Orders.{same_key, turned}
 use Rattle.plain_merge.specs.Changes.{keys_in}
-use Rattle.plain_merge.specs.KeyByKey.{all_keys, key_among, keys_with}
+use Rattle.plain_merge.specs.KeyByKey.{key_among, keys_with}
 
 -- keys rise strictly, also from the one before them
 abbrev pub KeysRise : Option (List ℕ) → List (List ℕ) → Type 0

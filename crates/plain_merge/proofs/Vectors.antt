@@ -1,18 +1,16 @@
 -- The definitions, computed.
-use Rattle.std.proofs.Common.{◌≡◌, ℕ, true, false, List, [], ◌∷◌, Option, Some, None, refl}
-use Rattle.std.specs.Prelude.{Result, Ok, Err, codes, pos}
+use Rattle.std.proofs.Common.{◌≡◌, ℕ, true, List, [], ◌∷◌, Some, None, refl}
+use Rattle.std.specs.Prelude.{Ok, Err, codes, pos}
 use Rattle.tuple_codec.specs.RowRule.{row3}
 use Rattle.tuple_codec.specs.Rows.{Cells}
-use Rattle.tuple_codec.specs.declared.values.SqlType.{SqlType}
 use Rattle.tuple_codec.specs.declared.values.SqlType.TheVariants as kind
-use Rattle.tuple_codec.specs.declared.values.Value.{Value}
 use Rattle.tuple_codec.specs.declared.values.Value.TheVariants as cell
-use Rattle.schema_model.specs.PlainTables.{Conflict, NamedTable, PlainDatabase, PlainTable}
+use Rattle.schema_model.specs.PlainTables.{NamedTable, PlainTable}
 use Rattle.schema_model.specs.declared.schemas.Column.{Column}
 use Rattle.schema_model.specs.declared.schemas.Schema.{Schema}
 use Rattle.schema_merge.specs.Merging.{schema3}
 use Rattle.schema_merge.specs.Parts.{moved_place}
-use Rattle.plain_merge.specs.RootMerge.{MergedDatabase, SchemaConflict, root3}
+use Rattle.plain_merge.specs.RootMerge.{root3}
 use Rattle.plain_merge.specs.TableMerge.{table3}
 
 abbrev column : List ℕ → Column
@@ -61,9 +59,9 @@ named name of_rows = record { name = name; table = of_rows }
 
 -- ours alone has a table, theirs alone another, theirs dropped one, and one merges row by row
 databases_of_both : root3
-      (named (codes "a") (table two (row 1 1 ∷ [])) ∷ named (codes "d") (table two []) ∷ [])
-      (named (codes "a") (table two (row 1 1 ∷ row 2 2 ∷ [])) ∷ named (codes "b") (table two []) ∷ named (codes "d") (table two []) ∷ [])
-      (named (codes "a") (table two (row 1 9 ∷ [])) ∷ named (codes "c") (table two []) ∷ [])
+    (named (codes "a") (table two (row 1 1 ∷ [])) ∷ named (codes "d") (table two []) ∷ [])
+    (named (codes "a") (table two (row 1 1 ∷ row 2 2 ∷ [])) ∷ named (codes "b") (table two []) ∷ named (codes "d") (table two []) ∷ [])
+    (named (codes "a") (table two (row 1 9 ∷ [])) ∷ named (codes "c") (table two []) ∷ [])
     ≡ Ok (record {
       database = named (codes "a") (table two (row 1 9 ∷ row 2 2 ∷ [])) ∷ named (codes "b") (table two []) ∷ named (codes "c") (table two []) ∷ [];
       conflicts = 0;

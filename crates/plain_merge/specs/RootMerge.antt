@@ -3,7 +3,7 @@ use Rattle.std.specs.Prelude.{ℕ, ◌+◌, if◌then◌else◌, List, [], ◌�
 use Rattle.std.specs.Ordering.{nat_cmp}
 use Rattle.std.specs.Cmp.Lexicographic.{slice_cmp}
 use Rattle.tuple_codec.specs.RowRule.{same_option, three_way}
-use Rattle.schema_model.specs.PlainTables.{NamedTable, PlainDatabase, PlainTable}
+use Rattle.schema_model.specs.PlainTables.{PlainDatabase, PlainTable}
 use Rattle.schema_model.specs.Sameness.{is_same_table}
 use Rattle.plain_merge.specs.KeyByKey.{all_keys}
 use Rattle.plain_merge.specs.TableMerge.{table3}

@@ -1,5 +1,5 @@
 -- Plain tables merged key by key.
-use Rattle.std.specs.Prelude.{ℕ, Bool, if◌then◌else◌, List, [], ◌∷◌, map, Option, None, Some, Result, Ok, Err}
+use Rattle.std.specs.Prelude.{ℕ, if◌then◌else◌, List, [], ◌∷◌, map, Option, None, Some, Result, Ok}
 use Rattle.std.specs.Option.{option_map, option_map_or}
 use Rattle.tuple_codec.specs.RowRule.{row3}
 use Rattle.tuple_codec.specs.Rows.{Cells, key_cmp, same_cells}

@@ -1,6 +1,5 @@
 -- Schemas merged by names.
-use Rattle.std.specs.Prelude.{◌≡◌, ℕ, Bool, true, false, ◌&&◌, not, if◌then◌else◌, List, [], ◌∷◌, ◌++◌, map, filter, codes, is_some, Option, None, Some, Result, Ok, Err, slice_get}
-use Rattle.std.specs.List.{flat_map}
+use Rattle.std.specs.Prelude.{◌≡◌, ℕ, Bool, true, ◌&&◌, not, if◌then◌else◌, List, [], ◌∷◌, ◌++◌, map, filter, codes, is_some, Option, None, Some, Result, Ok, Err, slice_get}
 use Rattle.std.specs.Option.{option_and_then, option_map}
 use Rattle.std.specs.Cmp.Lexicographic.{pointwise}
 use Rattle.tuple_codec.specs.RowRule.{same_option, three_way}
@@ -12,7 +11,7 @@ use Rattle.schema_model.specs.declared.schemas.ForeignKey.{ForeignKey}
 use Rattle.schema_model.specs.declared.schemas.Schema.{Schema}
 use Rattle.schema_merge.specs.declared.faults.SchemaFault.{SchemaFault}
 use Rattle.schema_merge.specs.declared.faults.SchemaFault.TheVariants as fault
-use Rattle.schema_merge.specs.Parts.{Kind, Sides, find, name_at, names_at, of_checks, of_columns, of_foreign, of_indexes, moved_places, sides}
+use Rattle.schema_merge.specs.Parts.{Kind, Sides, find, of_checks, of_columns, of_foreign, of_indexes, moved_places, sides}
 
 -- ---- the part of one name
 

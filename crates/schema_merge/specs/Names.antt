@@ -1,6 +1,6 @@
 -- The columns that the text of a CHECK names. In a canonical text words in capitals are reserved, a word in lower case is a name, and one with a
 -- dot behind it is a table's.
-use Rattle.std.specs.Prelude.{ℕ, Bool, true, false, ◌==◌, ◌&&◌, ◌||◌, nat_le, not, if◌then◌else◌, List, [], ◌∷◌, ◌++◌}
+use Rattle.std.specs.Prelude.{ℕ, Bool, false, ◌==◌, ◌&&◌, ◌||◌, nat_le, not, if◌then◌else◌, List, [], ◌∷◌, ◌++◌}
 use Rattle.schema_merge.specs.declared.names.Place.{Place}
 use Rattle.schema_merge.specs.declared.names.Place.TheVariants as place
 

@@ -1,5 +1,5 @@
 -- A row of one schema as a row of another.
-use Rattle.std.specs.Prelude.{ℕ, List, map, Option, None, Some}
+use Rattle.std.specs.Prelude.{ℕ, map, Option, None, Some}
 use Rattle.tuple_codec.specs.Rows.{Cells, cell_at}
 use Rattle.tuple_codec.specs.declared.values.Value.{Value}
 use Rattle.tuple_codec.specs.declared.values.Value.TheVariants as cell

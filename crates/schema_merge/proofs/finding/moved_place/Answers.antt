@@ -1,4 +1,4 @@
-use Rattle.std.proofs.Common.{◌≡◌, ap, ◌∙◌}
+use Rattle.std.proofs.Common.{ap, ◌∙◌}
 use Rattle.schema_merge.specs.Parts.{moved_place, name_at, place_or_first}
 use Rattle.schema_merge.proofs.finding.moved_place.Goals as goal
 

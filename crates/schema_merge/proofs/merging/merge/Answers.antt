@@ -1,4 +1,4 @@
-use Rattle.std.proofs.Common.{[], length, arith}
+use Rattle.std.proofs.Common.{[], arith}
 use Rattle.std.specs.Option.{option_copied}
 use Rattle.schema_merge.specs.Parts.{of_columns, sides}
 use Rattle.schema_merge.proofs.MergeLemmas.{few_columns, few_parts}

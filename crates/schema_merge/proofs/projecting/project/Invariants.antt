@@ -1,4 +1,4 @@
-use Rattle.std.proofs.Common.{◌≡◌, ◌++◌, take}
+use Rattle.std.proofs.Common.{◌≡◌, take}
 use Rattle.std.specs.Prelude.{map}
 use Rattle.schema_merge.specs.Projecting.{projected_cell}
 use Rattle.schema_merge.proofs.projecting.project.Given as goal
