@@ -615,7 +615,7 @@ pub const OUTSIDE_5: &str = r#"
 9013 | SET SESSION nosuch = 1
 9013 | SET @@dolt_log = ON
 9013 | CALL nosuch()
-9013 | CALL add('.')
+9013 | CALL branch('.')
 9013 | CALL active_branch()
 "#;
 

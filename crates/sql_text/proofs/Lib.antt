@@ -1,4 +1,5 @@
 pub mod Grouping
 mod NodeLemmas
 mod Openings
+mod SizeLemmas
 mod Vectors

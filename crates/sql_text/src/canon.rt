@@ -5,15 +5,22 @@ use crate::pieces::{
     back_of, front_of, operator_of, push_active_branch, push_literal, push_opening, push_qualified,
     push_variable, word_of, word_of_term, write,
 };
+use crate::sizes::{MOST_TOLD, text_size};
 use sql_ast::{Expr, Term};
 use std::alloc::{AllocError, Global};
 use tuple_codec::Text;
 
 /// The canonical text of an expression.
+///
+/// Its size is asked before a byte is written: of a text that no memory holds, want of memory is told at once.
 pub fn canonical_text(alloc: Global, expr: &Expr) -> Result<Text, AllocError>
     ensures { IfOk result (λ written. written ≡ text expr.now) }
 {
-    let mut out = Vec::new(alloc);
+    let size = text_size(alloc, expr)?;
+    if size == MOST_TOLD {
+        return Err(AllocError);
+    }
+    let mut out = Vec::with_capacity(alloc, size as usize)?;
     push_expr(alloc, &mut out, expr)?;
     Ok(Text::from_vec(out))
 }

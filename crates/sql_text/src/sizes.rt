@@ -1,13 +1,15 @@
 ghost use Rattle.std.specs.Prelude.{◌≡◌, ◌+◌, [], IfOk, length, map};
 ghost use Rattle.sql_text.specs.Canon.{addends, listed, literal_text, operands, text};
 ghost use Rattle.sql_text.specs.Sizes as spec;
-ghost use Rattle.sql_text.specs.Sizes.{told};
+ghost use Rattle.sql_text.specs.Sizes.{around_size, told};
+ghost use Rattle.sql_ast.specs.declared.expressions.Expr.{out-Expr};
 
 use crate::pieces::{back_of, front_of, operator_of, push_literal, word_of, word_of_term};
 use sql_ast::{Expr, Literal, Term};
 use std::alloc::{AllocError, Global};
 
-const MOST_TOLD: u64 = 1 << 32;
+/// The size that stands for itself and for all above.
+pub const MOST_TOLD: u64 = 1 << 32;
 
 /// How many bytes the canonical text of an expression has, and 2^32 where it has more.
 ///
@@ -97,16 +99,15 @@ fn list_size(alloc: Global, list: &[Expr]) -> Result<u64, AllocError>
 }
 
 #[cycle(sizes)]
-fn operands_size(
-    alloc: Global,
-    list: &[Expr],
-    operator: &'static [u8],
-) -> Result<u64, AllocError>
+fn operands_size(alloc: Global, list: &[Expr], operator: &'static [u8]) -> Result<u64, AllocError>
     ensures { IfOk result (λ size. size ≡ told (length (operands operator.now (map text list.now)))) }
 {
     let mut size = 0;
     for operand in list {
-        size = sum(sum(size, operator.len() as u64), sum(text_size(alloc, operand)?, 1));
+        size = sum(
+            sum(size, operator.len() as u64),
+            sum(text_size(alloc, operand)?, 1),
+        );
     }
     Ok(size)
 }
