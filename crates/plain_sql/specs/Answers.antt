@@ -1,0 +1,224 @@
+-- What a SELECT gives, once its names and kinds are known: combinations, tests, groups, DISTINCT, ORDER BY and LIMIT.
+use Rattle.std.specs.Prelude.{ℕ, suc, ℤ, pos, ◌+ℤ◌, ◌^◌, Bool, true, false, not, nat_lt, unsigned_abs, if◌then◌else◌, List, [], ◌∷◌, ◌++◌, map, filter, fold, length, take, drop, Option, None, Some, Result, Ok, Err, slice_index_or}
+use Rattle.std.specs.List.{flat_map}
+use Rattle.std.specs.Ordering.{ordering_then, ordering_reverse, is_lt, is_eq}
+use Rattle.std.specs.declared.cmp.Ordering.{Ordering}
+use Rattle.std.specs.declared.cmp.Ordering.TheVariants.{Equal}
+use Rattle.tuple_codec.specs.Rows.{Cells, key_cmp, key_of, value_cmp, fits_bits}
+use Rattle.tuple_codec.specs.declared.values.Value.{Value}
+use Rattle.tuple_codec.specs.declared.values.Value.TheVariants as cell
+use Rattle.sql_values.specs.declared.kinds.Kind.{Kind}
+use Rattle.sql_values.specs.declared.kinds.Kind.TheVariants as kind
+use Rattle.sql_ast.specs.declared.selects.Direction.{Direction}
+use Rattle.sql_ast.specs.declared.selects.Direction.TheVariants.{Ascending, Descending}
+use Rattle.expr_eval.specs.Binding.{Outcome, and_then}
+use Rattle.sql_ast.specs.declared.selects.Limit.{Limit}
+use Rattle.tuple_codec.specs.declared.answers.Answer.{Answer}
+use Rattle.tuple_codec.specs.declared.values.SqlType.{SqlType}
+use Rattle.tuple_codec.specs.declared.values.SqlType.TheVariants as type
+use Rattle.plain_sql.specs.declared.grouping.Grouping.{Grouping}
+use Rattle.plain_sql.specs.declared.grouping.Grouping.TheVariants.{Single, Whole, By}
+use Rattle.plain_sql.specs.declared.ranking.Rank.{Rank}
+use Rattle.plain_sql.specs.Lists.{or_refuse, unless, each, all_of, in_order, firsts}
+
+-- what an expression gives on a row; None is out of range
+abbrev pub Meaning : Type 0
+Meaning = Cells → Option Value
+
+-- what a column of the answer shows of a group of rows
+pub data Shown : Type 0 where
+  -- an expression, on the group's first row
+  Of : Meaning → Shown
+  -- how many rows there are
+  Rows : Shown
+  -- how many values aren't NULL
+  Count : Meaning → Shown
+  Sum : Kind → Meaning → Shown
+  Least : Meaning → Shown
+  Greatest : Meaning → Shown
+
+pub record Heading : Type 0 where
+  pub name : List ℕ
+  pub kind : Kind
+  pub shown : Shown
+
+pub record SortKey : Type 0 where
+  pub shown : Shown
+  pub direction : Direction
+
+pub record Plan : Type 0 where
+  -- each ON from left to right, then WHERE
+  pub tests : List Meaning
+  pub grouping : Grouping
+  pub headings : List Heading
+  pub distinct : Bool
+  pub keys : List SortKey
+  pub limit : Option Limit
+
+-- ---- which rows
+
+-- all combinations of the sources' rows, the first source outermost
+abbrev pub combinations : List (List Cells) → List Cells
+combinations [] = [] ∷ []
+combinations (rows ∷ sources) = flat_map (λ row. map (λ more. row ++ more) (combinations sources)) rows
+
+unfoldable pub given : Meaning → Cells → Outcome Value
+given meaning row = or_refuse 1264 (meaning row)
+
+abbrev pub is_true : Value → Bool
+is_true (cell.Bool b) = b
+is_true value = false
+
+-- the first test that isn't true drops the row, and those after it aren't evaluated
+abbrev pub passes : List Meaning → Cells → Outcome Bool
+passes [] row = Ok true
+passes (test ∷ tests) row = and_then (given test row) (λ value. if is_true value then passes tests row else Ok false)
+
+abbrev pub row_if : Cells → Bool → List Cells
+row_if row stays = if stays then row ∷ [] else []
+
+abbrev pub kept_row : List Meaning → Cells → Outcome (List Cells)
+kept_row tests row = and_then (passes tests row) (λ stays. Ok (row_if row stays))
+
+abbrev pub kept : List Meaning → List Cells → Outcome (List Cells)
+kept tests rows = all_of (kept_row tests) rows
+
+-- ---- groups
+
+abbrev pub has_key : List ℕ → Cells → Cells → Bool
+has_key places key row = is_eq (key_cmp (key_of places row) key)
+
+-- the cells that stand at these places, each once, from the least to the greatest
+abbrev pub keys_in : List ℕ → List Cells → List Cells
+keys_in places rows = in_order key_cmp (firsts key_cmp (map (key_of places) rows))
+
+abbrev pub groups : Grouping → List Cells → List (List Cells)
+groups Single rows = map (λ row. row ∷ []) rows
+groups Whole rows = rows ∷ []
+groups (By places) rows = map (λ key. filter (has_key places key) rows) (keys_in places rows)
+
+-- ---- aggregates
+
+abbrev pub is_null : Value → Bool
+is_null cell.Null = true
+is_null value = false
+
+abbrev pub value_if : Value → List Value
+value_if value = if is_null value then [] else value ∷ []
+
+abbrev pub present_of : Meaning → Cells → Outcome (List Value)
+present_of meaning row = and_then (given meaning row) (λ value. Ok (value_if value))
+
+-- the values that aren't NULL
+abbrev pub present : Meaning → List Cells → Outcome (List Value)
+present meaning rows = all_of (present_of meaning) rows
+
+abbrev pub units : Value → ℤ
+units (cell.Int n) = n
+units (cell.Decimal n) = n
+units value = pos 0
+
+abbrev pub added : ℤ → Value → ℤ
+added total value = total +ℤ units value
+
+-- a total is judged once, when all is added
+abbrev pub total_in : Kind → ℤ → Option Value
+total_in kind.Int total = if fits_bits 63 total then Some (cell.Int total) else None
+total_in kind total = if nat_lt (unsigned_abs total) (10 ^ 18) then Some (cell.Decimal total) else None
+
+abbrev pub total_of : Kind → List Value → Outcome Value
+total_of kind [] = Ok cell.Null
+total_of kind (value ∷ values) = or_refuse 1264 (total_in kind (fold added (units value) values))
+
+abbrev pub lesser : Value → Value → Value
+lesser a b = if is_lt (value_cmp b a) then b else a
+
+abbrev pub greater : Value → Value → Value
+greater a b = if is_lt (value_cmp a b) then b else a
+
+-- the best of the values, NULL of none
+abbrev pub best_by : (Value → Value → Value) → List Value → Value
+best_by better [] = cell.Null
+best_by better (value ∷ values) = fold better value values
+
+-- ---- the answer
+
+abbrev pub first_row : List Cells → Cells
+first_row rows = slice_index_or rows 0 []
+
+abbrev pub cell_of : List Cells → Shown → Outcome Value
+cell_of rows (Of meaning) = given meaning (first_row rows)
+cell_of rows Rows = Ok (cell.Int (pos (length rows)))
+cell_of rows (Count meaning) = and_then (present meaning rows) (λ values. Ok (cell.Int (pos (length values))))
+cell_of rows (Sum kind meaning) = and_then (present meaning rows) (total_of kind)
+cell_of rows (Least meaning) = and_then (present meaning rows) (λ values. Ok (best_by lesser values))
+cell_of rows (Greatest meaning) = and_then (present meaning rows) (λ values. Ok (best_by greater values))
+
+abbrev pub ranked : Plan → List Cells → Outcome Rank
+ranked plan rows =
+    and_then (each (λ heading. cell_of rows heading.shown) plan.headings) (λ cells.
+    and_then (each (λ key. cell_of rows key.shown) plan.keys) (λ keys.
+    Ok (record { keys = keys; cells = cells })))
+
+abbrev pub same_cells : Cells → Cells → Bool
+same_cells a b = is_eq (key_cmp a b)
+
+abbrev pub cells_cmp : Rank → Rank → Ordering
+cells_cmp a b = key_cmp a.cells b.cells
+
+-- DISTINCT keeps first occurrences
+abbrev pub once_if : Bool → List Rank → List Rank
+once_if distinct rows = if distinct then firsts cells_cmp rows else rows
+
+abbrev pub cell_at : Cells → ℕ → Value
+cell_at row place = slice_index_or row place cell.Null
+
+abbrev pub directed : Direction → Ordering → Ordering
+directed Ascending order = order
+directed Descending order = ordering_reverse order
+
+-- by the keys from this one on, the first that differs
+abbrev pub keys_cmp : ℕ → List SortKey → Cells → Cells → Ordering
+keys_cmp at [] a b = Equal
+keys_cmp at (key ∷ keys) a b = ordering_then (directed key.direction (value_cmp (cell_at a at) (cell_at b at))) (keys_cmp (suc at) keys a b)
+
+abbrev pub rank_cmp : List SortKey → Rank → Rank → Ordering
+rank_cmp keys a b = keys_cmp 0 keys a.keys b.keys
+
+abbrev pub passed_over : Option ℕ → ℕ
+passed_over (Some offset) = offset
+passed_over None = 0
+
+abbrev pub cut : {A : Type 0} → Option Limit → List A → List A
+cut (Some limit) rows = take limit.count (drop (passed_over limit.offset) rows)
+cut None rows = rows
+
+abbrev pub arranged : Plan → List Rank → List Rank
+arranged plan rows = cut plan.limit (in_order (rank_cmp plan.keys) (once_if plan.distinct rows))
+
+-- the widest type of a kind; NULL alone is shown as a whole number would be
+abbrev pub type_shown : Kind → SqlType
+type_shown kind.Int = type.BigInt
+type_shown kind.Bool = type.Bool
+type_shown kind.Text = type.Varchar 2000
+type_shown kind.Bytes = type.Varbinary 2000
+type_shown (kind.Decimal scale) = type.Decimal 18 scale
+type_shown kind.Null = type.BigInt
+
+abbrev pub headed : Plan → List Rank → Answer
+headed plan rows = record {
+    names = map (λ heading. heading.name) plan.headings;
+    kinds = map (λ heading. type_shown heading.kind) plan.headings;
+    rows = map (λ row. row.cells) (arranged plan rows) }
+
+-- more joined rows than may be kept
+abbrev pub are_too_many : List Cells → Bool
+are_too_many rows = nat_lt 10000000 (length rows)
+
+abbrev pub answered_of : Plan → List Cells → Outcome Answer
+answered_of plan rows =
+    and_then (each (ranked plan) (groups plan.grouping rows)) (λ ranks.
+    unless (are_too_many rows) 9010 (Ok (headed plan ranks)))
+
+abbrev pub answered : Plan → List (List Cells) → Outcome Answer
+answered plan sources = and_then (kept plan.tests (combinations sources)) (answered_of plan)
