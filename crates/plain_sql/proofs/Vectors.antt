@@ -9,7 +9,7 @@ use Rattle.sql_values.specs.declared.kinds.Kind.TheVariants as kind
 use Rattle.sql_ast.specs.declared.selects.Direction.TheVariants.{Ascending, Descending}
 use Rattle.plain_sql.specs.Lists.{in_order, firsts}
 use Rattle.plain_sql.specs.declared.grouping.Grouping.TheVariants.{Single, Whole, By}
-use Rattle.plain_sql.specs.Answers.{given, Meaning, Of, Rows, Count, Sum, Least, Plan, answered, groups, passes, kept, combinations, cell_at}
+use Rattle.plain_sql.specs.Answers.{given, Meaning, Of, Rows, Count, Sum, Least, Plan, answered, groups, passes, kept, combinations, cell_at, cells_shown, keys_shown}
 
 ordered : in_order nat_cmp (3 ∷ 1 ∷ 2 ∷ []) ≡ 1 ∷ 2 ∷ 3 ∷ []
 ordered = refl
@@ -63,7 +63,7 @@ totals = record {
 -- SELECT a, SUM(b) FROM t GROUP BY a ORDER BY 2 DESC LIMIT 2
 summed : answered totals ((row 2 5 ∷ row 1 6 ∷ row 2 7 ∷ row 3 1 ∷ []) ∷ [])
     ≡ Ok (record { names = codes "a" ∷ codes "SUM(b)" ∷ []; kinds = type.BigInt ∷ type.BigInt ∷ []; rows = row 2 12 ∷ row 1 6 ∷ [] })
-unfolding given
+unfolding given cells_shown keys_shown
 summed = refl
 
 -- SELECT COUNT(*), MIN(a), SUM(a) of no rows: one group
@@ -79,7 +79,7 @@ none_there = record {
 
 empty : answered none_there ([] ∷ [])
     ≡ Ok (record { names = codes "n" ∷ codes "l" ∷ codes "s" ∷ []; kinds = type.BigInt ∷ type.BigInt ∷ type.BigInt ∷ []; rows = (n 0 ∷ cell.Null ∷ cell.Null ∷ []) ∷ [] })
-unfolding given
+unfolding given cells_shown keys_shown
 empty = refl
 
 -- SELECT DISTINCT b FROM t ORDER BY b: NULL is least and counts as one value
@@ -94,5 +94,5 @@ different = record {
 
 null_first : answered different ((row 1 5 ∷ (n 2 ∷ cell.Null ∷ []) ∷ row 3 5 ∷ (n 4 ∷ cell.Null ∷ []) ∷ row 5 2 ∷ []) ∷ [])
     ≡ Ok (record { names = codes "b" ∷ []; kinds = type.BigInt ∷ []; rows = (cell.Null ∷ []) ∷ (n 2 ∷ []) ∷ (n 5 ∷ []) ∷ [] })
-unfolding given
+unfolding given cells_shown keys_shown
 null_first = refl

@@ -154,11 +154,15 @@ cell_of rows (Sum kind meaning) = and_then (present meaning rows) (total_of kind
 cell_of rows (Least meaning) = and_then (present meaning rows) (λ values. Ok (best_by lesser values))
 cell_of rows (Greatest meaning) = and_then (present meaning rows) (λ values. Ok (best_by greater values))
 
+unfoldable pub cells_shown : List Heading → List Cells → Outcome Cells
+cells_shown headings rows = each (λ heading. cell_of rows heading.shown) headings
+
+unfoldable pub keys_shown : List SortKey → List Cells → Outcome Cells
+keys_shown keys rows = each (λ key. cell_of rows key.shown) keys
+
+-- what is shown of a group of rows, and what it is ordered by
 abbrev pub ranked : Plan → List Cells → Outcome Rank
-ranked plan rows =
-    and_then (each (λ heading. cell_of rows heading.shown) plan.headings) (λ cells.
-    and_then (each (λ key. cell_of rows key.shown) plan.keys) (λ keys.
-    Ok (record { keys = keys; cells = cells })))
+ranked plan rows = and_then (cells_shown plan.headings rows) (λ cells. and_then (keys_shown plan.keys rows) (λ keys. Ok (record { keys = keys; cells = cells })))
 
 abbrev pub same_cells : Cells → Cells → Bool
 same_cells a b = is_eq (key_cmp a b)

@@ -1,5 +1,5 @@
 ghost use Rattle.std.specs.Prelude.{◌≡◌, IfOk, map};
-ghost use Rattle.plain_sql.specs.Answers.{answered, answered_of, are_too_many, arranged, cell_of, headed, once_if, ranked, type_shown};
+ghost use Rattle.plain_sql.specs.Answers.{answered, answered_of, are_too_many, arranged, cells_shown, headed, keys_shown, once_if, ranked, type_shown};
 ghost use Rattle.plain_sql.specs.Gives.{Gives};
 ghost use Rattle.plain_sql.specs.Lists.{each};
 ghost use Rattle.plain_sql.specs.Plans.{answer, query_on};
@@ -18,8 +18,9 @@ use sql_values::Kind;
 use std::alloc::{AllocError, Global};
 use tuple_codec::{Answer, Row, Sequence, SqlType, Text};
 
+#[tactic(auto, unfolding(crate::specs::Answers::cells_shown))]
 fn cells_of(alloc: Global, headings: &[Heading], rows: &[Row]) -> Result<Row, Refused>
-    ensures { Gives result (each (λ heading. cell_of rows.now heading.shown) (map heading_seen headings.now)) }
+    ensures { Gives result (cells_shown (map heading_seen headings.now) rows.now) }
 {
     let mut cells = Sequence::new(alloc);
     for heading in headings {
@@ -28,8 +29,9 @@ fn cells_of(alloc: Global, headings: &[Heading], rows: &[Row]) -> Result<Row, Re
     Ok(cells)
 }
 
+#[tactic(auto, unfolding(crate::specs::Answers::keys_shown))]
 fn keys_of(alloc: Global, keys: &[Sorter], rows: &[Row]) -> Result<Row, Refused>
-    ensures { Gives result (each (λ key. cell_of rows.now key.shown) (map key_seen keys.now)) }
+    ensures { Gives result (keys_shown (map key_seen keys.now) rows.now) }
 {
     let mut cells = Sequence::new(alloc);
     for key in keys {

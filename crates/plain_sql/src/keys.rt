@@ -79,11 +79,11 @@ fn shown_by_number(alloc: Global, scope: &[ScopeColumn], list: &[Item], expr: &E
     }
 }
 
-fn shown_by_name(alloc: Global, scope: &[ScopeColumn], list: &[Item], expr: &Expr, name: &[u8]) -> Result<Showing, Refused>
+fn shown_by_name(alloc: Global, scope: &[ScopeColumn], list: &[Item], expr: &Expr, name: &Text) -> Result<Showing, Refused>
     ensures { GivesBy showing_seen result (shown_by scope.now expr.now (item_named list.now name.now)) }
 {
     for item in list {
-        if is_item_named(name, item) {
+        if is_item_named(name.as_slice(), item) {
             return shown_by_found(alloc, scope, expr, item);
         }
     }
@@ -104,7 +104,7 @@ fn shown_by(alloc: Global, scope: &[ScopeColumn], list: &[Item], expr: &Expr) ->
 {
     match expr {
         Expr::Literal(literal) => shown_by_literal(alloc, scope, list, expr, literal),
-        Expr::Name(name) => shown_by_name(alloc, scope, list, expr, name.as_slice()),
+        Expr::Name(name) => shown_by_name(alloc, scope, list, expr, name),
         _ => shown_by_itself(alloc, scope, expr),
     }
 }

@@ -1,0 +1,3 @@
+mod Vectors
+mod SchemaVectors
+pub mod OrderLemmas

@@ -1,0 +1,4 @@
+pub mod Violations
+pub mod Writes
+pub mod Schemas
+pub mod Seen

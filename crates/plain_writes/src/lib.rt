@@ -1,0 +1,20 @@
+//! Writes on one database and its violations, as plain as they are defined.
+#![tactic(auto)]
+
+mod assigning;
+mod breaking;
+mod checking;
+mod columns;
+mod inserting;
+mod keyed;
+mod listing;
+mod parents;
+mod places;
+mod tables;
+mod updating;
+mod violating;
+
+pub use breaking::Broken;
+pub use checking::Reads;
+pub use listing::{Found, first_violation, violations};
+pub use tables::{Dispute, NamedTable, Table};

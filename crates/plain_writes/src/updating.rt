@@ -1,0 +1,128 @@
+ghost use Rattle.std.specs.Prelude.{◌≡◌, Ok, map, set, true};
+ghost use Rattle.std.specs.List.{list_all};
+ghost use Rattle.tuple_codec.specs.Limits.{is_type};
+ghost use Rattle.plain_sql.specs.Lists.{each};
+ghost use Rattle.plain_sql.specs.Gives.{Gives};
+ghost use Rattle.plain_sql.specs.Plans.{meaning};
+ghost use Rattle.plain_writes.specs.Seen.{setting_seen};
+ghost use Rattle.plain_writes.specs.Writes.{assigns, if_changed, keeps_null, keeps_null_at, row_after, turned, untouched};
+
+use crate::places::is_null_at;
+use plain_sql::{Refused, ask, passes, same_cells};
+use expr_eval::BoundExpr;
+use crate::assigning::assigned;
+use schema_model::{Column, Schema};
+use std::alloc::Global;
+use tuple_codec::{Row, Sequence, Value, copy_row};
+
+/// A column that an UPDATE sets, and to what.
+#[derive(Drop)]
+pub struct Setting {
+    pub place: usize,
+    pub column: Column,
+    pub value: BoundExpr,
+}
+
+/// A row after the UPDATE, and whether that changed it.
+#[derive(Drop)]
+pub struct Later {
+    pub row: Row,
+    pub is_new: bool,
+}
+
+fn with_cell(row: Row, place: usize, value: Value) -> Row
+    ensures { result ≡ set row place value }
+{
+    let mut cells = row.into_vec();
+    if place < cells.len() {
+        cells[place] = value;
+    }
+    Sequence::from_vec(cells)
+}
+
+/// The row with each setting made, from left to right.
+fn row_after(alloc: Global, settings: &[Setting], row: Row) -> Result<Row, Refused>
+    requires { list_all (λ one. is_type one.column.kind) settings.now ≡ true }
+    ensures { Gives result (row_after (map setting_seen settings.now) row) }
+{
+    match settings {
+        [] => Ok(row),
+        [one, more @ ..] => {
+            let value = ask(alloc, &one.value, &row)?;
+            let kept = assigned(&one.value.kind, &one.column, value)?;
+            row_after(alloc, more, with_cell(row, one.place, kept))
+        }
+    }
+}
+
+fn assigns(settings: &[Setting], place: usize) -> bool
+    ensures { result ≡ assigns (map setting_seen settings.now) place }
+{
+    match settings {
+        [] => false,
+        [one, more @ ..] => one.place == place || assigns(more, place),
+    }
+}
+
+fn keeps_null_at(settings: &[Setting], row: &[Value], place: usize, column: &Column) -> bool
+    ensures { result ≡ keeps_null_at (map setting_seen settings.now) row.now (place, column.now) }
+{
+    column.not_null && !assigns(settings, place) && is_null_at(row, place)
+}
+
+fn keeps_null(schema: &Schema, settings: &[Setting], row: &[Value]) -> bool
+    ensures { result ≡ keeps_null schema.now (map setting_seen settings.now) row.now }
+{
+    let columns = schema.columns.as_slice();
+    for (place, column) in columns.iter().enumerate() {
+        if keeps_null_at(settings, row, place, column) {
+            return true;
+        }
+    }
+    false
+}
+
+fn untouched(alloc: Global, row: &Row) -> Result<Later, Refused>
+    ensures { Gives result (Ok (untouched row.now)) }
+{
+    Ok(Later {
+        row: copy_row(alloc, row.as_slice())?,
+        is_new: false,
+    })
+}
+
+fn if_changed(alloc: Global, schema: &Schema, settings: &[Setting], old: &Row, new: Row) -> Result<Later, Refused>
+    ensures { Gives result (if_changed schema.now (map setting_seen settings.now) old.now new) }
+{
+    if same_cells(old.as_slice(), new.as_slice()) {
+        return untouched(alloc, old);
+    }
+    if keeps_null(schema, settings, new.as_slice()) {
+        return Err(Refused::By(1048));
+    }
+    Ok(Later { row: new, is_new: true })
+}
+
+/// A row after the UPDATE; WHERE is evaluated just before its cells.
+pub fn turned(alloc: Global, schema: &Schema, tests: &[BoundExpr], settings: &[Setting], row: &Row) -> Result<Later, Refused>
+    requires { list_all (λ one. is_type one.column.kind) settings.now ≡ true }
+    ensures { Gives result (turned schema.now (map meaning tests.now) (map setting_seen settings.now) row.now) }
+{
+    if !passes(alloc, tests, row)? {
+        return untouched(alloc, row);
+    }
+    let new = row_after(alloc, settings, copy_row(alloc, row.as_slice())?)?;
+    if_changed(alloc, schema, settings, row, new)
+}
+
+/// Each row after the UPDATE, up to the first refusal.
+pub fn all_turned(alloc: Global, schema: &Schema, tests: &[BoundExpr], settings: &[Setting], rows: &[Row]) -> Result<Sequence<Later>, Refused>
+    requires { list_all (λ one. is_type one.column.kind) settings.now ≡ true }
+    ensures { Gives result (each (turned schema.now (map meaning tests.now) (map setting_seen settings.now)) rows.now) }
+{
+    let mut all = Sequence::new(alloc);
+    for row in rows {
+        all.push(turned(alloc, schema, tests, settings, row)?)?;
+    }
+    Ok(all)
+}
