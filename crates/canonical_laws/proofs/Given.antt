@@ -29,18 +29,18 @@ use Rattle.canonical_laws.specs.Written.{after_piece, are_given, is_given, is_na
 use Rattle.canonical_laws.proofs.WrittenNodes.{IsWritten, IsWrittenBehind, and_written, between_written, branch_written, compare_written, count_all_written, count_written, easier, factors_written, in_written, is_not_null_written, is_null_written, literal_written, max_written, min_written, name_written, negate_written, not_between_written, not_in_written, not_written, or_written, qualified_written, sum_written, terms_are_written, variable_written}
 
 -- what was read is such, and what is left is given behind it
-abbrev Gave : (A : Type 0) → (A → Type 0) → (A → Last) → Outcome A → Type 0
+abbrev pub Gave : (A : Type 0) → (A → Type 0) → (A → Last) → Outcome A → Type 0
 Gave A P to (Ok read) = P read.0 × (are_given (to read.0) read.1 ≡ true)
 Gave A P to (Err left) = Unit {0}
 
 -- a reader that gives such, of pieces that are given
-abbrev From : Last → (A : Type 0) → (A → Type 0) → (A → Last) → Reader A → Type 0
+abbrev pub From : Last → (A : Type 0) → (A → Type 0) → (A → Last) → Reader A → Type 0
 From last A P to reader = (ts : List Piece) → are_given last ts ≡ true → Gave A P to (reader ts)
 
 abbrev AnyOf : (A : Type 0) → A → Type 0
 AnyOf A x = Unit {0}
 
-abbrev operand : {A : Type 0} → A → Last
+abbrev pub operand : {A : Type 0} → A → Last
 operand x = Operand
 
 after : (A B : Type 0) (P : A → Type 0) (to : A → Last) (Q : B → Type 0) (then_to : B → Last) (o : Outcome A) (next : A → Reader B) → Gave A P to o
@@ -213,7 +213,7 @@ leads last (piece.Keyword word.In ∷ ts) given = given
 leads last (piece.Keyword word.Between ∷ ts) given = given
 leads last (t ∷ ts) given = given
 
-abbrev Reads : Reader Expr → Type 0
+abbrev pub Reads : Reader Expr → Type 0
 Reads reader = From Other Expr IsWritten operand reader
 
 module _ (inner : Reader Expr) (reads : Reads inner) where
@@ -298,7 +298,8 @@ module _ (inner : Reader Expr) (reads : Reads inner) where
   plain_given false (piece.Whole value ∷ ts) given = let parts = and_parts (is_given Other (piece.Whole value)) (are_given Operand ts) given in (literal_written false (literal.Whole value) parts.0, parts.1)
   plain_given minus (piece.Decimal value places ∷ ts) given =
       let parts = and_parts (is_given (start minus) (piece.Decimal value places)) (are_given Operand ts) given in (literal_written minus (literal.Decimal value places) parts.0, parts.1)
-  plain_given minus (piece.Text value ∷ ts) given = (literal_written minus (literal.Text value) refl, given)
+  plain_given minus (piece.Text value ∷ ts) given =
+      let parts = and_parts (is_given (start minus) (piece.Text value)) (are_given Operand ts) given in (literal_written minus (literal.Text value) parts.0, parts.1)
   plain_given minus (piece.Bytes value ∷ ts) given =
       let parts = and_parts (is_given (start minus) (piece.Bytes value)) (are_given Operand ts) given in (literal_written minus (literal.Bytes value) parts.0, parts.1)
   plain_given minus (piece.Keyword word.True ∷ ts) given = (literal_written minus (literal.Bool true) refl, given)
@@ -450,7 +451,7 @@ module _ (inner : Reader Expr) (reads : Reads inner) where
       (chain_given Expr IsWritten (disjunct inner) (link_given (eat_keyword word.Or) (conjunction inner) (eats_word Operand word.Or is_or) conjunction_given) us more)
       (λ xs all vs last. (chained_written Expr IsWritten e.Or or_written a xs one all, last)))
 
-expression_given : (depth : ℕ) → Reads (expression depth)
+pub expression_given : (depth : ℕ) → Reads (expression depth)
 unfolding expression
 expression_given zero ts given = tt
 expression_given (suc depth) ts given = disjunction_given (expression depth) (expression_given depth) ts given

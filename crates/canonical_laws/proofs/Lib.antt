@@ -16,6 +16,8 @@ pub mod ReadBack
 pub mod Depths
 pub mod WrittenNodes
 pub mod Given
+pub mod StringTexts
 pub mod TokenPieces
-pub mod Checks
+pub mod TextUtf8
+pub mod StoredTexts
 mod Vectors

@@ -9,6 +9,10 @@ use Rattle.std.proofs.Math.Seq.{take-append_seam}
 use Rattle.std.proofs.lemmas.Bool.Decides.{leb_tells}
 use Rattle.std.proofs.lemmas.List.{append_assoc, length-append, map-append}
 use Rattle.std.proofs.lemmas.List.Folds.{list_all-append}
+use Rattle.std.specs.Str.{IsUtf8}
+use Rattle.tuple_codec.specs.Texts.{is_utf8}
+use Rattle.tuple_codec.proofs.Utf8Lemmas.{from_test, to_test}
+use Rattle.canonical_laws.proofs.StringTexts.{string_of}
 use Rattle.sql_ast.specs.Bytes.{hex_value, is_blank, is_digit, is_upper, is_word_byte, is_word_start, lower}
 use Rattle.std.proofs.lemmas.Nat.{pow-add}
 use Rattle.std.specs.Prelude.{is_some}
@@ -54,6 +58,7 @@ ends_added last (q ∷ ps) p = ends_added (after_piece q last) ps p
 record Given (text : List ℕ) (last : Last) (done : List Token) : Type 0 where
   given : are_given Other (pieces_of text done) ≡ true
   behind : ends Other (pieces_of text done) ≡ last
+  utf8 : IsUtf8 text
 
 one_more : (text : List ℕ) (last next : Last) (done : List Token) (token : Token) (p : Piece) → Given text last done → piece_of text token ≡ p → is_given last p ≡ true → after_piece p last ≡ next
     → Given text next (done ++ token ∷ [])
@@ -62,6 +67,7 @@ one_more text last next done token p g said is leads =
     record {
       given = ap (are_given Other) pieces ∙ added Other (pieces_of text done) p g.given (ap (λ l. is_given l p) g.behind ∙ is);
       behind = ap (ends Other) pieces ∙ ends_added Other (pieces_of text done) p ∙ ap (after_piece p) g.behind ∙ leads;
+      utf8 = g.utf8;
     }
 
 -- words
@@ -258,6 +264,16 @@ record IsSigned (s : Sign) (bytes : List ℕ) : Type 0 where
 abbrev IsWordRead : List ℕ → List ℕ → Type 0
 IsWordRead bytes held = (is_word bytes ≡ true) × (lowered bytes ≡ held)
 
+record IsOpened (quote : ℕ) (bytes : List ℕ) : Type 0 where
+  body : List ℕ
+  bytes_are : bytes ≡ quote ∷ body
+  low : quote < 128
+
+record IsClosed (quote : ℕ) (bytes : List ℕ) : Type 0 where
+  body : List ℕ
+  bytes_are : bytes ≡ quote ∷ (body ++ quote ∷ [])
+  low : quote < 128
+
 abbrev OpenAs : Place → List ℕ → List ℕ → ℕ → ℕ → Type 0
 OpenAs place.Between bytes held number count = ⊥
 OpenAs place.InWord bytes held number count = IsWordRead bytes held
@@ -268,6 +284,9 @@ OpenAs place.InDecimal bytes held number count = IsPointed bytes count
 OpenAs place.NameStart bytes held number count = bytes ≡ 96 ∷ []
 OpenAs place.InName bytes held number count = (name : List ℕ) × ((bytes ≡ 96 ∷ name) × (is_word name ≡ true))
 OpenAs place.AfterName bytes held number count = (name : List ℕ) × ((bytes ≡ 96 ∷ (name ++ 96 ∷ [])) × (is_word name ≡ true))
+OpenAs (place.InString quote) bytes held number count = IsOpened quote bytes
+OpenAs (place.AfterSlash quote) bytes held number count = IsOpened quote bytes
+OpenAs (place.AfterQuote quote) bytes held number count = IsClosed quote bytes
 OpenAs (place.AfterSign s) bytes held number count = IsSigned s bytes
 OpenAs (place.AfterHalf first) bytes held number count = bytes ≡ first ∷ []
 OpenAs place bytes held number count = Unit {0}
@@ -378,6 +397,13 @@ start_x byte e =
       | false ↦ λ is f. ap is_word_start (eqb-true byte 88 f)
     ] refl e
 
+quote_low : (byte : ℕ) → (byte == 39 || byte == 34) ≡ true → byte < 128
+quote_low byte e =
+    elim (byte == 39) as (λ b. (byte == 39) ≡ b → (b || byte == 34) ≡ true → byte < 128) [
+      | true ↦ λ is f. omega (arith, eqb-true byte 39 is)
+      | false ↦ λ is f. omega (arith, eqb-true byte 34 f)
+    ] refl e
+
 module _ (start : ℕ) (last : Last) (done : List Token) where
   abbrev Opens : Place → ℕ → Type 0
   Opens p byte = Open p (byte ∷ []) start last done (taken p byte (between start last done))
@@ -403,16 +429,16 @@ module _ (start : ℕ) (last : Last) (done : List Token) where
               is = refl;
               as_ = record { digits = record { all = and_from (is_digit byte) true is refl; some = omega arith }; number_is = refl; count_is = refl };
             })
-            | false ↦ λ no3 h. elim (byte == 39 || byte == 34) as (λ b. Path (Option Place) (if b then Some (place.InString byte) else (if byte == 96 then Some place.NameStart else first_of_sign byte)) (Some q) → Opens q byte) [
-              | true ↦ λ i. opens_at (place.InString byte) q byte i (record { held = []; number = 0; count = 0; is = refl; as_ = tt })
-              | false ↦ λ i. elim (byte == 96) as (λ b. (byte == 96) ≡ b → Path (Option Place) (if b then Some place.NameStart else first_of_sign byte) (Some q) → Opens q byte) [
+            | false ↦ λ no3 h. elim (byte == 39 || byte == 34) as (λ b. (byte == 39 || byte == 34) ≡ b → Path (Option Place) (if b then Some (place.InString byte) else (if byte == 96 then Some place.NameStart else first_of_sign byte)) (Some q) → Opens q byte) [
+              | true ↦ λ is i. opens_at (place.InString byte) q byte i (record { held = []; number = 0; count = 0; is = refl; as_ = record { body = []; bytes_are = refl; low = quote_low byte is } })
+              | false ↦ λ no5 i. elim (byte == 96) as (λ b. (byte == 96) ≡ b → Path (Option Place) (if b then Some place.NameStart else first_of_sign byte) (Some q) → Opens q byte) [
                 | true ↦ λ is j. opens_at place.NameStart q byte j (record { held = []; number = 0; count = 0; is = refl; as_ = ap (λ n. n ∷ []) (eqb-true byte 96 is) })
                 | false ↦ λ no4 j. elim (byte == 33 || byte == 64) as (λ b. Path (Option Place) (if b then Some (place.AfterHalf byte) else option_map (λ s. place.AfterSign s) (single_sign byte)) (Some q) → Opens q byte) [
                   | true ↦ λ k. opens_at (place.AfterHalf byte) q byte k (record { held = []; number = 0; count = 0; is = refl; as_ = refl })
                   | false ↦ λ k. opens_sign (single_sign byte) byte q refl k
                 ] j
               ] refl i
-            ] h
+            ] refl h
           ] refl g
         ] refl f
       ] refl e
@@ -451,15 +477,22 @@ module _ (bytes : List ℕ) (start : ℕ) (held : List ℕ) (number count : ℕ)
         as_ = (name ++ byte ∷ [], (ap (λ b. b ++ byte ∷ []) are, word_more name byte is word.0));
       })
 
-  string_on : (p : Place) (quote : ℕ) → GoesOn p (in_string quote byte)
-  string_on p quote =
-      elim (byte == quote) as (λ b. GoesOn p (if b then place.AfterQuote quote else (if byte == 92 then place.AfterSlash quote else place.InString quote))) [
-        | true ↦ record { held = held; number = number; count = count; is = refl; as_ = tt }
-        | false ↦ elim (byte == 92) as (λ b. GoesOn p (if b then place.AfterSlash quote else place.InString quote)) [
-          | true ↦ record { held = held; number = number; count = count; is = refl; as_ = tt }
-          | false ↦ record { held = held; number = number; count = count; is = refl; as_ = tt }
+  string_on : (p : Place) (quote : ℕ) → IsOpened quote bytes → GoesOn p (in_string quote byte)
+  string_on p quote as_ =
+      let still : IsOpened quote more = record { body = as_.body ++ byte ∷ []; bytes_are = ap (λ b. b ++ byte ∷ []) as_.bytes_are; low = as_.low } in
+      elim (byte == quote) as (λ b. (byte == quote) ≡ b → GoesOn p (if b then place.AfterQuote quote else (if byte == 92 then place.AfterSlash quote else place.InString quote))) [
+        | true ↦ λ is. record {
+          held = held;
+          number = number;
+          count = count;
+          is = refl;
+          as_ = record { body = as_.body; bytes_are = ap (λ b. b ++ byte ∷ []) as_.bytes_are ∙ ap (λ n. quote ∷ (as_.body ++ n ∷ [])) (eqb-true byte quote is); low = as_.low };
+        }
+        | false ↦ λ no. elim (byte == 92) as (λ b. GoesOn p (if b then place.AfterSlash quote else place.InString quote)) [
+          | true ↦ record { held = held; number = number; count = count; is = refl; as_ = still }
+          | false ↦ record { held = held; number = number; count = count; is = refl; as_ = still }
         ]
-      ]
+      ] refl
 
   sign_on : (p q : Place) (first : ℕ) (o : Option Sign) → double_sign first byte ≡ o → ((s : Sign) → double_sign first byte ≡ Some s → sign_of more ≡ Some s)
       → Path (Option Place) (option_map (λ s. place.AfterSign s) o) (Some q) → GoesOn p q
@@ -529,11 +562,23 @@ module _ (bytes : List ℕ) (start : ℕ) (held : List ℕ) (number count : ℕ)
           count_is = ap (λ n. min (n + 1) 19) as_.count_is ∙ sym (counted_more (counted 0 as_.front) as_.behind byte);
         };
       })
-  next_opens (place.InString quote) q as_ e = goes_to (place.InString quote) (in_string quote byte) q (some_place (in_string quote byte) q e) (string_on (place.InString quote) quote)
+  next_opens (place.InString quote) q as_ e = goes_to (place.InString quote) (in_string quote byte) q (some_place (in_string quote byte) q e) (string_on (place.InString quote) quote as_)
   next_opens (place.AfterQuote quote) q as_ e =
-      goes_to (place.AfterQuote quote) (place.InString quote) q (on_place (byte == quote) (place.InString quote) q e).1 (record { held = held; number = number; count = count; is = refl; as_ = tt })
+      goes_to (place.AfterQuote quote) (place.InString quote) q (on_place (byte == quote) (place.InString quote) q e).1 (record {
+        held = held;
+        number = number;
+        count = count;
+        is = refl;
+        as_ = record { body = (as_.body ++ quote ∷ []) ++ byte ∷ []; bytes_are = ap (λ b. b ++ byte ∷ []) as_.bytes_are; low = as_.low };
+      })
   next_opens (place.AfterSlash quote) q as_ e =
-      goes_to (place.AfterSlash quote) (place.InString quote) q (some_place (place.InString quote) q e) (record { held = held; number = number; count = count; is = refl; as_ = tt })
+      goes_to (place.AfterSlash quote) (place.InString quote) q (some_place (place.InString quote) q e) (record {
+        held = held;
+        number = number;
+        count = count;
+        is = refl;
+        as_ = record { body = as_.body ++ byte ∷ []; bytes_are = ap (λ b. b ++ byte ∷ []) as_.bytes_are; low = as_.low };
+      })
   next_opens place.HexEven q as_ e =
       elim (byte == 39) as (λ b. Path (Option Place) (if b then Some place.AfterBytes else on (is_some (hex_value byte)) place.HexOdd) (Some q) → GoesOn place.HexEven q) [
         | true ↦ λ f. goes_to place.HexEven place.AfterBytes q (some_place place.AfterBytes q f) (record { held = held; number = number; count = count; is = refl; as_ = tt })
@@ -674,6 +719,11 @@ module _ (before bytes rest held : List ℕ) (number count : ℕ) (last : Last) 
   abbrev Ends : Place → Type 0
   Ends p = EndsWell (whole before bytes rest) (ended p (at before bytes rest) (reading_at p (length before) held number count last done))
 
+  string_given : {quote : ℕ} → IsClosed quote bytes → is_utf8 (values.string bytes) ≡ true
+  string_given {quote} as_ =
+      let Goal = λ (b : List ℕ). IsUtf8 (whole before b rest) → is_utf8 (values.string b) ≡ true in
+      subst Goal (sym as_.bytes_are) (λ utf8. to_test (values.string (quote ∷ (as_.body ++ quote ∷ []))) (string_of before as_.body rest quote as_.low utf8)) given.utf8
+
   ends_well : (p : Place) → OpenAs p bytes held number count → Ends p
   ends_well place.Between as_ = absurd as_
   ends_well place.InWord as_ = word_well before bytes rest held last done as_ given
@@ -692,7 +742,7 @@ module _ (before bytes rest held : List ℕ) (number count : ℕ) (last : Last) 
         | false ↦ λ no. tt
       ] refl
   ends_well (place.InString quote) as_ = tt
-  ends_well (place.AfterQuote quote) as_ = closed_well before bytes rest kind.Text (piece.Text (values.string bytes)) last Operand done given refl refl refl
+  ends_well (place.AfterQuote quote) as_ = closed_well before bytes rest kind.Text (piece.Text (values.string bytes)) last Operand done given refl (string_given as_) refl
   ends_well (place.AfterSlash quote) as_ = tt
   ends_well place.HexEven as_ = tt
   ends_well place.HexOdd as_ = tt
@@ -807,10 +857,6 @@ runs_well (byte ∷ rest) front found reading state e =
     ∙ after_step (front ++ byte ∷ []) rest found (step (length front) byte reading) (tokens_from (length front + 1) rest) (steps_well front rest byte reading state)
     (λ next well f. runs_well rest (front ++ byte ∷ []) found next well (ap (λ n. tokens_from n rest next) (sym here) ∙ f)) e
 
-pub tokens_are_given : (text : List ℕ) (found : List Token) → tokens text ≡ Ok found → are_given Other (pieces_of text found) ≡ true
-tokens_are_given text found e =
-    runs_well text [] found (between 0 Other []) (inl (record { start = 0; last = Other; done = []; is = refl; tokens_given = record { given = refl; behind = refl } })) e
-
-pub given_behind : (last : Last) (front ps : List Piece) (t : Piece) → are_given last (front ++ t ∷ ps) ≡ true → after_piece t (ends last front) ≡ Other → are_given Other ps ≡ true
-given_behind last [] ps t given is = ap (λ l. are_given l ps) (sym is) ∙ (and_parts (is_given last t) (are_given (after_piece t last) ps) given).1
-given_behind last (q ∷ front) ps t given is = given_behind (after_piece q last) front ps t (and_parts (is_given last q) (are_given (after_piece q last) (front ++ t ∷ ps)) given).1 is
+pub tokens_are_given : (text : List ℕ) (found : List Token) → is_utf8 text ≡ true → tokens text ≡ Ok found → are_given Other (pieces_of text found) ≡ true
+tokens_are_given text found utf8 e =
+    runs_well text [] found (between 0 Other []) (inl (record { start = 0; last = Other; done = []; is = refl; tokens_given = record { given = refl; behind = refl; utf8 = from_test text utf8 } })) e

@@ -1,9 +1,8 @@
 -- What a canonical text is read as.
-use Rattle.std.specs.Prelude.{◌≡◌, ◌≤◌, ℕ, suc, min, true, false, List, ◌∷◌, ◌++◌, Some, Ok}
+use Rattle.std.specs.Prelude.{◌≡◌, ◌≤◌, ℕ, suc, min, true, false, List, ◌++◌, Some, Ok}
 use Rattle.sql_ast.specs.Tokens.{tokens}
 use Rattle.sql_ast.specs.declared.expressions.Expr.{Expr}
 use Rattle.sql_ast.specs.declared.places.Last.TheVariants.{Other}
-use Rattle.sql_ast.specs.declared.signs.Sign.TheVariants as sign
 use Rattle.sql_ast.specs.declared.tokens.Token.{Token}
 use Rattle.sql_grammar.specs.declared.pieces.Piece.{Piece}
 use Rattle.sql_grammar.specs.Expressions.{any, expression}
@@ -11,8 +10,10 @@ use Rattle.sql_features.specs.Depths.{depth, is_deep}
 use Rattle.sql_pieces.specs.Checking.{canonical_expression}
 use Rattle.sql_pieces.specs.Values.{canonical_pieces_of, pieces_of}
 use Rattle.sql_text.specs.Canon.{text}
-use Rattle.grammar_laws.specs.Spelling.{deepest, is_tree, mark}
+use Rattle.grammar_laws.specs.Spelling.{deepest, is_tree}
+use Rattle.tuple_codec.specs.Texts.{is_utf8}
 use Rattle.canonical_laws.specs.Canonical.{canonical, ends_canonical, paired}
+use Rattle.canonical_laws.specs.Sound.{is_expr}
 use Rattle.canonical_laws.specs.Written.{are_given, is_written}
 
 -- pieces with at most so many open parentheses are read as what they say, and what can't go on is left
@@ -51,9 +52,8 @@ ReadsWritten = (depth : ℕ) (pieces rest : List Piece) (x : Expr) → are_given
 
 -- the pieces of a text's tokens are given
 abbrev pub GivesPieces : Type 0
-GivesPieces = (statement : List ℕ) (found : List Token) → tokens statement ≡ Ok found → are_given Other (pieces_of statement found) ≡ true
+GivesPieces = (statement : List ℕ) (found : List Token) → is_utf8 statement ≡ true → tokens statement ≡ Ok found → are_given Other (pieces_of statement found) ≡ true
 
--- Whatever is read behind a parenthesis of a text, as a CHECK is, has a canonical text that is read back, where `sql_features` doesn't find it too deep.
-abbrev pub ReadsChecks : Type 0
-ReadsChecks = (statement : List ℕ) (found : List Token) (front pieces rest : List Piece) (limit : ℕ) (x : Expr) → tokens statement ≡ Ok found
-    → pieces_of statement found ≡ front ++ mark sign.OpenParenthesis ∷ pieces → expression limit pieces ≡ Ok (x, rest) → is_deep x ≡ false → canonical_expression (text x) ≡ Some (paired x)
+-- the text of an expression that a text can give is UTF-8, and read as what it says, where `sql_features` doesn't find it too deep
+abbrev pub StoresText : Type 0
+StoresText = (x : Expr) → is_expr x ≡ true → is_deep x ≡ false → (canonical_expression (text x) ≡ Some (paired x)) × (is_utf8 (text x) ≡ true)

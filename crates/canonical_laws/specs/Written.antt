@@ -12,6 +12,7 @@ use Rattle.sql_ast.specs.declared.places.Last.TheVariants.{Operand}
 use Rattle.sql_grammar.specs.declared.pieces.Piece.{Piece}
 use Rattle.sql_grammar.specs.declared.pieces.Piece.TheVariants as piece
 use Rattle.grammar_laws.specs.Spelling.{operands}
+use Rattle.tuple_codec.specs.Texts.{is_utf8}
 
 -- the bytes of a word
 abbrev pub is_word : List ℕ → Bool
@@ -33,7 +34,7 @@ is_decimal value places = nat_le 1 places && (nat_le places 17 && nat_lt value (
 abbrev pub is_literal : Bool → Literal → Bool
 is_literal behind_minus (literal.Whole value) = nat_le value (most_whole behind_minus)
 is_literal behind_minus (literal.Decimal value places) = is_decimal value places
-is_literal behind_minus (literal.Text value) = true
+is_literal behind_minus (literal.Text value) = is_utf8 value
 is_literal behind_minus (literal.Bytes value) = list_all (λ byte. nat_lt byte 256) value
 is_literal behind_minus (literal.Bool value) = true
 is_literal behind_minus literal.Null = true
@@ -83,6 +84,7 @@ is_given last (piece.Quoted name) = is_name name
 is_given last (piece.Bytes value) = list_all (λ byte. nat_lt byte 256) value
 is_given last (piece.Whole value) = nat_le value (tokens.most_whole last)
 is_given last (piece.Decimal value places) = is_decimal value places
+is_given last (piece.Text value) = is_utf8 value
 is_given last t = true
 
 abbrev pub after_piece : Piece → Last → Last

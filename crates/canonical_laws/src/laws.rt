@@ -1,7 +1,7 @@
 //! Laws about canonical texts, for the crates above: call one where a proof needs it. None does anything.
 
 ghost use Rattle.std.specs.Prelude.{ℕ};
-ghost use Rattle.canonical_laws.specs.Laws.{CountsOpen, GivesPieces, HasPieces, KeepsText, ReadsChecks, ReadsPieces, ReadsPiecesAt, ReadsText, ReadsWritten, SaysOneThing};
+ghost use Rattle.canonical_laws.specs.Laws.{CountsOpen, GivesPieces, HasPieces, KeepsText, ReadsPieces, ReadsPiecesAt, ReadsText, ReadsWritten, SaysOneThing, StoresText};
 
 /// The pieces of an expression's canonical text are read as what the text says, and what follows is left, where no expression goes on
 /// with it and no call begins. At most 64 parentheses may be open at one place, or at each other limit so many.
@@ -31,13 +31,13 @@ pub fn law_of_open_parentheses()
     ensures { CountsOpen }
 {}
 
-/// The pieces of a text's tokens have names and literals as a text gives them, and so has whatever is read of such pieces.
+/// The pieces of the tokens of a text of UTF-8 have names and literals as a text gives them, and so has whatever is read of such pieces.
 pub fn law_of_written_pieces()
     ensures pieces { GivesPieces }
     ensures read { ReadsWritten }
 {}
 
-/// The canonical text of whatever is read as an expression behind a parenthesis of a text, as a CHECK is, is read back, where it isn't too deep.
-pub fn law_of_checks()
-    ensures { ReadsChecks }
+/// The canonical text of an expression that a text can give is UTF-8 and is read back, where it isn't too deep: so a CHECK may be kept as its text.
+pub fn law_of_stored_texts()
+    ensures { StoresText }
 {}

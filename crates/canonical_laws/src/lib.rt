@@ -6,6 +6,6 @@
 mod laws;
 
 pub use laws::{
-    law_of_canonical_pieces, law_of_canonical_tokens, law_of_checks, law_of_one_text,
-    law_of_open_parentheses, law_of_reading_text, law_of_written_pieces,
+    law_of_canonical_pieces, law_of_canonical_tokens, law_of_one_text, law_of_open_parentheses,
+    law_of_reading_text, law_of_stored_texts, law_of_written_pieces,
 };

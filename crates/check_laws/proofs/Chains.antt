@@ -18,7 +18,7 @@ use Rattle.expr_eval.specs.declared.scopes.ScopeColumn.{ScopeColumn}
 use Rattle.expr_eval.specs.Binding.{Outcome, and_then, bound, bound_chain, bound_in, compared_kind, extended, in_node, logic_kind, longer_if, opened_chain}
 use Rattle.expr_eval.specs.Binding as binding
 use Rattle.expr_eval.specs.Valuing.{Worthy, among, chained, one, two, worth}
-use Rattle.expr_eval.proofs.ValueLemmas.{worth_in}
+use Rattle.expr_eval.proofs.WorthNodes.{worth_in}
 use Rattle.canonical_laws.specs.Canonical.{grouped, paired}
 use Rattle.check_laws.proofs.Nodes.{Alike, IsPlain, IsPlainIfBound, plain, same}
 

@@ -1,11 +1,11 @@
--- The CHECK that is read back of a statement's has its values.
-use Rattle.std.proofs.Common.{true}
-use Rattle.grammar_laws.proofs.Sound.{reads_trees}
+-- What is read back of a CHECK has its values.
+use Rattle.std.proofs.lemmas.Bool.{and_parts}
+use Rattle.grammar_laws.specs.Spelling.{is_tree}
 use Rattle.canonical_laws.specs.Canonical.{paired}
-use Rattle.canonical_laws.proofs.Checks.{reads_checks}
-use Rattle.check_laws.specs.Laws.{ChecksKeepValues}
+use Rattle.canonical_laws.specs.Written.{is_written}
+use Rattle.canonical_laws.proofs.StoredTexts.{stores_text}
+use Rattle.check_laws.specs.Laws.{KeepsChecks}
 use Rattle.check_laws.proofs.Values.{keeps_values}
 
-pub checks_keep_values : ChecksKeepValues
-checks_keep_values statement found front pieces rest limit x are split is low =
-    (paired x, (reads_checks statement found front pieces rest limit x are split is low, λ scope. keeps_values scope x (reads_trees limit pieces rest x is)))
+pub keeps_checks : KeepsChecks
+keeps_checks x is low = (paired x, ((stores_text x is low).0, λ scope. keeps_values scope x (and_parts (is_tree x) (is_written x) is).0))

@@ -16,6 +16,7 @@ use Rattle.expr_eval.specs.declared.bound.Node.{Node, fold-Node, fold-roll-Node,
 use Rattle.expr_eval.specs.declared.bound.Node.TheOpen.{Node-F}
 use Rattle.expr_eval.specs.declared.bound.Node.TheVariants as n
 use Rattle.expr_eval.specs.declared.bound.Node.TheVariants.{outs-Compare, outs-Constant, outs-IsNotNull, outs-IsNull, outs-Negate, outs-Not, rolls-Compare, rolls-IsNotNull, rolls-IsNull, rolls-Negate, rolls-Not}
+use Rattle.expr_eval.proofs.WorthNodes.{worth_compare, worth_is_not_null, worth_is_null, worth_negate, worth_not}
 
 -- what an operand is worth under a unary minus, which brings the literal 2^63 into range
 abbrev pub worth_behind_minus : Cells → Node → Worthy
@@ -38,22 +39,6 @@ IsPlain a = (row : Cells) → worth_behind_minus row a ≡ one negated (worth ro
 abbrev pub IsPlainIfBound : Outcome BoundExpr → Type 0
 IsPlainIfBound (Ok a) = IsPlain a.node
 IsPlainIfBound (Err k) = Unit {0}
-
--- what nodes are worth
-worth_not : (row : Cells) (a : Node) → worth row (n.Not a) ≡ one negation (worth row a)
-worth_not row a = ap (λ y. fold-Node Worthy (step row) y) (sym (rolls-Not a)) ∙ fold-roll-Node Worthy (step row) _
-
-pub worth_compare : (row : Cells) (a : Node) (o : Comparison) (b : Node) → worth row (n.Compare a o b) ≡ two (comparison o) (worth row a) (worth row b)
-worth_compare row a o b = ap (λ y. fold-Node Worthy (step row) y) (sym (rolls-Compare a o b)) ∙ fold-roll-Node Worthy (step row) _
-
-worth_is_null : (row : Cells) (a : Node) → worth row (n.IsNull a) ≡ one (λ x. Some (Truth (is_unknown x))) (worth row a)
-worth_is_null row a = ap (λ y. fold-Node Worthy (step row) y) (sym (rolls-IsNull a)) ∙ fold-roll-Node Worthy (step row) _
-
-worth_is_not_null : (row : Cells) (a : Node) → worth row (n.IsNotNull a) ≡ one (λ x. Some (Truth (not (is_unknown x)))) (worth row a)
-worth_is_not_null row a = ap (λ y. fold-Node Worthy (step row) y) (sym (rolls-IsNotNull a)) ∙ fold-roll-Node Worthy (step row) _
-
-pub worth_negate : (row : Cells) (a : Node) → worth row (n.Negate a) ≡ one negated (worth row a)
-worth_negate row a = ap (λ y. fold-Node Worthy (step row) y) (sym (rolls-Negate a)) ∙ fold-roll-Node Worthy (step row) _
 
 -- which nodes are plain
 pub plain : (y : Node-F Node) (a : Node) → out-Node a ≡ y → minus_of y a ≡ n.Negate a → IsPlain a

@@ -13,15 +13,12 @@ use Rattle.expr_eval.specs.declared.bound.Node.TheVariants.{outs-Between, rolls-
 use Rattle.expr_eval.specs.Binding.{Outcome, and_node, and_then, bound_between, bound_chain, bound_compare, high_end, logic_kind, low_end, mismatch, truth_if}
 use Rattle.expr_eval.specs.Binding as binding
 use Rattle.expr_eval.specs.Valuing.{Worthy, between, compared, comparison, conjunction, step, two, worth}
-use Rattle.expr_eval.proofs.ValueLemmas.{worth_and}
+use Rattle.expr_eval.proofs.WorthNodes.{worth_and, worth_between, worth_compare}
 use Rattle.check_laws.proofs.Chains.{plain_and}
-use Rattle.check_laws.proofs.Nodes.{Alike, Same, plain, same, worth_compare}
+use Rattle.check_laws.proofs.Nodes.{Alike, Same, plain, same}
 
 abbrev pub conjoined : Outcome BoundExpr → Outcome BoundExpr → Outcome BoundExpr
 conjoined o q = and_then (and_then o (bound_chain logic_kind (q ∷ []))) and_node
-
-worth_between : (row : Cells) (a low high : Node) → worth row (n.Between a low high) ≡ between (worth row a) (worth row low) (worth row high)
-worth_between row a low high = ap (λ y. fold-Node Worthy (step row) y) (sym (rolls-Between a low high)) ∙ fold-roll-Node Worthy (step row) _
 
 read_truth : (t : Truth3) → truth (of_truth t) ≡ t
 read_truth (Some b) = refl

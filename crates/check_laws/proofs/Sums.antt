@@ -18,7 +18,7 @@ use Rattle.expr_eval.specs.declared.bound.Sum.{Sum}
 use Rattle.expr_eval.specs.declared.scopes.ScopeColumn.{ScopeColumn}
 use Rattle.expr_eval.specs.Binding.{Outcome, and_then, bound, bound_sum, lengthened, longer_sum_if, opened_sum, step, terms_node}
 use Rattle.expr_eval.specs.Valuing.{Worthy, added, counted, total, two, worth}
-use Rattle.expr_eval.proofs.ValueLemmas.{worth_terms}
+use Rattle.expr_eval.proofs.WorthNodes.{worth_terms}
 use Rattle.canonical_laws.specs.Canonical.{grouped, paired, sum}
 use Rattle.check_laws.proofs.Chains.{IsKept}
 use Rattle.check_laws.proofs.Nodes.{Alike, IsPlain, IsPlainIfBound, plain, same}

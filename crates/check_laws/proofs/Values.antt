@@ -19,7 +19,8 @@ use Rattle.expr_eval.specs.Valuing.{conjunction, disjunction}
 use Rattle.expr_eval.specs.declared.bound.BoundExpr.{BoundExpr}
 use Rattle.expr_eval.specs.declared.bound.Node.TheVariants as n
 use Rattle.expr_eval.specs.declared.scopes.ScopeColumn.{ScopeColumn}
-use Rattle.expr_eval.proofs.ValueLemmas.{worth_and, worth_factors, worth_or}
+use Rattle.expr_eval.proofs.BoundNodes.{bound_of_compare, bound_of_count, bound_of_in, bound_of_is_not_null, bound_of_is_null, bound_of_max, bound_of_min, bound_of_negate, bound_of_not, bound_of_sum}
+use Rattle.expr_eval.proofs.WorthNodes.{worth_and, worth_factors, worth_or}
 use Rattle.grammar_laws.specs.Spelling.{grown, is_tree, operands}
 use Rattle.canonical_laws.specs.Canonical.{both, either, paired, paired_at, product, within}
 use Rattle.canonical_laws.proofs.Layers.{Parts, by_layers}
@@ -32,10 +33,6 @@ use Rattle.check_laws.proofs.Sums.{sum_kept}
 abbrev IfTree : List ScopeColumn → Expr → Type 0
 IfTree scope x = is_tree x ≡ true → IsKept scope x
 
--- what a node is bound to, from the node as it is rolled up
-said : (scope : List ScopeColumn) (y : Expr-F Expr) (x : Expr) (o : Outcome BoundExpr) → roll-Expr y ≡ x → bound scope (roll-Expr y) ≡ o → bound scope x ≡ o
-said scope y x o is b = ap (λ z. bound scope z) (sym is) ∙ b
-
 rolled : (scope : List ScopeColumn) (y : Expr-F Expr) (x : Expr) (o p : Outcome BoundExpr) → paired (roll-Expr y) ≡ x → bound scope x ≡ o → bound scope (roll-Expr y) ≡ p → Alike o p
     → IsKept scope (roll-Expr y)
 rolled scope y x o p is o_is p_is alike =
@@ -43,15 +40,6 @@ rolled scope y x o p is o_is p_is alike =
 
 leaf : (scope : List ScopeColumn) (x : Expr) → paired x ≡ x → IsKept scope x
 leaf scope x is = subst (λ z. Alike (bound scope z) (bound scope x)) (sym is) (itself (bound scope x))
-
-bound_of_not : (scope : List ScopeColumn) (a : Expr) → bound scope (e.Not a) ≡ and_then (bound scope a) bound_not
-bound_of_not scope a = said scope (Expr-F.Not a) (e.Not a) _ (rolls-Not a) (fold-roll-Expr (Outcome BoundExpr) (step scope) (Expr-F.Not a))
-
-bound_of_compare : (scope : List ScopeColumn) (a : Expr) (o : Comparison) (b : Expr) → bound scope (e.Compare a o b) ≡ two (bound_compare o) (bound scope a) (bound scope b)
-bound_of_compare scope a o b = said scope (Expr-F.Compare a o b) (e.Compare a o b) _ (rolls-Compare a o b) (fold-roll-Expr (Outcome BoundExpr) (step scope) (Expr-F.Compare a o b))
-
-bound_of_in : (scope : List ScopeColumn) (a : Expr) (xs : List Expr) → bound scope (e.In a xs) ≡ and_then (bound scope a) (bound_in (map (bound scope) xs))
-bound_of_in scope a xs = fold_in (step scope) a xs
 
 bound_of_both : (scope : List ScopeColumn) (a b : Expr) → bound scope (both a b) ≡ conjoined (bound scope a) (bound scope b)
 bound_of_both scope a b = fold_and (step scope) a (b ∷ [])
@@ -97,7 +85,7 @@ node_kept scope (Expr-F.And a (x ∷ xs)) parts tree =
 node_kept scope (Expr-F.Not a) parts tree =
     let t : is_tree a ≡ true = sym (fold-roll-Expr Bool grown (Expr-F.Not a)) ∙ tree in
     rolled scope (Expr-F.Not a) _ _ _ (fold-roll-Expr Expr paired_at (Expr-F.Not a))
-    (said scope (Expr-F.Not (paired a)) (e.Not (paired a)) _ (rolls-Not (paired a)) (fold-roll-Expr (Outcome BoundExpr) (step scope) (Expr-F.Not (paired a)))) (fold-roll-Expr (Outcome BoundExpr) (step scope) (Expr-F.Not a))
+    (bound_of_not scope (paired a)) (fold-roll-Expr (Outcome BoundExpr) (step scope) (Expr-F.Not a))
     (not_alike (bound scope (paired a)) (bound scope a) (parts t))
 node_kept scope (Expr-F.Compare a o b) parts tree =
     let t : (is_tree a && is_tree b) ≡ true = sym (fold-roll-Expr Bool grown (Expr-F.Compare a o b)) ∙ tree in
@@ -108,12 +96,12 @@ node_kept scope (Expr-F.Compare a o b) parts tree =
 node_kept scope (Expr-F.IsNull a) parts tree =
     let t : is_tree a ≡ true = sym (fold-roll-Expr Bool grown (Expr-F.IsNull a)) ∙ tree in
     rolled scope (Expr-F.IsNull a) _ _ _ (fold-roll-Expr Expr paired_at (Expr-F.IsNull a))
-    (said scope (Expr-F.IsNull (paired a)) (e.IsNull (paired a)) _ (rolls-IsNull (paired a)) (fold-roll-Expr (Outcome BoundExpr) (step scope) (Expr-F.IsNull (paired a)))) (fold-roll-Expr (Outcome BoundExpr) (step scope) (Expr-F.IsNull a))
+    (bound_of_is_null scope (paired a)) (fold-roll-Expr (Outcome BoundExpr) (step scope) (Expr-F.IsNull a))
     (is_null_alike (bound scope (paired a)) (bound scope a) (parts t))
 node_kept scope (Expr-F.IsNotNull a) parts tree =
     let t : is_tree a ≡ true = sym (fold-roll-Expr Bool grown (Expr-F.IsNotNull a)) ∙ tree in
     rolled scope (Expr-F.IsNotNull a) _ _ _ (fold-roll-Expr Expr paired_at (Expr-F.IsNotNull a))
-    (said scope (Expr-F.IsNotNull (paired a)) (e.IsNotNull (paired a)) _ (rolls-IsNotNull (paired a)) (fold-roll-Expr (Outcome BoundExpr) (step scope) (Expr-F.IsNotNull (paired a)))) (fold-roll-Expr (Outcome BoundExpr) (step scope) (Expr-F.IsNotNull a))
+    (bound_of_is_not_null scope (paired a)) (fold-roll-Expr (Outcome BoundExpr) (step scope) (Expr-F.IsNotNull a))
     (is_not_null_alike (bound scope (paired a)) (bound scope a) (parts t))
 node_kept scope (Expr-F.In a []) parts tree =
     let t : (is_tree a && false) ≡ true = sym (fold-roll-Expr Bool grown (Expr-F.In a [])) ∙ tree in
@@ -168,7 +156,7 @@ node_kept scope (Expr-F.Factors a (x ∷ xs)) parts tree =
 node_kept scope (Expr-F.Negate a) parts tree =
     let t : is_tree a ≡ true = sym (fold-roll-Expr Bool grown (Expr-F.Negate a)) ∙ tree in
     rolled scope (Expr-F.Negate a) _ _ _ (fold-roll-Expr Expr paired_at (Expr-F.Negate a))
-    (said scope (Expr-F.Negate (paired a)) (e.Negate (paired a)) _ (rolls-Negate (paired a)) (fold-roll-Expr (Outcome BoundExpr) (step scope) (Expr-F.Negate (paired a)))) (fold-roll-Expr (Outcome BoundExpr) (step scope) (Expr-F.Negate a))
+    (bound_of_negate scope (paired a)) (fold-roll-Expr (Outcome BoundExpr) (step scope) (Expr-F.Negate a))
     (negate_alike (bound scope (paired a)) (bound scope a) (parts t))
 node_kept scope (Expr-F.Literal x) parts tree = leaf scope (roll-Expr (Expr-F.Literal x)) (fold-roll-Expr Expr paired_at (Expr-F.Literal x) ∙ sym (rolls-Literal x))
 node_kept scope (Expr-F.Name x) parts tree = leaf scope (roll-Expr (Expr-F.Name x)) (fold-roll-Expr Expr paired_at (Expr-F.Name x) ∙ sym (rolls-Name x))
@@ -176,16 +164,16 @@ node_kept scope (Expr-F.Qualified source x) parts tree = leaf scope (roll-Expr (
 node_kept scope Expr-F.CountAll parts tree = leaf scope (roll-Expr Expr-F.CountAll) (fold-roll-Expr Expr paired_at Expr-F.CountAll ∙ sym rolls-CountAll)
 node_kept scope (Expr-F.Count a) parts tree =
     rolled scope (Expr-F.Count a) _ _ _ (fold-roll-Expr Expr paired_at (Expr-F.Count a))
-    (said scope (Expr-F.Count (paired a)) (e.Count (paired a)) _ (rolls-Count (paired a)) (fold-roll-Expr (Outcome BoundExpr) (step scope) (Expr-F.Count (paired a)))) (fold-roll-Expr (Outcome BoundExpr) (step scope) (Expr-F.Count a)) refl
+    (bound_of_count scope (paired a)) (fold-roll-Expr (Outcome BoundExpr) (step scope) (Expr-F.Count a)) refl
 node_kept scope (Expr-F.Sum a) parts tree =
     rolled scope (Expr-F.Sum a) _ _ _ (fold-roll-Expr Expr paired_at (Expr-F.Sum a))
-    (said scope (Expr-F.Sum (paired a)) (e.Sum (paired a)) _ (rolls-Sum (paired a)) (fold-roll-Expr (Outcome BoundExpr) (step scope) (Expr-F.Sum (paired a)))) (fold-roll-Expr (Outcome BoundExpr) (step scope) (Expr-F.Sum a)) refl
+    (bound_of_sum scope (paired a)) (fold-roll-Expr (Outcome BoundExpr) (step scope) (Expr-F.Sum a)) refl
 node_kept scope (Expr-F.Min a) parts tree =
     rolled scope (Expr-F.Min a) _ _ _ (fold-roll-Expr Expr paired_at (Expr-F.Min a))
-    (said scope (Expr-F.Min (paired a)) (e.Min (paired a)) _ (rolls-Min (paired a)) (fold-roll-Expr (Outcome BoundExpr) (step scope) (Expr-F.Min (paired a)))) (fold-roll-Expr (Outcome BoundExpr) (step scope) (Expr-F.Min a)) refl
+    (bound_of_min scope (paired a)) (fold-roll-Expr (Outcome BoundExpr) (step scope) (Expr-F.Min a)) refl
 node_kept scope (Expr-F.Max a) parts tree =
     rolled scope (Expr-F.Max a) _ _ _ (fold-roll-Expr Expr paired_at (Expr-F.Max a))
-    (said scope (Expr-F.Max (paired a)) (e.Max (paired a)) _ (rolls-Max (paired a)) (fold-roll-Expr (Outcome BoundExpr) (step scope) (Expr-F.Max (paired a)))) (fold-roll-Expr (Outcome BoundExpr) (step scope) (Expr-F.Max a)) refl
+    (bound_of_max scope (paired a)) (fold-roll-Expr (Outcome BoundExpr) (step scope) (Expr-F.Max a)) refl
 node_kept scope Expr-F.ActiveBranch parts tree = leaf scope (roll-Expr Expr-F.ActiveBranch) (fold-roll-Expr Expr paired_at Expr-F.ActiveBranch ∙ sym rolls-ActiveBranch)
 node_kept scope (Expr-F.Variable x) parts tree = leaf scope (roll-Expr (Expr-F.Variable x)) (fold-roll-Expr Expr paired_at (Expr-F.Variable x) ∙ sym (rolls-Variable x))
 

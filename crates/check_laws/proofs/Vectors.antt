@@ -19,9 +19,9 @@ use Rattle.expr_eval.specs.declared.bound.Node.{fold-Node, fold-roll-Node}
 use Rattle.expr_eval.specs.declared.bound.Node.TheOpen.{Node-F}
 use Rattle.expr_eval.specs.declared.bound.Node.TheVariants as n
 use Rattle.expr_eval.specs.declared.bound.Node.TheVariants.{outs-MinusOnly, outs-Or, rolls-Constant, rolls-MinusOnly}
-use Rattle.expr_eval.proofs.ValueLemmas.{worth_or}
+use Rattle.expr_eval.proofs.BoundNodes.{bound_of_literal, bound_of_negate}
+use Rattle.expr_eval.proofs.WorthNodes.{worth_constant, worth_minus_only, worth_negate, worth_or}
 use Rattle.canonical_laws.specs.Canonical.{paired, paired_at}
-use Rattle.check_laws.proofs.Nodes.{worth_negate}
 
 abbrev great : Expr
 great = e.Literal (literal.Whole (2 ^ 63))
@@ -30,22 +30,16 @@ great = e.Literal (literal.Whole (2 ^ 63))
 abbrev alone : Expr
 alone = e.Negate (e.Or great [])
 
-bound_of_great : bound [] great ≡ Ok (record { kind = kind.Int; node = n.MinusOnly })
-bound_of_great = ap (λ z. bound [] z) (sym (rolls-Literal (literal.Whole (2 ^ 63)))) ∙ fold-roll-Expr (Outcome BoundExpr) (step []) (Expr-F.Literal (literal.Whole (2 ^ 63)))
-
-bound_of_negate : (a : Expr) → bound [] (e.Negate a) ≡ and_then (bound [] a) bound_negate
-bound_of_negate a = ap (λ z. bound [] z) (sym (rolls-Negate a)) ∙ fold-roll-Expr (Outcome BoundExpr) (step []) (Expr-F.Negate a)
-
 as_it_is : bound [] alone ≡ Ok (record { kind = kind.Int; node = n.Negate (n.Or n.MinusOnly []) })
 as_it_is =
-    bound_of_negate (e.Or great [])
-    ∙ ap (λ o. and_then o bound_negate) (fold_or (step []) great [] ∙ ap (λ o. and_then (and_then o (bound_chain logic_kind [])) or_node) bound_of_great)
+    bound_of_negate [] (e.Or great [])
+    ∙ ap (λ o. and_then o bound_negate) (fold_or (step []) great [] ∙ ap (λ o. and_then (and_then o (bound_chain logic_kind [])) or_node) (bound_of_literal [] (literal.Whole (2 ^ 63))))
     ∙ ap (λ y. Ok (record { kind = kind.Int; node = minus_of y (n.Or n.MinusOnly []) })) (outs-Or n.MinusOnly [])
 
 out_of_range : worth [] (n.Negate (n.Or n.MinusOnly [])) ≡ None
 out_of_range =
     worth_negate [] (n.Or n.MinusOnly [])
-    ∙ ap (one negated) (worth_or [] n.MinusOnly [] ∙ ap (λ z. fold-Node Worthy (valuing.step []) z) (sym rolls-MinusOnly) ∙ fold-roll-Node Worthy (valuing.step []) Node-F.MinusOnly)
+    ∙ ap (one negated) (worth_or [] n.MinusOnly [] ∙ worth_minus_only [])
 
 paired_alone : paired alone ≡ e.Negate great
 unfolding paired
@@ -55,10 +49,8 @@ paired_alone =
 
 read_back : bound [] (paired alone) ≡ Ok (record { kind = kind.Int; node = n.Constant kind.Int (cell.Int (negsuc (2 ^ 63 - 1))) })
 read_back =
-    ap (λ z. bound [] z) paired_alone ∙ bound_of_negate great ∙ ap (λ o. and_then o bound_negate) bound_of_great
+    ap (λ z. bound [] z) paired_alone ∙ bound_of_negate [] great ∙ ap (λ o. and_then o bound_negate) (bound_of_literal [] (literal.Whole (2 ^ 63)))
     ∙ ap (λ y. Ok (record { kind = kind.Int; node = minus_of y n.MinusOnly })) outs-MinusOnly
 
 in_range : value [] (n.Constant kind.Int (cell.Int (negsuc (2 ^ 63 - 1)))) ≡ Some (cell.Int (negsuc (2 ^ 63 - 1)))
-in_range =
-    ap (option_map cell_of) (ap (λ z. fold-Node Worthy (valuing.step []) z) (sym (rolls-Constant kind.Int (cell.Int (negsuc (2 ^ 63 - 1)))))
-    ∙ fold-roll-Node Worthy (valuing.step []) (Node-F.Constant kind.Int (cell.Int (negsuc (2 ^ 63 - 1)))))
+in_range = ap (option_map cell_of) (worth_constant [] kind.Int (cell.Int (negsuc (2 ^ 63 - 1))))

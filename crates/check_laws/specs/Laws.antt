@@ -1,22 +1,17 @@
 -- What a canonical text says has the kind, the refusal and the values of the expression.
-use Rattle.std.specs.Prelude.{◌≡◌, List, Ok, Err, true, ℕ, false, ◌∷◌, ◌++◌, Some}
-use Rattle.sql_ast.specs.Tokens.{tokens}
+use Rattle.std.specs.Prelude.{◌≡◌, List, Ok, Err, Some, true, false}
 use Rattle.sql_ast.specs.declared.expressions.Expr.{Expr}
-use Rattle.sql_ast.specs.declared.signs.Sign.TheVariants as sign
-use Rattle.sql_ast.specs.declared.tokens.Token.{Token}
 use Rattle.sql_features.specs.Depths.{is_deep}
-use Rattle.sql_grammar.specs.Expressions.{expression}
-use Rattle.sql_grammar.specs.declared.pieces.Piece.{Piece}
 use Rattle.sql_pieces.specs.Checking.{canonical_expression}
-use Rattle.sql_pieces.specs.Values.{pieces_of}
 use Rattle.sql_text.specs.Canon.{text}
 use Rattle.tuple_codec.specs.Rows.{Cells}
 use Rattle.expr_eval.specs.Binding.{Outcome, bound}
 use Rattle.expr_eval.specs.Valuing.{value}
 use Rattle.expr_eval.specs.declared.bound.BoundExpr.{BoundExpr}
 use Rattle.expr_eval.specs.declared.scopes.ScopeColumn.{ScopeColumn}
+use Rattle.grammar_laws.specs.Spelling.{is_tree}
 use Rattle.canonical_laws.specs.Canonical.{paired}
-use Rattle.grammar_laws.specs.Spelling.{is_tree, mark}
+use Rattle.canonical_laws.specs.Sound.{is_expr}
 
 -- one kind, and on every row one value, or both are out of range
 abbrev pub AreWorthTheSame : BoundExpr → BoundExpr → Type 0
@@ -33,8 +28,6 @@ BindAlike (Err n) (Ok b) = ⊥
 abbrev pub KeepsValues : Type 0
 KeepsValues = (scope : List ScopeColumn) (x : Expr) → is_tree x ≡ true → BindAlike (bound scope (paired x)) (bound scope x)
 
--- So of whatever is read behind a parenthesis of a text, as a CHECK is, where `sql_features` doesn't find it too deep: the canonical text is read, and what is read binds alike over every scope.
-abbrev pub ChecksKeepValues : Type 0
-ChecksKeepValues = (statement : List ℕ) (found : List Token) (front pieces rest : List Piece) (limit : ℕ) (x : Expr) → tokens statement ≡ Ok found
-    → pieces_of statement found ≡ front ++ mark sign.OpenParenthesis ∷ pieces → expression limit pieces ≡ Ok (x, rest) → is_deep x ≡ false
-    → (y : Expr) × ((canonical_expression (text x) ≡ Some y) × ((scope : List ScopeColumn) → BindAlike (bound scope y) (bound scope x)))
+-- So of an expression that a text can give, where `sql_features` doesn't find it too deep: its canonical text is read, and what is read binds alike over every scope.
+abbrev pub KeepsChecks : Type 0
+KeepsChecks = (x : Expr) → is_expr x ≡ true → is_deep x ≡ false → (y : Expr) × ((canonical_expression (text x) ≡ Some y) × ((scope : List ScopeColumn) → BindAlike (bound scope y) (bound scope x)))

@@ -1,10 +1,10 @@
-use Rattle.std.proofs.Common.{◌≡◌, ◌≤◌, ℕ, List, [], ◌∷◌, ◌++◌, length, take, Some, None, option_map, sym, ap, ◌∙◌, subst, slice_get}
+use Rattle.std.proofs.Common.{◌≡◌, ◌≤◌, ℕ, List, [], ◌∷◌, ◌++◌, length, take, Bool, false, cond, is_some, Some, None, option_map, sym, ap, ◌∙◌, subst, slice_get}
 use Rattle.std.proofs.lemmas.List.{take-map}
 use Rattle.chunk_region.specs.Pages.{Pages, Stands, IsWritten, Keeps, KeepsBefore, AllBefore}
 use Rattle.chunk_region.proofs.PageLemmas.{is_written}
 use Rattle.chunk_store.specs.declared.index.Placed.{Placed}
 use Rattle.chunk_store.specs.Chunks.{Chunk, bytes_at, IsSingle, AreNamed}
-use Rattle.chunk_store.specs.Drafts.{DraftParts}
+use Rattle.chunk_store.specs.Drafts.{DraftParts, chunks_of, put_in}
 use Rattle.chunk_store.specs.Placing.{span_at, written, chunk_of, chunks_in, AllFit, AreOver}
 use Rattle.chunk_store.proofs.ChunkLemmas.{at_join, at_one, either_none, right_else, named_push, named_take, single_push, single_cut}
 use Rattle.chunk_store.proofs.PlacingLemmas.{all_push, all_take, found_at, all_stay, before_stay, kept_chunks, kept_written, chunks_push, marks_before, order_push, order_take, order_get}
@@ -25,6 +25,14 @@ pub put_held : (base own : List Chunk) (k bytes : List ℕ) → bytes_at (base +
 put_held base own k bytes none =
     let parts = absent_in_both base own k none in
     right_else base (own ++ (k, bytes) ∷ []) k parts.0 ∙ right_else own ((k, bytes) ∷ []) k parts.1 ∙ at_one k bytes
+
+-- and they are the one chunk more
+pub put_is : (a : List ℕ → List ℕ) (bytes k : List ℕ) (d e : DraftParts) → k ≡ a bytes → chunks_of d k ≡ None
+    → e ≡ record { base = d.base; own = d.own ++ (k, bytes) ∷ [] } → e ≡ put_in a bytes d
+put_is a bytes k d e is absent one =
+    let pushed : List ℕ → DraftParts = λ j. record { base = d.base; own = d.own ++ (j, bytes) ∷ [] } in
+    let none : is_some (chunks_of d (a bytes)) ≡ false = ap is_some (ap (chunks_of d) (sym is) ∙ absent) in
+    one ∙ ap pushed is ∙ sym (ap (λ t. cond t d (pushed (a bytes))) none)
 
 -- one more chunk was placed
 pub over_push : (a : List ℕ → List ℕ) (base : List Chunk) (old new : Pages) (cs : List Placed) (c : Placed) (bytes : List ℕ) → AreOver a base old cs → Keeps old new

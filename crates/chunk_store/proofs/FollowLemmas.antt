@@ -1,4 +1,4 @@
-use Rattle.std.proofs.Common.{◌≡◌, inl, inr, ℕ, Bool, true, false, List, [], ◌∷◌, ◌++◌, length, take, Option, Some, None, is_some, if◌then◌else◌, sym, refl, ap, ◌∙◌}
+use Rattle.std.proofs.Common.{◌≡◌, inl, inr, ℕ, Bool, true, false, List, [], ◌∷◌, ◌++◌, length, take, Option, Some, None, is_some, if◌then◌else◌, sym, refl, ap, ◌∙◌, subst}
 use Rattle.std.proofs.lemmas.List.{append-nil, append_assoc, take_at}
 use Rattle.chunk_store.specs.Chunks.{Chunk, bytes_at, Listed, Extends, Agree, AreNamed}
 use Rattle.chunk_store.specs.Drafts.{DraftParts, chunks_of, Longer}
@@ -10,6 +10,10 @@ listed_named : (a : List ℕ → List ℕ) (cs : List Chunk) (k bytes : List ℕ
 listed_named a [] k bytes named none = absurd none
 listed_named a (c ∷ cs) k bytes named (inl here) = ap a (sym here.1) ∙ named.0 ∙ here.0
 listed_named a (c ∷ cs) k bytes named (inr later) = listed_named a cs k bytes named.1 later
+
+named_join : (a : List ℕ → List ℕ) (xs ys : List Chunk) → AreNamed a xs → AreNamed a ys → AreNamed a (xs ++ ys)
+named_join a [] ys left right = right
+named_join a (x ∷ xs) ys left right = (left.0, named_join a xs ys left.1 right)
 
 right_case : (o p : Option (List ℕ)) (bytes : List ℕ) → ((others : List ℕ) → o ≡ Some others → others ≡ bytes) → p ≡ Some bytes → either o p ≡ Some bytes
 right_case None p bytes agrees held = held
@@ -32,6 +36,7 @@ chunks_follow = record {
   is_listed = found_listed;
   is_found = listed_is;
   is_named = λ a cs k bytes named held. listed_named a cs k bytes named (found_listed cs k bytes held);
+  named_join = named_join;
   listed_either = λ xs ys. (listed_left xs ys, listed_right xs ys);
   lists_extends = λ xs ys single lists k bytes held. listed_is ys k bytes single (lists k bytes (found_listed xs k bytes held));
   extends_left = left_first;
@@ -62,4 +67,6 @@ drafts_follow = record {
   longer_extends = longer_extends;
   comes_back = λ d e longer. same_parts e.base (take (length d.own) e.own) d.base d.own longer.base
       (ap (take (length d.own)) longer.own ∙ take_at d.own longer.more (length d.own) refl);
+  still_named = λ a d e longer named. subst (AreNamed a) (sym longer.base) named;
+  all_named = λ a d named sound. named_join a d.base d.own named sound.named;
 }

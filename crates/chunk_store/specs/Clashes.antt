@@ -42,3 +42,19 @@ pub record Differ (held brought : Chunks) : Type 0 where
   pub is_held : held address ≡ Some here
   pub is_brought : brought address ≡ Some there
   pub differ : here ≢ there
+
+-- two byte strings of one address: the first is found there, the second was brought for it
+pub record IsMet (address : List ℕ → List ℕ) (chunks : Chunks) (clash : Clash) : Type 0 where
+  pub is_held : chunks clash.address.0 ≡ Some clash.first
+  pub is_brought : address clash.second ≡ clash.address.0
+  pub differ : clash.first ≢ clash.second
+
+-- why a call that puts chunks was refused: memory was wanted, which needs no reason, or two byte strings have one address
+abbrev pub IsReason : (List ℕ → List ℕ) → Chunks → PutFault → Type 0
+IsReason address chunks Memory = Unit {0}
+IsReason address chunks (Collision clash) = IsMet address chunks clash
+
+-- where a collision is met, these bytes are the ones that were brought
+abbrev pub IsBrought : List ℕ → PutFault → Type 0
+IsBrought bytes Memory = Unit {0}
+IsBrought bytes (Collision clash) = clash.second ≡ bytes

@@ -2,6 +2,7 @@ pub mod Chunks
 pub mod Clashes
 pub mod Digests
 pub mod Drafts
+pub mod Kinds
 pub mod Laws
 pub mod Placing
 pub mod Stores

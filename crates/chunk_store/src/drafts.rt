@@ -5,7 +5,8 @@ ghost use Rattle.std.specs.Arc.{arc_value};
 ghost use Rattle.chunk_region.specs.Pages.{Pages};
 ghost use Rattle.chunk_store.specs.Chunks.{Agree, AreNamed, IsHeld, IsSingle, bytes_at};
 ghost use Rattle.chunk_store.specs.Clashes.{IsCause};
-ghost use Rattle.chunk_store.specs.Drafts.{IsSound, TakesAtMostOnePage, chunks_of, cut_to, pages_in, put_in};
+ghost use Rattle.chunk_store.specs.Drafts.{IsSound, Puts, TakesAtMostOnePage, chunks_of, cut_to, pages_in};
+ghost use Rattle.chunk_store.specs.Stores.{all_chunks};
 
 use crate::faults::{PutFault, is_there};
 use crate::index::{Index, Placed};
@@ -36,12 +37,13 @@ pub struct Draft<D: Digester> {
 impl<D: Digester> Model for Draft<D> {
     ghost use Rattle.chunk_store.specs.Drafts.{Drafting};
     ghost use Rattle.chunk_store.specs.Placing.{AreOver, chunks_in};
+    ghost use Rattle.chunk_store.specs.Stores.{all_chunks};
 
     ghost Value = { Drafting };
 
-    ghost view = { λ d. record { chunks = record { base = d.base.chunks; own = chunks_in d.region.pages d.index.placed }; free = d.region.free; taken = d.region.taken } };
+    ghost view = { λ d. record { chunks = record { base = all_chunks d.base; own = chunks_in d.region.pages d.index.placed }; segments = d.base.segments; free = d.region.free; taken = d.region.taken } };
 
-    ghost invariant = { λ d. AreOver D.address d.base.chunks d.region.pages d.index.placed };
+    ghost invariant = { λ d. AreOver D.address (all_chunks d.base) d.region.pages d.index.placed };
 }
 
 /// Why a draft wasn't sealed; the draft comes back as it was.
@@ -53,7 +55,8 @@ pub enum SealFault<D: Digester> {
 impl<D: Digester> Draft<D> {
     /// A draft over `store` that has no chunk of its own; those to come are kept on the pool's pages.
     pub fn new(store: Store, pool: PagePool) -> Draft<D>
-        ensures chunks { result.chunks ≡ record { base = store.chunks; own = [] } }
+        ensures chunks { result.chunks ≡ record { base = all_chunks store; own = [] } }
+        ensures segments { result.segments ≡ store.segments }
         ensures free { result.free ≡ pool }
         ensures taken { result.taken ≡ 0 }
     {
@@ -69,13 +72,7 @@ impl<D: Digester> Draft<D> {
     /// Keeps these bytes, or finds that they are kept: the address is theirs. A collision shows the bytes held first.
     pub fn put(&mut self, bytes: &[u8]) -> Result<Address, PutFault>
         requires { length bytes.now ≤ 65536 }
-        ensures address { IfOk result (λ address. address.0 ≡ D.address bytes.now) }
-        ensures exact { OnOk result (self.new.chunks ≡ put_in D.address bytes.now self.old.chunks) }
-        ensures held { OnOk result (IsHeld D.address (chunks_of self.new.chunks) (D.address bytes.now) bytes.now) }
-        ensures cause { IfErr result (IsCause (chunks_of self.old.chunks) (bytes_at ((D.address bytes.now, bytes.now) ∷ []))) }
-        ensures same { OnErr result (self.new ≡ self.old) }
-        ensures pages { TakesAtMostOnePage self.old self.new }
-        ensures steps { (self.new.chunks ≡ self.old.chunks) ⊎ (self.new.chunks ≡ put_in D.address bytes.now self.old.chunks) }
+        ensures { Puts D.address bytes.now self.old self.new result }
     {
         let address = D::address_of(bytes);
         if self.has(&address, bytes)? {
@@ -101,6 +98,7 @@ impl<D: Digester> Draft<D> {
         requires agrees { (others : List ℕ) → bytes_at self.old.chunks.base address.0 ≡ Some others → others ≡ bytes.now }
         ensures ok { OnOk result (self.new.chunks ≡ record { base = self.old.chunks.base; own = self.old.chunks.own ++ (address.0, bytes.now) ∷ [] }) }
         ensures same { OnErr result (self.new ≡ self.old) }
+        ensures segments { self.new.segments ≡ self.old.segments }
         ensures pages { TakesAtMostOnePage self.old self.new }
     {
         self.index.make_room()?;
@@ -146,6 +144,7 @@ impl<D: Digester> Draft<D> {
     /// Drops what came after `mark` was taken.
     pub fn back_to(&mut self, mark: DraftMark)
         ensures chunks { self.new.chunks ≡ cut_to mark.own self.old.chunks }
+        ensures segments { self.new.segments ≡ self.old.segments }
         ensures pages { pages_in self.new ≡ pages_in self.old }
     {
         if mark.own < self.index.len() {
@@ -157,9 +156,10 @@ impl<D: Digester> Draft<D> {
 
     /// Puts the draft on another store, with its own chunks. A collision shows the store's bytes first.
     pub fn rebase(&mut self, store: Store) -> Result<(), PutFault>
-        ensures chunks { OnOk result (self.new.chunks ≡ record { base = store.chunks; own = self.old.chunks.own }) }
-        ensures agree { OnOk result (Agree (bytes_at store.chunks) (bytes_at self.old.chunks.own)) }
-        ensures cause { IfErr result (IsCause (bytes_at store.chunks) (bytes_at self.old.chunks.own)) }
+        ensures chunks { OnOk result (self.new.chunks ≡ record { base = all_chunks store; own = self.old.chunks.own }) }
+        ensures segments { OnOk result (self.new.segments ≡ store.segments) }
+        ensures agree { OnOk result (Agree (bytes_at (all_chunks store)) (bytes_at self.old.chunks.own)) }
+        ensures cause { IfErr result (IsCause (bytes_at (all_chunks store)) (bytes_at self.old.chunks.own)) }
         ensures same { OnErr result (self.new ≡ self.old) }
         ensures pages { pages_in self.new ≡ pages_in self.old }
     {
@@ -170,9 +170,9 @@ impl<D: Digester> Draft<D> {
 
     /// Refuses a store that has other bytes than the draft's own at some address.
     fn fits(&self, store: &Store) -> Result<(), PutFault>
-        ensures agree { OnOk result (Agree (bytes_at store.now.chunks) (bytes_at self.now.chunks.own)) }
-        ensures single { IsSingle store.now.chunks }
-        ensures cause { IfErr result (IsCause (bytes_at store.now.chunks) (bytes_at self.now.chunks.own)) }
+        ensures agree { OnOk result (Agree (bytes_at (all_chunks store.now)) (bytes_at self.now.chunks.own)) }
+        ensures single { IsSingle (all_chunks store.now) }
+        ensures cause { IfErr result (IsCause (bytes_at (all_chunks store.now)) (bytes_at self.now.chunks.own)) }
     {
         store.tell();
         for at in 0..self.own_count() {
@@ -204,9 +204,10 @@ impl<D: Digester> Draft<D> {
 
     /// A draft on `store` with the same chunks of its own. A collision shows the store's bytes first.
     pub fn copied(&self, store: Store) -> Result<Draft<D>, PutFault>
-        ensures same { IfOk result (λ draft. draft.chunks ≡ record { base = store.chunks; own = self.now.chunks.own }) }
-        ensures agree { OnOk result (Agree (bytes_at store.chunks) (bytes_at self.now.chunks.own)) }
-        ensures cause { IfErr result (IsCause (bytes_at store.chunks) (bytes_at self.now.chunks.own)) }
+        ensures same { IfOk result (λ draft. draft.chunks ≡ record { base = all_chunks store; own = self.now.chunks.own }) }
+        ensures segments { IfOk result (λ draft. draft.segments ≡ store.segments) }
+        ensures agree { OnOk result (Agree (bytes_at (all_chunks store)) (bytes_at self.now.chunks.own)) }
+        ensures cause { IfErr result (IsCause (bytes_at (all_chunks store)) (bytes_at self.now.chunks.own)) }
     {
         self.fits(&store)?;
         let pool = PagePool::with_pages(self.index.allocator(), 0)?;
@@ -219,7 +220,8 @@ impl<D: Digester> Draft<D> {
     fn copy_into(&self, draft: &mut Draft<D>) -> Result<(), AllocError>
         requires none { draft.old.chunks.own ≡ [] }
         requires agree { Agree (bytes_at draft.old.chunks.base) (bytes_at self.now.chunks.own) }
-        ensures { OnOk result (draft.new.chunks ≡ record { base = draft.old.chunks.base; own = self.now.chunks.own }) }
+        ensures own { OnOk result (draft.new.chunks ≡ record { base = draft.old.chunks.base; own = self.now.chunks.own }) }
+        ensures segments { OnOk result (draft.new.segments ≡ draft.old.segments) }
     {
         for at in 0..self.own_count() {
             let (address, bytes) = self.own_chunk(at);
@@ -230,7 +232,8 @@ impl<D: Digester> Draft<D> {
 
     /// Drops what the draft has of its own, and puts it on another store.
     pub fn restart(&mut self, base: Store)
-        ensures chunks { self.new.chunks ≡ record { base = base.chunks; own = [] } }
+        ensures chunks { self.new.chunks ≡ record { base = all_chunks base; own = [] } }
+        ensures segments { self.new.segments ≡ base.segments }
         ensures pages { pages_in self.new ≡ pages_in self.old }
     {
         self.back_to(DraftMark { own: 0 });

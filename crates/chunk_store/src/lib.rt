@@ -15,7 +15,7 @@ mod stores;
 pub use digests::Sha512Cut;
 pub use drafts::{Draft, DraftMark, SealFault};
 pub use faults::{Clash, PutFault};
-pub use laws::{law_of_chunks, law_of_drafts};
+pub use laws::{law_of_chunks, law_of_drafts, law_of_growth};
 pub use segments::Segment;
 pub use stores::Store;
 

@@ -5,6 +5,7 @@ ghost use Rattle.std.specs.Arc.{arc_value};
 ghost use Rattle.std.specs.Vec.{vec_capacity};
 ghost use Rattle.chunk_store.specs.Chunks.{Agree, IsSingle, bytes_at};
 ghost use Rattle.chunk_store.specs.Clashes.{Differ, IsCause};
+ghost use Rattle.chunk_store.specs.Stores.{all_chunks};
 
 use crate::faults::{PutFault, is_there};
 use crate::segments::Segment;
@@ -29,7 +30,7 @@ impl Model for Store {
 
     ghost Value = { Stored };
 
-    ghost view = { λ s. record { chunks = joined (map arc_value s.segments.items); room = vec_capacity s.segments - vec_len s.segments } };
+    ghost view = { λ s. record { segments = map arc_value s.segments.items; room = vec_capacity s.segments - vec_len s.segments } };
 
     ghost invariant = { λ s. IsSingle (joined (map arc_value s.segments.items)) };
 }
@@ -37,7 +38,7 @@ impl Model for Store {
 impl Store {
     /// A store without a chunk.
     pub fn new(alloc: Global) -> Store
-        ensures { result.chunks ≡ [] }
+        ensures { result.segments ≡ [] }
     {
         Store {
             segments: Vec::new(alloc),
@@ -50,14 +51,14 @@ impl Store {
 
     /// What every store has, for proofs: chunks of one address have the same bytes. It does nothing.
     pub fn tell(&self)
-        ensures { IsSingle self.now.chunks }
+        ensures { IsSingle (all_chunks self.now) }
     {
         let _segments = &self.segments;
     }
 
     /// Takes the memory for so many segments more, so that `append` finds it.
     pub fn reserve(&mut self, segments: u32) -> Result<(), AllocError>
-        ensures same { self.new.chunks ≡ self.old.chunks }
+        ensures same { self.new.segments ≡ self.old.segments }
         ensures room { OnOk result (segments ≤ self.new.room) }
         ensures kept { self.old.room ≤ self.new.room }
     {
@@ -66,7 +67,7 @@ impl Store {
 
     /// The same chunks for another holder, without a copy of their bytes.
     pub fn share(&self) -> Result<Store, AllocError>
-        ensures { IfOk result (λ store. store.chunks ≡ self.now.chunks) }
+        ensures { IfOk result (λ store. store.segments ≡ self.now.segments) }
     {
         let mut segments = Vec::with_capacity(self.allocator(), self.segments.len())?;
         for segment in &self.segments {
@@ -77,8 +78,8 @@ impl Store {
 
     /// The bytes at an address, by one look-up in a table for each segment.
     pub fn get(&self, address: &Address) -> Option<&[u8]>
-        ensures held { option_map (λ bytes. bytes.now) result ≡ bytes_at self.now.chunks address.now.0 }
-        ensures single { IsSingle self.now.chunks }
+        ensures held { option_map (λ bytes. bytes.now) result ≡ bytes_at (all_chunks self.now) address.now.0 }
+        ensures single { IsSingle (all_chunks self.now) }
     {
         for segment in &self.segments {
             if let Some(bytes) = segment.get(address) {
@@ -92,12 +93,12 @@ impl Store {
     ///
     /// In room that was reserved it takes no memory but to hold a collision.
     pub fn append(&mut self, segment: Arc<Segment>) -> Result<(), PutFault>
-        ensures joined { OnOk result (self.new.chunks ≡ self.old.chunks ++ arc_value segment) }
-        ensures agree { OnOk result (Agree (bytes_at self.old.chunks) (bytes_at (arc_value segment))) }
+        ensures joined { OnOk result (all_chunks self.new ≡ all_chunks self.old ++ arc_value segment) }
+        ensures agree { OnOk result (Agree (bytes_at (all_chunks self.old)) (bytes_at (arc_value segment))) }
         ensures room { self.old.room ≤ self.new.room + 1 }
-        ensures cause { IfErr result (IsCause (bytes_at self.old.chunks) (bytes_at (arc_value segment))) }
-        ensures memory { 0 < self.old.room → IsErrOf result PutFault.Memory → Differ (bytes_at self.old.chunks) (bytes_at (arc_value segment)) }
-        ensures same { OnErr result (self.new.chunks ≡ self.old.chunks) }
+        ensures cause { IfErr result (IsCause (bytes_at (all_chunks self.old)) (bytes_at (arc_value segment))) }
+        ensures memory { 0 < self.old.room → IsErrOf result PutFault.Memory → Differ (bytes_at (all_chunks self.old)) (bytes_at (arc_value segment)) }
+        ensures same { OnErr result (self.new.segments ≡ self.old.segments) }
         ensures kept { OnErr result (self.old.room ≤ self.new.room) }
     {
         self.allows(&segment)?;
@@ -107,9 +108,9 @@ impl Store {
 
     /// Refuses a segment that has other bytes than this store at some address.
     fn allows(&self, segment: &Segment) -> Result<(), PutFault>
-        ensures agree { OnOk result (Agree (bytes_at self.now.chunks) (bytes_at segment.now)) }
-        ensures cause { IfErr result (IsCause (bytes_at self.now.chunks) (bytes_at segment.now)) }
-        ensures differ { OnErr result (Differ (bytes_at self.now.chunks) (bytes_at segment.now)) }
+        ensures agree { OnOk result (Agree (bytes_at (all_chunks self.now)) (bytes_at segment.now)) }
+        ensures cause { IfErr result (IsCause (bytes_at (all_chunks self.now)) (bytes_at segment.now)) }
+        ensures differ { OnErr result (Differ (bytes_at (all_chunks self.now)) (bytes_at segment.now)) }
         ensures single { IsSingle segment.now }
     {
         for at in 0..segment.len() {

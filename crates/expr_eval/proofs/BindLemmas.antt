@@ -1,20 +1,15 @@
--- What the nodes that hold a list or a name are bound to.
+-- What binding answers behind a part: what is bound goes on, and a refusal goes through.
 use Rattle.std.proofs.Common.{◌≡◌, ◌∙◌, sym, ap, subst, ℕ, ◌<◌, List, Option, Result, Ok, Err, length, map, get_or, fold}
-use Rattle.sql_ast.specs.declared.expressions.Expr.{Expr, fold-Expr, fold-roll-Expr}
-use Rattle.sql_ast.specs.declared.expressions.Expr.TheVariants.{Name, Qualified, rolls-Name, rolls-Qualified}
+use Rattle.sql_ast.specs.declared.expressions.Expr.{Expr}
+use Rattle.sql_ast.specs.declared.expressions.Expr.TheVariants.{Name, Qualified}
 use Rattle.expr_eval.specs.declared.bound.BoundExpr.{BoundExpr}
 use Rattle.expr_eval.specs.declared.faults.BindFault.{BindFault}
 use Rattle.expr_eval.specs.declared.faults.BindFault.TheVariants.{Memory, Refused}
 use Rattle.expr_eval.specs.declared.scopes.ScopeColumn.{ScopeColumn}
 use Rattle.expr_eval.specs.Scopes.{place_named, place_qualified}
-use Rattle.expr_eval.specs.Binding.{Gives, Outcome, and_then, bound, bound_column, step}
+use Rattle.expr_eval.specs.Binding.{Gives, Outcome, and_then, bound, bound_column}
+use Rattle.expr_eval.proofs.BoundNodes.{bound_of_name, bound_of_qualified}
 use Rattle.expr_eval.proofs.FoldLemmas.{so_far, stopped}
-
-bound_of_name : (scope : List ScopeColumn) (name : List ℕ) → bound scope (Name name) ≡ bound_column scope (place_named name scope)
-bound_of_name scope name = ap (λ y. fold-Expr (Outcome BoundExpr) (step scope) y) (sym (rolls-Name name)) ∙ fold-roll-Expr (Outcome BoundExpr) (step scope) _
-
-bound_of_qualified : (scope : List ScopeColumn) (source name : List ℕ) → bound scope (Qualified source name) ≡ bound_column scope (place_qualified source name scope)
-bound_of_qualified scope source name = ap (λ y. fold-Expr (Outcome BoundExpr) (step scope) y) (sym (rolls-Qualified source name)) ∙ fold-roll-Expr (Outcome BoundExpr) (step scope) _
 
 pub gives_along : {A : Type 0} (r : Result A BindFault) (o p : Outcome A) → o ≡ p → Gives r p → Gives r o
 gives_along r o p e h = subst (λ (y : Outcome _). Gives r y) (sym e) h

@@ -1,3 +1,5 @@
+pub mod BoundNodes
+pub mod WorthNodes
 pub mod BindLemmas
 pub mod FoldLemmas
 pub mod ValueLemmas

@@ -1,33 +1,14 @@
--- What the nodes that hold a list are worth.
+-- What an arm of evaluation answers behind its first part.
 use Rattle.std.proofs.Common.{◌≡◌, ◌∙◌, sym, refl, ap, List, Option, None, Some, map}
 use Rattle.std.specs.Option.{option_map}
 use Rattle.std.proofs.lemmas.List.Folds.{fold_stays}
 use Rattle.sql_ast.specs.declared.expressions.Term.{Term}
 use Rattle.tuple_codec.specs.Rows.{Cells}
-use Rattle.sql_values.specs.Numbers.{times}
 use Rattle.sql_values.specs.Views.{seen}
 use Rattle.sql_values.specs.Worths.{Worth}
 use Rattle.sql_values.specs.declared.worths.Worth as borrowed
-use Rattle.expr_eval.specs.declared.bound.Node.{Node, fold-Node, fold-roll-Node}
-use Rattle.expr_eval.specs.declared.bound.Node.TheVariants as n
-use Rattle.expr_eval.specs.declared.bound.Node.TheVariants.{rolls-Or, rolls-And, rolls-In, rolls-Terms, rolls-Factors}
-use Rattle.expr_eval.specs.Valuing.{Worthy, among, chained, conjunction, counted, disjunction, one, step, total, two, worth}
-
--- the step's list is that of the parts' worths
-pub worth_or : (row : Cells) (a : Node) (xs : List Node) → worth row (n.Or a xs) ≡ chained disjunction (worth row a) (map (worth row) xs)
-worth_or row a xs = ap (λ y. fold-Node Worthy (step row) y) (sym (rolls-Or a xs)) ∙ fold-roll-Node Worthy (step row) _
-
-pub worth_and : (row : Cells) (a : Node) (xs : List Node) → worth row (n.And a xs) ≡ chained conjunction (worth row a) (map (worth row) xs)
-worth_and row a xs = ap (λ y. fold-Node Worthy (step row) y) (sym (rolls-And a xs)) ∙ fold-roll-Node Worthy (step row) _
-
-pub worth_factors : (row : Cells) (a : Node) (xs : List Node) → worth row (n.Factors a xs) ≡ chained times (worth row a) (map (worth row) xs)
-worth_factors row a xs = ap (λ y. fold-Node Worthy (step row) y) (sym (rolls-Factors a xs)) ∙ fold-roll-Node Worthy (step row) _
-
-pub worth_in : (row : Cells) (a : Node) (xs : List Node) → worth row (n.In a xs) ≡ one (among (map (worth row) xs)) (worth row a)
-worth_in row a xs = ap (λ y. fold-Node Worthy (step row) y) (sym (rolls-In a xs)) ∙ fold-roll-Node Worthy (step row) _
-
-pub worth_terms : (row : Cells) (a : Node) (xs : List (Term × Node)) → worth row (n.Terms a xs) ≡ total (worth row a) (map (λ x. (x.0, worth row x.1)) xs)
-worth_terms row a xs = ap (λ y. fold-Node Worthy (step row) y) (sym (rolls-Terms a xs)) ∙ fold-roll-Node Worthy (step row) _
+use Rattle.expr_eval.specs.declared.bound.Node.{Node}
+use Rattle.expr_eval.specs.Valuing.{Worthy, chained, counted, total, two, worth}
 
 -- a call that answers a worth, or none
 pub known : (found : Option borrowed.Worth) (w : Worthy) (x : borrowed.Worth) → option_map seen found ≡ w → found ≡ Some x → w ≡ Some (seen x)

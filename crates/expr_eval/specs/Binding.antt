@@ -201,6 +201,13 @@ step scope (Expr-F.Variable name) = Err 9013
 abbrev pub bound : List ScopeColumn → Expr → Outcome BoundExpr
 bound scope expr = fold-Expr (Outcome BoundExpr) (step scope) expr
 
+-- ON, WHERE and CHECK are truth values
+abbrev pub if_truth : BoundExpr → Outcome BoundExpr
+if_truth b = if is_bool b.kind then Ok b else mismatch
+
+abbrev pub bound_condition : List ScopeColumn → Expr → Outcome BoundExpr
+bound_condition scope expr = and_then (bound scope expr) if_truth
+
 -- what binding answers: want of memory is the one answer that isn't given here
 abbrev pub Gives : {A : Type 0} → Result A BindFault → Outcome A → Type 0
 Gives (Ok x) outcome = outcome ≡ Ok x

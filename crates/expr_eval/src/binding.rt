@@ -6,6 +6,7 @@ ghost use Rattle.expr_eval.specs.Binding.{
   bound,
   bound_column,
   bound_compare,
+  bound_condition,
   bound_in,
   bound_is_not_null,
   bound_is_null,
@@ -135,6 +136,22 @@ pub fn bind(alloc: Global, expr: &Expr, scope: &[ScopeColumn]) -> Result<BoundEx
         | Expr::Max(_)
         | Expr::ActiveBranch
         | Expr::Variable(_) => Err(NOT_OF_A_ROW),
+    }
+}
+
+/// A condition, as ON, WHERE and CHECK have: an expression that is a truth value. That it is another is its last refusal.
+pub fn bind_condition(
+    alloc: Global,
+    expr: &Expr,
+    scope: &[ScopeColumn],
+) -> Result<BoundExpr, BindFault>
+    ensures { Gives result (bound_condition scope.now expr.now) }
+{
+    let condition = bind(alloc, expr, scope)?;
+    if condition.kind.is_bool() {
+        Ok(condition)
+    } else {
+        Err(MISMATCH)
     }
 }
 

@@ -9,8 +9,8 @@ mod scopes;
 mod tests;
 mod valuing;
 
-pub use binding::bind;
+pub use binding::{bind, bind_condition};
 pub use bound::{BoundExpr, Node};
 pub use faults::{BindFault, EvalFault};
-pub use scopes::ScopeColumn;
-pub use valuing::eval;
+pub use scopes::{ScopeColumn, place_named, place_qualified};
+pub use valuing::{eval, eval_cells};

@@ -442,3 +442,18 @@ fn answers_are_known(rt: HostRuntime) -> Result<(), Fail> {
     }
     Ok(())
 }
+
+#[test]
+fn conditions_are_truth_values(rt: HostRuntime) -> Result<(), Fail> {
+    let alloc = rt.alloc();
+    let scope = scope(alloc)?;
+    let condition = expr(alloc, &[EQUAL, A, ONE])?;
+    assert!(rt; bind_condition(alloc, &condition, &scope).is_ok());
+    let null = expr(alloc, &[NULL])?;
+    let refused = match bind_condition(alloc, &null, &scope) {
+        Err(BindFault::Refused(number)) => number == 9001,
+        _ => false,
+    };
+    assert!(rt; refused);
+    Ok(())
+}

@@ -17,7 +17,14 @@ use tuple_codec::{Row, Value};
 pub fn eval(alloc: Global, expr: &BoundExpr, row: &Row) -> Result<Value, EvalFault>
     ensures { Evaluates result (value row.now expr.now.node) }
 {
-    match worth(&expr.node, row.as_slice()) {
+    eval_cells(alloc, expr, row.as_slice())
+}
+
+/// As `eval`, on the cells of a row that no one has put into a `Row`.
+pub fn eval_cells(alloc: Global, expr: &BoundExpr, cells: &[Value]) -> Result<Value, EvalFault>
+    ensures { Evaluates result (value cells.now expr.now.node) }
+{
+    match worth(&expr.node, cells) {
         Some(worth) => Ok(worth.to_value(alloc)?),
         None => Err(EvalFault::OutOfRange),
     }

@@ -269,7 +269,7 @@ module _ (inner : Reader Expr) (sound : Sound Expr IsTree inner) where
       after (List Expr) Expr (AllByRecursion IsTree) IsTree (chain (disjunct inner) us) _ (chain_sound Expr IsTree (disjunct inner) (link_sound (eat_keyword word.Or) (conjunction inner) conjunction_sound) us)
       (λ xs all vs. chained_tree Expr IsTree e.Or or_tree a xs tree all))
 
-expression_sound : (depth : ℕ) → Sound Expr IsTree (expression depth)
+pub expression_sound : (depth : ℕ) → Sound Expr IsTree (expression depth)
 unfolding expression
 expression_sound zero ts = tt
 expression_sound (suc depth) ts = disjunction_sound (expression depth) (expression_sound depth) ts

@@ -4,7 +4,5 @@
 #![tactic(auto)]
 
 mod laws;
-#[cfg(test)]
-mod tests;
 
 pub use laws::{law_of_one_tree, law_of_reading_back, law_of_stops, law_of_trees};

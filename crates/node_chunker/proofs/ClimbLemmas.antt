@@ -9,12 +9,14 @@ use Rattle.tuple_codec.specs.Trees.{AreRows, IsRow, bytes_of, closes, name}
 use Rattle.node_format.specs.declared.items.LeafItem.{LeafItem}
 use Rattle.node_format.specs.Views.{leaf_of}
 use Rattle.chunk_store.specs.Chunks.{Chunks, Extends}
-use Rattle.chunk_store.specs.Drafts.{DraftParts, Longer, chunks_of}
+use Rattle.chunk_store.specs.Drafts.{Drafting, Grows, chunks_of}
+use Rattle.chunk_store.specs.Kinds.{is_node}
 use Rattle.chunk_store.proofs.FollowLemmas.{drafts_follow}
+use Rattle.chunk_store.proofs.GrowthLemmas.{drafts_grow}
 use Rattle.node_chunker.specs.Towers.{pushes, ended_chunks}
 use Rattle.node_chunker.specs.Growth.{CanPush, Fits, IsTower, IsWritable, spread}
 use Rattle.chunk_store.specs.Standing.{AreHeld}
-use Rattle.node_chunker.specs.Steps.{IsClimbing, IsNamed}
+use Rattle.node_chunker.specs.Steps.{IsClimbing, IsNamed, IsPushedAt}
 use Rattle.node_chunker.proofs.TowerLemmas.{all_split, extends_both}
 use Rattle.node_chunker.proofs.GrowthLemmas.{rise_split, rows_join, low_level, fits_row, fits_up, writable_here, tower_push}
 
@@ -148,10 +150,15 @@ module _ (a : List ℕ → List ℕ) (made : List (List Item)) (written : List (
         climbing.kept old (λ k bytes found. found) (subst P (ap (λ l. ended_chunks a (suc at) l item) (sym none)) tt),
       )
 
+-- what climbed further is pushed
+pub climb_done : (a : List ℕ → List ℕ) (made : List (List Item)) (written : List (List ℕ)) (old new : Chunks) (nodes after : List (List Item)) (at : ℕ) (item : Item)
+    → IsClimbing a old made written nodes at item → Extends old new → IsPushedAt a new at nodes item after → (after ≡ made) × AreHeld a new written
+climb_done a made written old new nodes after at item climbing grows done = (done.0 ∙ climbing.comes, climbing.kept new grows done.1)
+
 -- ---- a row
 
-pub grows : (d e : DraftParts) → Longer d e → Extends (chunks_of d) (chunks_of e)
-grows d e longer = drafts_follow.longer_extends d e longer
+pub extended : (d e : Drafting) → Grows is_node d e → Extends (chunks_of d.chunks) (chunks_of e.chunks)
+extended d e grows = drafts_follow.longer_extends d.chunks e.chunks (drafts_grow.is_longer is_node d e grows)
 
 module _ (a : List ℕ → List ℕ) where
   -- the row stays in the leaf

@@ -13,6 +13,7 @@ use Rattle.std.proofs.lemmas.Grind.{flat_map-append, pow_more}
 use Rattle.std.proofs.Math.Nat.{pow-le-pow_right}
 use Rattle.tuple_codec.specs.Nodes.{Item, IsItem, Rise, RiseAfter, is_after, sized, item_bytes, items_bytes, header_bytes}
 use Rattle.tuple_codec.specs.Trees.{AreRows, IsRow, bytes_of, closes, last_key, name, rows_in}
+use Rattle.node_format.proofs.BuildLemmas.{last_is}
 use Rattle.node_format.proofs.FieldLemmas.{wide16, wide64}
 use Rattle.node_format.proofs.EndLemmas as rule
 use Rattle.tree_laws.proofs.Cuts.{closes_none, closes_one, some_before}
@@ -35,11 +36,6 @@ name_body a level items = refl
 pub name_rows : (a : List ℕ → List ℕ) (level : ℕ) (items : List Item) → (name a level items).rows ≡ rows_in items
 unfolding name
 name_rows a level items = refl
-
-pub last_is : (items : List Item) (x : Item) → last_key (items ++ x ∷ []) ≡ x.key
-last_is [] x = refl
-last_is (item ∷ []) x = refl
-last_is (item ∷ other ∷ items) x = last_is (other ∷ items) x
 
 pub rows_join : (xs ys : List Item) → rows_in (xs ++ ys) ≡ rows_in xs + rows_in ys
 rows_join [] ys = omega arith

@@ -1,15 +1,26 @@
 -- Open nodes as the code keeps them: their items, and their sizes.
 use Rattle.std.proofs.Common.{◌≡◌, ◌≤◌, ◌<◌, ◌+◌, ℕ, zero, suc, List, [], ◌∷◌, ◌++◌, length, map, take, drop, get_or, sym, refl, ap, subst, ◌∙◌, arith}
 use Rattle.std.proofs.lemmas.List.{length-append, map-append, length-map, take-append-drop, take_more}
+use Rattle.std.specs.List.{AllByRecursion}
+use Rattle.std.specs.Prelude.{true}
+use Rattle.std.proofs.lemmas.Bool.{both_ways}
+use Rattle.node_chunker.specs.Towers.{first_of, is_single}
 use Rattle.tuple_codec.specs.Nodes.{Item, IsItem, ends, item_bytes, items_bytes, header_bytes}
 use Rattle.tuple_codec.specs.Trees.{bytes_of, closes, last_key, name, rows_in}
 use Rattle.node_format.proofs.FieldLemmas.{wide16}
 use Rattle.node_format.specs.declared.items.LeafItem.{LeafItem}
 use Rattle.node_format.specs.declared.items.RefItem.{RefItem}
 use Rattle.node_format.specs.Views.{leaf_of, ref_of}
+use Rattle.chunk_store.specs.Kinds.{is_node}
 use Rattle.node_chunker.specs.Growth.{IsWritable}
-use Rattle.node_chunker.proofs.GrowthLemmas.{items_more, last_is, rows_join}
+use Rattle.node_format.proofs.BuildLemmas.{last_is}
+use Rattle.node_chunker.proofs.GrowthLemmas.{items_more, rows_join}
 use Rattle.node_chunker.proofs.TowerLemmas.{all_split}
+
+-- what is written is of the kind of nodes
+pub node_kind : (level : ℕ) (items : List Item) → is_node (bytes_of level items) ≡ true
+node_kind zero items = refl
+node_kind (suc level) items = refl
 
 -- what is written has room for its last item
 pub has_room : (level : ℕ) (items : List Item) (x : Item) → IsWritable level (items ++ x ∷ [])
@@ -28,36 +39,24 @@ closes_after a level items x size count size_is count_is =
     ap (λ s. ends a level s count x.key) e ∙ ap (λ m. ends a level (4 + length (items_bytes level (items ++ x ∷ []))) m x.key) n
     ∙ ap (ends a level (4 + length (items_bytes level (items ++ x ∷ []))) (length (items ++ x ∷ []))) (sym (last_is items x))
 
-pub leaves_count : (items : List LeafItem) → rows_in (map leaf_of items) ≡ length items
-leaves_count [] = refl
-leaves_count (item ∷ items) = omega (arith, leaves_count items)
+rows_each : (items : List Item) → AllByRecursion (IsItem 0) items → length items ≡ rows_in items
+rows_each [] each = refl
+rows_each (item ∷ items) each = omega (arith, each.0.2, rows_each items each.1)
 
-pub item_room : (level : ℕ) (items : List Item) (x : Item) → IsWritable level (items ++ x ∷ []) → length (item_bytes level x) ≤ 65536
-item_room level items x fits = omega (arith, has_room level items x fits)
+-- a leaf has as many rows as items
+pub rows_count : (items held : List Item) → items ≡ held → AllByRecursion (IsItem 0) held → length items ≡ rows_in held
+rows_count items held same each = ap length same ∙ rows_each held each
+
+-- the one item of a list to which one was added
+pub single_last : (items new : List Item) (x : Item) → new ≡ items ++ x ∷ [] → is_single new ≡ true → first_of new ≡ x
+single_last [] new x e single = ap first_of e
+single_last (item ∷ []) new x e single = absurd (both_ways (is_single new) (ap is_single e) single)
+single_last (item ∷ other ∷ items) new x e single = absurd (both_ways (is_single new) (ap is_single e) single)
 
 pub last_room : (level : ℕ) (items : List Item) (x : Item) (key : List ℕ) → IsWritable level (items ++ x ∷ []) → key ≡ x.key → length key ≤ 4096
 last_room level items x key fits e =
     let P : List ℕ → Type 0 = λ k. length k ≤ 4096 in
     subst P (last_is items x ∙ sym e) fits.last
-
--- the items in hand, seen one by one
-module _ {X : Type 0} (f : X → Item) (level : ℕ) where
-  pub size_now : (mine : List X) (held : List Item) (size : ℕ) → size ≡ 4 + length (items_bytes level (map f mine)) → map f mine ≡ held
-      → size ≡ 4 + length (items_bytes level held)
-  size_now mine held size size_is seen = size_is ∙ ap (λ l. 4 + length (items_bytes level l)) seen
-
-  pub count_now : (mine : List X) (held : List Item) (count : ℕ) → count ≡ length mine → map f mine ≡ held → count ≡ length held
-  count_now mine held count count_is seen = count_is ∙ sym (length-map mine f) ∙ ap length seen
-
-  pub size_pushed : (old new : List X) (x : X) (size more : ℕ) → new ≡ old ++ x ∷ [] → size ≡ 4 + length (items_bytes level (map f old))
-      → more ≡ length (item_bytes level (f x)) → size + more ≡ 4 + length (items_bytes level (map f new))
-  size_pushed old new x size more new_is size_is more_is =
-      let e : length (items_bytes level (map f new)) ≡ length (items_bytes level (map f old ++ f x ∷ [])) =
-      ap (λ l. length (items_bytes level l)) (ap (map f) new_is ∙ map-append f old (x ∷ [])) in
-      omega (arith, items_more level (map f old) (f x))
-
-  pub last_popped : (all rest : List X) (x : X) → all ≡ rest ++ x ∷ [] → last_key (map f all) ≡ (f x).key
-  last_popped all rest x e = ap last_key (ap (map f) e ∙ map-append f rest (x ∷ [])) ∙ last_is (map f rest) (f x)
 
 pub ends_is : (a : List ℕ → List ℕ) (level : ℕ) (held : List Item) (x : Item) (size more count : ℕ) (key : List ℕ) → size ≡ 4 + length (items_bytes level held)
     → more ≡ length (item_bytes level x) → count ≡ length held → key ≡ x.key → ends a level (size + more) (count + 1) key ≡ closes a level (held ++ x ∷ [])
@@ -97,18 +96,3 @@ pub inner_ends : (a : List ℕ → List ℕ) (level : ℕ) (held : List Item) (x
     → ends a level (size + more) (count + 1) key ≡ closes a level (held ++ x ∷ [])
 inner_ends a zero held x size more count key above size_is more_is count_is key_is = absurd (omega arith)
 inner_ends a (suc level) held x size more count key above size_is more_is count_is key_is = ends_is a (suc level) held x size more count key size_is more_is count_is key_is
-
-pub rows_more : (items : List RefItem) (i : ℕ) (x : RefItem) → i < length items → x ≡ get_or items i x
-    → rows_in (map ref_of (take (i + 1) items)) ≡ rows_in (map ref_of (take i items)) + x.rows
-rows_more items i x within here =
-    let e = ap (λ l. rows_in (map ref_of l)) (take_more items i x within) ∙ ap rows_in (map-append ref_of (take i items) (get_or items i x ∷ []))
-    ∙ rows_join (map ref_of (take i items)) (ref_of (get_or items i x) ∷ []) in
-    let same : x.rows ≡ (get_or items i x).rows = ap (λ (r : RefItem). r.rows) here in
-    omega arith
-
-pub rows_within : (items : List RefItem) (i : ℕ) → rows_in (map ref_of (take i items)) ≤ rows_in (map ref_of items)
-rows_within items i =
-    let e : rows_in (map ref_of items) ≡ rows_in (map ref_of (take i items)) + rows_in (map ref_of (drop i items)) =
-    ap (λ l. rows_in (map ref_of l)) (sym (take-append-drop i items)) ∙ ap rows_in (map-append ref_of (take i items) (drop i items))
-    ∙ rows_join (map ref_of (take i items)) (map ref_of (drop i items)) in
-    omega arith

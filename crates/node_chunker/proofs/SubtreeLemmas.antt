@@ -16,7 +16,8 @@ use Rattle.node_chunker.specs.Growth.{IsGrown, AreOpen, IsTopped, spread, last_a
 use Rattle.node_chunker.specs.Steps.{IsPushedAt}
 use Rattle.node_chunker.specs.Subtrees.{IsSubtree, is_clear, lift_chunks}
 use Rattle.node_chunker.proofs.TowerLemmas.{all_join, all_split, extends_both, held_push, never_empty, skip_left}
-use Rattle.node_chunker.proofs.GrowthLemmas.{name_key, name_rows, last_is, rows_join, name_grown, after_less, rise_split, rise_join, last_join, one_lower, found_named, AreNamed, open_push, rises_push, last_push, counted_push, topped_push}
+use Rattle.node_format.proofs.BuildLemmas.{last_is}
+use Rattle.node_chunker.proofs.GrowthLemmas.{name_key, name_rows, rows_join, name_grown, after_less, rise_split, rise_join, last_join, one_lower, found_named, AreNamed, open_push, rises_push, last_push, counted_push, topped_push}
 use Rattle.node_chunker.proofs.ClosingLemmas.{lower}
 use Rattle.node_chunker.proofs.RefLemmas.{under, up, some_under, some_lifted, joined_some, ended_many, after_ref, after_first, held_ref}
 

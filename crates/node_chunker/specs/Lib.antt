@@ -1,7 +1,6 @@
 pub mod Towers
 pub mod Growth
 pub mod Subtrees
-pub mod Faults
 pub mod Steps
 pub mod Closing
 pub mod Samples

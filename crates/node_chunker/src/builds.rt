@@ -3,9 +3,10 @@
 ghost use Rattle.std.specs.Prelude.{map, IfOk, IfErr};
 ghost use Rattle.tuple_codec.specs.Trees.{AreRows};
 ghost use Rattle.node_format.specs.Views.{leaf_of};
-ghost use Rattle.chunk_store.specs.Drafts.{Longer, chunks_of};
+ghost use Rattle.chunk_store.specs.Drafts.{Grows, chunks_of};
+ghost use Rattle.chunk_store.specs.Kinds.{is_node};
 ghost use Rattle.chunk_store.specs.Standing.{IsTree};
-ghost use Rattle.node_chunker.specs.Faults.{IsReason};
+ghost use Rattle.chunk_store.specs.Clashes.{IsReason};
 
 use crate::towers::Tower;
 use chunk_store::{Draft, PutFault};
@@ -23,7 +24,7 @@ pub fn build<D: Digester>(
 ) -> Result<Address, PutFault>
     requires { AreRows (map leaf_of rows.now) }
     ensures ok { IfOk result (λ root. IsTree D.address (chunks_of draft.new.chunks) root.0 (map leaf_of rows.now)) }
-    ensures longer { Longer draft.old.chunks draft.new.chunks }
+    ensures grows { Grows is_node draft.old draft.new }
     ensures cause { IfErr result (IsReason D.address (chunks_of draft.new.chunks)) }
 {
     let mut tower = Tower::new(alloc)?;

@@ -3,16 +3,18 @@
 ghost use Rattle.std.specs.Prelude.{◌≡◌, ◌<◌, ◌++◌, false, List, IfOk, IfErr, OnOk, option_map, option_to_list};
 ghost use Rattle.tuple_codec.specs.Nodes.{Item};
 ghost use Rattle.node_format.specs.Views.{ref_of};
-ghost use Rattle.chunk_store.specs.Drafts.{Longer, chunks_of};
+ghost use Rattle.chunk_store.specs.Drafts.{Grows, chunks_of};
+ghost use Rattle.chunk_store.specs.Kinds.{is_node};
 ghost use Rattle.chunk_store.specs.Standing.{IsTree};
 ghost use Rattle.node_chunker.specs.Closing.{CanClose, IsClosing, IsLevelClosed};
-ghost use Rattle.node_chunker.specs.Faults.{IsReason};
+ghost use Rattle.chunk_store.specs.Clashes.{IsReason};
 ghost use Rattle.node_chunker.specs.Growth.{IsWritable};
 ghost use Rattle.node_chunker.specs.Towers.{is_empty};
 
 use crate::inners::OpenInner;
 use chunk_store::{Draft, PutFault};
 use node_format::RefItem;
+use std::alloc::Global;
 use tuple_codec::{Address, Digester};
 
 /// What closing a level came to.
@@ -33,16 +35,17 @@ pub(crate) fn close_levels<D: Digester>(
     requires { CanClose D.address (chunks_of draft.old.chunks) 1 inner.items (option_to_list (option_map ref_of named)) }
     ensures ok { (rows : List Item) → IsClosing D.address (chunks_of draft.old.chunks) 1 inner.items (option_to_list (option_map ref_of named)) rows
         → IfOk result (λ root. IsTree D.address (chunks_of draft.new.chunks) root.0 rows) }
-    ensures longer { Longer draft.old.chunks draft.new.chunks }
+    ensures grows { Grows is_node draft.old draft.new }
     ensures cause { IfErr result (IsReason D.address (chunks_of draft.new.chunks)) }
 {
+    let alloc = *inner.allocator();
     let mut inner = inner;
     let mut carry = named;
     let mut at = 0;
     'levels: while at < inner.len() {
         let level = at as u8 + 1;
         let is_last = at + 1 == inner.len();
-        match close_level(&mut inner[at], draft, level, is_last, carry)? {
+        match close_level(alloc, &mut inner[at], draft, level, is_last, carry)? {
             Closed::Root(root) => return Ok(root),
             Closed::Below(named) => carry = named,
         }
@@ -56,6 +59,7 @@ pub(crate) fn close_levels<D: Digester>(
 
 /// Closes the open node of one level, after the name that the level below has left.
 fn close_level<D: Digester>(
+    alloc: Global,
     node: &mut OpenInner,
     draft: &mut Draft<D>,
     level: u8,
@@ -65,13 +69,13 @@ fn close_level<D: Digester>(
     requires level { 0 < level }
     requires fits { is_empty (node.old ++ option_to_list (option_map ref_of carry)) ≡ false → IsWritable level (node.old ++ option_to_list (option_map ref_of carry)) }
     ensures ok { IfOk result (λ closed. IsLevelClosed D.address (chunks_of draft.new.chunks) level (node.old ++ option_to_list (option_map ref_of carry)) is_last closed) }
-    ensures longer { Longer draft.old.chunks draft.new.chunks }
+    ensures grows { Grows is_node draft.old draft.new }
     ensures cause { IfErr result (IsReason D.address (chunks_of draft.new.chunks)) }
 {
     node.take(level, carry)?;
     if let Some(root) = node.root(is_last) {
         return Ok(Closed::Root(root));
     }
-    let named = node.close(draft, level)?;
+    let named = node.close(alloc, draft, level)?;
     Ok(Closed::Below(named))
 }

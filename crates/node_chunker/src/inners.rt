@@ -1,66 +1,78 @@
 //! The open node of a tower at a level above the leaves.
 
-ghost use Rattle.std.specs.Prelude.{◌≡◌, ◌≤◌, ◌<◌, ◌++◌, ◌^◌, [], ◌∷◌, Some, None, false, ◌&&◌, if◌then◌else◌, length, map, IfOk, IfErr, OnOk, option_map, option_to_list};
-ghost use Rattle.tuple_codec.specs.Nodes.{IsItem, item_bytes};
-ghost use Rattle.tuple_codec.specs.Trees.{closes, last_key, rows_in};
+ghost use Rattle.std.specs.Prelude.{◌≡◌, ◌≤◌, ◌<◌, ◌++◌, [], ◌∷◌, Some, None, false, ◌&&◌, if◌then◌else◌, length, map, IfOk, IfErr, OnOk, option_map, option_to_list};
+ghost use Rattle.tuple_codec.specs.Nodes.{IsItem};
+ghost use Rattle.tuple_codec.specs.Trees.{closes};
+ghost use Rattle.node_format.specs.Outlasting.{Outlasts};
 ghost use Rattle.node_format.specs.Views.{ref_of};
-ghost use Rattle.chunk_store.specs.Drafts.{Longer, chunks_of};
-ghost use Rattle.node_chunker.specs.Faults.{IsReason};
+ghost use Rattle.chunk_store.specs.Drafts.{Grows, chunks_of};
+ghost use Rattle.chunk_store.specs.Kinds.{is_node};
+ghost use Rattle.chunk_store.specs.Clashes.{IsReason};
 ghost use Rattle.node_chunker.specs.Growth.{IsWritable};
 ghost use Rattle.node_chunker.specs.Steps.{IsClosed, IsNamed, IsPushed};
 ghost use Rattle.node_chunker.specs.Towers.{first_of, is_empty, is_single};
 
 use crate::chunks::put_chunk;
 use chunk_store::{Draft, PutFault};
-use node_format::{RefItem, ends_here, write_inner};
+use node_format::{NodeBuilder, RefItem, ends_from, name_size};
 use std::alloc::{AllocError, Global};
 use std::marker::Model;
 use tuple_codec::{Address, Blob, Digester};
 
-/// The names in an inner node that is still open, and how many bytes it has so far.
+/// The names in an inner node that is still open.
 #[derive(Debug, Drop)]
 pub(crate) struct OpenInner {
-    items: Vec<RefItem>,
-    size: u32,
+    // of level 1, or of the level at which it was last put; items are the same bytes at each level above the leaves
+    node: NodeBuilder,
+    // below all names
+    rows: u64,
+    // the address in the last name
+    last: Address,
 }
 
 impl Model for OpenInner {
-    ghost use Rattle.std.specs.Prelude.{◌≡◌, ◌+◌, List, length, map};
-    ghost use Rattle.tuple_codec.specs.Nodes.{Item, items_bytes};
-    ghost use Rattle.node_format.specs.Views.{ref_of};
+    ghost use Rattle.std.specs.Prelude.{◌≡◌, ◌<◌, true, List};
+    ghost use Rattle.tuple_codec.specs.Nodes.{Item};
+    ghost use Rattle.tuple_codec.specs.Trees.{rows_in};
+    ghost use Rattle.node_chunker.specs.Towers.{first_of, is_single};
 
     ghost Value = { List Item };
 
-    ghost view = { λ n. map ref_of n.items.items };
+    ghost view = { λ n. n.node.items };
 
-    ghost invariant = { λ n. n.size ≡ 4 + length (items_bytes 1 (map ref_of n.items.items)) };
+    ghost invariant = { λ n. (0 < n.node.level) × (n.rows ≡ rows_in n.node.items) × (is_single n.node.items ≡ true → (first_of n.node.items).body ≡ n.last.0) };
 }
 
 impl OpenInner {
-    pub(crate) fn new(alloc: Global) -> OpenInner
-        ensures { result ≡ [] }
+    pub(crate) fn new(alloc: Global) -> Result<OpenInner, AllocError>
+        ensures { IfOk result (λ node. node ≡ []) }
     {
-        OpenInner {
-            items: Vec::new(alloc),
-            size: 4,
-        }
+        let node = NodeBuilder::new(alloc, 1)?;
+        Ok(OpenInner {
+            node,
+            rows: 0,
+            last: Address([0; 20]),
+        })
     }
 
     /// The node with one name.
-    pub(crate) fn begun(alloc: Global, item: RefItem) -> Result<OpenInner, AllocError>
-        requires { IsItem 1 (ref_of item) }
-        ensures { IfOk result (λ node. node ≡ ref_of item ∷ []) }
+    pub(crate) fn begun(alloc: Global, item: &RefItem) -> Result<OpenInner, AllocError>
+        requires { IsItem 1 (ref_of item.now) }
+        ensures { IfOk result (λ node. node ≡ ref_of item.now ∷ []) }
     {
-        let size = 4 + item_size(&item);
-        let mut items = Vec::new(alloc);
-        items.push(item)?;
-        Ok(OpenInner { items, size })
+        let mut node = NodeBuilder::new(alloc, 1)?;
+        node.push_name(item.key.as_slice(), &item.address, item.rows)?;
+        Ok(OpenInner {
+            node,
+            rows: item.rows,
+            last: item.address,
+        })
     }
 
     pub(crate) fn is_empty(&self) -> bool
         ensures { result ≡ is_empty self.now }
     {
-        self.items.is_empty()
+        self.node.count() == 0
     }
 
     /// The root's address, where this is the last level and the one name in the node is the root's.
@@ -74,50 +86,56 @@ impl OpenInner {
     fn only(&self) -> Option<Address>
         ensures { option_map (λ address. address.0) result ≡ (if is_single self.now then Some (first_of self.now).body else None) }
     {
-        match self.items.as_slice() {
-            [item] => Some(item.address),
-            _ => None,
+        if self.node.count() == 1 {
+            Some(self.last)
+        } else {
+            None
         }
     }
 
-    /// Adds a name, and puts the node into the draft where the name ends it: then it has a name, and begins anew.
+    /// Adds a name, and puts the node into the draft where the name ends it: then it has a name, and begins anew. No node of fewer
+    /// than so many steps ends after the name.
     pub(crate) fn push<D: Digester>(
         &mut self,
+        alloc: Global,
         draft: &mut Draft<D>,
         level: u8,
-        item: RefItem,
+        item: &RefItem,
+        steps: u32,
     ) -> Result<Option<RefItem>, PutFault>
         requires level { 0 < level }
-        requires fits { IsWritable level (self.old ++ ref_of item ∷ []) }
-        ensures ok { IfOk result (λ named. IsPushed D.address (chunks_of draft.new.chunks) level self.old (ref_of item) self.new (option_map ref_of named)) }
-        ensures longer { Longer draft.old.chunks draft.new.chunks }
+        requires fits { IsWritable level (self.old ++ ref_of item.now ∷ []) }
+        requires known { Outlasts D.address level steps (ref_of item.now).key }
+        ensures ok { IfOk result (λ named. IsPushed D.address (chunks_of draft.new.chunks) level self.old (ref_of item.now) self.new (option_map ref_of named)) }
+        ensures grows { Grows is_node draft.old draft.new }
         ensures cause { IfErr result (IsReason D.address (chunks_of draft.new.chunks)) }
     {
-        let over = self.ends_after::<D>(level, &item);
+        let over = self.ends_after::<D>(level, item, steps);
         self.add(level, item)?;
         if !over {
             return Ok(None);
         }
-        let named = self.put(draft, level)?;
+        let named = self.put(alloc, draft, level)?;
         Ok(Some(named))
     }
 
     /// Puts the node into the draft if it has a name.
     pub(crate) fn close<D: Digester>(
         &mut self,
+        alloc: Global,
         draft: &mut Draft<D>,
         level: u8,
     ) -> Result<Option<RefItem>, PutFault>
         requires level { 0 < level }
         requires fits { is_empty self.old ≡ false → IsWritable level self.old }
         ensures ok { IfOk result (λ named. IsClosed D.address (chunks_of draft.new.chunks) level self.old (option_map ref_of named)) }
-        ensures longer { Longer draft.old.chunks draft.new.chunks }
+        ensures grows { Grows is_node draft.old draft.new }
         ensures cause { IfErr result (IsReason D.address (chunks_of draft.new.chunks)) }
     {
         if self.is_empty() {
             return Ok(None);
         }
-        let named = self.put(draft, level)?;
+        let named = self.put(alloc, draft, level)?;
         Ok(Some(named))
     }
 
@@ -128,80 +146,54 @@ impl OpenInner {
         ensures { OnOk result (self.new ≡ self.old ++ option_to_list (option_map ref_of carry)) }
     {
         match carry {
-            Some(item) => self.add(level, item),
+            Some(item) => self.add(level, &item),
             None => Ok(()),
         }
     }
 
-    fn add(&mut self, level: u8, item: RefItem) -> Result<(), AllocError>
+    fn add(&mut self, level: u8, item: &RefItem) -> Result<(), AllocError>
         requires level { 0 < level }
-        requires fits { IsWritable level (self.old ++ ref_of item ∷ []) }
-        ensures { OnOk result (self.new ≡ self.old ++ ref_of item ∷ []) }
+        requires fits { IsWritable level (self.old ++ ref_of item.now ∷ []) }
+        ensures { OnOk result (self.new ≡ self.old ++ ref_of item.now ∷ []) }
     {
-        let size = item_size(&item);
-        self.items.push(item)?;
-        self.size += size;
+        self.node
+            .push_name(item.key.as_slice(), &item.address, item.rows)?;
+        self.rows += item.rows;
+        self.last = item.address;
         Ok(())
     }
 
     /// Whether the node ends after one more name.
-    fn ends_after<D: Digester>(&self, level: u8, item: &RefItem) -> bool
+    fn ends_after<D: Digester>(&self, level: u8, item: &RefItem, steps: u32) -> bool
         requires level { 0 < level }
         requires fits { IsWritable level (self.now ++ ref_of item.now ∷ []) }
+        requires known { Outlasts D.address level steps (ref_of item.now).key }
         ensures { result ≡ closes D.address level (self.now ++ ref_of item.now ∷ []) }
     {
-        let size = self.size + item_size(item);
-        let count = self.items.len() as u32 + 1;
-        ends_here::<D>(level, size, count, item.key.as_slice())
+        let size = self.node.size() as u32 + name_size(item);
+        let count = u32::from(self.node.count()) + 1;
+        ends_from::<D>(level, size, count, steps, item.key.as_slice())
     }
 
     /// Puts the node into the draft and empties it; its name.
-    fn put<D: Digester>(&mut self, draft: &mut Draft<D>, level: u8) -> Result<RefItem, PutFault>
+    fn put<D: Digester>(
+        &mut self,
+        alloc: Global,
+        draft: &mut Draft<D>,
+        level: u8,
+    ) -> Result<RefItem, PutFault>
         requires level { 0 < level }
         requires fits { IsWritable level self.old }
         ensures ok { IfOk result (λ named. IsNamed D.address (chunks_of draft.new.chunks) level self.old self.new (ref_of named)) }
-        ensures longer { Longer draft.old.chunks draft.new.chunks }
+        ensures grows { Grows is_node draft.old draft.new }
         ensures cause { IfErr result (IsReason D.address (chunks_of draft.new.chunks)) }
     {
-        let bytes = write_inner(*self.items.allocator(), level, &self.items)?;
-        let address = put_chunk(draft, bytes.as_slice())?;
-        let rows = rows_of(&self.items);
-        let key = self.empty();
+        self.node.set_level(level);
+        let address = put_chunk(draft, self.node.bytes())?;
+        let rows = self.rows;
+        let key = Blob::from_vec(Vec::from_slice(alloc, self.node.last_key())?);
+        self.node.clear();
+        self.rows = 0;
         Ok(RefItem { key, address, rows })
     }
-
-    /// Empties the node; its last key.
-    fn empty(&mut self) -> Blob
-        ensures key { result ≡ last_key self.old }
-        ensures emptied { self.new ≡ [] }
-    {
-        let key = match self.items.pop() {
-            Some(last) => last.key,
-            None => Blob::new(*self.items.allocator()),
-        };
-        self.items.clear();
-        self.size = 4;
-        key
-    }
-}
-
-/// How many rows lie below these names.
-fn rows_of(items: &[RefItem]) -> u64
-    requires { rows_in (map ref_of items.now) < 2 ^ 63 }
-    ensures { result ≡ rows_in (map ref_of items.now) }
-{
-    let mut rows = 0;
-    for item in items {
-        rows += item.rows;
-    }
-    rows
-}
-
-/// How many bytes a name takes in an inner node.
-fn item_size(item: &RefItem) -> u32
-    requires { IsItem 1 (ref_of item.now) }
-    ensures size { result ≡ length (item_bytes 1 (ref_of item.now)) }
-    ensures bound { result < 2 ^ 18 }
-{
-    (10 + item.key.as_slice().len() + item.address.0.len()) as u32
 }

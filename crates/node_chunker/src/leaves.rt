@@ -1,147 +1,131 @@
 //! The open leaf of a tower.
 
-ghost use Rattle.std.specs.Prelude.{◌≡◌, ◌≤◌, ◌++◌, [], ◌∷◌, length, map, IfOk, IfErr, OnOk, option_map};
-ghost use Rattle.tuple_codec.specs.Nodes.{item_bytes};
-ghost use Rattle.tuple_codec.specs.Trees.{closes, last_key};
-ghost use Rattle.node_format.specs.Views.{leaf_of, ref_of};
-ghost use Rattle.chunk_store.specs.Drafts.{Longer, chunks_of};
-ghost use Rattle.node_chunker.specs.Faults.{IsReason};
+ghost use Rattle.std.specs.Prelude.{◌≡◌, ◌++◌, [], ◌∷◌, map, IfOk, IfErr, OnOk, option_map};
+ghost use Rattle.tuple_codec.specs.Nodes.{leaf_item};
+ghost use Rattle.tuple_codec.specs.Trees.{closes};
+ghost use Rattle.node_format.specs.Outlasting.{Outlasts};
+ghost use Rattle.node_format.specs.Views.{ref_of};
+ghost use Rattle.chunk_store.specs.Drafts.{Grows, chunks_of};
+ghost use Rattle.chunk_store.specs.Kinds.{is_node};
+ghost use Rattle.chunk_store.specs.Clashes.{IsReason};
 ghost use Rattle.node_chunker.specs.Growth.{IsWritable};
 ghost use Rattle.node_chunker.specs.Steps.{IsClosed, IsNamed, IsPushed};
 ghost use Rattle.node_chunker.specs.Towers.{is_empty};
 
 use crate::chunks::put_chunk;
 use chunk_store::{Draft, PutFault};
-use node_format::{LeafItem, RefItem, ends_here, write_leaf};
+use node_format::{NodeBuilder, RefItem, ends_from, row_size};
 use std::alloc::{AllocError, Global};
 use std::marker::Model;
 use tuple_codec::{Blob, Digester};
 
-/// The rows of the leaf that is still open, and how many bytes it has so far.
+/// The rows of the leaf that is still open.
 #[derive(Debug, Drop)]
 pub(crate) struct OpenLeaf {
-    items: Vec<LeafItem>,
-    size: u32,
+    node: NodeBuilder,
 }
 
 impl Model for OpenLeaf {
-    ghost use Rattle.std.specs.Prelude.{◌≡◌, ◌+◌, List, length, map};
-    ghost use Rattle.tuple_codec.specs.Nodes.{Item, items_bytes};
-    ghost use Rattle.node_format.specs.Views.{leaf_of};
+    ghost use Rattle.std.specs.Prelude.{◌≡◌, List};
+    ghost use Rattle.tuple_codec.specs.Nodes.{Item};
 
     ghost Value = { List Item };
 
-    ghost view = { λ n. map leaf_of n.items.items };
+    ghost view = { λ n. n.node.items };
 
-    ghost invariant = { λ n. n.size ≡ 4 + length (items_bytes 0 (map leaf_of n.items.items)) };
+    ghost invariant = { λ n. n.node.level ≡ 0 };
 }
 
 impl OpenLeaf {
-    pub(crate) fn new(alloc: Global) -> OpenLeaf
-        ensures { result ≡ [] }
+    pub(crate) fn new(alloc: Global) -> Result<OpenLeaf, AllocError>
+        ensures { IfOk result (λ leaf. leaf ≡ []) }
     {
-        OpenLeaf {
-            items: Vec::new(alloc),
-            size: 4,
-        }
+        let node = NodeBuilder::new(alloc, 0)?;
+        Ok(OpenLeaf { node })
     }
 
     pub(crate) fn is_empty(&self) -> bool
         ensures { result ≡ is_empty self.now }
     {
-        self.items.is_empty()
+        self.node.count() == 0
     }
 
-    /// Adds a row, and puts the leaf into the draft where the row ends it: then it has a name, and begins anew.
+    /// Adds a row, and puts the leaf into the draft where the row ends it: then it has a name, and begins anew. No leaf of fewer
+    /// than so many steps ends after the row.
     pub(crate) fn push<D: Digester>(
         &mut self,
+        alloc: Global,
         draft: &mut Draft<D>,
-        item: LeafItem,
+        key: &[u8],
+        value: &[u8],
+        steps: u32,
     ) -> Result<Option<RefItem>, PutFault>
-        requires { IsWritable 0 (self.old ++ leaf_of item ∷ []) }
-        ensures ok { IfOk result (λ named. IsPushed D.address (chunks_of draft.new.chunks) 0 self.old (leaf_of item) self.new (option_map ref_of named)) }
-        ensures longer { Longer draft.old.chunks draft.new.chunks }
+        requires fits { IsWritable 0 (self.old ++ leaf_item key.now value.now ∷ []) }
+        requires known { Outlasts D.address 0 steps key.now }
+        ensures ok { IfOk result (λ named. IsPushed D.address (chunks_of draft.new.chunks) 0 self.old (leaf_item key.now value.now) self.new (option_map ref_of named)) }
+        ensures grows { Grows is_node draft.old draft.new }
         ensures cause { IfErr result (IsReason D.address (chunks_of draft.new.chunks)) }
     {
-        let over = self.ends_after::<D>(&item);
-        self.add(item)?;
+        let over = self.ends_after::<D>(key, value, steps);
+        self.add(key, value)?;
         if !over {
             return Ok(None);
         }
-        let named = self.put(draft)?;
+        let named = self.put(alloc, draft)?;
         Ok(Some(named))
     }
 
     /// Puts the leaf into the draft if it has a row.
     pub(crate) fn close<D: Digester>(
         &mut self,
+        alloc: Global,
         draft: &mut Draft<D>,
     ) -> Result<Option<RefItem>, PutFault>
         requires { IsWritable 0 self.old }
         ensures ok { IfOk result (λ named. IsClosed D.address (chunks_of draft.new.chunks) 0 self.old (option_map ref_of named)) }
-        ensures longer { Longer draft.old.chunks draft.new.chunks }
+        ensures grows { Grows is_node draft.old draft.new }
         ensures cause { IfErr result (IsReason D.address (chunks_of draft.new.chunks)) }
     {
         if self.is_empty() {
             return Ok(None);
         }
-        let named = self.put(draft)?;
+        let named = self.put(alloc, draft)?;
         Ok(Some(named))
     }
 
-    fn add(&mut self, item: LeafItem) -> Result<(), AllocError>
-        requires { IsWritable 0 (self.old ++ leaf_of item ∷ []) }
-        ensures { OnOk result (self.new ≡ self.old ++ leaf_of item ∷ []) }
+    fn add(&mut self, key: &[u8], value: &[u8]) -> Result<(), AllocError>
+        requires { IsWritable 0 (self.old ++ leaf_item key.now value.now ∷ []) }
+        ensures { OnOk result (self.new ≡ self.old ++ leaf_item key.now value.now ∷ []) }
     {
-        let size = item_size(&item);
-        self.items.push(item)?;
-        self.size += size;
-        Ok(())
+        self.node.push_row(key, value)
     }
 
     /// Whether the leaf ends after one more row.
-    fn ends_after<D: Digester>(&self, item: &LeafItem) -> bool
-        requires { IsWritable 0 (self.now ++ leaf_of item.now ∷ []) }
-        ensures { result ≡ closes D.address 0 (self.now ++ leaf_of item.now ∷ []) }
+    fn ends_after<D: Digester>(&self, key: &[u8], value: &[u8], steps: u32) -> bool
+        requires fits { IsWritable 0 (self.now ++ leaf_item key.now value.now ∷ []) }
+        requires known { Outlasts D.address 0 steps key.now }
+        ensures { result ≡ closes D.address 0 (self.now ++ leaf_item key.now value.now ∷ []) }
     {
-        let size = self.size + item_size(item);
-        let count = self.items.len() as u32 + 1;
-        ends_here::<D>(0, size, count, item.key.as_slice())
+        let size = self.node.size() as u32 + row_size(key, value);
+        let count = u32::from(self.node.count()) + 1;
+        ends_from::<D>(0, size, count, steps, key)
     }
 
     /// Puts the leaf into the draft and empties it; its name.
-    pub(crate) fn put<D: Digester>(&mut self, draft: &mut Draft<D>) -> Result<RefItem, PutFault>
+    pub(crate) fn put<D: Digester>(
+        &mut self,
+        alloc: Global,
+        draft: &mut Draft<D>,
+    ) -> Result<RefItem, PutFault>
         requires { IsWritable 0 self.old }
         ensures ok { IfOk result (λ named. IsNamed D.address (chunks_of draft.new.chunks) 0 self.old self.new (ref_of named)) }
-        ensures longer { Longer draft.old.chunks draft.new.chunks }
+        ensures grows { Grows is_node draft.old draft.new }
         ensures cause { IfErr result (IsReason D.address (chunks_of draft.new.chunks)) }
     {
-        let bytes = write_leaf(*self.items.allocator(), &self.items)?;
-        let address = put_chunk(draft, bytes.as_slice())?;
-        let rows = self.items.len() as u64;
-        let key = self.empty();
+        let address = put_chunk(draft, self.node.bytes())?;
+        let rows = u64::from(self.node.count());
+        let key = Blob::from_vec(Vec::from_slice(alloc, self.node.last_key())?);
+        self.node.clear();
         Ok(RefItem { key, address, rows })
     }
-
-    /// Empties the leaf; its last key.
-    fn empty(&mut self) -> Blob
-        ensures key { result ≡ last_key self.old }
-        ensures emptied { self.new ≡ [] }
-    {
-        let key = match self.items.pop() {
-            Some(last) => last.key,
-            None => Blob::new(*self.items.allocator()),
-        };
-        self.items.clear();
-        self.size = 4;
-        key
-    }
-}
-
-/// How many bytes a row takes in a leaf.
-fn item_size(item: &LeafItem) -> u32
-    requires { length (item_bytes 0 (leaf_of item.now)) ≤ 65536 }
-    ensures { result ≡ length (item_bytes 0 (leaf_of item.now)) }
-{
-    (4 + item.key.as_slice().len() + item.value.as_slice().len()) as u32
 }

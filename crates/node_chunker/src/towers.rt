@@ -1,14 +1,16 @@
 //! A tower: a tree that grows row by row.
 
-ghost use Rattle.std.specs.Prelude.{◌≡◌, ◌≤◌, ◌<◌, ◌-◌, ◌++◌, suc, ℕ, List, [], ◌∷◌, drop, length, replicate, take, IfOk, IfErr, OnOk};
+ghost use Rattle.std.specs.Prelude.{◌≡◌, ◌≤◌, ◌<◌, ◌-◌, ◌+◌, ◌++◌, suc, ℕ, List, [], ◌∷◌, drop, length, replicate, take, IfOk, IfErr, OnOk};
 ghost use Rattle.std.specs.List.{list_all};
 ghost use Rattle.tuple_codec.specs.Nodes.{IsItem, Item, leaf_item};
 ghost use Rattle.tuple_codec.specs.Trees.{AreRows};
-ghost use Rattle.node_format.specs.Views.{leaf_of, ref_of};
+ghost use Rattle.node_format.specs.Outlasting.{Outlasts};
+ghost use Rattle.node_format.specs.Views.{ref_of};
 ghost use Rattle.chunk_store.specs.Chunks.{Chunks};
-ghost use Rattle.chunk_store.specs.Drafts.{Longer, chunks_of};
+ghost use Rattle.chunk_store.specs.Drafts.{Grows, chunks_of};
+ghost use Rattle.chunk_store.specs.Kinds.{is_node};
 ghost use Rattle.chunk_store.specs.Standing.{IsTree};
-ghost use Rattle.node_chunker.specs.Faults.{IsReason};
+ghost use Rattle.chunk_store.specs.Clashes.{IsReason};
 ghost use Rattle.node_chunker.specs.Growth.{CanPush, Fits, IsTower, WasPushed};
 ghost use Rattle.node_chunker.specs.Steps.{IsPushedAt};
 ghost use Rattle.node_chunker.specs.Subtrees.{CanPushRef, IsSubtree, is_clear};
@@ -18,7 +20,7 @@ use crate::closings::close_levels;
 use crate::inners::OpenInner;
 use crate::leaves::OpenLeaf;
 use chunk_store::{Draft, PutFault};
-use node_format::{LeafItem, RefItem};
+use node_format::RefItem;
 use std::alloc::{AllocError, Global};
 use std::marker::Model;
 use tuple_codec::{Address, Blob, Digester};
@@ -50,7 +52,7 @@ impl Tower {
         ensures { (address : List ℕ → List ℕ) (chunks : Chunks) → IfOk result (λ tower. IsTower address chunks tower []) }
     {
         Ok(Tower {
-            leaf: OpenLeaf::new(alloc),
+            leaf: OpenLeaf::new(alloc)?,
             inner: Vec::with_capacity(alloc, LEVELS)?,
         })
     }
@@ -65,11 +67,30 @@ impl Tower {
         requires { CanPush D.address (chunks_of draft.old.chunks) self.old (leaf_item key.now value.now) }
         ensures ok { (rows : List Item) → IsTower D.address (chunks_of draft.old.chunks) self.old rows
             → OnOk result (IsTower D.address (chunks_of draft.new.chunks) self.new (rows ++ leaf_item key.now value.now ∷ [])) }
-        ensures longer { Longer draft.old.chunks draft.new.chunks }
+        ensures grows { Grows is_node draft.old draft.new }
         ensures cause { IfErr result (IsReason D.address (chunks_of draft.new.chunks)) }
     {
-        let row = copy_of(*self.inner.allocator(), key, value)?;
-        match self.leaf.push(draft, row)? {
+        self.push_kept_row(draft, key, value, 0)
+    }
+
+    /// Pushes a row as [`Tower::push_row`] does, where no leaf of fewer than so many steps of 1,024 bytes ends after it, as its place in
+    /// an old leaf may tell ([`steps_of`](node_format::steps_of)): its key is hashed only from there on.
+    pub fn push_kept_row<D: Digester>(
+        &mut self,
+        draft: &mut Draft<D>,
+        key: &[u8],
+        value: &[u8],
+        steps: u32,
+    ) -> Result<(), PutFault>
+        requires can { CanPush D.address (chunks_of draft.old.chunks) self.old (leaf_item key.now value.now) }
+        requires known { Outlasts D.address 0 steps key.now }
+        ensures ok { (rows : List Item) → IsTower D.address (chunks_of draft.old.chunks) self.old rows
+            → OnOk result (IsTower D.address (chunks_of draft.new.chunks) self.new (rows ++ leaf_item key.now value.now ∷ [])) }
+        ensures grows { Grows is_node draft.old draft.new }
+        ensures cause { IfErr result (IsReason D.address (chunks_of draft.new.chunks)) }
+    {
+        let alloc = *self.inner.allocator();
+        match self.leaf.push(alloc, draft, key, value, steps)? {
             None => Ok(()),
             Some(named) => push_name(&mut self.inner, draft, 0, named),
         }
@@ -96,13 +117,32 @@ impl Tower {
         ensures ok { (rows below : List Item) → IsTower D.address (chunks_of draft.old.chunks) self.old rows
             → IsSubtree D.address (chunks_of draft.old.chunks) level (ref_of item.now) below → AreRows (rows ++ below)
             → OnOk result (IsTower D.address (chunks_of draft.new.chunks) self.new (rows ++ below)) }
-        ensures longer { Longer draft.old.chunks draft.new.chunks }
+        ensures grows { Grows is_node draft.old draft.new }
+        ensures cause { IfErr result (IsReason D.address (chunks_of draft.new.chunks)) }
+    {
+        self.push_kept_ref(draft, level, item, 0)
+    }
+
+    /// Pushes a subtree as [`Tower::push_ref`] does, where no node of fewer than so many steps of 1,024 bytes ends after the item, as its
+    /// place in an old node may tell: its key is hashed only from there on.
+    pub fn push_kept_ref<D: Digester>(
+        &mut self,
+        draft: &mut Draft<D>,
+        level: u8,
+        item: &RefItem,
+        steps: u32,
+    ) -> Result<(), PutFault>
+        requires can { CanPushRef D.address (chunks_of draft.old.chunks) self.old level (ref_of item.now) }
+        requires known { Outlasts D.address level steps (ref_of item.now).key }
+        ensures ok { (rows below : List Item) → IsTower D.address (chunks_of draft.old.chunks) self.old rows
+            → IsSubtree D.address (chunks_of draft.old.chunks) level (ref_of item.now) below → AreRows (rows ++ below)
+            → OnOk result (IsTower D.address (chunks_of draft.new.chunks) self.new (rows ++ below)) }
+        ensures grows { Grows is_node draft.old draft.new }
         ensures cause { IfErr result (IsReason D.address (chunks_of draft.new.chunks)) }
     {
         let place = level as usize - 1;
-        let named = copy_of_name(*self.inner.allocator(), item)?;
         open_levels(&mut self.inner, place)?;
-        push_name(&mut self.inner, draft, place, named)
+        push_kept_name(&mut self.inner, draft, place, item, steps)
     }
 
     /// Puts what is left into the draft: the root's address.
@@ -110,36 +150,17 @@ impl Tower {
         requires { WasPushed D.address (chunks_of draft.old.chunks) self }
         ensures ok { (rows : List Item) → IsTower D.address (chunks_of draft.old.chunks) self rows
             → IfOk result (λ root. IsTree D.address (chunks_of draft.new.chunks) root.0 rows) }
-        ensures longer { Longer draft.old.chunks draft.new.chunks }
+        ensures grows { Grows is_node draft.old draft.new }
         ensures cause { IfErr result (IsReason D.address (chunks_of draft.new.chunks)) }
     {
         let Tower { mut leaf, inner } = self;
         if inner.is_empty() {
-            let named = leaf.put(draft)?;
+            let named = leaf.put(*inner.allocator(), draft)?;
             return Ok(named.address);
         }
-        let carry = leaf.close(draft)?;
+        let carry = leaf.close(*inner.allocator(), draft)?;
         close_levels(inner, draft, carry)
     }
-}
-
-fn copy_of(alloc: Global, key: &[u8], value: &[u8]) -> Result<LeafItem, AllocError>
-    ensures { IfOk result (λ row. leaf_of row ≡ leaf_item key.now value.now) }
-{
-    Ok(LeafItem {
-        key: Blob::from_vec(Vec::from_slice(alloc, key)?),
-        value: Blob::from_vec(Vec::from_slice(alloc, value)?),
-    })
-}
-
-fn copy_of_name(alloc: Global, item: &RefItem) -> Result<RefItem, AllocError>
-    ensures { IfOk result (λ named. ref_of named ≡ ref_of item.now) }
-{
-    Ok(RefItem {
-        key: Blob::from_vec(Vec::from_slice(alloc, item.key.as_slice())?),
-        address: item.address,
-        rows: item.rows,
-    })
 }
 
 /// Whether no node of the first so many has a name.
@@ -154,10 +175,37 @@ fn open_levels(inner: &mut Vec<OpenInner>, count: usize) -> Result<(), AllocErro
     ensures { OnOk result (inner.new.items ≡ inner.old.items ++ replicate (count - length inner.old.items) []) }
 {
     'levels: while inner.len() < count {
-        let node = OpenInner::new(*inner.allocator());
+        let node = OpenInner::new(*inner.allocator())?;
         inner.push(node)?;
     }
     Ok(())
+}
+
+/// Pushes a name at this place among the inner levels, where no node of fewer than so many steps ends after it.
+fn push_kept_name<D: Digester>(
+    inner: &mut Vec<OpenInner>,
+    draft: &mut Draft<D>,
+    place: usize,
+    named: &RefItem,
+    steps: u32,
+) -> Result<(), PutFault>
+    requires place { place ≤ length inner.old.items }
+    requires fits { Fits D.address (suc place) (drop place inner.old.items) (ref_of named.now) }
+    requires known { Outlasts D.address (place + 1) steps (ref_of named.now).key }
+    ensures ok { OnOk result (IsPushedAt D.address (chunks_of draft.new.chunks) place inner.old.items (ref_of named.now) inner.new.items) }
+    ensures grows { Grows is_node draft.old draft.new }
+    ensures cause { IfErr result (IsReason D.address (chunks_of draft.new.chunks)) }
+{
+    if place == inner.len() {
+        begin_level(inner, named)?;
+        return Ok(());
+    }
+    let alloc = *inner.allocator();
+    let level = place as u8 + 1;
+    match inner[place].push(alloc, draft, level, named, steps)? {
+        None => Ok(()),
+        Some(above) => push_name(inner, draft, place + 1, above),
+    }
 }
 
 /// Pushes the name of a node at this place among the inner levels: each node that ends names itself one level up.
@@ -170,27 +218,28 @@ fn push_name<D: Digester>(
     requires place { place ≤ length inner.old.items }
     requires fits { Fits D.address (suc place) (drop place inner.old.items) (ref_of named) }
     ensures ok { OnOk result (IsPushedAt D.address (chunks_of draft.new.chunks) place inner.old.items (ref_of named) inner.new.items) }
-    ensures longer { Longer draft.old.chunks draft.new.chunks }
+    ensures grows { Grows is_node draft.old draft.new }
     ensures cause { IfErr result (IsReason D.address (chunks_of draft.new.chunks)) }
 {
+    let alloc = *inner.allocator();
     let mut item = named;
     let mut at = place;
     'levels: while at < inner.len() {
         let level = at as u8 + 1;
-        match inner[at].push(draft, level, item)? {
+        match inner[at].push(alloc, draft, level, &item, 0)? {
             None => return Ok(()),
             Some(named) => item = named,
         }
         at += 1;
     }
-    begin_level(inner, item)?;
+    begin_level(inner, &item)?;
     Ok(())
 }
 
 /// Opens a level above the last, with one name.
-fn begin_level(inner: &mut Vec<OpenInner>, item: RefItem) -> Result<(), AllocError>
-    requires { IsItem 1 (ref_of item) }
-    ensures { OnOk result (inner.new.items ≡ inner.old.items ++ (ref_of item ∷ []) ∷ []) }
+fn begin_level(inner: &mut Vec<OpenInner>, item: &RefItem) -> Result<(), AllocError>
+    requires { IsItem 1 (ref_of item.now) }
+    ensures { OnOk result (inner.new.items ≡ inner.old.items ++ (ref_of item.now ∷ []) ∷ []) }
 {
     let node = OpenInner::begun(*inner.allocator(), item)?;
     inner.push(node)?;

@@ -1,3 +1,4 @@
+pub mod BuildLemmas
 pub mod EndLemmas
 pub mod FieldLemmas
 pub mod ItemLemmas

@@ -3,3 +3,5 @@ pub mod Reading
 pub mod Marks
 pub mod Faults
 pub mod Found
+pub mod Outlasting
+pub mod Building

@@ -1,3 +1,4 @@
+pub mod KeepLemmas
 pub mod EditLemmas
 pub mod StageLemmas
 pub mod FrontLemmas

@@ -22,6 +22,8 @@ use Rattle.prolly_edit.specs.Stages.{Awaits, IsBefore, IsGoing, IsRead, IsTurn, 
 use Rattle.prolly_edit.proofs.EditLemmas.{edited_rows, rows_pass}
 use Rattle.prolly_edit.proofs.StageLemmas.{awaits_all, awaits_next, awaits_same, next_rows}
 use Rattle.prolly_edit.proofs.FrontLemmas.{load_join, parts_below, rest_join, rest_level}
+use Rattle.prolly_edit.specs.Keeping.{StaysOpen}
+use Rattle.prolly_edit.proofs.KeepLemmas.{stays_below, stays_none}
 use Rattle.prolly_edit.proofs.SubtreeLaws.{is_subtree}
 
 -- a node that is stored stays so
@@ -73,6 +75,7 @@ module _ (a : List ℕ → List ℕ) (start chunks : Chunks) (nodes : List (List
     items = part.found.0;
     stored = part.found.1;
     some = λ inner. part.found.3;
+    stays = stays_below a start level item part.found part.canonical;
     parts = parts_below a start level item front part.found part.canonical part.ordered
         (λ some. first_ended a (nodes_in start) (level, item) front (some_front front some) going.parts.end) others part.found;
     others = others;
@@ -158,6 +161,9 @@ module _ (a : List ℕ → List ℕ) (start chunks : Chunks) (nodes : List (List
       awaits_same a chunks nodes _ _ whole
       (ap (λ l. edited (l ++ rest (nodes_in start) front) edits) (ap (λ n. each_of (rows_at (nodes_in start) n) is.items) leaf ∙ each_itself is.items)) is.awaits
 
+  pub leaf_stays : level ≡ 0 → StaysOpen a 0 is.items
+  leaf_stays leaf = subst (λ n. StaysOpen a n is.items) leaf is.stays
+
   pub leaf_read : (new : Chunks) (now : List (List Item)) (left : List Edit) → Extends start new → Awaits a new now (edited (rest (nodes_in start) front) left) whole
       → IsRead a start new now level k front front left whole
   leaf_read new now left extends awaits = record {
@@ -197,6 +203,7 @@ root_before a start nodes k edits [] can tower =
           items = node.items;
           stored = t.1.opens.stored;
           some = t.1.opens.stored.is_node.header.has_item;
+          stays = subst (StaysOpen a node.level) (sym none) (stays_none a node.level);
           parts = λ below e. subst (λ l. AreParts a start (on_level below l ++ [])) (sym none) (none_left a start);
           others = none_left a start;
           extends = λ k bytes held. held;
@@ -221,6 +228,7 @@ root_before a start nodes k edits (first ∷ rows) can tower =
           items = found.0;
           stored = stored;
           some = λ inner. found.3;
+          stays = stays_below a start height item found t.2.root.canonical;
           parts = parts_below a start height item [] found t.2.root.canonical t.2.root.ordered (λ some. absurd (omega (arith, some))) (none_left a start) found;
           others = none_left a start;
           extends = λ k bytes held. held;

@@ -9,6 +9,7 @@ use Rattle.chunk_store.specs.Chunks.{Chunks, Extends}
 use Rattle.node_chunker.specs.Growth.{IsTower}
 use Rattle.tree_laws.specs.Found.{each_of, nodes_in, rows_at}
 use Rattle.tree_laws.specs.Standing.{IsStored}
+use Rattle.prolly_edit.specs.Keeping.{StaysOpen}
 use Rattle.prolly_edit.specs.Fronts.{AreParts, Front, load, load_below, on_level, rest}
 
 -- a tower has taken all rows but the later ones
@@ -49,6 +50,7 @@ pub record IsBefore (address : List ℕ → List ℕ) (start chunks : Chunks) (o
   pub items : List Item
   pub stored : IsStored start k (record { level = level; items = items })
   pub some : 0 < level → 0 < length items
+  pub stays : StaysOpen address level items
   pub parts : (below : ℕ) → level ≡ suc below → AreParts address start (on_level below items ++ front)
   pub others : AreParts address start front
   pub extends : Extends start chunks

@@ -12,10 +12,13 @@ ghost use Rattle.node_chunker.specs.Subtrees.{is_clear};
 ghost use Rattle.prolly_edit.specs.Editing.{CanEdit};
 ghost use Rattle.tree_laws.specs.Standing.{IsStored};
 ghost use Rattle.prolly_edit.specs.Fronts.{is_over, on_level};
+ghost use Rattle.node_format.specs.Outlasting.{Outlasts};
+ghost use Rattle.prolly_edit.specs.Names.{item_of};
+ghost use Rattle.prolly_edit.specs.Keeping.{StaysOpen};
 ghost use Rattle.prolly_edit.specs.Stages.{Awaits, IsBefore, IsGoing, IsRead, IsTurn, is_past};
 
 use crate::merging::{edit_rows, is_past, put_edits};
-use crate::paths::Path;
+use crate::paths::{Name, Path};
 use crate::reading::{bytes_at, node_of, step_at};
 use chunk_store::{Draft, PutFault};
 use node_chunker::Tower;
@@ -46,8 +49,8 @@ pub fn apply<D: Digester>(
     let mut path = Path::new(alloc);
     let level = node_at(draft, root).level();
     let mut left = read(alloc, draft, &mut tower, &mut path, edits, level, root)?;
-    'parts: while let Some((level, item)) = path.next() {
-        left = turn(alloc, draft, &mut tower, &mut path, left, level, &item)?;
+    'parts: while let Some((level, name)) = path.next() {
+        left = turn(alloc, draft, &mut tower, &mut path, left, level, &name)?;
     }
     put_edits(&mut tower, draft, left)?;
     tower.finish(draft)
@@ -58,19 +61,21 @@ fn turn<'a, D: Digester>(
     alloc: Global,
     draft: &mut Draft<D>,
     tower: &mut Tower,
-    path: &mut Path,
+    path: &mut Path<D>,
     edits: &'a [Edit],
     level: u8,
-    item: &RefItem,
+    name: &Name,
 ) -> Result<&'a [Edit], PutFault>
-    requires { (start : Chunks) × (whole : List Item) × IsGoing D.address start (chunks_of draft.old.chunks) tower.old ((level, ref_of item.now) ∷ path.old) edits.now whole }
-    ensures ok { (start : Chunks) (whole : List Item) → IsGoing D.address start (chunks_of draft.old.chunks) tower.old ((level, ref_of item.now) ∷ path.old) edits.now whole
-        → IfOk result (λ left. IsTurn D.address start (chunks_of draft.new.chunks) tower.new ((level, ref_of item.now) ∷ path.old) path.new left.now whole) }
+    requires going { (start : Chunks) × (whole : List Item) × IsGoing D.address start (chunks_of draft.old.chunks) tower.old ((level, item_of name.now) ∷ path.old) edits.now whole }
+    requires known { Outlasts D.address (suc level) name.now.steps (item_of name.now).key }
+    ensures ok { (start : Chunks) (whole : List Item) → IsGoing D.address start (chunks_of draft.old.chunks) tower.old ((level, item_of name.now) ∷ path.old) edits.now whole
+        → IfOk result (λ left. IsTurn D.address start (chunks_of draft.new.chunks) tower.new ((level, item_of name.now) ∷ path.old) path.new left.now whole) }
     ensures longer { Longer draft.old.chunks draft.new.chunks }
     ensures cause { IfErr result (IsReason D.address (chunks_of draft.new.chunks)) }
 {
+    let item = &name.item;
     if stays(tower, path, edits, level, item) {
-        tower.push_ref(draft, level + 1, item)?;
+        tower.push_kept_ref(draft, level + 1, item, name.steps)?;
         return Ok(edits);
     }
     read(alloc, draft, tower, path, edits, level, &item.address)
@@ -78,7 +83,7 @@ fn turn<'a, D: Digester>(
 
 /// Whether a node's subtree is pushed whole: no edit comes before its end, it ended by the boundary rule since something
 /// follows, and the tower begins a node of its level and of each below it just there.
-fn stays(tower: &Tower, path: &Path, edits: &[Edit], level: u8, item: &RefItem) -> bool
+fn stays<D: Digester>(tower: &Tower, path: &Path<D>, edits: &[Edit], level: u8, item: &RefItem) -> bool
     requires { level < 255 }
     ensures { result ≡ (is_past item.now.key edits.now && not (is_over path.now) && is_clear (suc level) tower.now) }
 {
@@ -91,7 +96,7 @@ fn read<'a, D: Digester>(
     alloc: Global,
     draft: &mut Draft<D>,
     tower: &mut Tower,
-    path: &mut Path,
+    path: &mut Path<D>,
     edits: &'a [Edit],
     level: u8,
     address: &Address,
@@ -114,10 +119,10 @@ fn read<'a, D: Digester>(
 fn read_names<D: Digester>(
     alloc: Global,
     draft: &Draft<D>,
-    path: &mut Path,
+    path: &mut Path<D>,
     address: &Address,
 ) -> Result<(), AllocError>
-    requires { (node : Node) × IsStored (chunks_of draft.now.chunks) address.now.0 node × (0 < node.level) × (0 < length node.items) }
+    requires { (node : Node) × IsStored (chunks_of draft.now.chunks) address.now.0 node × (0 < node.level) × (0 < length node.items) × StaysOpen D.address node.level node.items }
     ensures { (node : Node) → IsStored (chunks_of draft.now.chunks) address.now.0 node → 0 < node.level
         → OnOk result (path.new ≡ on_level (node.level - 1) node.items ++ path.old) }
 {
@@ -133,7 +138,7 @@ fn read_rows<'a, D: Digester>(
     edits: &'a [Edit],
     address: &Address,
 ) -> Result<&'a [Edit], PutFault>
-    requires { (node : Node) × (more whole : List Item) × IsStored (chunks_of draft.old.chunks) address.now.0 node × (node.level ≡ 0)
+    requires { (node : Node) × (more whole : List Item) × IsStored (chunks_of draft.old.chunks) address.now.0 node × (node.level ≡ 0) × StaysOpen D.address 0 node.items
         × Awaits D.address (chunks_of draft.old.chunks) tower.old (edited (node.items ++ more) edits.now) whole }
     ensures ok { (node : Node) (more whole : List Item) → IsStored (chunks_of draft.old.chunks) address.now.0 node → node.level ≡ 0
         → Awaits D.address (chunks_of draft.old.chunks) tower.old (edited (node.items ++ more) edits.now) whole

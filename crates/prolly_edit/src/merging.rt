@@ -1,32 +1,37 @@
 //! Rows and edits, merged by key and pushed onto a tower.
 
-ghost use Rattle.std.specs.Prelude.{◌≡◌, ◌++◌, ◌∷◌, [], ℕ, List, true, MatchOption, IfOk, IfErr, OnOk};
+ghost use Rattle.std.specs.Prelude.{◌≡◌, ◌≤◌, ◌+◌, ◌++◌, ◌∷◌, [], ℕ, List, Some, true, length, slice_get, take, MatchOption, IfOk, IfErr, OnOk};
 ghost use Rattle.std.specs.Ordering.{is_lt};
-ghost use Rattle.tuple_codec.specs.Nodes.{Item, leaf_item};
+ghost use Rattle.tuple_codec.specs.Nodes.{Item, items_bytes, leaf_item, node_bytes};
 ghost use Rattle.tuple_codec.specs.Edits.{edited, order, putting, puts};
 ghost use Rattle.chunk_store.specs.Drafts.{Longer, chunks_of};
 ghost use Rattle.node_chunker.specs.Faults.{IsReason};
+ghost use Rattle.node_format.specs.Outlasting.{Outlasts};
+ghost use Rattle.prolly_edit.specs.Keeping.{StaysOpen};
 ghost use Rattle.prolly_edit.specs.Stages.{Awaits, IsFirstAt, IsFirstBefore, are_not_before, is_past};
 
+use crate::reading::steps_at;
 use chunk_store::{Draft, PutFault};
 use node_chunker::Tower;
-use node_format::NodeRef;
+use node_format::{NodeRef, row_size};
 use tuple_codec::{Digester, Edit};
 
-/// Pushes a row.
+/// Pushes a row; no leaf of fewer than so many steps ends after it.
 fn push<D: Digester>(
     tower: &mut Tower,
     draft: &mut Draft<D>,
     key: &[u8],
     value: &[u8],
+    steps: u32,
 ) -> Result<(), PutFault>
-    requires { (later whole : List Item) × Awaits D.address (chunks_of draft.old.chunks) tower.old (leaf_item key.now value.now ∷ later) whole }
+    requires awaits { (later whole : List Item) × Awaits D.address (chunks_of draft.old.chunks) tower.old (leaf_item key.now value.now ∷ later) whole }
+    requires known { Outlasts D.address 0 steps key.now }
     ensures ok { (later whole : List Item) → Awaits D.address (chunks_of draft.old.chunks) tower.old (leaf_item key.now value.now ∷ later) whole
         → OnOk result (Awaits D.address (chunks_of draft.new.chunks) tower.new later whole) }
     ensures longer { Longer draft.old.chunks draft.new.chunks }
     ensures cause { IfErr result (IsReason D.address (chunks_of draft.new.chunks)) }
 {
-    tower.push_row(draft, key, value)
+    tower.push_kept_row(draft, key, value, steps)
 }
 
 /// Pushes what an edit puts.
@@ -42,7 +47,7 @@ fn put_edit<D: Digester>(
     ensures cause { IfErr result (IsReason D.address (chunks_of draft.new.chunks)) }
 {
     match &edit.value {
-        Some(value) => push(tower, draft, edit.key.as_slice(), value.as_slice()),
+        Some(value) => push(tower, draft, edit.key.as_slice(), value.as_slice(), 0),
         None => Ok(()),
     }
 }
@@ -136,15 +141,17 @@ fn put_before<'a, D: Digester>(
     Ok(left)
 }
 
-/// Pushes a row with the edits up to its key; the edits that are left.
+/// Pushes a row, which outlasts so many steps, with the edits up to its key; the edits that are left.
 fn edit_row<'a, D: Digester>(
     tower: &mut Tower,
     draft: &mut Draft<D>,
     edits: &'a [Edit],
     key: &[u8],
     value: &[u8],
+    steps: u32,
 ) -> Result<&'a [Edit], PutFault>
-    requires { (rows whole : List Item) × Awaits D.address (chunks_of draft.old.chunks) tower.old (edited (leaf_item key.now value.now ∷ rows) edits.now) whole }
+    requires known { Outlasts D.address 0 steps key.now }
+    requires awaits { (rows whole : List Item) × Awaits D.address (chunks_of draft.old.chunks) tower.old (edited (leaf_item key.now value.now ∷ rows) edits.now) whole }
     ensures ok { (rows whole : List Item) → Awaits D.address (chunks_of draft.old.chunks) tower.old (edited (leaf_item key.now value.now ∷ rows) edits.now) whole
         → IfOk result (λ left. Awaits D.address (chunks_of draft.new.chunks) tower.new (edited rows left.now) whole) }
     ensures longer { Longer draft.old.chunks draft.new.chunks }
@@ -157,7 +164,7 @@ fn edit_row<'a, D: Digester>(
             Ok(others)
         }
         None => {
-            push(tower, draft, key, value)?;
+            push(tower, draft, key, value, steps)?;
             Ok(left)
         }
     }
@@ -171,6 +178,8 @@ pub(crate) fn edit_rows<'a, D: Digester>(
     leaf: &NodeRef<'_>,
 ) -> Result<&'a [Edit], PutFault>
     requires leaf { leaf.now.level ≡ 0 }
+    requires small { length (node_bytes leaf.now) ≤ 65536 }
+    requires stays { StaysOpen D.address 0 leaf.now.items }
     requires awaits { (more whole : List Item) × Awaits D.address (chunks_of draft.old.chunks) tower.old (edited (leaf.now.items ++ more) edits.now) whole }
     ensures ok { (more whole : List Item) → Awaits D.address (chunks_of draft.old.chunks) tower.old (edited (leaf.now.items ++ more) edits.now) whole
         → IfOk result (λ left. Awaits D.address (chunks_of draft.new.chunks) tower.new (edited more left.now) whole) }
@@ -178,9 +187,12 @@ pub(crate) fn edit_rows<'a, D: Digester>(
     ensures cause { IfErr result (IsReason D.address (chunks_of draft.new.chunks)) }
 {
     let mut left = edits;
+    let mut size = 4;
     for at in 0..leaf.count() {
         let (key, value) = leaf.leaf_item(at);
-        left = edit_row(tower, draft, left, key, value)?;
+        size += row_size(key, value);
+        let steps = steps_at(leaf, at, size);
+        left = edit_row(tower, draft, left, key, value, steps)?;
     }
     Ok(left)
 }

@@ -11,7 +11,8 @@ use Rattle.tree_laws.specs.Found.{UpTo, each_of, nodes_in, rows_at}
 use Rattle.tree_laws.specs.Standing.{Chunks, IsFound, IsOpen, IsStored, Leads, rows_below}
 use Rattle.tree_laws.proofs.StandingReads.{IsReached, all_map, many_rows, reached, rows_there}
 use Rattle.tree_laws.proofs.StandingOrder.{order, rise_left, rise_right, upto_last}
-use Rattle.prolly_tree.specs.Lists.{first_of, from_key, place_of, value_at}
+use Rattle.tuple_codec.specs.Edits.{value_at}
+use Rattle.prolly_tree.specs.Lists.{first_of, from_key, place_of}
 use Rattle.prolly_tree.proofs.Lookups.{drop_place, first_before, reach, skip_items, value_front}
 
 none_some : (item : Item) → None ≡ Some item → ⊥

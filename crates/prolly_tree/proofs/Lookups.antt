@@ -12,7 +12,8 @@ use Rattle.tuple_codec.specs.Nodes.{Item, Rise, RiseAfter}
 use Rattle.tuple_codec.specs.Trees.{last_key}
 use Rattle.tree_laws.specs.Found.{UpTo, each_of}
 use Rattle.tree_laws.proofs.StandingOrder.{order, le_lt, lt_trans, rise_any}
-use Rattle.prolly_tree.specs.Lists.{first_of, from_key, place_of, value_at}
+use Rattle.tuple_codec.specs.Edits.{value_at}
+use Rattle.prolly_tree.specs.Lists.{first_of, from_key, place_of}
 
 -- the key at a place
 abbrev pub key_is : List Item → ℕ → List ℕ → Type 0

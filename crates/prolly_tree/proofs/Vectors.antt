@@ -1,7 +1,8 @@
 -- The definitions, computed.
 use Rattle.std.proofs.Common.{◌≡◌, [], ◌∷◌, Some, None, refl}
 use Rattle.tuple_codec.specs.Nodes.{leaf_item}
-use Rattle.prolly_tree.specs.Lists.{from_key, value_at}
+use Rattle.tuple_codec.specs.Edits.{value_at}
+use Rattle.prolly_tree.specs.Lists.{from_key}
 use Rattle.prolly_tree.specs.Samples.{two_rows}
 
 value_there : value_at (100 ∷ []) two_rows ≡ Some (102 ∷ 111 ∷ 117 ∷ 114 ∷ [])

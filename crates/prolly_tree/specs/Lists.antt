@@ -1,4 +1,4 @@
--- Lists of rows by rising key: the value at a key, and the rest from a key on.
+-- Lists of rows by rising key: the rest from a key on.
 use Rattle.std.specs.Prelude.{ℕ, suc, if◌then◌else◌, List, [], ◌∷◌, Option, None, Some, bytes_eq}
 use Rattle.std.specs.Ordering.{nat_cmp, is_lt}
 use Rattle.std.specs.Cmp.Lexicographic.{slice_cmp}
@@ -9,11 +9,6 @@ use Rattle.chunk_store.specs.Standing.{IsTree}
 -- the address stands for some list of rows
 abbrev pub StandsForRows : (List ℕ → List ℕ) → Chunks → List ℕ → Type 0
 StandsForRows address chunks k = (rows : List Item) × IsTree address chunks k rows
-
--- the value of the row with this key
-abbrev pub value_at : List ℕ → List Item → Option (List ℕ)
-value_at key [] = None
-value_at key (row ∷ rows) = if bytes_eq row.key key then Some row.body else value_at key rows
 
 -- the rest of a list from its first item whose key isn't below this one
 abbrev pub from_key : List ℕ → List Item → List Item

@@ -71,6 +71,3 @@ pub record Scanning : Type 0 where
 -- the rows that are left, as their keys and values
 abbrev pub scan_rest : Scanning → List (List ℕ × List ℕ)
 scan_rest scan = map pair_of (rows_left (chunks_of scan.parts) scan.left)
-
-abbrev pub CanScan : Scanning → Type 0
-CanScan scan = CanWalk (chunks_of scan.parts) scan.left

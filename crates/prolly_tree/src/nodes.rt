@@ -8,7 +8,8 @@ ghost use Rattle.tuple_codec.specs.Trees.{rows_in};
 ghost use Rattle.chunk_store.specs.Drafts.{chunks_of};
 ghost use Rattle.chunk_store.specs.Standing.{IsTree};
 ghost use Rattle.tree_laws.specs.Standing.{IsOpen, IsStored, rows_below};
-ghost use Rattle.prolly_tree.specs.Lists.{StandsForRows, first_of, from_key, place_of, value_at};
+ghost use Rattle.tuple_codec.specs.Edits.{value_at};
+ghost use Rattle.prolly_tree.specs.Lists.{StandsForRows, first_of, from_key, place_of};
 
 use chunk_store::Draft;
 use node_format::NodeRef;

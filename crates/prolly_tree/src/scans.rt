@@ -6,7 +6,7 @@ ghost use Rattle.tuple_codec.specs.Nodes.{Item};
 ghost use Rattle.chunk_store.specs.Drafts.{chunks_of};
 ghost use Rattle.chunk_store.specs.Standing.{IsTree};
 ghost use Rattle.prolly_tree.specs.Lists.{StandsForRows, from_key, pair_of};
-ghost use Rattle.prolly_tree.specs.Walks.{CanScan, scan_rest};
+ghost use Rattle.prolly_tree.specs.Walks.{scan_rest};
 
 use crate::nodes::{node_at, place_of};
 use crate::paths::Path;
@@ -25,11 +25,14 @@ pub struct Scan<'a, D: Digester> {
 }
 
 impl<'a, D: Digester> Model for Scan<'a, D> {
-    ghost use Rattle.prolly_tree.specs.Walks.{Scanning};
+    ghost use Rattle.chunk_store.specs.Drafts.{chunks_of};
+    ghost use Rattle.prolly_tree.specs.Walks.{CanWalk, Scanning};
 
     ghost Value = { Scanning };
 
     ghost view = { λ s. record { parts = s.draft.now.chunks; left = s.walk } };
+
+    ghost invariant = { λ s. CanWalk (chunks_of s.draft.now.chunks) s.walk };
 }
 
 /// The rows whose key isn't below this one, by rising key.
@@ -40,9 +43,8 @@ pub fn scan_from<'a, D: Digester>(
     key: &[u8],
 ) -> Result<Scan<'a, D>, AllocError>
     requires tree { StandsForRows D.address (chunks_of draft.now.chunks) root.now.0 }
-    ensures rows { (rows : List Item) → IsTree D.address (chunks_of draft.now.chunks) root.now.0 rows
+    ensures { (rows : List Item) → IsTree D.address (chunks_of draft.now.chunks) root.now.0 rows
         → IfOk result (λ scan. scan_rest scan ≡ map pair_of (from_key key.now rows)) }
-    ensures can { IfOk result CanScan }
 {
     let node = node_at(draft, root);
     let at = place_of(&node, key);
@@ -55,9 +57,7 @@ pub fn scan_from<'a, D: Digester>(
 impl<'a, D: Digester> Scan<'a, D> {
     /// The next row, as its key and its value; none at the end, and from then on. It takes no memory.
     pub fn next(&mut self) -> Option<(&'a [u8], &'a [u8])>
-        requires { CanScan self.old }
         ensures gives { YieldsFirstBy (λ pair. (pair.0.now, pair.1.now)) scan_rest self.old result self.new }
-        ensures can { CanScan self.new }
         ensures parts { self.new.parts ≡ self.old.parts }
     {
         self.walk.to_row(self.draft);

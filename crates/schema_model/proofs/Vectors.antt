@@ -1,5 +1,6 @@
 -- Schemas, tables and records whose bytes are known.
-use Rattle.std.proofs.Common.{◌≡◌, ℕ, zero, suc, true, false, ltb, pos, List, [], ◌∷◌, length, replicate, Option, Some, None, refl, arith}
+use Rattle.std.proofs.Common.{◌≡◌, ℕ, zero, suc, true, false, ltb, pos, List, [], ◌∷◌, ◌++◌, length, replicate, Option, Some, None, refl, arith}
+use Rattle.std.specs.Prelude.{if◌then◌else◌, bytes_eq}
 use Rattle.std.specs.List.{list_all}
 use Rattle.std.specs.Str.{IsAscii}
 use Rattle.std.specs.Str.Lossy.{utf8_valid_len}
@@ -15,8 +16,10 @@ use Rattle.tuple_codec.specs.Trees.{name}
 use Rattle.schema_model.specs.declared.schemas.Schema.{Schema}
 use Rattle.schema_model.specs.SchemaBytes.{schema_bytes}
 use Rattle.schema_model.specs.Schemas.{is_schema}
-use Rattle.schema_model.specs.Limits.{is_within_limits}
-use Rattle.schema_model.specs.PlainTables.{PlainTable, conflict_items, index_items, row_items, violation_items}
+use Rattle.schema_model.specs.Limits.{is_conflict_within_limits, is_row_within_limits, is_within_limits}
+use Rattle.schema_model.specs.PlainTables.{Conflict, PlainTable, Violation, conflict_items, index_items, is_conflict, is_violation, row_items, violation_items}
+use Rattle.schema_model.specs.Sameness.{is_same_database, is_same_table}
+use Rattle.schema_model.specs.PlainCommits.{Commits, PlainCommit, ancestors, base, plain_commit_bytes}
 use Rattle.schema_model.specs.WrittenForms.{branch_bytes, database_bytes, table_bytes}
 
 -- ASCII is text
@@ -167,3 +170,149 @@ index_rises : index_items (table_of id_and_name (one_a ∷ (cell.Int (pos 2) ∷
     ≡ leaf_item (0 ∷ 1 ∷ 128 ∷ 0 ∷ 0 ∷ 0 ∷ 0 ∷ 0 ∷ 0 ∷ 2 ∷ []) [] ∷ leaf_item (1 ∷ 97 ∷ 0 ∷ 0 ∷ one_key) [] ∷ []
 unfolding table_of id_and_name one_a one_key
 index_rises = refl
+
+-- ---- the rows of a conflict have its key, and so has a violation's row
+
+three : ℕ → List Value → Conflict
+three n theirs = record { key = cell.Int (pos 1) ∷ []; base = None; ours = Some (cell.Int (pos n) ∷ cell.Null ∷ []); theirs = Some theirs }
+
+of_the_key : is_conflict id_and_name (three 1 (cell.Int (pos 1) ∷ cell.Null ∷ [])) ≡ true
+unfolding three id_and_name
+of_the_key = refl
+
+of_another_key : is_conflict id_and_name (three 2 (cell.Int (pos 1) ∷ cell.Null ∷ [])) ≡ false
+unfolding three id_and_name
+of_another_key = refl
+
+theirs_of_another_key : is_conflict id_and_name (three 1 (cell.Int (pos 3) ∷ cell.Null ∷ [])) ≡ false
+unfolding three id_and_name
+theirs_of_another_key = refl
+
+broken : ℕ → Violation
+broken n = record { kind = 2; constraint = 117 ∷ []; key = cell.Int (pos 1) ∷ []; row = cell.Int (pos n) ∷ cell.Null ∷ [] }
+
+row_of_the_key : is_violation id_and_name (broken 1) ≡ true
+unfolding broken id_and_name
+row_of_the_key = rw (is_text (117 ∷ []) refl) refl
+
+row_of_another_key : is_violation id_and_name (broken 2) ≡ false
+unfolding broken id_and_name
+row_of_another_key = rw (is_text (117 ∷ []) refl) refl
+
+-- ---- limits: 1,024 bytes of key are a flag, 1,021 bytes of text and two zeros; 8,192 of a row are a flag, a length and 8,189 bytes
+
+keyed_text : ℕ → List Value
+keyed_text n = cell.Text (replicate n 97) ∷ cell.Null ∷ []
+
+text_key : Schema
+text_key = record id_and_name { columns = record { name = 105 ∷ []; kind = kind.Varchar 2000; not_null = true; default = None } ∷ record { name = 110 ∷ []; kind = kind.Varchar 2000; not_null = false; default = None } ∷ [] }
+
+longest_key : is_row_within_limits text_key (keyed_text 1021) ≡ true
+unfolding text_key id_and_name keyed_text
+longest_key = refl
+
+longer_key : is_row_within_limits text_key (keyed_text 1022) ≡ false
+unfolding text_key id_and_name keyed_text
+longer_key = refl
+
+-- the same as an index's own columns
+indexed : Schema
+indexed = record id_and_name { indexes = record { name = 117 ∷ []; unique = false; columns = 1 ∷ [] } ∷ [] }
+
+texts : ℕ → List Value
+texts n = cell.Int (pos 1) ∷ cell.Text (replicate n 97) ∷ []
+
+longest_index : is_row_within_limits indexed (texts 1021) ≡ true
+unfolding indexed id_and_name texts
+longest_index = refl
+
+longer_index : is_row_within_limits indexed (texts 1022) ≡ false
+unfolding indexed id_and_name texts
+longer_index = refl
+
+longest_row : is_row_within_limits id_and_name (texts 8189) ≡ true
+unfolding id_and_name texts
+longest_row = refl
+
+longer_row : is_row_within_limits id_and_name (texts 8190) ≡ false
+unfolding id_and_name texts
+longer_row = refl
+
+longer_side : is_conflict_within_limits id_and_name (record { key = cell.Int (pos 1) ∷ []; base = None; ours = None; theirs = Some (texts 8190) }) ≡ false
+unfolding id_and_name texts
+longer_side = refl
+
+-- ---- the same contents
+
+one_name : List ℕ
+one_name = 116 ∷ []
+
+two_rows : List Value → PlainTable
+two_rows row = table_of id_and_name (one_a ∷ row ∷ [])
+
+same_rows : is_same_table (two_rows (cell.Int (pos 2) ∷ cell.Null ∷ [])) (two_rows (cell.Int (pos 2) ∷ cell.Null ∷ [])) ≡ true
+unfolding two_rows table_of id_and_name one_a
+same_rows = refl
+
+other_rows : is_same_table (two_rows (cell.Int (pos 2) ∷ cell.Null ∷ [])) (two_rows (cell.Int (pos 2) ∷ cell.Text [] ∷ [])) ≡ false
+unfolding two_rows table_of id_and_name one_a
+other_rows = refl
+
+no_tables : is_same_database [] (record { name = one_name; table = table_of id_and_name [] } ∷ []) ≡ false
+unfolding is_same_database table_of id_and_name one_name
+no_tables = refl
+
+-- ---- commits: h, then a and b on h, then c on a and b
+
+commit_on : List (List ℕ) → ℕ → PlainCommit
+commit_on parents height = record { database = []; parents = parents; height = height; date = pos 7; committer = 119 ∷ []; message = 109 ∷ 109 ∷ [] }
+
+h : List ℕ
+h = 1 ∷ []
+
+a : List ℕ
+a = 2 ∷ []
+
+b : List ℕ
+b = 3 ∷ []
+
+c : List ℕ
+c = 4 ∷ []
+
+four : Commits
+four k =
+    if bytes_eq k h then Some (commit_on [] 1)
+    else (if bytes_eq k a then Some (commit_on (h ∷ []) 2)
+    else (if bytes_eq k b then Some (commit_on (h ∷ []) 2)
+    else (if bytes_eq k c then Some (commit_on (a ∷ b ∷ []) 3) else None)))
+
+-- the addresses of the empty database and of two parents are zeros
+written_commit : plain_commit_bytes zeros (commit_on (replicate 20 0 ∷ []) 2)
+    ≡ 5 ∷ (replicate 20 0 ++ 1 ∷ (replicate 20 0 ++ 0 ∷ 0 ∷ 0 ∷ 0 ∷ 0 ∷ 0 ∷ 0 ∷ 2 ∷ 0 ∷ 0 ∷ 0 ∷ 0 ∷ 0 ∷ 0 ∷ 0 ∷ 7 ∷ 0 ∷ 1 ∷ 119 ∷ 0 ∷ 2 ∷ 109 ∷ 109 ∷ []))
+unfolding commit_on zeros
+written_commit = refl
+
+-- each once, height falling, and then by address
+ancestors_of_c : ancestors four c ≡ c ∷ a ∷ b ∷ h ∷ []
+unfolding four commit_on h a b c
+ancestors_of_c = refl
+
+base_of_a_and_b : base four a b ≡ Some h
+unfolding four commit_on h a b c
+base_of_a_and_b = refl
+
+base_of_c_and_b : base four c b ≡ Some b
+unfolding four commit_on h a b c
+base_of_c_and_b = refl
+
+base_of_c_and_c : base four c c ≡ Some c
+unfolding four commit_on h a b c
+base_of_c_and_c = refl
+
+-- c and d on a and b: of these two the base is the one of the least address
+five : Commits
+five k = if bytes_eq k (5 ∷ []) then Some (commit_on (b ∷ a ∷ []) 3) else four k
+
+base_by_address : base five c (5 ∷ []) ≡ Some a
+unfolding five four commit_on h a b c
+base_by_address = refl

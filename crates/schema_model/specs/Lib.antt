@@ -5,4 +5,7 @@ pub mod Written
 pub mod Reading
 pub mod Spellings
 pub mod PlainTables
+pub mod Items
 pub mod WrittenForms
+pub mod PlainCommits
+pub mod Sameness

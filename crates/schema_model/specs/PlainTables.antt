@@ -1,7 +1,7 @@
 -- Tables and databases as plain lists, and the lists that trees keep of them.
 use Rattle.std.specs.Prelude.{◌≡◌, ℕ, suc, ◌==◌, Bool, true, ◌&&◌, nat_le, if◌then◌else◌, List, [], ◌∷◌, ◌++◌, map, Option, None, Some, slice_get}
 use Rattle.std.specs.List.{list_all, list_any, flat_map, AllByRecursion}
-use Rattle.std.specs.Ordering.{nat_cmp, ordering_then, is_lt}
+use Rattle.std.specs.Ordering.{nat_cmp, ordering_then, is_eq, is_lt}
 use Rattle.std.specs.Cmp.Lexicographic.{slice_cmp}
 use Rattle.std.specs.declared.cmp.Ordering.{Ordering}
 use Rattle.tuple_codec.specs.Rows.{Cells, fits_all, key_cmp, key_of}
@@ -15,14 +15,14 @@ use Rattle.schema_model.specs.declared.schemas.Column.{Column}
 use Rattle.schema_model.specs.declared.schemas.IndexDef.{IndexDef}
 use Rattle.schema_model.specs.declared.schemas.Schema.{Schema}
 
--- a key at which a merge found no row: what base, ours and theirs have there, none being absence
+-- a key at which a merge found no row: what base, ours and theirs have there, none being absence. Each row that is there has this key
 pub record Conflict : Type 0 where
   pub key : Cells
   pub base : Option Cells
   pub ours : Option Cells
   pub theirs : Option Cells
 
--- a row that breaks a constraint. Kinds: 1 a foreign key, 2 a unique index, 3 a check, 4 NULL in the column of that name
+-- a row that breaks a constraint, with its primary key. Kinds: 1 a foreign key, 2 a unique index, 3 a check, 4 NULL in the column of that name
 pub record Violation : Type 0 where
   pub kind : ℕ
   pub constraint : List ℕ
@@ -60,9 +60,13 @@ rises compare [] = true
 rises compare (item ∷ []) = true
 rises compare (item ∷ next ∷ items) = is_lt (compare item next) && rises compare (next ∷ items)
 
-abbrev pub is_row_or_none : Schema → Option Cells → Bool
-is_row_or_none schema None = true
-is_row_or_none schema (Some row) = is_row schema row
+-- a row of the schema that has this primary key
+abbrev pub is_row_at : Schema → Cells → Cells → Bool
+is_row_at schema key row = is_row schema row && is_eq (key_cmp (primary_key schema row) key)
+
+abbrev pub is_side_at : Schema → Cells → Option Cells → Bool
+is_side_at schema key None = true
+is_side_at schema key (Some row) = is_row_at schema key row
 
 -- the type at a position, if there is one
 abbrev pub kinds : Option Column → List SqlType
@@ -76,9 +80,9 @@ key_types schema = flat_map (λ position. kinds (slice_get schema.columns positi
 abbrev pub is_conflict : Schema → Conflict → Bool
 is_conflict schema conflict =
     fits_all (key_types schema) conflict.key
-    && is_row_or_none schema conflict.base
-    && is_row_or_none schema conflict.ours
-    && is_row_or_none schema conflict.theirs
+    && is_side_at schema conflict.key conflict.base
+    && is_side_at schema conflict.key conflict.ours
+    && is_side_at schema conflict.key conflict.theirs
 
 abbrev pub is_violation : Schema → Violation → Bool
 is_violation schema violation =
@@ -86,7 +90,7 @@ is_violation schema violation =
     && nat_le violation.kind 4
     && is_name violation.constraint
     && fits_all (key_types schema) violation.key
-    && is_row schema violation.row
+    && is_row_at schema violation.key violation.row
 
 -- violations by kind, constraint and key
 abbrev pub violation_cmp : Violation → Violation → Ordering
@@ -117,6 +121,16 @@ abbrev pub unkeyed_from : List ℕ → ℕ → Cells → Cells
 unkeyed_from key position [] = []
 unkeyed_from key position (value ∷ row) =
     if is_keyed key position then unkeyed_from key (suc position) row else value ∷ unkeyed_from key (suc position) row
+
+-- the types of the columns that aren't in the primary key, the first of these standing at a position
+abbrev pub unkeyed_types : List ℕ → ℕ → List Column → List SqlType
+unkeyed_types key place [] = []
+unkeyed_types key place (column ∷ columns) =
+    if is_keyed key place then unkeyed_types key (suc place) columns else column.kind ∷ unkeyed_types key (suc place) columns
+
+-- the types of a row's cells beside its key
+abbrev pub body_types : Schema → List SqlType
+body_types schema = unkeyed_types schema.key 0 schema.columns
 
 -- the bytes of a row beside its key
 abbrev pub body_bytes : Schema → Cells → List ℕ

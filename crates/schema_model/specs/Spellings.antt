@@ -1,5 +1,5 @@
--- What reading answers, and that a schema has one spelling.
-use Rattle.std.specs.Prelude.{◌≡◌, ℕ, true, List, Option, None, Some}
+-- What reading answers, that a schema has one spelling, and that it is short.
+use Rattle.std.specs.Prelude.{◌≡◌, ◌<◌, ◌^◌, ℕ, true, List, length, Option, None, Some}
 use Rattle.schema_model.specs.SchemaBytes.{schema_bytes}
 use Rattle.schema_model.specs.Schemas.{is_schema}
 use Rattle.schema_model.specs.declared.schemas.Schema.{Schema}
@@ -12,3 +12,7 @@ Reads bytes (Some schema) = (is_schema schema ≡ true) × (schema_bytes schema 
 -- two schemas with the same bytes are one
 abbrev pub HasOneSpelling : Type 0
 HasOneSpelling = (a b : Schema) → is_schema a ≡ true → is_schema b ≡ true → schema_bytes a ≡ schema_bytes b → a ≡ b
+
+-- a schema's length fits in four bytes, whether or not it keeps the limits on data
+abbrev pub SchemasAreShort : Type 0
+SchemasAreShort = (schema : Schema) → is_schema schema ≡ true → length (schema_bytes schema) < 2 ^ 32

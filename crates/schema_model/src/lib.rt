@@ -7,6 +7,7 @@
 
 mod fields;
 mod laws;
+pub mod limits;
 mod lists;
 mod names;
 mod parts;
@@ -19,7 +20,7 @@ mod tests;
 mod types;
 mod writing;
 
-pub use laws::law_of_schemas;
+pub use laws::{law_of_ancestors, law_of_items, law_of_sameness, law_of_schemas, law_of_sizes};
 pub use reading::read_schema;
 pub use rules::is_schema;
 pub use schemas::{CheckDef, Column, ForeignKey, IndexDef, Schema};

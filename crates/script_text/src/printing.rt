@@ -1,4 +1,4 @@
-// Each function writes behind what `out` holds. Where memory was wanting, `out` holds a part of the text.
+// Each function writes behind what `out` holds. Where memory was wanting, nothing is said of `out`.
 
 ghost use Rattle.std.specs.Prelude.{◌≡◌, ◌++◌, ◌∷◌, IfOk, OnOk, length};
 ghost use Rattle.std.specs.List.{flat_map, join_with_byte};
@@ -17,7 +17,7 @@ use std::alloc::{AllocError, Global};
 use tuple_codec::{Address, Answer, Blob, Row, Sequence, SqlType, Text};
 use value_text::{push_number, push_row};
 
-/// The text of a run: for each session its name and its replies, and then the order of the moments.
+/// The text of a run: for each session its name and its replies, then the order of the moments, and then a line for each branch.
 pub fn print_output(alloc: Global, run: &RunText) -> Result<Blob, AllocError>
     requires { IsPrintable run.now }
     ensures { IfOk result (λ bytes. bytes ≡ text run.now) }
@@ -97,8 +97,8 @@ fn push_refusal(alloc: Global, out: &mut Vec<u8>, number: u16) -> Result<(), All
 }
 
 /// Writes behind what `out` holds what follows the word `collision`: the address that two byte strings have, the one that
-/// was held and the one that was brought, each behind a space, the strings in hex. Where memory was wanting, `out` holds a
-/// part of it.
+/// was held and the one that was brought, each behind a space, the strings in hex. Where memory was wanting, nothing is said of
+/// `out`.
 pub fn push_clash(alloc: Global, out: &mut Vec<u8>, clash: &Clash) -> Result<(), AllocError>
     ensures { OnOk result (out.new.items ≡ out.old.items ++ clash_text clash.now) }
 {

@@ -1,4 +1,7 @@
-mod HistoryLemmas
+pub mod HistoryLemmas
 mod PlaceLemmas
 mod Moves
 mod Meetings
+pub mod Gathering
+pub mod Telling
+mod WorkerLemmas

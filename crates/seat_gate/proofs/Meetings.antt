@@ -7,13 +7,13 @@ use lib.ListN.{get_elem?}
 use Rattle.std.specs.List.{AllByRecursion}
 use Rattle.atomic_table.specs.Table.{State, opening, Splits, Joins, Final, Seen}
 use Rattle.atomic_table.proofs.Lists.{set_else, set_here, at_longer}
-use Rattle.seat_gate.specs.History.{Spelling, Entry, Past, entries_of, View, past_of, joined_with}
+use Rattle.seat_gate.specs.History.{Spelling, Entry, Past, entries_of, View, past_of, joined_with, OneOpening}
 use Rattle.seat_gate.specs.Places.{first_place, giving, given_out, taking_in, gone, only, is_at_rest}
 use Rattle.seat_gate.specs.Rule.{turn, waiting, PastFits, SeatFits, Rule, Ordered}
 use Rattle.seat_gate.specs.declared.place.Place.{Place}
 use Rattle.seat_gate.specs.Words.{HasJoined, StandsIn, IsWhole}
 use Rattle.seat_gate.proofs.HistoryLemmas.{longest, entries_none, all_map, all_join, all_at}
-use Rattle.seat_gate.proofs.PlaceLemmas.{off, inside, one_there, each_set, each_snoc, one_if, waiting_set, waiting_snoc, apart_set, apart_snoc, past_set, none_before}
+use Rattle.seat_gate.proofs.PlaceLemmas.{off, inside, one_there, each_set, each_snoc, one_if, waiting_set, waiting_snoc, apart_set, apart_snoc, past_set, one_opening, none_before}
 use Rattle.seat_gate.proofs.Moves.{carried}
 
 -- the only place of a seat at rest neither waits nor serves, and is not joined away
@@ -100,7 +100,7 @@ module _ {T : Type 0} (fits : T → Spelling → List Entry → Type 0) (opened 
         let as_set : waiting qs ≡ waiting ps = waiting_snoc ps (given_out p) refl in
         let as_many : waiting qs ≡ waiting s.views = omega arith in
         let line = λ (y : Place) (l : (serving ≤ y.ticket) × (y.ticket < serving + waiting s.views)). subst (λ n. (serving ≤ y.ticket) × (y.ticket < serving + n)) (sym as_many) l in
-        let past = λ (a : Past) (h : PastFits s.views log a). past_longer ps (given_out p) log a (past_set s.views id p q log a at live h) in (
+        let past = λ (a : Past) (h : PastFits opened s.views log a). past_longer opened ps (given_out p) log a (past_set opened s.views id p q log a at live h) in (
           serving,
           keeper,
           log,
@@ -123,7 +123,7 @@ module _ {T : Type 0} (fits : T → Spelling → List Entry → Type 0) (opened 
                   made = mine.made;
                   given = λ _. (ap (λ n. n + 1) all_given ∙ sym long, here);
                   first = λ _ _. omega arith;
-                  joined = all_map (PastFits s.views log) (PastFits qs log) past p.view.joined mine.joined;
+                  joined = all_map (PastFits opened s.views log) (PastFits opened qs log) past p.view.joined mine.joined;
                 })
                 (λ j y ne e. let f = r.seats j y e in
                 carried opened s.views qs serving serving keeper keeper log log j y f (λ w. line y (f.in_line w)) f.on_turn f.prefix (λ _. refl)
@@ -148,8 +148,8 @@ module _ {T : Type 0} (fits : T → Spelling → List Entry → Type 0) (opened 
           },
         )
       where
-        past_longer : (ps : List Place) (q : Place) (log : List Entry) (past : Past) → PastFits ps log past → PastFits (ps ++ q ∷ []) log past
-        past_longer ps q log past f = let g = f.gone in record { prefix = f.prefix; made = f.made; gone = (g.0, at_longer ps (q ∷ []) past.number g.0 g.1, g.2) }
+        past_longer : (opened : Spelling) (ps : List Place) (q : Place) (log : List Entry) (past : Past) → PastFits opened ps log past → PastFits opened (ps ++ q ∷ []) log past
+        past_longer opened ps q log past f = let g = f.gone in record { opened_as = f.opened_as; prefix = f.prefix; made = f.made; gone = (g.0, at_longer ps (q ∷ []) past.number g.0 g.1, g.2) }
 
     module _ (other : ℕ) (q : Place) where
       -- who knows, from now on, how many seats were given out: the taking seat where either knew
@@ -193,9 +193,10 @@ module _ {T : Type 0} (fits : T → Spelling → List Entry → Type 0) (opened 
           let second_set : waiting qs + one_if q.waits ≡ waiting ps + 0 = waiting_set ps other q gone after in
           let none_of : one_if q.waits ≡ 0 = ap one_if idle_q in
           let as_many : waiting qs ≡ waiting s.views = omega arith in
-          let past = λ (a : Past) (h : PastFits s.views log a). past_set ps other q gone log a after live_q (past_set s.views id p both log a at live h) in
+          let past = λ (a : Past) (h : PastFits opened s.views log a). past_set opened ps other q gone log a after live_q (past_set opened s.views id p both log a at live h) in
           let l = longest log p.view.seen q.view.seen mine.prefix theirs.prefix in
-          let theirs_past : PastFits qs log (past_of q.view) = record {
+          let theirs_past : PastFits opened qs log (past_of q.view) = record {
+            opened_as = theirs.opened_as live_q;
             prefix = theirs.prefix;
             made = ap (λ n. entries_of n log) (theirs.number live_q) ∙ theirs.made live_q;
             gone = (gone, ap (λ n. get_elem? qs n) (theirs.number live_q) ∙ set_here ps other gone (inside ps other q after), refl);
@@ -235,8 +236,8 @@ module _ {T : Type 0} (fits : T → Spelling → List Entry → Type 0) (opened 
                     made = mine.made;
                     given = λ h. let g = k.1 h in (g.0 ∙ sym long, g.1);
                     first = λ w is. let some_given : 0 < p.view.given = mine.first w is in omega arith;
-                    joined = all_join (PastFits qs log) p.view.joined (past_of q.view ∷ q.view.joined) (all_map (PastFits s.views log) (PastFits qs log) past p.view.joined mine.joined)
-                        (theirs_past, all_map (PastFits s.views log) (PastFits qs log) past q.view.joined theirs.joined);
+                    joined = all_join (PastFits opened qs log) p.view.joined (past_of q.view ∷ q.view.joined) (all_map (PastFits opened s.views log) (PastFits opened qs log) past p.view.joined mine.joined)
+                        (theirs_past, all_map (PastFits opened s.views log) (PastFits opened qs log) past q.view.joined theirs.joined);
                   })
                   (λ j x ne e ne'. let f = r.seats j x e in
                   carried opened s.views qs serving serving o.1 keeper log log j x f
@@ -265,7 +266,7 @@ module _ {T : Type 0} (fits : T → Spelling → List Entry → Type 0) (opened 
         (λ ne.
         let within : i < length s.views = inside s.views i x e in
         let h = all i (omega arith) (λ is. ne (is ∙ mine.number live)) in
-        let g = (all_at (PastFits s.views log) p.view.joined mine.joined h.0 h.1 h.2).gone in
+        let g = (all_at (PastFits opened s.views log) p.view.joined mine.joined h.0 h.1 h.2).gone in
         let same : g.0 ≡ x = one_there s.views i g.0 x (subst (λ k. get_elem? s.views k ≡ some g.0) h.3 g.1) e in
         ((r.seats i x e).over (subst (λ (y : Place). y.spent ≡ true) same g.2)).1)) in (
           v.0,
@@ -274,7 +275,8 @@ module _ {T : Type 0} (fits : T → Spelling → List Entry → Type 0) (opened 
           record {
             fit = subst (λ z. fits v.0 z log) (sym (mine.opened_as live)) v.2;
             own = (mine.prefix, ap (λ n. entries_of n log) (mine.number live) ∙ mine.made live);
-            joined = all_map (PastFits s.views log) (λ (a : Past). StandsIn log a.number a.seen a.made) (λ a f. (f.prefix, f.made)) p.view.joined mine.joined;
+            joined = all_map (PastFits opened s.views log) (λ (a : Past). StandsIn log a.number a.seen a.made) (λ a f. (f.prefix, f.made)) p.view.joined mine.joined;
+            opened_as = one_opening opened s.views log p.view (mine.opened_as live) mine.joined;
             known = subst (λ n. AllByRecursion (λ (e : Entry). e.seat < n) log) (sym count) r.known;
           },
         )
@@ -294,3 +296,9 @@ joined_kept v w k h =
     (λ (b : HasJoined k w). let m = at_behind v.joined more (suc b.0) b.1 b.2 in (m.0, b.1, m.1, b.3))
     t)
     h
+
+-- and both are of one opening
+pub joined_opening : (v w : View) → OneOpening (joined_with v w) → w.opened ≡ v.opened
+joined_opening v w h =
+    let m = at_behind v.joined (past_of w ∷ w.joined) 0 (past_of w) refl in
+    all_at (λ (p : Past). p.opened ≡ v.opened) (v.joined ++ (past_of w ∷ w.joined)) h m.0 (past_of w) m.1

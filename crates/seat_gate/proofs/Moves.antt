@@ -14,7 +14,7 @@ use Rattle.seat_gate.specs.Places.{drawn, served, marked, done}
 use Rattle.seat_gate.specs.Rule.{turn, waiting, PastFits, SeatFits, Rule, Ordered, Drew, Looked, Rose, Recalled}
 use Rattle.seat_gate.specs.declared.place.Place.{Place}
 use Rattle.seat_gate.proofs.HistoryLemmas.{starts_more, entries_mine, entries_other, all_map, all_join}
-use Rattle.seat_gate.proofs.PlaceLemmas.{not_true, off, inside, one_there, each_set, one_if, waiting_few, waiting_set, apart_set, past_set, past_more, none_before}
+use Rattle.seat_gate.proofs.PlaceLemmas.{not_true, off, inside, one_there, each_set, one_if, waiting_few, waiting_set, apart_set, past_set, past_more, one_opening, none_before}
 
 -- a seat that a step of another leaves as it is
 pub carried : (opened : Spelling) (ps qs : List Place) (serving serving' keeper keeper' : ℕ) (log log' : List Entry) (j : ℕ) (p : Place)
@@ -24,7 +24,7 @@ pub carried : (opened : Spelling) (ps qs : List Place) (serving serving' keeper 
     → StartsWith log' p.view.seen
     → (p.spent ≡ false → entries_of j log' ≡ entries_of j log)
     → (0 < p.view.given → (p.view.given ≡ length qs) × (j ≡ keeper'))
-    → ((past : Past) → PastFits ps log past → PastFits qs log' past)
+    → ((past : Past) → PastFits opened ps log past → PastFits opened qs log' past)
     → SeatFits opened qs serving' keeper' log' j p
 carried opened ps qs serving serving' keeper keeper' log log' j p f line on prefix same given past = record {
   prefix = prefix;
@@ -37,7 +37,7 @@ carried opened ps qs serving serving' keeper keeper' log log' j p f line on pref
   made = λ live. same live ∙ f.made live;
   given = given;
   first = f.first;
-  joined = all_map (PastFits ps log) (PastFits qs log') past p.view.joined f.joined;
+  joined = all_map (PastFits opened ps log) (PastFits opened qs log') past p.view.joined f.joined;
 }
 
 pub given_set : (opened : Spelling) (ps : List Place) (serving keeper : ℕ) (log : List Entry) (id : ℕ) (q : Place) (j : ℕ) (p : Place)
@@ -76,7 +76,7 @@ module _ {T : Type 0} (fits : T → Spelling → List Entry → Type 0) (opened 
       let more : waiting qs ≡ waiting s.views + 1 = omega arith in
       let mine = r.seats id p at in
       let given = given_set opened s.views serving keeper log id q in
-      let past = λ (a : Past) (h : PastFits s.views log a). past_set s.views id p q log a at live h in (
+      let past = λ (a : Past) (h : PastFits opened s.views log a). past_set opened s.views id p q log a at live h in (
         q,
         keeps,
         tt,
@@ -102,7 +102,7 @@ module _ {T : Type 0} (fits : T → Spelling → List Entry → Type 0) (opened 
                   made = mine.made;
                   given = given id p mine;
                   first = mine.first;
-                  joined = all_map (PastFits s.views log) (PastFits qs log) past p.view.joined mine.joined;
+                  joined = all_map (PastFits opened s.views log) (PastFits opened qs log) past p.view.joined mine.joined;
                 })
                 (λ j y _ e. let f = r.seats j y e in
                 carried opened s.views qs serving serving keeper keeper log log j y f
@@ -153,7 +153,7 @@ module _ {T : Type 0} (fits : T → Spelling → List Entry → Type 0) (opened 
       let set_of : waiting qs + one_if p.waits ≡ waiting s.views + one_if p.waits = waiting_set s.views id p q at in
       let as_many : waiting qs ≡ waiting s.views = omega arith in
       let given = given_set opened s.views serving keeper log id q in
-      let past = λ (a : Past) (h : PastFits s.views log a). past_set s.views id p q log a at live h in
+      let past = λ (a : Past) (h : PastFits opened s.views log a). past_set opened s.views id p q log a at live h in
       let line = λ (y : Place) (l : (serving ≤ y.ticket) × (y.ticket < serving + waiting s.views)). subst (λ n. (serving ≤ y.ticket) × (y.ticket < serving + n)) (sym as_many) l in
       record {
         words = length-set s.words 1 x ∙ long;
@@ -173,7 +173,7 @@ module _ {T : Type 0} (fits : T → Spelling → List Entry → Type 0) (opened 
               made = mine.made;
               given = given id p mine;
               first = mine.first;
-              joined = all_map (PastFits s.views log) (PastFits qs log) past p.view.joined mine.joined;
+              joined = all_map (PastFits opened s.views log) (PastFits opened qs log) past p.view.joined mine.joined;
             })
             (λ j y _ e. let f = r.seats j y e in
             carried opened s.views qs serving serving keeper keeper log log j y f (λ w. line y (f.in_line w)) f.on_turn f.prefix (λ _. refl) (given j y f) past);
@@ -211,8 +211,14 @@ module _ {T : Type 0} (fits : T → Spelling → List Entry → Type 0) (opened 
       ))
       (λ ne. (m.0, keeps, tt, subst (Ordered fits opened) (sym (same 1 s at)) o, ((λ found. absurd (ne found)), (λ _. refl))))
 
-  pub recalls : Allows (Ordered fits opened) slots id m 0 (λ n. n) (λ _ w. Recalled m w)
-  recalls s o _ at _ = (m.0, keeps, tt, subst (Ordered fits opened) (sym (same 0 s at)) o, (refl, (o.3.seats id m.0 at).recalled))
+  pub recalls : m.0.spent ≡ false → Allows (Ordered fits opened) slots id m 0 (λ n. n) (λ _ w. Recalled m w)
+  recalls live s o _ at _ =
+      let serving : ℕ = o.0 in
+      let keeper : ℕ = o.1 in
+      let log : List Entry = o.2 in
+      let r : Rule fits opened s serving keeper log = o.3 in
+      let mine = r.seats id m.0 at in
+      (m.0, keeps, tt, subst (Ordered fits opened) (sym (same 0 s at)) o, (refl, mine.recalled, one_opening opened s.views log m.0.view (mine.opened_as live) mine.joined))
 
   pub writes : (e : Entry) → m.0.serves ≡ true → e.seat ≡ m.0.view.number → Allows (Ordered fits opened) slots id m 2 (λ n. (n + 1) % turn) (λ _ w. w ≡ (marked e m.0, m.1))
   writes e on own s o _ at _ =
@@ -233,7 +239,7 @@ module _ {T : Type 0} (fits : T → Spelling → List Entry → Type 0) (opened 
       let set_of : waiting qs + one_if p.waits ≡ waiting s.views + one_if p.waits = waiting_set s.views id p q at in
       let as_many : waiting qs ≡ waiting s.views = omega arith in
       let given = given_set opened s.views serving keeper log id q in
-      let past = λ (a : Past) (h : PastFits s.views log a). past_set s.views id p q log' a at live (past_more s.views id p log e a at live is h) in
+      let past = λ (a : Past) (h : PastFits opened s.views log a). past_set opened s.views id p q log' a at live (past_more opened s.views id p log e a at live is h) in
       let line = λ (y : Place) (l : (serving ≤ y.ticket) × (y.ticket < serving + waiting s.views)). subst (λ n. (serving ≤ y.ticket) × (y.ticket < serving + n)) (sym as_many) l in
       let within : id < length s.views = inside s.views id p at in (
         q,
@@ -261,7 +267,7 @@ module _ {T : Type 0} (fits : T → Spelling → List Entry → Type 0) (opened 
                   made = λ _. entries_mine id log e is ∙ ap (λ l. l ++ e ∷ []) (mine.made live);
                   given = given id p mine;
                   first = mine.first;
-                  joined = all_map (PastFits s.views log) (PastFits qs log') past p.view.joined mine.joined;
+                  joined = all_map (PastFits opened s.views log) (PastFits opened qs log') past p.view.joined mine.joined;
                 })
                 (λ j y ne f_at. let f = r.seats j y f_at in
                 carried opened s.views qs serving serving keeper keeper log log' j y f (λ w. line y (f.in_line w))
@@ -292,7 +298,7 @@ module _ {T : Type 0} (fits : T → Spelling → List Entry → Type 0) (opened 
       let set_of : waiting qs + one_if p.waits ≡ waiting s.views + 0 = waiting_set s.views id p q at in
       let fewer : waiting qs + 1 ≡ waiting s.views = omega arith in
       let given = given_set opened s.views serving keeper log id q in
-      let past = λ (a : Past) (h : PastFits s.views log a). past_set s.views id p q log a at live h in
+      let past = λ (a : Past) (h : PastFits opened s.views log a). past_set opened s.views id p q log a at live h in
       record {
         words = length-set s.words 1 x ∙ long;
         ticket_word = get_or-set_other s.words 1 0 x 0 (λ e. omega arith) ∙ (r.ticket_word ∙ ap (λ n. n % turn) (omega arith));
@@ -311,7 +317,7 @@ module _ {T : Type 0} (fits : T → Spelling → List Entry → Type 0) (opened 
               made = mine.made;
               given = given id p mine;
               first = mine.first;
-              joined = all_map (PastFits s.views log) (PastFits qs log) past p.view.joined mine.joined;
+              joined = all_map (PastFits opened s.views log) (PastFits opened qs log) past p.view.joined mine.joined;
             })
             (λ j y ne e. let f = r.seats j y e in
             carried opened s.views qs serving (serving + 1) keeper keeper log log j y f

@@ -5,10 +5,11 @@ use mathlib.Core.Option.{some, some-ne-none, some-injective}
 use native.Mathlib.Decide.{ℕ_discrete}
 use lib.ListN.{get_elem?}
 use Rattle.atomic_table.proofs.Lists.{at_set, set_else}
-use Rattle.seat_gate.specs.History.{Entry, Past}
+use Rattle.std.specs.List.{AllByRecursion}
+use Rattle.seat_gate.specs.History.{Spelling, Entry, Past, View, OneOpening}
 use Rattle.seat_gate.specs.Rule.{waiting, PastFits}
 use Rattle.seat_gate.specs.declared.place.Place.{Place}
-use Rattle.seat_gate.proofs.HistoryLemmas.{starts_more, entries_other}
+use Rattle.seat_gate.proofs.HistoryLemmas.{starts_more, entries_other, all_map}
 
 pub not_true : (b : Bool) → (b ≡ true → ⊥) → b ≡ false
 not_true true h = absurd (h refl)
@@ -91,18 +92,22 @@ apart_snoc ps q apart rests i j a b ea eb wa wb same =
     i a ea wa same
 
 -- a seat that was joined away stays so while another place is set
-pub past_set : (ps : List Place) (id : ℕ) (p q : Place) (log : List Entry) (past : Past) → get_elem? ps id ≡ some p → p.spent ≡ false → PastFits ps log past → PastFits (set ps id q) log past
-past_set ps id p q log past at live f =
+pub past_set : (opened : Spelling) (ps : List Place) (id : ℕ) (p q : Place) (log : List Entry) (past : Past) → get_elem? ps id ≡ some p → p.spent ≡ false → PastFits opened ps log past → PastFits opened (set ps id q) log past
+past_set opened ps id p q log past at live f =
     let g = f.gone in
     let ne : past.number ≢ id = λ is. off live (subst (λ (x : Place). x.spent ≡ true) (one_there ps id g.0 p (subst (λ k. get_elem? ps k ≡ some g.0) is g.1) at) g.2) in
-    record { prefix = f.prefix; made = f.made; gone = (g.0, set_else ps id past.number q ne ∙ g.1, g.2) }
+    record { opened_as = f.opened_as; prefix = f.prefix; made = f.made; gone = (g.0, set_else ps id past.number q ne ∙ g.1, g.2) }
 
 -- and while a seat that was not joined away makes an entry
-pub past_more : (ps : List Place) (id : ℕ) (p : Place) (log : List Entry) (e : Entry) (past : Past) → get_elem? ps id ≡ some p → p.spent ≡ false → e.seat ≡ id → PastFits ps log past → PastFits ps (log ++ e ∷ []) past
-past_more ps id p log e past at live own f =
+pub past_more : (opened : Spelling) (ps : List Place) (id : ℕ) (p : Place) (log : List Entry) (e : Entry) (past : Past) → get_elem? ps id ≡ some p → p.spent ≡ false → e.seat ≡ id → PastFits opened ps log past → PastFits opened ps (log ++ e ∷ []) past
+past_more opened ps id p log e past at live own f =
     let g = f.gone in
     let ne : e.seat ≢ past.number = λ is. off live (subst (λ (x : Place). x.spent ≡ true) (one_there ps id g.0 p (subst (λ k. get_elem? ps k ≡ some g.0) (sym is ∙ own) g.1) at) g.2) in
-    record { prefix = starts_more log (e ∷ []) past.seen f.prefix; made = entries_other past.number log e ne ∙ f.made; gone = g }
+    record { opened_as = f.opened_as; prefix = starts_more log (e ∷ []) past.seen f.prefix; made = entries_other past.number log e ne ∙ f.made; gone = g }
+
+-- all that were joined into a seat are of its opening
+pub one_opening : (opened : Spelling) (ps : List Place) (log : List Entry) (v : View) → v.opened ≡ opened → AllByRecursion (PastFits opened ps log) v.joined → OneOpening v
+one_opening opened ps log v is = all_map (PastFits opened ps log) (λ (a : Past). a.opened ≡ v.opened) (λ a f. f.opened_as ∙ sym is) v.joined
 
 -- where the one set serves as little as before, nobody served before if nobody does now
 pub none_before : (ps : List Place) (id : ℕ) (p q : Place) → get_elem? ps id ≡ some p → p.serves ≡ false → ((i : ℕ) (x : Place) → get_elem? (set ps id q) i ≡ some x → x.serves ≡ false)

@@ -1,6 +1,6 @@
 -- What the threads at a gate agree on: the entries made by those who left it marked, in one order.
 use Rattle.std.specs.Prelude.{◌≡◌, ℕ, ◌+◌, List, [], ◌∷◌, ◌++◌, length, if◌then◌else◌, ◌==◌, nat_lt}
-use Rattle.std.specs.List.{filter}
+use Rattle.std.specs.List.{filter, fold, AllByRecursion}
 
 -- how a value is written down: a list of lists of numbers
 abbrev pub Spelling : Type 0
@@ -30,6 +30,7 @@ shorter xs ys = if nat_lt (length xs) (length ys) then xs else ys
 
 -- what is kept of a seat that was joined into another
 pub record Past : Type 0 where
+  pub opened : Spelling
   pub number : ℕ
   pub seen : List Entry
   pub made : List Entry
@@ -60,11 +61,15 @@ abbrev pub newcomer : View → View
 newcomer v = new_view v.opened v.given v.seen 0
 
 abbrev pub past_of : View → Past
-past_of v = record { number = v.number; seen = v.seen; made = v.made }
+past_of v = record { opened = v.opened; number = v.number; seen = v.seen; made = v.made }
 
 -- v takes w in: it has seen what either had seen, and keeps the entries of w and of each seat that w kept
 abbrev pub joined_with : View → View → View
 joined_with v w = record v { seen = longer v.seen w.seen; joined = v.joined ++ (past_of w ∷ w.joined); given = v.given + w.given }
+
+-- v after it took these in, one after another
+abbrev pub gathered : View → List View → View
+gathered v ws = fold joined_with v ws
 
 abbrev pub having_seen : List Entry → View → View
 having_seen log v = record v { seen = log }
@@ -72,6 +77,10 @@ having_seen log v = record v { seen = log }
 -- the seat has made one entry more, at the end of what it has seen
 abbrev pub with_entry : Entry → View → View
 with_entry e v = record v { seen = v.seen ++ e ∷ []; made = v.made ++ e ∷ [] }
+
+-- whoever was joined in knew the same spelling of the value with which the gate was opened
+abbrev pub OneOpening : View → Type 0
+OneOpening v = AllByRecursion (λ p. p.opened ≡ v.opened) v.joined
 
 -- its entries, in what the seat has seen, are those that it made
 abbrev pub HasMade : View → Type 0

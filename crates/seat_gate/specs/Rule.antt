@@ -5,7 +5,7 @@ use Rattle.std.specs.List.{AllByRecursion}
 use mathlib.Core.Option.{some}
 use lib.ListN.{get_elem?}
 use Rattle.atomic_table.specs.Table.{State, Me}
-use Rattle.seat_gate.specs.History.{Spelling, Entry, Past, entries_of, StartsWith}
+use Rattle.seat_gate.specs.History.{Spelling, Entry, Past, entries_of, StartsWith, OneOpening}
 use Rattle.seat_gate.specs.Places.{drawn, served, done}
 use Rattle.seat_gate.specs.declared.place.Place.{Place}
 
@@ -17,8 +17,9 @@ abbrev pub waiting : List Place → ℕ
 waiting [] = 0
 waiting (p ∷ ps) = (if p.waits then 1 else 0) + waiting ps
 
--- a seat that was joined away had seen a beginning of the history, and made the entries of its number
-pub record PastFits (places : List Place) (log : List Entry) (past : Past) : Type 0 where
+-- a seat that was joined away had seen a beginning of the history of this gate's opening, and made the entries of its number
+pub record PastFits (opened : Spelling) (places : List Place) (log : List Entry) (past : Past) : Type 0 where
+  pub opened_as : past.opened ≡ opened
   pub prefix : StartsWith log past.seen
   pub made : entries_of past.number log ≡ past.made
   pub gone : (p : Place) × (get_elem? places past.number ≡ some p) × (p.spent ≡ true)
@@ -35,7 +36,7 @@ pub record SeatFits (opened : Spelling) (places : List Place) (serving keeper : 
   pub made : p.spent ≡ false → entries_of i log ≡ p.view.made
   pub given : 0 < p.view.given → (p.view.given ≡ length places) × (i ≡ keeper)
   pub first : p.spent ≡ false → i ≡ 0 → 0 < p.view.given
-  pub joined : AllByRecursion (PastFits places log) p.view.joined
+  pub joined : AllByRecursion (PastFits opened places log) p.view.joined
 
 -- the tickets from serving on are those of the seats that wait; the history has as many entries as the count, each of a seat that was given out; and the value is in the slot unless a seat has its turn
 pub record Rule {T : Type 0} (fits : T → Spelling → List Entry → Type 0) (opened : Spelling) (s : State (Option T) Place) (serving keeper : ℕ) (log : List Entry) : Type 0 where
@@ -69,6 +70,6 @@ module _ {T : Type 0} where
   abbrev pub Rose : Me (Option T) Place → Me (Option T) Place → Type 0
   Rose m w = w ≡ (done m.0, [])
 
-  -- of two beginnings the longer has the shorter
+  -- of two beginnings the longer has the shorter, and all are of one opening
   abbrev pub Recalled : Me (Option T) Place → Me (Option T) Place → Type 0
-  Recalled m w = (w ≡ m) × StartsWith m.0.view.seen m.0.recalls
+  Recalled m w = (w ≡ m) × StartsWith m.0.view.seen m.0.recalls × OneOpening m.0.view

@@ -15,14 +15,18 @@ mod place;
 mod plays;
 mod seat;
 mod seating;
+mod stand;
 mod steps;
 #[cfg(test)]
 mod tests;
 mod turns;
 mod value;
+mod workers;
 
 pub use entry::Entry;
 pub use gate::Gate;
 pub use held::Held;
 pub use kept::Kept;
 pub use seat::Seat;
+pub use stand::Stand;
+pub use workers::Worker;

@@ -1,7 +1,7 @@
 //! Seats: a gate is opened with one, which gives out the others, takes them in again and closes the gate.
 ghost use Rattle.std.specs.Prelude.{◌≡◌, ◌≢◌, ℕ, ◌+◌, ◌^◌, ◌<◌, ◌⊎◌, List, [], IfOk, OnOk, OnErr};
 ghost use Rattle.seat_gate.specs.History.{Entry, StartsWith, first_view, parted, newcomer, joined_with};
-ghost use Rattle.seat_gate.specs.Words.{gate_id, gate_of, seat_view, HasJoined, IsWhole};
+ghost use Rattle.seat_gate.specs.Words.{gate_id, gate_of, seat_view, HasJoined, HasJoinedBelow, IsWhole};
 
 use crate::gate::Gate;
 use crate::kept::Kept;
@@ -58,6 +58,7 @@ impl<T: Kept> Gate<T> {
         requires other { gate_of other ≡ gate_id self.now }
         ensures gate { gate_of result ≡ gate_id self.now }
         ensures both { seat_view result ≡ joined_with (seat_view into) (seat_view other) }
+        ensures opened { (seat_view other).opened ≡ (seat_view into).opened }
         ensures joined { (k : ℕ) → (k ≡ (seat_view other).number) ⊎ (HasJoined k (seat_view into) ⊎ HasJoined k (seat_view other)) → HasJoined k (seat_view result) }
         ensures longer { StartsWith (seat_view result).seen (seat_view into).seen × StartsWith (seat_view result).seen (seat_view other).seen }
     {
@@ -74,7 +75,7 @@ impl<T: Kept> Gate<T> {
     pub fn close(self, seat: Seat) -> T
         requires gate { gate_of seat ≡ gate_id self }
         requires counted { 0 < (seat_view seat).given }
-        requires all { (k : ℕ) → k < (seat_view seat).given → k ≢ (seat_view seat).number → HasJoined k (seat_view seat) }
+        requires all { HasJoinedBelow (seat_view seat).given (seat_view seat) }
         ensures { (log : List Entry) × IsWhole T.fits result (seat_view seat) log }
     {
         let Gate { table } = self;

@@ -1,7 +1,7 @@
 //! The atomic steps of a turn. Word 0 is the next ticket, word 1 the ticket that is served, and word 2 counts the entries.
 ghost use Rattle.std.specs.Prelude.{◌≡◌, false, true, [], ◌∷◌, Some};
 ghost use Rattle.seat_gate.specs.Places.{marked};
-ghost use Rattle.seat_gate.specs.History.{StartsWith, entry};
+ghost use Rattle.seat_gate.specs.History.{StartsWith, OneOpening, entry};
 ghost use Rattle.seat_gate.specs.Rule.{Drew, Looked, Rose};
 
 use crate::gate::Gate;
@@ -50,11 +50,13 @@ impl<T: Kept> Gate<T> {
         self.table.shared.fetch_add::<Write<N>>(seat, 2, 1);
     }
 
-    // Two seats were made one: it tells that the shorter of what both had seen begins the longer.
+    // Two seats were made one: it tells that the shorter of what both had seen begins the longer, and that they are of one opening.
     pub(crate) fn recall(&self, seat: &mut Seat<Option<T>, Place>)
         requires here { seat.old.table_id ≡ self.now.table.shared.table_id }
+        requires live { seat.old.me.0.spent ≡ false }
         ensures same { (seat.new.table_id ≡ seat.old.table_id) × (seat.new.me ≡ seat.old.me) }
         ensures recalled { StartsWith seat.old.me.0.view.seen seat.old.me.0.recalls }
+        ensures opened { OneOpening seat.old.me.0.view }
     {
         self.table.shared.load::<Recall>(seat, 0);
     }

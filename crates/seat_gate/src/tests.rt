@@ -1,12 +1,17 @@
 //! A list of entries that fits the history it holds, under a gate.
-ghost use Rattle.std.specs.Prelude.{◌≡◌, List, [], ◌∷◌, ◌++◌, map, OnOk, OnErr, IfOk};
-ghost use Rattle.seat_gate.specs.Words.{gate_of, gate_id, seat_view, shown};
+ghost use Rattle.std.specs.Prelude.{◌≡◌, ◌≢◌, ℕ, ◌+◌, ◌^◌, ◌<◌, ◌==◌, true, false, length, slice_index_or, All, List, [], ◌∷◌, ◌++◌, map, OnOk, OnErr, IfOk};
+ghost use Rattle.std.specs.List.{filter, range_with_len, AllByRecursion};
+ghost use Rattle.seat_gate.specs.History.{HasMade};
+ghost use Rattle.seat_gate.specs.Words.{gate_of, gate_id, shown};
+ghost use Rattle.seat_gate.specs.Standing.{IsReady, stand_at, stand_view};
+ghost use Rattle.seat_gate.specs.Working.{IsSeated, KeepsPlace, view_in};
 
-use crate::{Entry, Gate, Kept, Seat};
+use crate::{Entry, Gate, Held, Kept, Seat, Stand, Worker};
 use std::alloc::{AllocError, Global};
 use std::sync::Wait;
 use std::test::*;
-use std::thread::{Threads, join};
+use std::thread;
+use std::thread::Threads;
 
 #[derive(Drop)]
 struct Listed {
@@ -29,135 +34,136 @@ impl Listed {
     }
 }
 
-/// A seat beside its number.
+/// The number of the worker's seat, and whether it lacked memory.
 #[derive(Drop)]
-struct Worker {
+struct Task {
     number: u32,
-    seat: Seat,
-    ghost numbered: { (seat_view seat).number ≡ number },
-    ghost given_none: { (seat_view seat).given ≡ 0 },
+    is_short: bool,
 }
 
-// A turn that adds an entry, or none where there is no memory.
-fn turn<R: Wait>(rt: &R, gate: &Gate<Listed>, worker: Worker, note: u64) -> Worker
-    requires { gate_of worker.seat ≡ gate_id gate.now }
-    ensures { (gate_of result.seat ≡ gate_id gate.now) × (result.number ≡ worker.number) }
+// A turn that adds an entry; or none where there is no memory, and then the value stays kept.
+fn mark<R: Wait>(rt: &R, stand: &mut Stand<'_, Listed>, number: u32, note: u64) -> bool
+    requires ready { IsReady (λ (list : Listed) opened log. list.entries.items ≡ map shown log) stand.old }
+    requires numbered { (stand_view stand.old).number ≡ number }
+    ensures ready { IsReady (λ (list : Listed) opened log. list.entries.items ≡ map shown log) stand.new }
+    ensures same { stand_at stand.new ≡ stand_at stand.old }
+    ensures keeps { KeepsPlace (stand_view stand.old) (stand_view stand.new) }
+    ensures made { result ≡ true → map shown (stand_view stand.new).made ≡ map shown (stand_view stand.old).made ++ record { seat = number; note = note } ∷ [] }
 {
-    let Worker { number, seat } = worker;
-    let mut held = gate.enter(rt, seat);
-    let seat = match held.value().add(Entry { seat: number, note }) {
-        Ok(()) => held.leave_marked(note),
-        Err(_) => held.leave(),
-    };
-    Worker { number, seat }
-}
-
-// 1,000 turns.
-fn work<R: Wait>(rt: &R, gate: &Gate<Listed>, worker: Worker) -> Worker
-    requires { gate_of worker.seat ≡ gate_id gate.now }
-    ensures { (gate_of result.seat ≡ gate_id gate.now) × (result.number ≡ worker.number) }
-{
-    let mut worker = worker;
-    for note in 0..1000u64 {
-        worker = turn(rt, gate, worker, note);
+    let mut held = stand.take(rt);
+    match held.value().add(Entry { seat: number, note }) {
+        Ok(()) => {
+            stand.sit(held.leave_marked(note));
+            true
+        }
+        Err(_) => {
+            stand.keep(held);
+            false
+        }
     }
-    worker
 }
 
-fn pair<R: Threads + Wait + Sync>(
+// So many turns, with the notes 0, 1 and so on; whether there was memory for all.
+fn mark_all<R: Wait>(rt: &R, stand: &mut Stand<'_, Listed>, number: u32, turns: u64) -> bool
+    requires ready { IsReady (λ (list : Listed) opened log. list.entries.items ≡ map shown log) stand.old }
+    requires numbered { (stand_view stand.old).number ≡ number }
+    ensures ready { IsReady (λ (list : Listed) opened log. list.entries.items ≡ map shown log) stand.new }
+    ensures same { stand_at stand.new ≡ stand_at stand.old }
+    ensures keeps { KeepsPlace (stand_view stand.old) (stand_view stand.new) }
+    ensures made { result ≡ true → map shown (stand_view stand.new).made ≡ map shown (stand_view stand.old).made ++ map (λ note. record { seat = number; note = note }) (range_with_len 0 turns) }
+{
+    for note in 0..turns {
+        if !mark(rt, stand, number, note) {
+            return false;
+        }
+    }
+    true
+}
+
+fn work<R: Wait>(rt: &R, gate: &Gate<Listed>, worker: &mut Worker<Task>, turns: u64)
+    requires seated { IsSeated (gate_id gate.now) worker.old.seat }
+    requires numbered { (view_in worker.old.seat).number ≡ worker.old.work.number }
+    requires own { HasMade (view_in worker.old.seat) }
+    ensures seated { IsSeated (gate_id gate.now) worker.new.seat }
+    ensures keeps { KeepsPlace (view_in worker.old.seat) (view_in worker.new.seat) }
+    ensures made { worker.new.work.is_short ≡ false → map shown (view_in worker.new.seat).made ≡ map shown (view_in worker.old.seat).made ++ map (λ note. record { seat = worker.old.work.number; note = note }) (range_with_len 0 turns) }
+{
+    let seat = worker.seat.take().unwrap();
+    let mut stand = Stand::new(gate, seat);
+    worker.work.is_short = !mark_all(rt, &mut stand, worker.work.number, turns);
+    worker.seat = Some(stand.into_seat());
+}
+
+fn work_all<R: Threads + Wait + Sync>(
     rt: &R,
     gate: &Gate<Listed>,
-    a: Worker,
-    b: Worker,
-) -> (Worker, Worker)
-    requires { (gate_of a.seat ≡ gate_id gate.now) × (gate_of b.seat ≡ gate_id gate.now) }
-    ensures a { (gate_of result.0.seat ≡ gate_id gate.now) × (result.0.number ≡ a.number) }
-    ensures b { (gate_of result.1.seat ≡ gate_id gate.now) × (result.1.number ≡ b.number) }
+    workers: Vec<Worker<Task>>,
+    turns: u64,
+) -> Vec<Worker<Task>>
+    requires seated { All (λ (w : Worker Task). IsSeated (gate_id gate.now) w.seat) workers.items }
+    requires numbered { All (λ (w : Worker Task). (view_in w.seat).number ≡ w.work.number) workers.items }
+    requires own { All (λ (w : Worker Task). HasMade (view_in w.seat)) workers.items }
+    ensures many { length result.items ≡ length workers.items }
+    ensures seated { All (λ (w : Worker Task). IsSeated (gate_id gate.now) w.seat) result.items }
+    ensures keeps { (k : ℕ) (d : Worker Task) → k < length workers.items → KeepsPlace (view_in (slice_index_or workers.items k d).seat) (view_in (slice_index_or result.items k d).seat) }
+    ensures made { (k : ℕ) (d : Worker Task) → k < length workers.items → (slice_index_or result.items k d).work.is_short ≡ false → map shown (view_in (slice_index_or result.items k d).seat).made ≡ map shown (view_in (slice_index_or workers.items k d).seat).made ++ map (λ note. record { seat = (slice_index_or workers.items k d).work.number; note = note }) (range_with_len 0 turns) }
 {
-    join(
-        rt,
-        || -> Worker
-            requires { gate_of a.seat ≡ gate_id gate.now }
-            ensures { (gate_of result.seat ≡ gate_id gate.entry.now) × (result.number ≡ a.number) }
-        { work(rt, gate, a) },
-        || -> Worker
-            requires { gate_of b.seat ≡ gate_id gate.now }
-            ensures { (gate_of result.seat ≡ gate_id gate.entry.now) × (result.number ≡ b.number) }
-        { work(rt, gate, b) },
-    )
+    let mut workers = workers;
+    let one = |_: usize, worker: &mut Worker<Task>|
+        requires seated { IsSeated (gate_id gate.now) worker.now.seat }
+        requires numbered { (view_in worker.now.seat).number ≡ worker.now.work.number }
+        requires own { HasMade (view_in worker.now.seat) }
+        ensures seated { IsSeated (gate_id gate.entry.now) worker.exit.now.seat }
+        ensures keeps { KeepsPlace (view_in worker.entry.now.seat) (view_in worker.exit.now.seat) }
+        ensures made { worker.exit.now.work.is_short ≡ false → map shown (view_in worker.exit.now.seat).made ≡ map shown (view_in worker.entry.now.seat).made ++ map (λ note. record { seat = worker.entry.now.work.number; note = note }) (range_with_len 0 turns) }
+    { work(rt, gate, worker, turns) };
+    thread::for_each_mut(rt, &mut workers, 64, &one);
+    workers
 }
 
-// Two pairs, so four threads.
-fn both_pairs<R: Threads + Wait + Sync>(
+fn tasks(alloc: Global, count: u32) -> Result<Vec<Task>, AllocError>
+    requires { count + 1 < 2 ^ 32 }
+    ensures many { IfOk result (λ tasks. length tasks.items ≡ count) }
+    ensures numbers { IfOk result (λ tasks. (k : ℕ) (d : Task) → k < count → (slice_index_or tasks.items k d).number ≡ k + 1) }
+{
+    let mut tasks = Vec::new(alloc);
+    for before in 0..count {
+        tasks.push(Task {
+            number: before + 1,
+            is_short: false,
+        })?;
+    }
+    Ok(tasks)
+}
+
+fn had_memory(workers: &[Worker<Task>]) -> bool
+    ensures { result ≡ true → All (λ (w : Worker Task). w.work.is_short ≡ false) workers.now }
+{
+    workers.iter().all(|w| !w.work.is_short)
+}
+
+// The list that a gate keeps while so many threads take so many turns each.
+fn at_work<R: Threads + Wait + Sync>(
     rt: &R,
-    gate: &Gate<Listed>,
-    left: (Worker, Worker),
-    right: (Worker, Worker),
-) -> ((Worker, Worker), (Worker, Worker))
-    requires left { (gate_of left.0.seat ≡ gate_id gate.now) × (gate_of left.1.seat ≡ gate_id gate.now) }
-    requires right { (gate_of right.0.seat ≡ gate_id gate.now) × (gate_of right.1.seat ≡ gate_id gate.now) }
-    ensures left { (gate_of result.0.0.seat ≡ gate_id gate.now) × (gate_of result.0.1.seat ≡ gate_id gate.now) × (result.0.0.number ≡ left.0.number) × (result.0.1.number ≡ left.1.number) }
-    ensures right { (gate_of result.1.0.seat ≡ gate_id gate.now) × (gate_of result.1.1.seat ≡ gate_id gate.now) × (result.1.0.number ≡ right.0.number) × (result.1.1.number ≡ right.1.number) }
+    alloc: Global,
+    count: u32,
+    turns: u64,
+) -> Result<Vec<Entry>, AllocError>
+    requires { count + 1 < 2 ^ 32 }
+    ensures each { IfOk result (λ list. (k : ℕ) → k < count → filter (λ (e : Entry). e.seat == k + 1) list.items ≡ map (λ note. record { seat = k + 1; note = note }) (range_with_len 0 turns)) }
+    ensures known { IfOk result (λ list. AllByRecursion (λ (e : Entry). (e.seat ≢ 0) × (e.seat < count + 1)) list.items) }
 {
-    join(
-        rt,
-        || -> (Worker, Worker)
-            requires { (gate_of left.0.seat ≡ gate_id gate.now) × (gate_of left.1.seat ≡ gate_id gate.now) }
-            ensures { (gate_of result.0.seat ≡ gate_id gate.entry.now) × (gate_of result.1.seat ≡ gate_id gate.entry.now) × (result.0.number ≡ left.0.number) × (result.1.number ≡ left.1.number) }
-        {
-            let (a, b) = left;
-            pair(rt, gate, a, b)
-        },
-        || -> (Worker, Worker)
-            requires { (gate_of right.0.seat ≡ gate_id gate.now) × (gate_of right.1.seat ≡ gate_id gate.now) }
-            ensures { (gate_of result.0.seat ≡ gate_id gate.entry.now) × (gate_of result.1.seat ≡ gate_id gate.entry.now) × (result.0.number ≡ right.0.number) × (result.1.number ≡ right.1.number) }
-        {
-            let (a, b) = right;
-            pair(rt, gate, a, b)
-        },
-    )
-}
-
-// The list that a gate keeps through one turn of its second seat.
-fn one_turn<R: Wait>(rt: &R, alloc: Global, marks: bool) -> Result<Vec<Entry>, AllocError> {
     let entries = Vec::new(alloc);
     let (gate, mut first) = Gate::open(alloc, Listed { entries })?;
-    let seat = gate.split(alloc, &mut first)?;
-    let seat = if marks {
-        turn(rt, &gate, Worker { number: 1, seat }, 7).seat
-    } else {
-        gate.enter(rt, seat).leave()
-    };
-    let last = gate.rejoin(first, seat);
-    Ok(gate.close(last).entries)
-}
-
-// The list that a gate keeps while four threads take 1,000 turns each.
-fn four_at_work<R: Threads + Wait + Sync>(rt: &R, alloc: Global) -> Result<Vec<Entry>, AllocError> {
-    let entries = Vec::new(alloc);
-    let (gate, mut first) = Gate::open(alloc, Listed { entries })?;
-    let a = Worker {
-        number: 1,
-        seat: gate.split(alloc, &mut first)?,
-    };
-    let b = Worker {
-        number: 2,
-        seat: gate.split(alloc, &mut first)?,
-    };
-    let c = Worker {
-        number: 3,
-        seat: gate.split(alloc, &mut first)?,
-    };
-    let d = Worker {
-        number: 4,
-        seat: gate.split(alloc, &mut first)?,
-    };
-    let ((a, b), (c, d)) = both_pairs(rt, &gate, (a, b), (c, d));
-    let with_a = gate.rejoin(first, a.seat);
-    let with_b = gate.rejoin(with_a, b.seat);
-    let with_c = gate.rejoin(with_b, c.seat);
-    let last = gate.rejoin(with_c, d.seat);
-    Ok(gate.close(last).entries)
+    let works = tasks(alloc, count)?;
+    let ready = gate.seat_workers(alloc, &mut first, works)?;
+    let mut workers = work_all(rt, &gate, ready, turns);
+    let is_done = had_memory(&workers);
+    let list = gate.close_all(first, &mut workers);
+    if !is_done {
+        return Err(AllocError);
+    }
+    Ok(list.entries)
 }
 
 fn notes_of(alloc: Global, entries: &[Entry], seat: u32) -> Result<Vec<u64>, AllocError> {
@@ -168,27 +174,51 @@ fn notes_of(alloc: Global, entries: &[Entry], seat: u32) -> Result<Vec<u64>, All
         .collect(alloc)
 }
 
+// The list that a gate keeps through one turn of its second seat.
+fn one_turn<R: Wait>(rt: &R, alloc: Global, marks: bool) -> Result<Vec<Entry>, AllocError> {
+    let entries = Vec::new(alloc);
+    let (gate, mut first) = Gate::open(alloc, Listed { entries })?;
+    let seat = gate.split(alloc, &mut first)?;
+    let mut held = gate.enter(rt, seat);
+    let added = marks && held.value().add(Entry { seat: 1, note: 7 }).is_ok();
+    let seat = if added {
+        held.leave_marked(7)
+    } else {
+        held.leave()
+    };
+    let last = gate.rejoin(first, seat);
+    Ok(gate.close(last).entries)
+}
+
+fn moves<T: Send>() {}
+
+fn crosses<T: Send + Sync>() {}
+
+// A gate is shared among threads; a seat, the value and a stand are handed from thread to thread.
+fn gate_crosses<'a, T: Kept + 'a>() {
+    crosses::<Gate<T>>();
+    moves::<Seat>();
+    moves::<Held<'a, T>>();
+    moves::<Stand<'a, T>>();
+    moves::<Worker<u64>>();
+}
+
 #[test]
-fn a_marked_turn_leaves_its_entry(rt: HostRuntime) -> Result<(), Fail> {
-    let entries = one_turn(&rt, rt.alloc(), true)?;
-    assert_eq!(rt; entries.len(), 1);
-    assert!(rt; entries[0] == Entry { seat: 1, note: 7 });
+fn a_turn_leaves_its_entry_where_it_is_marked(rt: HostRuntime) -> Result<(), Fail> {
+    gate_crosses::<Listed>();
+    let marked = one_turn(&rt, rt.alloc(), true)?;
+    assert_eq!(rt; marked.len(), 1);
+    assert!(rt; marked[0] == Entry { seat: 1, note: 7 });
+    assert!(rt; one_turn(&rt, rt.alloc(), false)?.is_empty());
     Ok(())
 }
 
 #[test]
-fn an_unmarked_turn_leaves_none(rt: HostRuntime) -> Result<(), Fail> {
-    let entries = one_turn(&rt, rt.alloc(), false)?;
-    assert!(rt; entries.is_empty());
-    Ok(())
-}
-
-#[test]
-fn four_threads_add_each_in_its_own_order(rt: HostRuntime) -> Result<(), Fail> {
-    let entries = four_at_work(&rt, rt.alloc())?;
+fn a_hundred_threads_add_each_in_its_own_order(rt: HostRuntime) -> Result<(), Fail> {
+    let entries = at_work(&rt, rt.alloc(), 100, 40)?;
     assert_eq!(rt; entries.len(), 4000);
-    let rising: Vec<u64> = (0..1000u64).collect(rt.alloc())?;
-    for seat in 1..5u32 {
+    let rising: Vec<u64> = (0..40u64).collect(rt.alloc())?;
+    for seat in 1..101u32 {
         let notes = notes_of(rt.alloc(), &entries, seat)?;
         assert!(rt; notes.as_slice() == rising.as_slice());
     }

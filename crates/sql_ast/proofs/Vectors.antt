@@ -140,10 +140,12 @@ hex_digits : (hex_value 57 ≡ Some 9) × (hex_value 97 ≡ Some 10) × (hex_val
 hex_digits = (refl, refl, refl, refl, refl)
 
 reserved : (keyword_of (codes "references") ≡ Some key.References) × (keyword_of (codes "on") ≡ Some key.On) × (keyword_of (codes "desc") ≡ Some key.Desc)
-reserved = (refl, refl, refl)
+    × (keyword_of (codes "alter") ≡ Some key.Alter) × (keyword_of (codes "add") ≡ Some key.Add) × (keyword_of (codes "column") ≡ Some key.Column)
+reserved = (refl, refl, refl, refl, refl, refl)
 
 not_reserved : (keyword_of (codes "off") ≡ None) × (keyword_of (codes "begin") ≡ None) × (keyword_of (codes "bigint") ≡ None) × (keyword_of (codes "offset") ≡ None)
-not_reserved = (refl, refl, refl, refl)
+    × (keyword_of (codes "modify") ≡ None)
+not_reserved = (refl, refl, refl, refl, refl)
 
 spelled_signs : (sign_of (codes "!=") ≡ Some sign.NotEqual) × (sign_of (codes "<>") ≡ Some sign.NotEqual) × (sign_of (codes ">") ≡ Some sign.Greater) × (sign_of (codes "=<") ≡ None)
 spelled_signs = (refl, refl, refl, refl)

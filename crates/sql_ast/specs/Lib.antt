@@ -3,3 +3,4 @@ pub mod Words
 pub mod Tokens
 pub mod Lexing
 pub mod Slices
+pub mod Limits

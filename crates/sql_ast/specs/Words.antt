@@ -72,9 +72,18 @@ expression_word word =
     if bytes_eq word (codes "desc") then Some key.Desc else
     None)))))))
 
+abbrev pub alter_word : List ℕ → Option Keyword
+alter_word word =
+    if bytes_eq word (codes "alter") then Some key.Alter else (
+    if bytes_eq word (codes "add") then Some key.Add else (
+    if bytes_eq word (codes "column") then Some key.Column else
+    None))
+
 -- the reserved word that a word in lower case is
 abbrev pub keyword_of : List ℕ → Option Keyword
-keyword_of word = option_or (option_or (option_or (option_or (statement_word word) (table_word word)) (order_word word)) (constraint_word word)) (expression_word word)
+keyword_of word =
+    option_or (option_or (option_or (option_or (option_or (statement_word word) (table_word word)) (order_word word)) (constraint_word word)) (expression_word word))
+    (alter_word word)
 
 -- the sign of one byte
 abbrev pub single_sign : ℕ → Option Sign

@@ -1,6 +1,6 @@
 ghost use Rattle.std.specs.Prelude.{◌≡◌, bytes_eq};
 ghost use Rattle.sql_ast.specs.Words as spec;
-ghost use Rattle.sql_ast.specs.Words.{constraint_word, expression_word, order_word, statement_word, table_word};
+ghost use Rattle.sql_ast.specs.Words.{alter_word, constraint_word, expression_word, order_word, statement_word, table_word};
 
 use crate::words::Keyword;
 
@@ -13,6 +13,7 @@ pub fn keyword_of(word: &[u8]) -> Option<Keyword>
         .or(of_orders(word))
         .or(of_constraints(word))
         .or(of_expressions(word))
+        .or(of_alters(word))
 }
 
 fn is(word: &[u8], keyword: &[u8]) -> bool
@@ -148,6 +149,20 @@ fn of_expressions(word: &[u8]) -> Option<Keyword>
         Some(Keyword::Asc)
     } else if is(word, b"desc") {
         Some(Keyword::Desc)
+    } else {
+        None
+    }
+}
+
+fn of_alters(word: &[u8]) -> Option<Keyword>
+    ensures { result ≡ alter_word word.now }
+{
+    if is(word, b"alter") {
+        Some(Keyword::Alter)
+    } else if is(word, b"add") {
+        Some(Keyword::Add)
+    } else if is(word, b"column") {
+        Some(Keyword::Column)
     } else {
         None
     }

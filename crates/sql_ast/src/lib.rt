@@ -9,6 +9,7 @@ mod expressions;
 mod faults;
 mod keywords;
 mod lexer;
+mod limits;
 mod marks;
 mod places;
 mod selects;
@@ -26,6 +27,7 @@ pub use expressions::{Comparison, Expr, Literal, Term};
 pub use faults::{ReadFault, Refusal};
 pub use keywords::keyword_of;
 pub use lexer::lex;
+pub use limits::{MOST_NAME_BYTES, MOST_OPEN};
 pub use selects::{
     Clauses, ColumnName, Direction, FromClause, Item, Items, Join, Limit, NamedExpr, OrderKey,
     Query, Select, Sorting, Source,
@@ -33,7 +35,8 @@ pub use selects::{
 pub use signing::sign_of;
 pub use signs::Sign;
 pub use statements::{
-    Alter, Assignment, Call, Delete, Entry, Insert, Setting, Statement, Tuple, Update, Write,
+    Alter, AlterAction, Assignment, Call, Delete, Entry, Insert, Setting, Statement, Tuple, Update,
+    Write,
 };
 pub use tables::{
     Attribute, ColumnElement, CreateTable, DropTable, Element, ForeignKeyElement, TypeName,

@@ -1,6 +1,6 @@
 use crate::expressions::Expr;
 use crate::selects::Select;
-use crate::tables::{CreateTable, DropTable};
+use crate::tables::{ColumnElement, CreateTable, DropTable};
 use tuple_codec::{Sequence, Text};
 
 /// A statement.
@@ -26,7 +26,6 @@ pub enum Write {
     Insert(Insert),
     Update(Update),
     Delete(Delete),
-    /// Not yet given by the reader.
     Alter(Alter),
 }
 
@@ -73,10 +72,22 @@ pub struct Delete {
     pub filter: Option<Expr>,
 }
 
-/// `ALTER TABLE`, as far as it goes yet.
+/// `ALTER TABLE`.
 #[derive(Debug, Drop)]
 pub struct Alter {
     pub table: Text,
+    pub action: AlterAction,
+}
+
+/// What `ALTER TABLE` does to a column. Its columns are neither PRIMARY KEY nor UNIQUE.
+#[derive(Debug, Drop)]
+pub enum AlterAction {
+    /// A new last column.
+    Add(ColumnElement),
+    /// The column of this name goes.
+    Drop(Text),
+    /// The column of this name is defined anew, in its place.
+    Modify(ColumnElement),
 }
 
 /// `SET`: a variable, and whether it is switched on.

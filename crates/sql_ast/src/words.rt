@@ -47,4 +47,7 @@ pub enum Keyword {
     Between,
     Asc,
     Desc,
+    Alter,
+    Add,
+    Column,
 }

@@ -7,7 +7,8 @@
 --           | active_branch() | @@ name
 --
 -- Operands of one rank stand in one list, behind the first.
-use Rattle.std.specs.Prelude.{ℕ, zero, suc, if◌then◌else◌, List, [], ◌∷◌, Option, Some, None}
+use Rattle.std.specs.Prelude.{ℕ, zero, suc, if◌then◌else◌, ◌+◌, List, [], ◌∷◌, Option, Some, None}
+use Rattle.sql_ast.specs.Limits.{most_open}
 use Rattle.sql_ast.specs.declared.expressions.Expr.{Expr}
 use Rattle.sql_ast.specs.declared.expressions.Expr.TheVariants as e
 use Rattle.sql_ast.specs.declared.expressions.Literal.{Literal}
@@ -215,9 +216,9 @@ unfoldable pub expression : ℕ → Reader Expr
 expression zero = stop
 expression (suc depth) = disjunction (expression depth)
 
--- more than 64 open parentheses are refused before
+-- a statement with more open parentheses is refused before
 abbrev pub most_depth : ℕ
-most_depth = 65
+most_depth = most_open + 1
 
 unfoldable pub any : Reader Expr
 any = expression most_depth

@@ -6,11 +6,11 @@ ghost use Rattle.sql_grammar.specs.Nests.{Nests};
 
 use crate::cursors::Cursor;
 use crate::stops::Stop;
-use sql_ast::Expr;
+use sql_ast::{Expr, MOST_OPEN};
 use std::alloc::Global;
 use tuple_codec::Boxed;
 
-const MOST_DEPTH: usize = 65;
+const MOST_DEPTH: usize = MOST_OPEN + 1;
 
 #[derive(Clone, Copy)]
 pub struct Grammar<F> {
@@ -49,13 +49,13 @@ fn boxed_expression(
 }
 
 /// The expression that the pieces begin with, in which fewer than `depth` parentheses are open at any place.
-pub fn read_expression(alloc: Global, cursor: &mut Cursor<'_>, depth: usize) -> Result<Expr, Stop>
+fn read_expression(alloc: Global, cursor: &mut Cursor<'_>, depth: usize) -> Result<Expr, Stop>
     ensures { Reads (spec.expression depth cursor.old) result cursor.new }
 {
     Ok(boxed_expression(alloc, cursor, depth)?.into_inner())
 }
 
-/// The expression that the pieces begin with, with at most 64 open parentheses.
+/// The expression that the pieces begin with, with no more open parentheses than a statement may have.
 #[tactic(auto, unfolding(crate::specs::Expressions::any))]
 pub fn read_any(alloc: Global, cursor: &mut Cursor<'_>) -> Result<Expr, Stop>
     ensures { Reads (spec.any cursor.old) result cursor.new }

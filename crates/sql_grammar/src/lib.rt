@@ -15,7 +15,7 @@ mod rules;
 mod stops;
 
 pub use cursors::Cursor;
-pub use grammars::{read_any, read_expression};
+pub use grammars::read_any;
 pub use heads::{is_named, is_sign, is_word};
 pub use pieces::Piece;
 pub use stops::Stop;

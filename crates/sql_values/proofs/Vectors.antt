@@ -10,6 +10,7 @@ use Rattle.sql_values.specs.Kinds.{are_comparable, may_assign, product_kind, sum
 use Rattle.sql_values.specs.Logic.{and3, or3}
 use Rattle.sql_values.specs.Numbers.{minus, negated, plus, times}
 use Rattle.sql_values.specs.Order.{worth_cmp}
+use Rattle.sql_values.specs.Totals.{total}
 use Rattle.sql_values.specs.Worths.{Unknown, Whole, Truth, Letters, Scaled}
 
 -- 1.5 + 2.25 = 3.75, 1.5 * 2.25 = 3.375, 7 - 1.5 = 5.5
@@ -84,3 +85,16 @@ scales_added = refl
 
 scale_above : product_kind (kind.Decimal 9) (kind.Decimal 10) ≡ None
 scale_above = refl
+
+-- a total that leaves 64 bits on the way; one that stays outside; NULL alone; 1.50 + 2.25
+returning : total kind.Int (cell.Int (pos (2 ^ 63 - 1)) ∷ cell.Null ∷ cell.Int (pos 1) ∷ cell.Int (negsuc 0) ∷ []) ≡ Some (cell.Int (pos (2 ^ 63 - 1)))
+returning = refl
+
+outside : total kind.Int (cell.Int (pos (2 ^ 63 - 1)) ∷ cell.Int (pos 1) ∷ []) ≡ None
+outside = refl
+
+nothing : total kind.Int (cell.Null ∷ []) ≡ Some cell.Null
+nothing = refl
+
+decimals : total (kind.Decimal 2) (cell.Decimal (pos 150) ∷ cell.Decimal (pos 225) ∷ []) ≡ Some (cell.Decimal (pos 375))
+decimals = refl

@@ -56,3 +56,9 @@ stored kind target false cell.Null = Ok cell.Null
 stored kind (type.Varchar most) not_null (cell.Text text) = kept_short (type.Varchar most) (cell.Text text)
 stored kind (type.Varbinary most) not_null (cell.Bytes bytes) = kept_short (type.Varbinary most) (cell.Bytes bytes)
 stored kind target not_null value = kept_number_or target (number (worth_of kind value))
+
+abbrev pub misfit_number : Misfit → ℕ
+misfit_number OutOfRange = 1264
+misfit_number NotNull = 1048
+misfit_number TooLong = 1406
+misfit_number Mismatch = 9001

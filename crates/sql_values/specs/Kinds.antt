@@ -19,6 +19,15 @@ kind_of (type.Varchar most) = Some kind.Text
 kind_of (type.Varbinary most) = Some kind.Bytes
 kind_of (type.Decimal digits scale) = decimal scale
 
+-- the type of an answer's column that is no table's
+abbrev pub column_type : Kind → SqlType
+column_type kind.Int = type.BigInt
+column_type kind.Bool = type.Bool
+column_type kind.Text = type.Varchar 65535
+column_type kind.Bytes = type.Varbinary 65535
+column_type (kind.Decimal scale) = type.Decimal 18 scale
+column_type kind.Null = type.BigInt
+
 abbrev pub is_number : Kind → Bool
 is_number kind.Int = true
 is_number kind.Bool = true

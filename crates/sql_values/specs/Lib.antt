@@ -5,3 +5,4 @@ pub mod Kinds
 pub mod Order
 pub mod Assigning
 pub mod Views
+pub mod Totals

@@ -1,7 +1,7 @@
 ghost use Rattle.std.specs.Prelude.{◌≡◌, ◌≤◌, ◌^◌, true, unsigned_abs, nat_lt};
 ghost use Rattle.tuple_codec.specs.Limits.{is_type};
 ghost use Rattle.tuple_codec.specs.Rows.{fits_bits};
-ghost use Rattle.sql_values.specs.Assigning.{kept_bool, kept_if, kept_number, kept_number_or, kept_short, rounded, rounded_off, stored};
+ghost use Rattle.sql_values.specs.Assigning.{kept_bool, kept_if, kept_number, kept_number_or, kept_short, misfit_number, rounded, rounded_off, stored};
 ghost use Rattle.sql_values.specs.Kinds.{may_assign};
 ghost use Rattle.sql_values.specs.Numbers.{number};
 ghost use Rattle.sql_values.specs.Worths.{worth_of};
@@ -22,6 +22,20 @@ pub enum Misfit {
     TooLong,
     /// A value of a kind that doesn't go to the column.
     Mismatch,
+}
+
+impl Misfit {
+    /// The number of the refusal that tells it.
+    pub fn number(self) -> u16
+        ensures { result ≡ misfit_number self }
+    {
+        match self {
+            Misfit::OutOfRange => 1264,
+            Misfit::NotNull => 1048,
+            Misfit::TooLong => 1406,
+            Misfit::Mismatch => 9001,
+        }
+    }
 }
 
 /// Whether an expression of this kind goes to a column of this type at all.

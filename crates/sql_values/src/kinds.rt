@@ -1,5 +1,5 @@
 ghost use Rattle.std.specs.Prelude.{◌≡◌, ◌≤◌, ◌+◌, max};
-ghost use Rattle.sql_values.specs.Kinds.{are_comparable, decimal, is_bool, is_counted, is_int, is_number, kind_of, negative_kind, product_kind, sum_kind};
+ghost use Rattle.sql_values.specs.Kinds.{are_comparable, column_type, decimal, is_bool, is_counted, is_int, is_number, kind_of, negative_kind, product_kind, sum_kind};
 ghost use Rattle.sql_values.specs.Worths.{scale_of};
 
 use crate::scales::Scale;
@@ -37,6 +37,19 @@ impl Kind {
         match Scale::new(scale) {
             Some(scale) => Some(Kind::Decimal(scale)),
             None => None,
+        }
+    }
+
+    /// The type of an answer's column that shows an expression of this kind. Its lengths are no table's: it says how a value is shown.
+    pub fn column_type(&self) -> SqlType
+        ensures { result ≡ column_type self.now }
+    {
+        match self {
+            Kind::Int | Kind::Null => SqlType::BigInt,
+            Kind::Bool => SqlType::Bool,
+            Kind::Text => SqlType::Varchar(u16::MAX),
+            Kind::Bytes => SqlType::Varbinary(u16::MAX),
+            Kind::Decimal(scale) => SqlType::Decimal(18, scale.get()),
         }
     }
 

@@ -9,6 +9,7 @@ mod numbers;
 mod scales;
 #[cfg(test)]
 mod tests;
+mod totals;
 mod worths;
 
 pub use assigning::{Misfit, assign, may_assign};
@@ -17,4 +18,5 @@ pub use kinds::{Kind, are_comparable, negative_kind, product_kind, sum_kind};
 pub use logic::{and, not, or};
 pub use numbers::{add, multiply, negate, subtract};
 pub use scales::Scale;
+pub use totals::total;
 pub use worths::Worth;

@@ -179,28 +179,7 @@ pub fn moved(places: u8, units: i64) -> i128
     ensures low { negsuc (2 ^ 63 * 10 ^ 18 - 1) ≤ℤ result }
     ensures high { result ≤ℤ pos (2 ^ 63 * 10 ^ 18) }
 {
-    let units = i128::from(units);
-    match places {
-        0 => units * 1,
-        1 => units * 10,
-        2 => units * 100,
-        3 => units * 1_000,
-        4 => units * 10_000,
-        5 => units * 100_000,
-        6 => units * 1_000_000,
-        7 => units * 10_000_000,
-        8 => units * 100_000_000,
-        9 => units * 1_000_000_000,
-        10 => units * 10_000_000_000,
-        11 => units * 100_000_000_000,
-        12 => units * 1_000_000_000_000,
-        13 => units * 10_000_000_000_000,
-        14 => units * 100_000_000_000_000,
-        15 => units * 1_000_000_000_000_000,
-        16 => units * 10_000_000_000_000_000,
-        17 => units * 100_000_000_000_000_000,
-        _ => units * 1_000_000_000_000_000_000,
-    }
+    i128::from(units) * i128::from(power(places))
 }
 
 /// Ten to this power.

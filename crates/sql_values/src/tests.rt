@@ -145,3 +145,26 @@ fn texts_are_counted_in_characters(rt: HostRuntime) -> Result<(), Fail> {
     assert!(rt; refuses(long, Misfit::TooLong));
     Ok(())
 }
+
+fn is_total(total: Option<Value>, value: Value) -> bool {
+    match total {
+        Some(found) => found == value,
+        None => false,
+    }
+}
+
+// A sum that leaves 64 bits on the way and comes back.
+#[test]
+fn totals_are_judged_once(rt: HostRuntime) -> Result<(), Fail> {
+    let cells = [
+        Value::Null,
+        Value::Int(i64::MAX),
+        Value::Int(1),
+        Value::Int(-2),
+    ];
+    assert!(rt; is_total(total(&Kind::Int, &cells), Value::Int(i64::MAX - 1)));
+    assert!(rt; total(&Kind::Int, &cells[..3]).is_none());
+    assert!(rt; is_total(total(&Kind::Int, &cells[..1]), Value::Null));
+    assert!(rt; Misfit::TooLong.number() == 1406 && Kind::Bool.column_type() == SqlType::Bool);
+    Ok(())
+}

@@ -9,16 +9,6 @@ use Rattle.schema_model.specs.PlainTables.{is_keyed}
 use Rattle.schema_model.specs.declared.schemas.Column.{Column}
 use Rattle.schema_model.specs.declared.schemas.Schema.{Schema}
 
--- the types of the columns that aren't in the primary key, the first of these standing at a position
-abbrev pub unkeyed_types : List ℕ → ℕ → List Column → List SqlType
-unkeyed_types key place [] = []
-unkeyed_types key place (column ∷ columns) =
-    if is_keyed key place then unkeyed_types key (suc place) columns else column.kind ∷ unkeyed_types key (suc place) columns
-
--- the types of the cells under an item's key
-abbrev pub body_types : Schema → List SqlType
-body_types schema = unkeyed_types schema.key 0 schema.columns
-
 -- the cell of a position, where it is one of the key's; cells are those of the key
 abbrev pub keyed_cell : List ℕ → Cells → ℕ → Option Value
 keyed_cell key cells place = option_and_then (λ at. slice_get cells at) (position (λ other. other == place) key)

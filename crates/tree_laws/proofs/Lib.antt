@@ -5,5 +5,6 @@ pub mod StandingNodes
 pub mod StandingLists
 pub mod Standing
 pub mod Growing
+pub mod One
 pub mod Cuts
 pub mod Lifts

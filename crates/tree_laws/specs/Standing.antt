@@ -58,3 +58,14 @@ TreesLead = (address : List ℕ → List ℕ) (chunks : Chunks) (k : List ℕ) (
 abbrev pub TreesHaveRoots : Type 0
 TreesHaveRoots = (address : List ℕ → List ℕ) (chunks : Chunks) (k : List ℕ) (first : Item) (rows : List Item)
     → IsTree address chunks k (first ∷ rows) → (height : ℕ) × (item : Item) × IsTop address chunks k height item (first ∷ rows)
+
+-- each follows from the other
+abbrev pub Exactly : Type 0 → Type 0 → Type 0
+Exactly P Q = (P → Q) × (Q → P)
+
+-- an address stands for one list of rows, and what two addresses stand for in one place is the same exactly where the addresses are
+pub record TreesAreOne : Type 0 where
+  pub one : (address : List ℕ → List ℕ) (chunks : Chunks) (k : List ℕ) (rows others : List Item)
+      → IsTree address chunks k rows → IsTree address chunks k others → rows ≡ others
+  pub exactly : (address : List ℕ → List ℕ) (chunks : Chunks) (k l : List ℕ) (rows others : List Item)
+      → IsTree address chunks k rows → IsTree address chunks l others → Exactly (k ≡ l) (rows ≡ others)

@@ -1,7 +1,7 @@
 //! Laws about trees, for the crates above: call one where a proof needs it. None does anything.
 
 ghost use Rattle.tree_laws.specs.Laws.{CutsApart};
-ghost use Rattle.tree_laws.specs.Standing.{TreesHaveRoots, TreesLead};
+ghost use Rattle.tree_laws.specs.Standing.{TreesAreOne, TreesHaveRoots, TreesLead};
 
 /// A list is cut apart wherever an item ends its node.
 pub fn law_of_cutting()
@@ -16,4 +16,9 @@ pub fn law_of_rows()
 /// A tree that stands and has a row has a root, whose every node is cut as the boundary rule says.
 pub fn law_of_roots()
     ensures { TreesHaveRoots }
+{}
+
+/// An address stands for one list of rows, and two addresses for the same rows exactly where they are the same.
+pub fn law_of_addresses()
+    ensures { TreesAreOne }
 {}

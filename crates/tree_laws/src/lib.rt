@@ -5,4 +5,4 @@
 
 mod laws;
 
-pub use laws::{law_of_cutting, law_of_roots, law_of_rows};
+pub use laws::{law_of_addresses, law_of_cutting, law_of_roots, law_of_rows};

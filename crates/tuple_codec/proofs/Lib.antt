@@ -5,3 +5,4 @@ pub mod Utf8Lemmas
 pub mod CellLemmas
 pub mod OrderLemmas
 pub mod AddressLemmas
+mod Vectors

@@ -1,4 +1,4 @@
--- Edits of a list of rows, and the changes between two lists.
+-- The values of lists of rows by their keys, edits of such a list, and the changes between two.
 use Rattle.std.specs.Prelude.{◌≡◌, ℕ, true, if◌then◌else◌, List, [], ◌∷◌, Option, None, Some, bytes_eq}
 use Rattle.std.specs.Ordering.{match_ordering, nat_cmp}
 use Rattle.std.specs.Cmp.Lexicographic.{slice_cmp}
@@ -10,6 +10,11 @@ use Rattle.tuple_codec.specs.declared.edits.Change.{Change}
 -- the order of keys, by bytes
 abbrev pub order : List ℕ → List ℕ → Ordering
 order = slice_cmp nat_cmp
+
+-- the value of the row with this key
+abbrev pub value_at : List ℕ → List Item → Option (List ℕ)
+value_at key [] = None
+value_at key (row ∷ rows) = if bytes_eq row.key key then Some row.body else value_at key rows
 
 -- what stands at the key after an edit, before other rows
 abbrev pub putting : List ℕ → Option (List ℕ) → List Item → List Item

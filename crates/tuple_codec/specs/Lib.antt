@@ -1,5 +1,6 @@
 pub mod Texts
 pub mod Rows
+pub mod RowRule
 pub mod Limits
 pub mod KeyBytes
 pub mod RowBytes

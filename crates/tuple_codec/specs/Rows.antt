@@ -1,6 +1,6 @@
 -- Rows: which value fits a type, and how cells and keys are ordered.
-use Rattle.std.specs.Prelude.{ℕ, ℤ, pos, negsuc, Bool, true, false, ◌&&◌, ◌^◌, List, [], ◌∷◌, length, nat_le, nat_lt, map, slice_index_or, unsigned_abs}
-use Rattle.std.specs.Ordering.{nat_cmp, int_cmp, bool_cmp}
+use Rattle.std.specs.Prelude.{◌≡◌, ℕ, ℤ, pos, negsuc, Bool, true, false, ◌&&◌, ◌^◌, List, [], ◌∷◌, length, nat_le, nat_lt, map, slice_index_or, unsigned_abs}
+use Rattle.std.specs.Ordering.{nat_cmp, int_cmp, bool_cmp, is_eq}
 use Rattle.std.specs.declared.cmp.Ordering.{Ordering}
 use Rattle.std.specs.Cmp.Lexicographic.{slice_cmp}
 use Rattle.tuple_codec.specs.Texts.{is_utf8, char_count}
@@ -61,3 +61,18 @@ key_cmp = slice_cmp value_cmp
 -- a row's primary key: the cells at these positions, in this order
 abbrev pub key_of : List ℕ → Cells → Cells
 key_of positions row = map (λ position. slice_index_or row position cell.Null) positions
+
+-- the cell at a position, NULL where there is none
+abbrev pub cell_at : Cells → ℕ → Value
+cell_at row position = slice_index_or row position cell.Null
+
+-- cells that are equal, and lists of them
+abbrev pub same_value : Value → Value → Bool
+same_value a b = is_eq (value_cmp a b)
+
+abbrev pub same_cells : Cells → Cells → Bool
+same_cells a b = is_eq (key_cmp a b)
+
+-- a test that is true exactly where two things are one
+abbrev pub AreTold : {A : Type 0} → (A → A → Bool) → Type 0
+AreTold {A} test = (a b : A) → (test a b ≡ true → a ≡ b) × (a ≡ b → test a b ≡ true)

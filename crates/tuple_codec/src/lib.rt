@@ -19,7 +19,9 @@ mod key_codec;
 mod numbers;
 mod records;
 mod row_codec;
+mod rows;
 mod sequences;
+mod sizes;
 #[cfg(test)]
 mod tests;
 mod texts;
@@ -36,6 +38,8 @@ pub use fields::{bytes_at, long_at, push_long, push_short, short_at};
 pub use key_codec::{decode_key, encode_key, keys_are_one_spelling, keys_keep_order};
 pub use records::BranchRecord;
 pub use row_codec::{decode_row, encode_row, rows_are_one_spelling};
+pub use rows::{cell_at, key_cmp, key_of, same_cells, same_cells_are_one, same_value};
 pub use sequences::Sequence;
+pub use sizes::{key_cell_size, key_size, row_cell_size, row_size};
 pub use unread::Unread;
 pub use values::{Blob, Row, SqlType, Value, is_text, value_fits};

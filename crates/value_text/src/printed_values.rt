@@ -1,4 +1,4 @@
-// Each function writes behind what `out` holds. Where memory was wanting, `out` holds a part of the text.
+// Each function writes behind what `out` holds. Where memory was wanting, nothing is said of `out`.
 
 ghost use Rattle.std.specs.Prelude.{◌≡◌, ◌++◌, ◌/◌, ◌%◌, ◌^◌, ◌∷◌, OnOk, codes, replicate};
 ghost use Rattle.std.specs.Fmt.{decimal, signed_decimal};

@@ -6,7 +6,8 @@ use Rattle.sql_values.specs.Views.{seen}
 use Rattle.sql_values.specs.Worths.{of_truth}
 use Rattle.expr_eval.specs.Valuing.{added, among, chained, conjunction, counted, disjunction, joined, matched, one, total, two, worth}
 use Rattle.expr_eval.proofs.FoldLemmas.{all_of_them, one_more, stopped}
-use Rattle.expr_eval.proofs.ValueLemmas.{goes, known, stays_none, stops, total_none, unknown, worth_and, worth_factors, worth_in, worth_or, worth_terms}
+use Rattle.expr_eval.proofs.ValueLemmas.{goes, known, stays_none, stops, total_none, unknown}
+use Rattle.expr_eval.proofs.WorthNodes.{worth_and, worth_factors, worth_in, worth_or, worth_terms}
 use Rattle.expr_eval.proofs.valuing.+worth.Goals as goal
 
 pub among-returns-in_default : goal.among-returns-in_default

@@ -3,13 +3,14 @@ use Rattle.tuple_codec.specs.Nodes.{Item, leaf_item}
 use Rattle.tuple_codec.specs.Trees.{AreRows}
 use Rattle.node_format.specs.Views.{leaf_of}
 use Rattle.chunk_store.specs.Drafts.{chunks_of}
-use Rattle.chunk_store.proofs.FollowLemmas.{drafts_follow}
+use Rattle.chunk_store.specs.Kinds.{is_node}
+use Rattle.chunk_store.proofs.GrowthLemmas.{drafts_grow}
 use Rattle.node_chunker.specs.Growth.{IsTower}
 use Rattle.node_chunker.proofs.ClimbLemmas.{row_more, row_next}
 use Rattle.node_chunker.proofs.builds.build.Goals as goal
 
 pub loop-row-init : goal.loop-row-init
-loop-row-init g c = (c.in_ok-tower.ensures g.D.Digester.address (chunks_of c.args.draft.now.chunks), drafts_follow.longer_itself c.args.draft.now.chunks)
+loop-row-init g c = (c.in_ok-tower.ensures g.D.Digester.address (chunks_of c.args.draft.now.chunks), drafts_grow.itself is_node c.args.draft.now)
 
 pub push_row-requires-after_bounds : goal.push_row-requires-after_bounds
 push_row-requires-after_bounds g c κs live =
@@ -27,5 +28,5 @@ loop-row-preserved g c =
     let P : List Item → Type 0 = λ l. IsTower a (chunks_of c.push_row.new.draft.chunks) c.push_row.new.self l in (
       subst P (ap (λ i. rows ++ i ∷ []) (ap (λ k. leaf_item k c.as_slice-in-loop-row.result.now) c.as_slice.ensures ∙ ap (λ v. leaf_item c.row-item.result.key v) c.as_slice-in-loop-row.ensures)
           ∙ sym (row_more c.args.rows.now c.loop-row.row-index c.row-item.result c.loop-row-test.true c.row-item.is)) (c.in_ok-push_row.ensures.ok rows c.loop-row.invariant.0),
-      drafts_follow.in_steps c.args.draft.now.chunks c.loop-row.draft.chunks c.push_row.new.draft.chunks c.loop-row.invariant.1 c.in_ok-push_row.ensures.longer,
+      drafts_grow.in_steps is_node c.args.draft.now c.loop-row.draft c.push_row.new.draft c.loop-row.invariant.1 c.in_ok-push_row.ensures.grows,
     )

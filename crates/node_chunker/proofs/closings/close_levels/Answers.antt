@@ -5,10 +5,11 @@ use Rattle.std.proofs.Math.ListN.{set, length-set}
 use Rattle.node_format.specs.declared.items.RefItem.{RefItem}
 use Rattle.node_format.specs.Views.{ref_of}
 use Rattle.chunk_store.specs.Drafts.{chunks_of}
-use Rattle.chunk_store.proofs.FollowLemmas.{drafts_follow}
+use Rattle.chunk_store.specs.Kinds.{is_node}
+use Rattle.chunk_store.proofs.GrowthLemmas.{drafts_grow}
 use Rattle.node_chunker.specs.declared.closings.Closed.{Closed}
 use Rattle.node_chunker.specs.Closing.{IsClosing, IsLevelClosed}
-use Rattle.node_chunker.proofs.ClimbLemmas.{grows}
+use Rattle.node_chunker.proofs.ClimbLemmas.{extended}
 use Rattle.node_chunker.proofs.ClosingLemmas.{closing_done, closing_some, level_low, level_ready, level_root, level_up, levels_done}
 use Rattle.node_chunker.proofs.closings.close_levels.Goals as goal
 
@@ -47,7 +48,7 @@ returns-in-Root-clause-ok g c rows closing =
     let P : Closed → Type 0 = λ o. IsLevelClosed a new (c.levels.at + 1) (held ++ carry) (nat_eq (c.levels.at + 1) c.len-in-levels.result) o in
     let step = subst P c.in-Root.is c.in_ok-root.ensures.ok in
     level_root a (chunks_of c.levels.draft.chunks) new c.levels.inner.items c.levels.at held carry rows c.in-Root.root.0 c.len-in-levels.result count within
-    c.index_mut.ensures.value (c.levels.invariant.1 rows closing) step.0 step.1 (grows c.levels.draft.chunks c.close_level.new.draft.chunks c.in_ok-root.ensures.longer)
+    c.index_mut.ensures.value (c.levels.invariant.1 rows closing) step.0 step.1 (extended c.levels.draft c.close_level.new.draft c.in_ok-root.ensures.grows)
 
 pub levels-preserved : goal.levels-preserved
 levels-preserved g c =
@@ -62,8 +63,8 @@ levels-preserved g c =
       omega (arith, length-set c.levels.inner.items c.levels.at c.close_level.new.node),
       λ rows closing. level_up a (chunks_of c.levels.draft.chunks) new c.levels.inner.items (set c.levels.inner.items c.levels.at c.close_level.new.node) c.levels.at held
           c.close_level.new.node carry rows (option_map ref_of c.in-Below.named) c.len-in-levels.result count within c.index_mut.ensures.value
-          (c.levels.invariant.1 rows closing) step.0 (grows c.levels.draft.chunks c.close_level.new.draft.chunks c.in_ok-root.ensures.longer) step.1 refl,
-      drafts_follow.in_steps c.args.draft.now.chunks c.levels.draft.chunks c.close_level.new.draft.chunks c.levels.invariant.2 c.in_ok-root.ensures.longer,
+          (c.levels.invariant.1 rows closing) step.0 (extended c.levels.draft c.close_level.new.draft c.in_ok-root.ensures.grows) step.1 refl,
+      drafts_grow.in_steps is_node c.args.draft.now c.levels.draft c.close_level.new.draft c.levels.invariant.2 c.in_ok-root.ensures.grows,
     )
 
 pub unreachable-requires : goal.unreachable-requires

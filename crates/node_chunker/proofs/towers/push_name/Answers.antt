@@ -4,9 +4,10 @@ use Rattle.std.proofs.Math.ListN.{set, length-set}
 use Rattle.node_format.specs.declared.items.RefItem.{RefItem}
 use Rattle.node_format.specs.Views.{ref_of}
 use Rattle.chunk_store.specs.Drafts.{chunks_of}
-use Rattle.chunk_store.proofs.FollowLemmas.{drafts_follow}
+use Rattle.chunk_store.specs.Kinds.{is_node}
+use Rattle.chunk_store.proofs.GrowthLemmas.{drafts_grow}
 use Rattle.node_chunker.specs.Steps.{IsPushed}
-use Rattle.node_chunker.proofs.ClimbLemmas.{climb_low, climb_ready, climb_stays, climb_up, climb_ends, grows}
+use Rattle.node_chunker.proofs.ClimbLemmas.{climb_low, climb_ready, climb_stays, climb_up, climb_ends, extended}
 use Rattle.node_chunker.proofs.towers.push_name.Goals as goal
 
 pub overflow_cast-level : goal.overflow_cast-level
@@ -31,7 +32,7 @@ returns-in-None-clause-ok g c =
     let P : Option RefItem → Type 0 = λ o. IsPushed a new (c.levels.at + 1) c.index_mut.result.now (ref_of c.levels.item) c.push.new.self (option_map ref_of o) in
     climb_stays a _ _ (chunks_of c.levels.draft.chunks) new c.levels.inner.items
     (set c.levels.inner.items c.levels.at c.push.new.self) c.levels.at (ref_of c.levels.item) c.index_mut.result.now c.push.new.self c.levels.invariant.1 within
-    c.index_mut.ensures.value (grows c.levels.draft.chunks c.push.new.draft.chunks c.in_ok-push.ensures.longer) (subst P c.in-None.is c.in_ok-push.ensures.ok) refl
+    c.index_mut.ensures.value (extended c.levels.draft c.push.new.draft c.in_ok-push.ensures.grows) (subst P c.in-None.is c.in_ok-push.ensures.ok) refl
 
 pub levels-preserved : goal.levels-preserved
 levels-preserved g c =
@@ -42,8 +43,8 @@ levels-preserved g c =
       omega (arith, length-set c.levels.inner.items c.levels.at c.push.new.self),
       climb_up a _ _ (chunks_of c.levels.draft.chunks) new c.levels.inner.items
           (set c.levels.inner.items c.levels.at c.push.new.self) c.levels.at (ref_of c.levels.item) (ref_of c.in-Some.named) c.index_mut.result.now c.push.new.self c.levels.invariant.1 within
-          c.index_mut.ensures.value (grows c.levels.draft.chunks c.push.new.draft.chunks c.in_ok-push.ensures.longer) (subst P c.in-Some.is c.in_ok-push.ensures.ok) refl,
-      drafts_follow.in_steps c.args.draft.now.chunks c.levels.draft.chunks c.push.new.draft.chunks c.levels.invariant.2 c.in_ok-push.ensures.longer,
+          c.index_mut.ensures.value (extended c.levels.draft c.push.new.draft c.in_ok-push.ensures.grows) (subst P c.in-Some.is c.in_ok-push.ensures.ok) refl,
+      drafts_grow.in_steps is_node c.args.draft.now c.levels.draft c.push.new.draft c.levels.invariant.2 c.in_ok-push.ensures.grows,
     )
 
 pub returns-clause-ok : goal.returns-clause-ok

@@ -1,7 +1,8 @@
-use Rattle.std.proofs.Common.{◌≤◌, ◌-◌, ◌++◌, suc, take, drop, length}
+use Rattle.std.proofs.Common.{◌≤◌, ◌+◌, ◌-◌, ◌++◌, suc, take, drop, length}
 use Rattle.std.specs.Prelude.{vec_len}
 use Rattle.node_format.specs.Views.{ref_of}
-use Rattle.chunk_store.specs.Drafts.{Longer, chunks_of}
+use Rattle.chunk_store.specs.Drafts.{Grows, chunks_of}
+use Rattle.chunk_store.specs.Kinds.{is_node}
 use Rattle.node_chunker.specs.Steps.{IsClimbing}
 use Rattle.node_chunker.specs.Towers.{ended_chunks, pushes}
 use Rattle.node_chunker.proofs.towers.push_name.Given as goal
@@ -11,7 +12,7 @@ invariant-levels g l =
     (l.at ≤ length l.inner.items)
     × IsClimbing g.D.Digester.address (chunks_of l.draft.chunks) (take l.fn.place l.fn.inner.items ++ pushes g.D.Digester.address (suc l.fn.place) (drop l.fn.place l.fn.inner.items) (ref_of l.fn.named))
     (ended_chunks g.D.Digester.address (suc l.fn.place) (drop l.fn.place l.fn.inner.items) (ref_of l.fn.named)) l.inner.items l.at (ref_of l.item)
-    × Longer l.fn.draft.chunks l.draft.chunks
+    × Grows is_node l.fn.draft l.draft
 
 abbrev pub decreases-levels : goal.decreases-levels
 decreases-levels g l = vec_len l.inner - l.at

@@ -1,4 +1,4 @@
-use Rattle.std.proofs.Common.{◌<◌, ◌^◌, List, length, sym, subst}
+use Rattle.std.proofs.Common.{◌<◌, ◌^◌, List, length, sym, subst, arith}
 use Rattle.tuple_codec.specs.Nodes.{Item}
 use Rattle.tuple_codec.specs.Edits.{edited}
 use Rattle.chunk_store.specs.Drafts.{chunks_of}
@@ -20,12 +20,12 @@ node_at-requires-after_bounds g c κs within =
 pub read-requires-after_bounds : goal.read-requires-after_bounds
 read-requires-after_bounds g c κs within =
     let start = chunks_of c.args.draft.now.chunks in
-    let edits = c.args.edits.now in (
+    let edits = c.args.edits.now in (omega arith, (
       start,
       edited c.requires.0 edits,
       root_begins g.D.Digester.address start c.args.root.now.0 edits c.requires.0 c.requires.1 c.in_ok-tower.tower (c.in_ok-tower.ensures g.D.Digester.address start)
           c.node_at.result c.node_at.ensures c.level-level.result c.level-level.ensures.level c.new-path.result c.new-path.ensures,
-    )
+    ))
 
 pub parts-init : goal.parts-init
 parts-init g c =
@@ -42,12 +42,12 @@ parts-init g c =
 pub turn-requires-after_bounds : goal.turn-requires-after_bounds
 turn-requires-after_bounds g c κs within =
     let start = chunks_of c.args.draft.now.chunks in
-    let whole = edited c.requires.0 c.args.edits.now in (
+    let whole = edited c.requires.0 c.args.edits.now in (omega arith, ((
       start,
       whole,
-      subst (λ (f : Front). IsGoing g.D.Digester.address start (chunks_of c.parts.draft.chunks) c.parts.tower f c.parts.left.now whole) c.in-Some.ensures
+      subst (λ (f : Front). IsGoing g.D.Digester.address start (chunks_of c.parts.draft.chunks) c.parts.tower f c.parts.left.now whole) c.in-Some.ensures.front
           (c.parts.invariant.going c.requires.0 c.requires.1),
-    )
+    ), c.in-Some.ensures.known))
 
 pub parts-preserved : goal.parts-preserved
 parts-preserved g c =
@@ -57,7 +57,7 @@ parts-preserved g c =
       going = λ rows can.
           let whole = edited rows c.args.edits.now in
           (c.in_ok-left-2.ensures.ok start whole
-          (subst (λ (f : Front). IsGoing g.D.Digester.address start (chunks_of c.parts.draft.chunks) c.parts.tower f c.parts.left.now whole) c.in-Some.ensures
+          (subst (λ (f : Front). IsGoing g.D.Digester.address start (chunks_of c.parts.draft.chunks) c.parts.tower f c.parts.left.now whole) c.in-Some.ensures.front
           (c.parts.invariant.going rows can))).going;
     }
 
@@ -66,16 +66,16 @@ parts-smaller g c =
     let start = chunks_of c.args.draft.now.chunks in
     let whole = edited c.requires.0 c.args.edits.now in
     let is = c.in_ok-left-2.ensures.ok start whole
-    (subst (λ (f : Front). IsGoing g.D.Digester.address start (chunks_of c.parts.draft.chunks) c.parts.tower f c.parts.left.now whole) c.in-Some.ensures
+    (subst (λ (f : Front). IsGoing g.D.Digester.address start (chunks_of c.parts.draft.chunks) c.parts.tower f c.parts.left.now whole) c.in-Some.ensures.front
     (c.parts.invariant.going c.requires.0 c.requires.1)) in
-    subst (λ (f : Front). load (nodes_in start) c.turn.new.path < load (nodes_in start) f) (sym c.in-Some.ensures) is.less
+    subst (λ (f : Front). load (nodes_in start) c.turn.new.path < load (nodes_in start) f) (sym c.in-Some.ensures.front) is.less
 
 pub put_edits-requires-after_bounds : goal.put_edits-requires-after_bounds
 put_edits-requires-after_bounds g c κs within =
     let start = chunks_of c.args.draft.now.chunks in
     let whole = edited c.requires.0 c.args.edits.now in (
       whole,
-      subst (λ (f : Front). Awaits g.D.Digester.address (chunks_of c.parts.draft.chunks) c.parts.tower (edited (rest (nodes_in start) f) c.parts.left.now) whole) c.in_default.ensures
+      subst (λ (f : Front). Awaits g.D.Digester.address (chunks_of c.parts.draft.chunks) c.parts.tower (edited (rest (nodes_in start) f) c.parts.left.now) whole) c.in_default.ensures.front
           (c.parts.invariant.going c.requires.0 c.requires.1).awaits,
     )
 
@@ -86,7 +86,7 @@ finish-requires-after_bounds g c κs within =
       whole,
       awaits_none g.D.Digester.address (chunks_of c.put_edits.new.draft.chunks) c.put_edits.new.tower whole
           (c.in_ok-put_edits.ensures.ok whole
-          (subst (λ (f : Front). Awaits g.D.Digester.address (chunks_of c.parts.draft.chunks) c.parts.tower (edited (rest (nodes_in start) f) c.parts.left.now) whole) c.in_default.ensures
+          (subst (λ (f : Front). Awaits g.D.Digester.address (chunks_of c.parts.draft.chunks) c.parts.tower (edited (rest (nodes_in start) f) c.parts.left.now) whole) c.in_default.ensures.front
           (c.parts.invariant.going c.requires.0 c.requires.1).awaits)),
     )
 
@@ -104,7 +104,7 @@ returns-clause-ok g c rows tree =
     c.finish.ensures.ok whole
     (awaits_none a (chunks_of c.put_edits.new.draft.chunks) c.put_edits.new.tower whole
     (c.in_ok-put_edits.ensures.ok whole
-    (subst (λ (f : Front). Awaits a (chunks_of c.parts.draft.chunks) c.parts.tower (edited (rest (nodes_in start) f) c.parts.left.now) whole) c.in_default.ensures
+    (subst (λ (f : Front). Awaits a (chunks_of c.parts.draft.chunks) c.parts.tower (edited (rest (nodes_in start) f) c.parts.left.now) whole) c.in_default.ensures.front
     (c.parts.invariant.going rows can).awaits)))
 
 pub returns-clause-longer : goal.returns-clause-longer

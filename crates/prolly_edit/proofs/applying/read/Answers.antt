@@ -7,7 +7,7 @@ use Rattle.node_chunker.proofs.ClimbLemmas.{grows}
 use Rattle.node_chunker.proofs.TowerLemmas.{extends_both}
 use Rattle.prolly_edit.specs.Fronts.{rest}
 use Rattle.prolly_edit.specs.Stages.{Awaits, IsRead}
-use Rattle.prolly_edit.proofs.TurnLemmas.{inner_read, leaf_awaits, leaf_read, node, stored_now}
+use Rattle.prolly_edit.proofs.TurnLemmas.{inner_read, leaf_awaits, leaf_read, leaf_stays, node, stored_now}
 use Rattle.prolly_edit.proofs.applying.read.Goals as goal
 
 pub read_names-requires-after_bounds : goal.read_names-requires-after_bounds
@@ -15,12 +15,13 @@ read_names-requires-after_bounds g c κs within =
     let a = g.D.Digester.address in
     let now = chunks_of c.args.draft.now.chunks in
     let before = c.requires.2 in
-    let inner = c.if-level-gt0.true in (
+    let inner = c.if-level-gt0.true in (omega arith, (
       node a c.requires.0 now c.args.tower.now c.args.level c.args.address.now.0 c.args.path.now c.args.edits.now c.requires.1 before,
       stored_now a c.requires.0 now c.args.tower.now c.args.level c.args.address.now.0 c.args.path.now c.args.edits.now c.requires.1 before,
       inner,
       before.some inner,
-    )
+      before.stays,
+    ))
 
 pub read_rows-requires-after_bounds : goal.read_rows-requires-after_bounds
 read_rows-requires-after_bounds g c κs within =
@@ -34,6 +35,7 @@ read_rows-requires-after_bounds g c κs within =
       c.requires.1,
       stored_now a c.requires.0 now c.args.tower.now c.args.level c.args.address.now.0 c.args.path.now c.args.edits.now c.requires.1 before,
       leaf,
+      leaf_stays a c.requires.0 now c.args.tower.now c.args.level c.args.address.now.0 c.args.path.now c.args.edits.now c.requires.1 before leaf,
       leaf_awaits a c.requires.0 now c.args.tower.now c.args.level c.args.address.now.0 c.args.path.now c.args.edits.now c.requires.1 before leaf,
     )
 

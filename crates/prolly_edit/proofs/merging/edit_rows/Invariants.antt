@@ -1,5 +1,5 @@
-use Rattle.std.proofs.Common.{◌++◌, List, drop}
-use Rattle.tuple_codec.specs.Nodes.{Item}
+use Rattle.std.proofs.Common.{◌≡◌, ◌+◌, ◌++◌, List, drop, length, take}
+use Rattle.tuple_codec.specs.Nodes.{Item, items_bytes}
 use Rattle.tuple_codec.specs.Edits.{edited}
 use Rattle.chunk_store.specs.Drafts.{Longer, chunks_of}
 use Rattle.prolly_edit.specs.Stages.{Awaits}
@@ -7,6 +7,7 @@ use Rattle.prolly_edit.proofs.merging.edit_rows.Given as goal
 
 abbrev pub invariant-loop-at : goal.invariant-loop-at
 invariant-loop-at g l = record {
+  size_is : l.size ≡ 4 + length (items_bytes 0 (take l.at l.leaf.items));
   longer : Longer l.fn.draft.chunks l.draft.chunks;
   awaits : (more whole : List Item) → Awaits g.D.Digester.address (chunks_of l.fn.draft.chunks) l.fn.tower (edited (l.leaf.items ++ more) l.edits) whole
       → Awaits g.D.Digester.address (chunks_of l.draft.chunks) l.tower (edited (drop l.at l.leaf.items ++ more) l.left) whole;

@@ -1,12 +1,15 @@
-use Rattle.std.proofs.Common.{◌≡◌, ◌≤◌, length, map, drop, reverse}
-use Rattle.node_format.specs.Views.{ref_of}
+use Rattle.std.proofs.Common.{◌≡◌, ◌≤◌, ◌+◌, take, length, map, drop, reverse}
+use Rattle.tuple_codec.specs.Nodes.{items_bytes}
+use Rattle.prolly_edit.specs.Names.{AreKnown, item_of}
 use Rattle.prolly_edit.proofs.reading.names_of.Given as goal
 
 abbrev pub invariant-names : goal.invariant-names
-invariant-names l = record {
+invariant-names g l = record {
   within : l.at ≤ length l.node.items;
-  names : reverse (map ref_of l.names.items) ≡ drop l.at l.node.items;
+  size_is : l.size ≡ 4 + length (items_bytes l.node.level (take l.at l.node.items));
+  known : AreKnown g.D.Digester.address l.node.level l.names.items;
+  names : reverse (map item_of l.names.items) ≡ drop l.at l.node.items;
 }
 
 abbrev pub decreases-names : goal.decreases-names
-decreases-names l = l.at
+decreases-names g l = l.at

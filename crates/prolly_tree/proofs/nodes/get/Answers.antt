@@ -1,7 +1,7 @@
 use Rattle.std.proofs.Common.{ap, ◌∙◌}
 use Rattle.chunk_store.specs.Drafts.{chunks_of}
 use Rattle.tree_laws.proofs.Standing.{trees_lead}
-use Rattle.prolly_tree.specs.Lists.{value_at}
+use Rattle.tuple_codec.specs.Edits.{value_at}
 use Rattle.prolly_tree.proofs.nodes.get.Goals as goal
 
 pub get_below-requires-after_bounds : goal.get_below-requires-after_bounds

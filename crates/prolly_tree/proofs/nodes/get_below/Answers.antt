@@ -2,7 +2,7 @@ use Rattle.std.proofs.Common.{◌≡◌, ◌<◌, sym, ap, ◌∙◌, subst, ref
 use Rattle.tuple_codec.specs.Nodes.{Node}
 use Rattle.chunk_store.specs.Drafts.{chunks_of}
 use Rattle.tree_laws.specs.Standing.{Leads, rows_below}
-use Rattle.prolly_tree.specs.Lists.{value_at}
+use Rattle.tuple_codec.specs.Edits.{value_at}
 use Rattle.prolly_tree.proofs.Descents.{leaf_value, next, nothing_at_end}
 use Rattle.prolly_tree.proofs.nodes.get_below.Goals as goal
 

@@ -43,8 +43,8 @@ pub seek-requires-clause-begun : goal.seek-requires-clause-begun
 seek-requires-clause-begun g c = λ κs within.
     subst (λ (l : Left). from_key c.args.key.now l.here.items ≡ l.here.items) (sym (begins g c)) (begin_from c.args.key.now c.node_at-node.result c.place_of-at.result c.place_of-at.ensures.place)
 
-pub returns-clause-rows : goal.returns-clause-rows
-returns-clause-rows g c = λ rows tree.
+pub returns : goal.returns
+returns g c = λ rows tree.
     let chunks = chunks_of c.args.draft.now.chunks in
     let key = c.args.key.now in
     let t = trees_lead g.D.Digester.address chunks c.args.root.now.0 rows tree in
@@ -61,3 +61,6 @@ returns-clause-rows g c = λ rows tree.
     ∙ begin_rest chunks key c.node_at-node.result c.place_of-at.result leads c.place_of-at.ensures.place
     ∙ ap (λ (n : Node). from_key key (rows_below chunks n)) n
     ∙ ap (from_key key) t.1.rows_are)
+
+pub invariant_of-result : goal.invariant_of-result
+invariant_of-result g c = c.seek.ensures.can

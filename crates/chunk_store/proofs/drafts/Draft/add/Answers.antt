@@ -5,6 +5,7 @@ use Rattle.chunk_store.specs.Drafts.{Drafting}
 use Rattle.chunk_store.specs.Placing.{span_at, written, chunks_in, AreOver}
 use Rattle.chunk_store.proofs.PlacingLemmas.{found_at, absent_span, all_stay, chunks_push}
 use Rattle.chunk_store.proofs.DraftLemmas.{same_parts, over_push}
+use Rattle.chunk_store.specs.Stores.{all_chunks}
 use Rattle.chunk_store.proofs.drafts.Draft.add.Goals as goal
 
 pub push-requires-clause-absent : goal.push-requires-clause-absent
@@ -21,7 +22,7 @@ invariant_of-self-2 g c =
     let pages = c.self.inside.region.pages in
     let cs = c.self.inside.index.placed in
     let k = c.args.address.0 in
-    let base = c.self.inside.base.chunks in
+    let base = (all_chunks c.self.inside.base) in
     let chunk : Placed = record { address = c.args.address; span = c.in_ok-span.span; before = c.mark-before.result } in
     let P : List Placed → Type 0 = λ l. AreOver g.D.Digester.address base c.place.new.self.pages l in
     let absent : span_at cs k ≡ None =

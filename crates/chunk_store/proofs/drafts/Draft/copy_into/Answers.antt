@@ -10,6 +10,7 @@ loop-at-preserved g c =
     let bytes = c.own_chunk.result.1.now in
     record {
       base = ap (λ (d : DraftParts). d.base) c.in_ok-add.ensures.ok ∙ c.loop-at.invariant.base;
+      segments = c.add.ensures.segments ∙ c.loop-at.invariant.segments;
       own = ap (λ (d : DraftParts). d.own) c.in_ok-add.ensures.ok ∙ ap (λ (l : List Chunk). l ++ (k, bytes) ∷ []) c.loop-at.invariant.own
           ∙ sym (take_next c.args.self.now.chunks.own c.loop-at.at (k, bytes) c.own_chunk.ensures.chunk);
     }

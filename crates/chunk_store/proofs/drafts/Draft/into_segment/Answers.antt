@@ -2,6 +2,7 @@ use Rattle.std.proofs.Common.{subst, sym}
 use Rattle.chunk_region.specs.Pages.{Pages}
 use Rattle.chunk_store.specs.Placing.{AreSealed, chunks_in}
 use Rattle.chunk_store.proofs.ChunkLemmas.{single_right}
+use Rattle.chunk_store.specs.Stores.{all_chunks}
 use Rattle.chunk_store.proofs.drafts.Draft.into_segment.Goals as goal
 
 pub invariant_of-result : goal.invariant_of-result
@@ -11,5 +12,5 @@ invariant_of-result g c =
     subst P (sym c.seal-sealed.ensures.kept)
     (record {
       all_written = c.self.invariant.all_written;
-      single = single_right c.self.inside.base.chunks (chunks_in pages c.self.inside.index.placed) c.self.invariant.single;
+      single = single_right (all_chunks c.self.inside.base) (chunks_in pages c.self.inside.index.placed) c.self.invariant.single;
     })

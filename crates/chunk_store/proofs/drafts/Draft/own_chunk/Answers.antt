@@ -6,6 +6,7 @@ use Rattle.chunk_store.specs.Drafts.{Drafting}
 use Rattle.chunk_store.specs.Placing.{chunks_in}
 use Rattle.chunk_store.proofs.ChunkLemmas.{named_at, single_right}
 use Rattle.chunk_store.proofs.PlacingLemmas.{all_get, chunk_get, chunk_found, first_get}
+use Rattle.chunk_store.specs.Stores.{all_chunks}
 use Rattle.chunk_store.proofs.drafts.Draft.own_chunk.Goals as goal
 
 pub bytes-requires : goal.bytes-requires
@@ -24,7 +25,7 @@ returns-clause-found g c =
     let own = chunks_in c.self.inside.region.pages c.self.inside.index.placed in
     subst P (ap (λ (d : Drafting). d.chunks.own) c.self.view_is)
     (chunk_found c.self.inside.region.pages c.self.inside.index.placed c.args.at c.at-placed.result c.bytes.result.now
-    (single_right c.self.inside.base.chunks own c.self.invariant.single) c.at-placed.ensures.at c.bytes.ensures)
+    (single_right (all_chunks c.self.inside.base) own c.self.invariant.single) c.at-placed.ensures.at c.bytes.ensures)
 
 pub returns-clause-size : goal.returns-clause-size
 returns-clause-size g c =

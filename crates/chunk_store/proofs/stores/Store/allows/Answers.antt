@@ -2,11 +2,12 @@ use Rattle.std.proofs.Common.{◌≡◌, ℕ, List, Some, take, subst, sym, ◌�
 use Rattle.chunk_store.specs.Chunks.{Chunk, Agree, bytes_at}
 use Rattle.chunk_store.proofs.ChunkLemmas.{agree_push, take_next}
 use Rattle.chunk_store.proofs.ClashLemmas.{allowed_from}
+use Rattle.chunk_store.specs.Stores.{all_chunks}
 use Rattle.chunk_store.proofs.stores.Store.allows.Goals as goal
 
 pub loop-at-preserved : goal.loop-at-preserved
 loop-at-preserved c =
-    let store = bytes_at c.args.self.now.chunks in
+    let store = bytes_at (all_chunks c.args.self.now) in
     let P : List Chunk → Type 0 = λ l. Agree store (bytes_at l) in
     let k = c.chunk.result.0.0 in
     let bytes = c.chunk.result.1.now in

@@ -1,20 +1,22 @@
-use Rattle.std.proofs.Common.{arith}
+use Rattle.std.proofs.Common.{◌≡◌, ◌+◌, ◌++◌, ◌∷◌, [], ap, sym, ◌∙◌, arith}
+use Rattle.tuple_codec.specs.Nodes.{Item}
+use Rattle.tuple_codec.specs.Trees.{rows_in}
 use Rattle.node_format.specs.Views.{ref_of}
-use Rattle.node_chunker.proofs.NodeLemmas.{inner_item, inner_room, size_now, size_pushed}
+use Rattle.node_chunker.proofs.GrowthLemmas.{rows_join}
+use Rattle.node_chunker.proofs.NodeLemmas.{single_last}
 use Rattle.node_chunker.proofs.inners.OpenInner.add.Goals as goal
-
-pub item_size-size-requires : goal.item_size-size-requires
-item_size-size-requires c = inner_item c.args.level c.args.self.now (ref_of c.args.item) c.requires.level c.requires.fits
-
-pub invariant_of-self-2 : goal.invariant_of-self-2
-invariant_of-self-2 c =
-    size_pushed ref_of 1 c.self.inside.items.items c.push.new.self.items c.args.item c.self.inside.size c.item_size-size.result
-    c.in_ok-push.ensures.items c.self.invariant c.item_size-size.ensures.size
 
 pub overflow_add-self : goal.overflow_add-self
 overflow_add-self c =
-    omega (
-      arith,
-      inner_room c.args.level c.args.self.now (ref_of c.args.item) c.self.inside.size c.item_size-size.result c.requires.level c.requires.fits
-          (size_now ref_of 1 c.self.inside.items.items c.args.self.now c.self.inside.size c.self.invariant c.self.view_is) c.item_size-size.ensures.size,
+    omega (arith, c.self.invariant.1, ap rows_in c.self.view_is, rows_join c.args.self.now (ref_of c.args.item.now ∷ []), c.requires.fits.few)
+
+pub invariant_of-self-2 : goal.invariant_of-self-2
+invariant_of-self-2 c =
+    let items = c.self.inside.node.items in
+    let pushed = c.in_ok-push_name.ensures.ok in
+    let x : Item = record { key = c.as_slice.result.now; body = c.args.item.now.address.0; rows = c.args.item.now.rows } in
+    (
+      omega (arith, c.in_ok-push_name.ensures.level, c.self.invariant.0),
+      omega (arith, c.self.invariant.1, ap rows_in pushed, rows_join items (x ∷ [])),
+      λ single. ap (λ (i : Item). i.body) (single_last items c.push_name.new.self.items x pushed single),
     )

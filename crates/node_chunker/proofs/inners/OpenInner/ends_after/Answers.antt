@@ -1,28 +1,34 @@
-use Rattle.std.proofs.Common.{◌≡◌, ◌∙◌, length, arith}
+use Rattle.std.proofs.Common.{◌≡◌, ◌<◌, ◌≤◌, ◌+◌, ◌∙◌, ℕ, length, ap, refl, arith}
+use Rattle.tuple_codec.specs.Nodes.{item_bytes, items_bytes}
 use Rattle.node_format.specs.Views.{ref_of}
-use Rattle.node_chunker.proofs.NodeLemmas.{inner_item, inner_room, last_room, size_now, count_now, inner_ends}
+use Rattle.node_chunker.proofs.NodeLemmas.{inner_item, inner_room, last_room, inner_ends, items_same}
 use Rattle.node_chunker.proofs.inners.OpenInner.ends_after.Goals as goal
 
-pub item_size-requires : goal.item_size-requires
-item_size-requires g c = inner_item c.args.level c.args.self.now (ref_of c.args.item.now) c.requires.level c.requires.fits
+pub name_size-requires : goal.name_size-requires
+name_size-requires g c = inner_item c.args.level c.args.self.now (ref_of c.args.item.now) c.requires.level c.requires.fits
 
-pub ends_here-requires-after_bounds : goal.ends_here-requires-after_bounds
-ends_here-requires-after_bounds g c κs within = last_room c.args.level c.args.self.now (ref_of c.args.item.now) c.as_slice.result.now c.requires.fits c.as_slice.ensures
+pub ends_from-requires-clause-key : goal.ends_from-requires-clause-key
+ends_from-requires-clause-key g c κs within = last_room c.args.level c.args.self.now (ref_of c.args.item.now) c.as_slice.result.now c.requires.fits c.as_slice.ensures
 
 pub returns : goal.returns
 returns g c =
-    let mine = c.self.inside.items.items in
+    let node = c.self.inside.node in
     let held = c.args.self.now in
-    let count : c.len.result ≡ length mine = omega arith in
-    c.ends_here.ensures
-    ∙ inner_ends g.D.Digester.address c.args.level held (ref_of c.args.item.now) c.self.inside.size c.item_size.result c.len.result c.as_slice.result.now c.requires.level
-    (size_now ref_of 1 mine held c.self.inside.size c.self.invariant c.self.view_is) c.item_size.ensures.size
-    (count_now ref_of 1 mine held c.len.result count c.self.view_is) c.as_slice.ensures
+    let size = c.size.ensures ∙ ap (λ l. 4 + length l) (items_same node.level node.items c.self.invariant.0) ∙ ap (λ l. 4 + length (items_bytes 1 l)) c.self.view_is in
+    let count = c.from-count.ensures ∙ c.count.ensures ∙ ap length c.self.view_is in
+    c.ends_from.ensures
+    ∙ inner_ends g.D.Digester.address c.args.level held (ref_of c.args.item.now) c.size.result c.name_size.result c.from-count.result c.as_slice.result.now c.requires.level
+    size c.name_size.ensures.size count c.as_slice.ensures
+
+pub overflow_cast-size : goal.overflow_cast-size
+overflow_cast-size g c =
+    let node = c.self.inside.node in
+    let x = ref_of c.args.item.now in
+    let size = c.size.ensures ∙ ap (λ l. 4 + length l) (items_same node.level node.items c.self.invariant.0) ∙ ap (λ l. 4 + length (items_bytes 1 l)) c.self.view_is in
+    omega (arith, inner_room c.args.level c.args.self.now x c.size.result (length (item_bytes 1 x)) c.requires.level c.requires.fits size refl)
 
 pub overflow_add-size : goal.overflow_add-size
 overflow_add-size g c =
-    omega (
-      arith,
-      inner_room c.args.level c.args.self.now (ref_of c.args.item.now) c.self.inside.size c.item_size.result c.requires.level c.requires.fits
-          (size_now ref_of 1 c.self.inside.items.items c.args.self.now c.self.inside.size c.self.invariant c.self.view_is) c.item_size.ensures.size,
-    )
+    let node = c.self.inside.node in
+    let size = c.size.ensures ∙ ap (λ l. 4 + length l) (items_same node.level node.items c.self.invariant.0) ∙ ap (λ l. 4 + length (items_bytes 1 l)) c.self.view_is in
+    omega (arith, inner_room c.args.level c.args.self.now (ref_of c.args.item.now) c.size.result c.name_size.result c.requires.level c.requires.fits size c.name_size.ensures.size)

@@ -7,7 +7,7 @@ use Rattle.tuple_codec.specs.Nodes.{Item}
 use Rattle.node_format.specs.Views.{ref_of}
 use Rattle.chunk_store.specs.Drafts.{chunks_of}
 use Rattle.node_chunker.specs.Growth.{IsTower}
-use Rattle.node_chunker.proofs.ClimbLemmas.{grows, not_none}
+use Rattle.node_chunker.proofs.ClimbLemmas.{extended, not_none}
 use Rattle.node_chunker.proofs.ClosingLemmas.{begins_above, leaf_ready, leaf_root}
 use Rattle.node_chunker.proofs.towers.Tower.finish.Goals as goal
 
@@ -36,7 +36,7 @@ returns-then-is_empty-clause-ok g c rows tower =
     let none : inner ≡ [] = nil_from_length inner (omega arith) in
     let P : List (List Item) → Type 0 = λ l. IsTower a old l rows in
     leaf_root a old new leaf c.put.new.self rows (ref_of c.in_ok-named.named) (subst P (sym c.self.view_is ∙ ap (λ l. leaf ∷ l) none) tower)
-    (grows c.args.draft.now.chunks c.put.new.draft.chunks c.in_ok-named.ensures.longer) c.in_ok-named.ensures.ok
+    (extended c.args.draft.now c.put.new.draft c.in_ok-named.ensures.grows) c.in_ok-named.ensures.ok
 
 pub close_levels-requires-after_bounds : goal.close_levels-requires-after_bounds
 close_levels-requires-after_bounds g c κs live =
@@ -49,7 +49,7 @@ close_levels-requires-after_bounds g c κs live =
     let P : List (List Item) → Type 0 = λ l. IsTower a old l c.requires.0 in (
       c.requires.0,
       begins_above a old new c.self.inside.leaf inner c.requires.0 (option_map ref_of c.in_ok-carry.carry) some (subst P (sym c.self.view_is) c.requires.1)
-          (grows c.args.draft.now.chunks c.close.new.draft.chunks c.in_ok-carry.ensures.longer) c.in_ok-carry.ensures.ok,
+          (extended c.args.draft.now c.close.new.draft c.in_ok-carry.ensures.grows) c.in_ok-carry.ensures.ok,
     )
 
 pub returns-clause-ok : goal.returns-clause-ok
@@ -63,4 +63,4 @@ returns-clause-ok g c rows tower =
     let P : List (List Item) → Type 0 = λ l. IsTower a old l rows in
     c.close_levels.ensures.ok rows
     (begins_above a old new c.self.inside.leaf inner rows (option_map ref_of c.in_ok-carry.carry) some (subst P (sym c.self.view_is) tower)
-    (grows c.args.draft.now.chunks c.close.new.draft.chunks c.in_ok-carry.ensures.longer) c.in_ok-carry.ensures.ok)
+    (extended c.args.draft.now c.close.new.draft c.in_ok-carry.ensures.grows) c.in_ok-carry.ensures.ok)

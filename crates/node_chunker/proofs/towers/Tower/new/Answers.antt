@@ -8,4 +8,4 @@ pub returns : goal.returns
 returns c address chunks =
     let P : List (List Item) → Type 0 = λ l. IsTower address chunks l [] in
     let empty : List (List Item) = [] in
-    subst P (sym (ap (λ l. l ∷ c.in_ok-with_capacity.field-0.items) c.new.ensures ∙ ap (λ l. [] ∷ l) c.in_ok-with_capacity.ensures.items)) (tower_begins address chunks)
+    subst P (sym (ap (λ l. l ∷ c.in_ok-with_capacity.field-0.items) c.in_ok-new.ensures ∙ ap (λ l. [] ∷ l) c.in_ok-with_capacity.ensures.items)) (tower_begins address chunks)

@@ -4,6 +4,6 @@ use Rattle.prolly_edit.proofs.FrontLemmas.{front_last}
 use Rattle.prolly_edit.proofs.paths.Path.push.Goals as goal
 
 pub returns : goal.returns
-returns c =
+returns g c =
     ap front_of c.in_ok-push.ensures.ok ∙ front_last c.self.inside.steps.items c.args.step
     ∙ ap (λ (f : Front). on_level c.args.step.level c.args.step.items ++ f) c.self.view_is

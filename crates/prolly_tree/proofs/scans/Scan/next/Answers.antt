@@ -4,7 +4,7 @@ use Rattle.prolly_tree.specs.Walks.{CanWalk}
 use Rattle.prolly_tree.proofs.WalkLemmas.{skip_can}
 use Rattle.prolly_tree.proofs.scans.Scan.next.Goals as goal
 
-pub returns-in-Some-Row-clause-can : goal.returns-in-Some-Row-clause-can
-returns-in-Some-Row-clause-can g c =
+pub invariant_of-self-in-Some-Row : goal.invariant_of-self-in-Some-Row
+invariant_of-self-in-Some-Row g c =
     let chunks = chunks_of c.self.inside.draft.now.chunks in
     subst (CanWalk chunks) (sym c.skip.ensures) (skip_can chunks c.to_row.new.self c.to_row.ensures.can)

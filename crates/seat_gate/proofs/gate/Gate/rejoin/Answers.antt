@@ -1,8 +1,8 @@
 use Rattle.std.proofs.Common.{◌∙◌, sym, ap, subst, arith}
-use Rattle.seat_gate.specs.History.{View, joined_with}
+use Rattle.seat_gate.specs.History.{View, joined_with, OneOpening}
 use Rattle.seat_gate.specs.Places.{only}
 use Rattle.seat_gate.specs.Words.{HasJoined, seat_view}
-use Rattle.seat_gate.proofs.Meetings.{rests, joins, joined_kept}
+use Rattle.seat_gate.proofs.Meetings.{rests, joins, joined_kept, joined_opening}
 use Rattle.seat_gate.proofs.gate.Gate.rejoin.Goals as goal
 
 pub join_seat-requires : goal.join_seat-requires
@@ -30,3 +30,18 @@ returns-clause-joined g c k h =
     let as_into = ap (λ l. (only l).view) c.into_seat-place.ensures.2 in
     let as_other = ap (λ l. (only l).view) c.into_seat-spent.ensures.2 in
     subst (HasJoined k) (ap (λ (z : View × View). joined_with z.0 z.1) (λ i. (as_into i, as_other i)) ∙ sym (as_now ∙ as_joined)) (joined_kept v w k h)
+
+pub recall-requires-clause-live : goal.recall-requires-clause-live
+recall-requires-clause-live g c κs within =
+    let p = c.into_seat-place.result.me.0 in
+    let r = rests c.args.into.badge.views p c.args.into.rests c.into_seat-place.ensures.2 in
+    ap (λ m. m.0.spent) c.join_seat.ensures.2 ∙ r.live
+
+pub returns-clause-opened : goal.returns-clause-opened
+returns-clause-opened g c =
+    let v : View = seat_view c.args.into in
+    let w : View = seat_view c.args.other in
+    let as_joined = ap (λ m. m.0.view) c.join_seat.ensures.2 in
+    let as_into = ap (λ l. (only l).view) c.into_seat-place.ensures.2 in
+    let as_other = ap (λ l. (only l).view) c.into_seat-spent.ensures.2 in
+    joined_opening v w (subst OneOpening (as_joined ∙ ap (λ (z : View × View). joined_with z.0 z.1) (λ i. (sym as_into i, sym as_other i))) c.recall.ensures.opened)

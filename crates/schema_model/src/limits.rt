@@ -1,0 +1,43 @@
+//! The limits on data, each number once; `specs/Limits.antt` has the same numbers under the same names.
+
+/// Of a table.
+pub const MOST_COLUMNS: usize = 64;
+
+pub const MOST_INDEXES: usize = 64;
+
+pub const MOST_CHECKS: usize = 64;
+
+pub const MOST_FOREIGN_KEYS: usize = 64;
+
+/// Of the name of a table, a column or a constraint, which has at least one byte.
+pub const MOST_NAME_BYTES: usize = 64;
+
+pub const MOST_SCHEMA_BYTES: u64 = 32_768;
+
+/// Of a row's primary key as key bytes.
+pub const MOST_KEY_BYTES: usize = 1024;
+
+/// Of a row's cells in an index's own columns, as key bytes.
+pub const MOST_INDEX_BYTES: usize = 1024;
+
+/// Of a row's cells beside its primary key as row bytes, in conflicts and violations too.
+pub const MOST_ROW_BYTES: usize = 8192;
+
+/// Of a table; the rows in its conflicts and violations aren't counted.
+pub const MOST_ROWS: u64 = 10_000_000;
+
+/// Of a SELECT's sources joined, as far as its conditions keep them.
+pub const MOST_JOINED_ROWS: u64 = 10_000_000;
+
+/// Of a database.
+pub const MOST_TABLES: usize = 256;
+
+/// Of the state that sessions share.
+pub const MOST_BRANCHES: usize = 1024;
+
+/// Of a commit.
+pub const MOST_PARENTS: usize = 2;
+
+pub const MOST_COMMITTER_BYTES: usize = 32;
+
+pub const MOST_MESSAGE_BYTES: usize = 8192;

@@ -1,0 +1,7 @@
+pub mod Readers
+pub mod Tables
+pub mod Selects
+pub mod Statements
+pub mod Parses
+pub mod Creates
+mod Vectors
