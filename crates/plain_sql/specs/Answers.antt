@@ -1,21 +1,20 @@
 -- What a SELECT gives, once its names and kinds are known: combinations, tests, groups, DISTINCT, ORDER BY and LIMIT.
-use Rattle.std.specs.Prelude.{ℕ, suc, ℤ, pos, ◌+ℤ◌, ◌^◌, Bool, true, false, not, nat_lt, unsigned_abs, if◌then◌else◌, List, [], ◌∷◌, ◌++◌, map, filter, fold, length, take, drop, Option, None, Some, Result, Ok, Err, slice_index_or}
+use Rattle.std.specs.Prelude.{ℕ, suc, pos, Bool, true, false, nat_lt, if◌then◌else◌, List, [], ◌∷◌, ◌++◌, map, filter, fold, length, take, drop, Option, None, Some, Result, Ok, Err, slice_index_or}
 use Rattle.std.specs.List.{flat_map}
 use Rattle.std.specs.Ordering.{ordering_then, ordering_reverse, is_lt, is_eq}
 use Rattle.std.specs.declared.cmp.Ordering.{Ordering}
 use Rattle.std.specs.declared.cmp.Ordering.TheVariants.{Equal}
-use Rattle.tuple_codec.specs.Rows.{Cells, key_cmp, key_of, value_cmp, fits_bits}
+use Rattle.tuple_codec.specs.Rows.{Cells, cell_at, key_cmp, key_of, value_cmp}
 use Rattle.tuple_codec.specs.declared.values.Value.{Value}
 use Rattle.tuple_codec.specs.declared.values.Value.TheVariants as cell
+use Rattle.sql_values.specs.Kinds.{column_type}
+use Rattle.sql_values.specs.Totals.{total}
 use Rattle.sql_values.specs.declared.kinds.Kind.{Kind}
-use Rattle.sql_values.specs.declared.kinds.Kind.TheVariants as kind
 use Rattle.sql_ast.specs.declared.selects.Direction.{Direction}
 use Rattle.sql_ast.specs.declared.selects.Direction.TheVariants.{Ascending, Descending}
 use Rattle.expr_eval.specs.Binding.{Outcome, and_then}
 use Rattle.sql_ast.specs.declared.selects.Limit.{Limit}
 use Rattle.tuple_codec.specs.declared.answers.Answer.{Answer}
-use Rattle.tuple_codec.specs.declared.values.SqlType.{SqlType}
-use Rattle.tuple_codec.specs.declared.values.SqlType.TheVariants as type
 use Rattle.plain_sql.specs.declared.grouping.Grouping.{Grouping}
 use Rattle.plain_sql.specs.declared.grouping.Grouping.TheVariants.{Single, Whole, By}
 use Rattle.plain_sql.specs.declared.ranking.Rank.{Rank}
@@ -113,23 +112,6 @@ present_of meaning row = and_then (given meaning row) (λ value. Ok (value_if va
 abbrev pub present : Meaning → List Cells → Outcome (List Value)
 present meaning rows = all_of (present_of meaning) rows
 
-abbrev pub units : Value → ℤ
-units (cell.Int n) = n
-units (cell.Decimal n) = n
-units value = pos 0
-
-abbrev pub added : ℤ → Value → ℤ
-added total value = total +ℤ units value
-
--- a total is judged once, when all is added
-abbrev pub total_in : Kind → ℤ → Option Value
-total_in kind.Int total = if fits_bits 63 total then Some (cell.Int total) else None
-total_in kind total = if nat_lt (unsigned_abs total) (10 ^ 18) then Some (cell.Decimal total) else None
-
-abbrev pub total_of : Kind → List Value → Outcome Value
-total_of kind [] = Ok cell.Null
-total_of kind (value ∷ values) = or_refuse 1264 (total_in kind (fold added (units value) values))
-
 abbrev pub lesser : Value → Value → Value
 lesser a b = if is_lt (value_cmp b a) then b else a
 
@@ -150,7 +132,7 @@ abbrev pub cell_of : List Cells → Shown → Outcome Value
 cell_of rows (Of meaning) = given meaning (first_row rows)
 cell_of rows Rows = Ok (cell.Int (pos (length rows)))
 cell_of rows (Count meaning) = and_then (present meaning rows) (λ values. Ok (cell.Int (pos (length values))))
-cell_of rows (Sum kind meaning) = and_then (present meaning rows) (total_of kind)
+cell_of rows (Sum kind meaning) = and_then (present meaning rows) (λ values. or_refuse 1264 (total kind values))
 cell_of rows (Least meaning) = and_then (present meaning rows) (λ values. Ok (best_by lesser values))
 cell_of rows (Greatest meaning) = and_then (present meaning rows) (λ values. Ok (best_by greater values))
 
@@ -164,18 +146,12 @@ keys_shown keys rows = each (λ key. cell_of rows key.shown) keys
 abbrev pub ranked : Plan → List Cells → Outcome Rank
 ranked plan rows = and_then (cells_shown plan.headings rows) (λ cells. and_then (keys_shown plan.keys rows) (λ keys. Ok (record { keys = keys; cells = cells })))
 
-abbrev pub same_cells : Cells → Cells → Bool
-same_cells a b = is_eq (key_cmp a b)
-
 abbrev pub cells_cmp : Rank → Rank → Ordering
 cells_cmp a b = key_cmp a.cells b.cells
 
 -- DISTINCT keeps first occurrences
 abbrev pub once_if : Bool → List Rank → List Rank
 once_if distinct rows = if distinct then firsts cells_cmp rows else rows
-
-abbrev pub cell_at : Cells → ℕ → Value
-cell_at row place = slice_index_or row place cell.Null
 
 abbrev pub directed : Direction → Ordering → Ordering
 directed Ascending order = order
@@ -200,20 +176,12 @@ cut None rows = rows
 abbrev pub arranged : Plan → List Rank → List Rank
 arranged plan rows = cut plan.limit (in_order (rank_cmp plan.keys) (once_if plan.distinct rows))
 
--- the widest type of a kind; NULL alone is shown as a whole number would be
-abbrev pub type_shown : Kind → SqlType
-type_shown kind.Int = type.BigInt
-type_shown kind.Bool = type.Bool
-type_shown kind.Text = type.Varchar 2000
-type_shown kind.Bytes = type.Varbinary 2000
-type_shown (kind.Decimal scale) = type.Decimal 18 scale
-type_shown kind.Null = type.BigInt
-
 abbrev pub headed : Plan → List Rank → Answer
 headed plan rows = record {
-    names = map (λ heading. heading.name) plan.headings;
-    kinds = map (λ heading. type_shown heading.kind) plan.headings;
-    rows = map (λ row. row.cells) (arranged plan rows) }
+  names = map (λ heading. heading.name) plan.headings;
+  kinds = map (λ heading. column_type heading.kind) plan.headings;
+  rows = map (λ row. row.cells) (arranged plan rows);
+}
 
 -- more joined rows than may be kept
 abbrev pub are_too_many : List Cells → Bool

@@ -1,9 +1,9 @@
 -- A SELECT whose names and kinds are found, or its first refusal.
-use Rattle.std.specs.Prelude.{ℕ, suc, ◌-◌, ◌==◌, Bool, true, false, ◌||◌, if◌then◌else◌, List, [], ◌∷◌, ◌++◌, map, filter, nat_lt, not, Option, None, Some, Result, Ok, Err, bytes_eq, slice_get, pos, codes}
+use Rattle.std.specs.Prelude.{ℕ, suc, ◌-◌, Bool, true, false, if◌then◌else◌, List, [], ◌∷◌, ◌++◌, map, filter, nat_lt, not, Option, None, Some, Result, Ok, Err, bytes_eq, slice_get}
 use Rattle.std.specs.List.{flat_map, list_any, find, enumerate_from}
 use Rattle.std.specs.Option.{option_and_then, option_map, option_or, option_to_list}
 use Rattle.tuple_codec.specs.Rows.{Cells}
-use Rattle.sql_values.specs.Kinds.{is_bool, is_counted}
+use Rattle.sql_values.specs.Kinds.{is_counted}
 use Rattle.sql_values.specs.declared.kinds.Kind.{Kind}
 use Rattle.sql_values.specs.declared.kinds.Kind.TheVariants as kind
 use Rattle.sql_ast.specs.declared.expressions.Expr.{Expr, out-Expr, roll-Expr, fold-Expr}
@@ -27,7 +27,7 @@ use Rattle.sql_ast.specs.declared.selects.ColumnName.TheVariants as column
 use Rattle.sql_ast.specs.declared.selects.OrderKey.{OrderKey}
 use Rattle.plain_sql.specs.Temporary.{is_call, is_item_named, source_name}
 use Rattle.sql_text.specs.Canon.{text}
-use Rattle.expr_eval.specs.Binding.{Outcome, and_then, mismatch, bound, column_at}
+use Rattle.expr_eval.specs.Binding.{Outcome, and_then, mismatch, bound, bound_condition, column_at}
 use Rattle.expr_eval.specs.Scopes.{place_named, place_qualified}
 use Rattle.expr_eval.specs.Valuing.{value}
 use Rattle.expr_eval.specs.declared.bound.BoundExpr.{BoundExpr}
@@ -67,12 +67,9 @@ meaning bound = λ row. value row bound.node
 abbrev pub meant : List ScopeColumn → Expr → Outcome Meaning
 meant scope expr = and_then (bound scope expr) (λ found. Ok (meaning found))
 
-abbrev pub if_truth : BoundExpr → Outcome Meaning
-if_truth bound = if is_bool bound.kind then Ok (meaning bound) else mismatch
-
 -- ON, WHERE and CHECK
 unfoldable pub condition : List ScopeColumn → Expr → Outcome Meaning
-condition scope expr = and_then (bound scope expr) if_truth
+condition scope expr = and_then (bound_condition scope expr) (λ found. Ok (meaning found))
 
 -- ---- items
 
@@ -212,12 +209,13 @@ planned scope query =
     and_then (each (group_place scope) query.clauses.groups) (λ places.
     and_then (each (sort_key scope (item_list query.items)) query.clauses.sorting.keys) (λ keys.
     Ok (record {
-        tests = tests;
-        grouping = grouping_of (list_any calls_aggregate (item_list query.items)) places;
-        headings = headings;
-        distinct = query.distinct;
-        keys = keys;
-        limit = query.clauses.sorting.limit })))))
+      tests = tests;
+      grouping = grouping_of (list_any calls_aggregate (item_list query.items)) places;
+      headings = headings;
+      distinct = query.distinct;
+      keys = keys;
+      limit = query.clauses.sorting.limit;
+    })))))
 
 abbrev pub scope_of : List Read → List ScopeColumn
 scope_of sources = flat_map (λ source. source.columns) sources
@@ -230,9 +228,13 @@ abbrev pub planned_alone : List NamedExpr → Outcome Plan
 planned_alone list =
     and_then (each (one_heading []) list) (λ headings.
     Ok (record {
-        tests = [];
-        grouping = grouping_of (list_any (λ named. is_call named.expr) list) [];
-        headings = headings; distinct = false; keys = []; limit = None }))
+      tests = [];
+      grouping = grouping_of (list_any (λ named. is_call named.expr) list) [];
+      headings = headings;
+      distinct = false;
+      keys = [];
+      limit = None;
+    }))
 
 -- sources from left to right; then names and kinds; then rows
 abbrev pub answer : List Known → Select → Outcome Answer

@@ -24,9 +24,10 @@ key_seen sorter = record { shown = showing_seen sorter.shown; direction = sorter
 
 abbrev pub plan_seen : plan.Plan → Plan
 plan_seen plan = record {
-    tests = map meaning plan.tests;
-    grouping = plan.grouping;
-    headings = map heading_seen plan.headings;
-    distinct = plan.distinct;
-    keys = map key_seen plan.keys;
-    limit = plan.limit }
+  tests = map meaning plan.tests;
+  grouping = plan.grouping;
+  headings = map heading_seen plan.headings;
+  distinct = plan.distinct;
+  keys = map key_seen plan.keys;
+  limit = plan.limit;
+}

@@ -1,5 +1,6 @@
 ghost use Rattle.std.specs.Prelude.{◌≡◌, IfOk, map};
-ghost use Rattle.plain_sql.specs.Answers.{answered, answered_of, are_too_many, arranged, cells_shown, headed, keys_shown, once_if, ranked, type_shown};
+ghost use Rattle.sql_values.specs.Kinds.{column_type};
+ghost use Rattle.plain_sql.specs.Answers.{answered, answered_of, are_too_many, arranged, cells_shown, headed, keys_shown, once_if, ranked};
 ghost use Rattle.plain_sql.specs.Gives.{Gives};
 ghost use Rattle.plain_sql.specs.Lists.{each};
 ghost use Rattle.plain_sql.specs.Plans.{answer, query_on};
@@ -14,7 +15,6 @@ use crate::ranking::{Rank, Sorter, cut, once, sorted};
 use crate::shown::cell_of;
 use crate::sources::{Known, Read, scope_of, sources_read};
 use sql_ast::{Query, Select};
-use sql_values::Kind;
 use std::alloc::{AllocError, Global};
 use tuple_codec::{Answer, Row, Sequence, SqlType, Text};
 
@@ -49,7 +49,11 @@ fn ranked(alloc: Global, plan: &Plan, rows: &[Row]) -> Result<Rank, Refused>
     Ok(Rank { keys, cells })
 }
 
-fn all_ranked(alloc: Global, plan: &Plan, groups: &[Sequence<Row>]) -> Result<Sequence<Rank>, Refused>
+fn all_ranked(
+    alloc: Global,
+    plan: &Plan,
+    groups: &[Sequence<Row>],
+) -> Result<Sequence<Rank>, Refused>
     ensures { Gives result (each (ranked (plan_seen plan.now)) groups.now) }
 {
     let mut ranks = Sequence::new(alloc);
@@ -84,19 +88,6 @@ fn arranged(alloc: Global, plan: &Plan, ranks: Vec<Rank>) -> Result<Vec<Rank>, A
     cut(&plan.limit, ordered)
 }
 
-/// The widest type of a kind; NULL alone is shown as a whole number would be.
-fn type_shown(kind: &Kind) -> SqlType
-    ensures { result ≡ type_shown kind.now }
-{
-    match kind {
-        Kind::Int | Kind::Null => SqlType::BigInt,
-        Kind::Bool => SqlType::Bool,
-        Kind::Text => SqlType::Varchar(2000),
-        Kind::Bytes => SqlType::Varbinary(2000),
-        Kind::Decimal(scale) => SqlType::Decimal(18, scale.get()),
-    }
-}
-
 fn names_of(alloc: Global, headings: &[Heading]) -> Result<Sequence<Text>, AllocError>
     ensures { IfOk result (λ names. names ≡ map (λ heading. heading.name) (map heading_seen headings.now)) }
 {
@@ -108,11 +99,11 @@ fn names_of(alloc: Global, headings: &[Heading]) -> Result<Sequence<Text>, Alloc
 }
 
 fn types_of(alloc: Global, headings: &[Heading]) -> Result<Sequence<SqlType>, AllocError>
-    ensures { IfOk result (λ kinds. kinds ≡ map (λ heading. type_shown heading.kind) (map heading_seen headings.now)) }
+    ensures { IfOk result (λ kinds. kinds ≡ map (λ heading. column_type heading.kind) (map heading_seen headings.now)) }
 {
     let mut kinds = Sequence::new(alloc);
     for heading in headings {
-        kinds.push(type_shown(&heading.kind))?;
+        kinds.push(heading.kind.column_type())?;
     }
     Ok(kinds)
 }

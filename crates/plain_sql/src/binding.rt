@@ -3,7 +3,7 @@ ghost use Rattle.plain_sql.specs.Gives.{Gives, GivesBy};
 ghost use Rattle.plain_sql.specs.Plans.{condition, meaning};
 
 use crate::faults::Refused;
-use expr_eval::{BindFault, BoundExpr, Node, ScopeColumn, bind};
+use expr_eval::{BindFault, BoundExpr, Node, ScopeColumn, bind, bind_condition};
 use sql_ast::Expr;
 use sql_values::Kind;
 use std::alloc::Global;
@@ -19,16 +19,15 @@ pub fn bound(alloc: Global, scope: &[ScopeColumn], expr: &Expr) -> Result<BoundE
     }
 }
 
-/// What ON, WHERE and CHECK say: an expression of truth values.
+/// What ON, WHERE and CHECK say: an expression of truth values, or the first refusal.
 #[tactic(auto, unfolding(crate::specs::Plans::condition))]
 pub fn condition(alloc: Global, scope: &[ScopeColumn], expr: &Expr) -> Result<BoundExpr, Refused>
     ensures { GivesBy meaning result (condition scope.now expr.now) }
 {
-    let found = bound(alloc, scope, expr)?;
-    if found.kind.is_bool() {
-        Ok(found)
-    } else {
-        Err(Refused::By(9001))
+    match bind_condition(alloc, expr, scope) {
+        Ok(found) => Ok(found),
+        Err(BindFault::Memory) => Err(Refused::Memory),
+        Err(BindFault::Refused(number)) => Err(Refused::By(number)),
     }
 }
 

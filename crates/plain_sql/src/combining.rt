@@ -33,7 +33,12 @@ fn kept_row(alloc: Global, tests: &[BoundExpr], row: &Row) -> Result<Sequence<Ro
 }
 
 /// The rows that pass all tests, of those that begin with these cells; the first source is outermost.
-fn kept_from(alloc: Global, tests: &[BoundExpr], sources: &[Read], row: &Row) -> Result<Sequence<Row>, Refused>
+fn kept_from(
+    alloc: Global,
+    tests: &[BoundExpr],
+    sources: &[Read],
+    row: &Row,
+) -> Result<Sequence<Row>, Refused>
     ensures { Gives result (kept_from (map meaning tests.now) (map (λ source. source.rows) sources.now) row.now) }
 {
     match sources {

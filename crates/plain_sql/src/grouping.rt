@@ -3,10 +3,9 @@ ghost use Rattle.tuple_codec.specs.Rows.{key_cmp, key_of};
 ghost use Rattle.plain_sql.specs.Answers.{groups, has_key, keys_in};
 ghost use Rattle.plain_sql.specs.Lists.{firsts, has};
 
-use crate::rows::{cell_at, key_cmp};
 use crate::sorting::in_order;
 use std::alloc::{AllocError, Global};
-use tuple_codec::{Row, Sequence, Value, copy_row};
+use tuple_codec::{Row, Sequence, Value, cell_at, copy_row, key_cmp};
 
 /// Which rows are one.
 #[derive(Drop)]
@@ -33,7 +32,8 @@ pub fn cells_at(alloc: Global, places: &[usize], row: &[Value]) -> Result<Row, A
 fn has_key(keys: &[Row], key: &Row) -> bool
     ensures { result ≡ has key_cmp keys.now key.now }
 {
-    keys.iter().any(|other| key_cmp(key.as_slice(), other.as_slice()).is_eq())
+    keys.iter()
+        .any(|other| key_cmp(key.as_slice(), other.as_slice()).is_eq())
 }
 
 /// The cells that stand at these places, each once.
@@ -51,7 +51,12 @@ fn keys_once(alloc: Global, places: &[usize], rows: &[Row]) -> Result<Sequence<R
 }
 
 /// Copies of the rows that have this key there.
-fn group(alloc: Global, places: &[usize], key: &Row, rows: &[Row]) -> Result<Sequence<Row>, AllocError>
+fn group(
+    alloc: Global,
+    places: &[usize],
+    key: &Row,
+    rows: &[Row],
+) -> Result<Sequence<Row>, AllocError>
     ensures { IfOk result (λ group. group ≡ filter (has_key places.now key.now) rows.now) }
 {
     let mut group = Sequence::new(alloc);
@@ -65,7 +70,12 @@ fn group(alloc: Global, places: &[usize], key: &Row, rows: &[Row]) -> Result<Seq
 }
 
 /// For each of these keys the rows that have it.
-fn groups_with(alloc: Global, places: &[usize], keys: &[Row], rows: &[Row]) -> Result<Sequence<Sequence<Row>>, AllocError>
+fn groups_with(
+    alloc: Global,
+    places: &[usize],
+    keys: &[Row],
+    rows: &[Row],
+) -> Result<Sequence<Sequence<Row>>, AllocError>
     ensures { IfOk result (λ groups. groups ≡ map (λ key. filter (has_key places.now key) rows.now) keys.now) }
 {
     let mut groups = Sequence::new(alloc);
@@ -101,7 +111,11 @@ fn each_alone(alloc: Global, rows: &[Row]) -> Result<Sequence<Sequence<Row>>, Al
 }
 
 /// The groups, in the order of their keys.
-pub fn groups(alloc: Global, grouping: &Grouping, rows: Sequence<Row>) -> Result<Sequence<Sequence<Row>>, AllocError>
+pub fn groups(
+    alloc: Global,
+    grouping: &Grouping,
+    rows: Sequence<Row>,
+) -> Result<Sequence<Sequence<Row>>, AllocError>
     ensures { IfOk result (λ found. found ≡ groups grouping.now rows) }
 {
     match grouping {

@@ -68,7 +68,12 @@ fn sum_heading(name: Text, bound: BoundExpr) -> Result<Heading, Refused>
 }
 
 /// What an item shows: an aggregate's call, or an expression.
-pub fn heading_of(alloc: Global, scope: &[ScopeColumn], name: Text, expr: &Expr) -> Result<Heading, Refused>
+pub fn heading_of(
+    alloc: Global,
+    scope: &[ScopeColumn],
+    name: Text,
+    expr: &Expr,
+) -> Result<Heading, Refused>
     ensures { GivesBy heading_seen result (heading_of scope.now name expr.now (out-Expr expr.now)) }
 {
     match expr {
@@ -103,14 +108,23 @@ pub fn heading_of(alloc: Global, scope: &[ScopeColumn], name: Text, expr: &Expr)
     }
 }
 
-pub fn one_heading(alloc: Global, scope: &[ScopeColumn], named: &NamedExpr) -> Result<Heading, Refused>
+pub fn one_heading(
+    alloc: Global,
+    scope: &[ScopeColumn],
+    named: &NamedExpr,
+) -> Result<Heading, Refused>
     ensures { GivesBy heading_seen result (one_heading scope.now named.now) }
 {
     let name = shown_name(alloc, named)?;
     heading_of(alloc, scope, name, &named.expr)
 }
 
-fn column_heading(alloc: Global, scope: &[ScopeColumn], place: usize, column: &ScopeColumn) -> Result<Heading, Refused>
+fn column_heading(
+    alloc: Global,
+    scope: &[ScopeColumn],
+    place: usize,
+    column: &ScopeColumn,
+) -> Result<Heading, Refused>
     ensures { GivesBy heading_seen result (column_heading scope.now (place, column.now)) }
 {
     let bound = column_at(scope, place)?;
@@ -133,7 +147,13 @@ fn has_source(scope: &[ScopeColumn], source: &[u8]) -> bool
     scope.iter().any(|column| column.source.is(source))
 }
 
-fn heading_in(alloc: Global, scope: &[ScopeColumn], source: &[u8], place: usize, column: &ScopeColumn) -> Result<Sequence<Heading>, Refused>
+fn heading_in(
+    alloc: Global,
+    scope: &[ScopeColumn],
+    source: &[u8],
+    place: usize,
+    column: &ScopeColumn,
+) -> Result<Sequence<Heading>, Refused>
     ensures { GivesBy (map heading_seen) result (heading_in scope.now source.now (place, column.now)) }
 {
     let mut headings = Sequence::new(alloc);
@@ -143,7 +163,11 @@ fn heading_in(alloc: Global, scope: &[ScopeColumn], source: &[u8], place: usize,
     Ok(headings)
 }
 
-fn source_headings(alloc: Global, scope: &[ScopeColumn], source: &[u8]) -> Result<Sequence<Heading>, Refused>
+fn source_headings(
+    alloc: Global,
+    scope: &[ScopeColumn],
+    source: &[u8],
+) -> Result<Sequence<Heading>, Refused>
     ensures { GivesBy (map heading_seen) result (source_headings scope.now source.now) }
 {
     let mut headings = Sequence::new(alloc);
@@ -154,7 +178,11 @@ fn source_headings(alloc: Global, scope: &[ScopeColumn], source: &[u8]) -> Resul
     Ok(headings)
 }
 
-fn item_headings(alloc: Global, scope: &[ScopeColumn], item: &Item) -> Result<Sequence<Heading>, Refused>
+fn item_headings(
+    alloc: Global,
+    scope: &[ScopeColumn],
+    item: &Item,
+) -> Result<Sequence<Heading>, Refused>
     ensures { GivesBy (map heading_seen) result (item_headings scope.now item.now) }
 {
     match item {
@@ -172,7 +200,11 @@ fn item_headings(alloc: Global, scope: &[ScopeColumn], item: &Item) -> Result<Se
     }
 }
 
-fn listed_headings(alloc: Global, scope: &[ScopeColumn], list: &[Item]) -> Result<Sequence<Heading>, Refused>
+fn listed_headings(
+    alloc: Global,
+    scope: &[ScopeColumn],
+    list: &[Item],
+) -> Result<Sequence<Heading>, Refused>
     ensures { GivesBy (map heading_seen) result (all_of (item_headings scope.now) list.now) }
 {
     let mut headings = Sequence::new(alloc);
@@ -184,7 +216,11 @@ fn listed_headings(alloc: Global, scope: &[ScopeColumn], list: &[Item]) -> Resul
 }
 
 /// The columns of the answer, up to the first refusal.
-pub fn headings_of(alloc: Global, scope: &[ScopeColumn], items: &Items) -> Result<Sequence<Heading>, Refused>
+pub fn headings_of(
+    alloc: Global,
+    scope: &[ScopeColumn],
+    items: &Items,
+) -> Result<Sequence<Heading>, Refused>
     ensures { GivesBy (map heading_seen) result (headings_of scope.now items.now) }
 {
     match items {

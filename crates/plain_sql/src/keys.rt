@@ -45,7 +45,12 @@ fn is_item_named(name: &[u8], item: &Item) -> bool
     }
 }
 
-fn shown_by_item(alloc: Global, scope: &[ScopeColumn], expr: &Expr, named: &NamedExpr) -> Result<Showing, Refused>
+fn shown_by_item(
+    alloc: Global,
+    scope: &[ScopeColumn],
+    expr: &Expr,
+    named: &NamedExpr,
+) -> Result<Showing, Refused>
     ensures { GivesBy showing_seen result (shown_by scope.now expr.now (Some named.now)) }
 {
     let heading = one_heading(alloc, scope, named)?;
@@ -58,7 +63,12 @@ fn shown_by_itself(alloc: Global, scope: &[ScopeColumn], expr: &Expr) -> Result<
     Ok(Showing::Of(bound(alloc, scope, expr)?))
 }
 
-fn shown_by_found(alloc: Global, scope: &[ScopeColumn], expr: &Expr, item: &Item) -> Result<Showing, Refused>
+fn shown_by_found(
+    alloc: Global,
+    scope: &[ScopeColumn],
+    expr: &Expr,
+    item: &Item,
+) -> Result<Showing, Refused>
     ensures { GivesBy showing_seen result (shown_by scope.now expr.now (expression_of (Some item.now))) }
 {
     match item {
@@ -67,7 +77,13 @@ fn shown_by_found(alloc: Global, scope: &[ScopeColumn], expr: &Expr, item: &Item
     }
 }
 
-fn shown_by_number(alloc: Global, scope: &[ScopeColumn], list: &[Item], expr: &Expr, number: u64) -> Result<Showing, Refused>
+fn shown_by_number(
+    alloc: Global,
+    scope: &[ScopeColumn],
+    list: &[Item],
+    expr: &Expr,
+    number: u64,
+) -> Result<Showing, Refused>
     ensures { GivesBy showing_seen result (shown_by scope.now expr.now (item_numbered list.now number)) }
 {
     if number == 0 {
@@ -79,7 +95,13 @@ fn shown_by_number(alloc: Global, scope: &[ScopeColumn], list: &[Item], expr: &E
     }
 }
 
-fn shown_by_name(alloc: Global, scope: &[ScopeColumn], list: &[Item], expr: &Expr, name: &Text) -> Result<Showing, Refused>
+fn shown_by_name(
+    alloc: Global,
+    scope: &[ScopeColumn],
+    list: &[Item],
+    expr: &Expr,
+    name: &Text,
+) -> Result<Showing, Refused>
     ensures { GivesBy showing_seen result (shown_by scope.now expr.now (item_named list.now name.now)) }
 {
     for item in list {
@@ -90,7 +112,13 @@ fn shown_by_name(alloc: Global, scope: &[ScopeColumn], list: &[Item], expr: &Exp
     shown_by_itself(alloc, scope, expr)
 }
 
-fn shown_by_literal(alloc: Global, scope: &[ScopeColumn], list: &[Item], expr: &Expr, literal: &Literal) -> Result<Showing, Refused>
+fn shown_by_literal(
+    alloc: Global,
+    scope: &[ScopeColumn],
+    list: &[Item],
+    expr: &Expr,
+    literal: &Literal,
+) -> Result<Showing, Refused>
     ensures { GivesBy showing_seen result (shown_by scope.now expr.now (item_meant_by list.now literal.now)) }
 {
     match literal {
@@ -99,7 +127,12 @@ fn shown_by_literal(alloc: Global, scope: &[ScopeColumn], list: &[Item], expr: &
     }
 }
 
-fn shown_by(alloc: Global, scope: &[ScopeColumn], list: &[Item], expr: &Expr) -> Result<Showing, Refused>
+fn shown_by(
+    alloc: Global,
+    scope: &[ScopeColumn],
+    list: &[Item],
+    expr: &Expr,
+) -> Result<Showing, Refused>
     ensures { GivesBy showing_seen result (shown_by scope.now expr.now (item_meant list.now (out-Expr expr.now))) }
 {
     match expr {
@@ -109,7 +142,12 @@ fn shown_by(alloc: Global, scope: &[ScopeColumn], list: &[Item], expr: &Expr) ->
     }
 }
 
-fn sort_key(alloc: Global, scope: &[ScopeColumn], list: &[Item], key: &OrderKey) -> Result<Sorter, Refused>
+fn sort_key(
+    alloc: Global,
+    scope: &[ScopeColumn],
+    list: &[Item],
+    key: &OrderKey,
+) -> Result<Sorter, Refused>
     ensures { GivesBy key_seen result (sort_key scope.now list.now key.now) }
 {
     Ok(Sorter {
@@ -119,7 +157,12 @@ fn sort_key(alloc: Global, scope: &[ScopeColumn], list: &[Item], key: &OrderKey)
 }
 
 /// Each key of ORDER BY, up to the first refusal.
-pub fn sort_keys(alloc: Global, scope: &[ScopeColumn], list: &[Item], keys: &[OrderKey]) -> Result<Sequence<Sorter>, Refused>
+pub fn sort_keys(
+    alloc: Global,
+    scope: &[ScopeColumn],
+    list: &[Item],
+    keys: &[OrderKey],
+) -> Result<Sequence<Sorter>, Refused>
     ensures { GivesBy (map key_seen) result (each (sort_key scope.now list.now) keys.now) }
 {
     let mut sorters = Sequence::new(alloc);

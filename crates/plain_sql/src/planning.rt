@@ -11,9 +11,8 @@ use crate::faults::Refused;
 use crate::grouping::Grouping;
 use crate::items::{Heading, headings_of, one_heading};
 use crate::keys::sort_keys;
-use crate::places::{place_named, place_qualified};
 use crate::ranking::Sorter;
-use expr_eval::{BoundExpr, ScopeColumn};
+use expr_eval::{BoundExpr, ScopeColumn, place_named, place_qualified};
 use sql_ast::{ColumnName, Item, Items, Limit, NamedExpr, Query};
 use sql_features::is_aggregate_node;
 use std::alloc::Global;
@@ -31,7 +30,11 @@ pub struct Plan {
     pub limit: Option<Limit>,
 }
 
-fn tests(alloc: Global, scope: &[ScopeColumn], query: &Query) -> Result<Sequence<BoundExpr>, Refused>
+fn tests(
+    alloc: Global,
+    scope: &[ScopeColumn],
+    query: &Query,
+) -> Result<Sequence<BoundExpr>, Refused>
     ensures { GivesBy (map meaning) result (each (condition scope.now) (conditions query.now)) }
 {
     let mut tests = Sequence::new(alloc);
@@ -65,7 +68,11 @@ fn group_place(scope: &[ScopeColumn], column: &ColumnName) -> Result<usize, Refu
     }
 }
 
-fn group_places(alloc: Global, scope: &[ScopeColumn], columns: &[ColumnName]) -> Result<Sequence<usize>, Refused>
+fn group_places(
+    alloc: Global,
+    scope: &[ScopeColumn],
+    columns: &[ColumnName],
+) -> Result<Sequence<usize>, Refused>
     ensures { Gives result (each (group_place scope.now) columns.now) }
 {
     let mut places = Sequence::new(alloc);

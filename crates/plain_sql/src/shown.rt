@@ -1,14 +1,15 @@
-ghost use Rattle.std.specs.Prelude.{◌≡◌, IfOk, fold, length, pos};
-ghost use Rattle.plain_sql.specs.Answers.{added, best_by, cell_of, given, first_row, greater, lesser, present, total_in, total_of, units};
+ghost use Rattle.std.specs.Prelude.{◌≡◌, IfOk, length, pos};
+ghost use Rattle.sql_values.specs.Totals.{total};
+ghost use Rattle.plain_sql.specs.Answers.{best_by, cell_of, first_row, given, greater, is_null, lesser, present};
+ghost use Rattle.plain_sql.specs.Lists.{or_refuse};
 ghost use Rattle.plain_sql.specs.Gives.{Gives};
 ghost use Rattle.plain_sql.specs.Plans.{meaning};
 ghost use Rattle.plain_sql.specs.Seen.{showing_seen};
 
 use crate::asking::ask;
 use crate::faults::Refused;
-use crate::rows::is_null;
 use expr_eval::BoundExpr;
-use sql_values::Kind;
+use sql_values::{Kind, total};
 use std::alloc::{AllocError, Global};
 use tuple_codec::{Row, Sequence, Value, copy_value};
 
@@ -21,6 +22,15 @@ pub enum Showing {
     Sum(BoundExpr),
     Least(BoundExpr),
     Greatest(BoundExpr),
+}
+
+pub fn is_null(value: &Value) -> bool
+    ensures { result ≡ is_null value.now }
+{
+    match value {
+        Value::Null => true,
+        _ => false,
+    }
 }
 
 /// The values that aren't NULL.
@@ -37,52 +47,12 @@ fn present(alloc: Global, expr: &BoundExpr, rows: &[Row]) -> Result<Sequence<Val
     Ok(found)
 }
 
-fn units(value: &Value) -> i64
-    ensures { result ≡ units value.now }
-{
-    match value {
-        Value::Int(number) | Value::Decimal(number) => *number,
-        _ => 0,
-    }
-}
-
-fn sum_from(first: i64, values: &[Value]) -> i128
-    ensures { result ≡ fold added first values.now }
-{
-    let mut total = i128::from(first);
-    for value in values {
-        total += i128::from(units(value));
-    }
-    total
-}
-
-fn total_in(kind: &Kind, total: i128) -> Option<Value>
-    ensures { result ≡ total_in kind.now total }
-{
-    match kind {
-        Kind::Int => match i64::try_from(total) {
-            Ok(total) => Some(Value::Int(total)),
-            Err(_) => None,
-        },
-        _ => {
-            if total.unsigned_abs() < 1_000_000_000_000_000_000 {
-                Some(Value::Decimal(total as i64))
-            } else {
-                None
-            }
-        }
-    }
-}
-
 fn total_of(kind: &Kind, values: &[Value]) -> Result<Value, Refused>
-    ensures { Gives result (total_of kind.now values.now) }
+    ensures { Gives result (or_refuse 1264 (total kind.now values.now)) }
 {
-    match values {
-        [] => Ok(Value::Null),
-        [first, rest @ ..] => match total_in(kind, sum_from(units(first), rest)) {
-            Some(total) => Ok(total),
-            None => Err(Refused::By(1264)),
-        },
+    match total(kind, values) {
+        Some(total) => Ok(total),
+        None => Err(Refused::By(1264)),
     }
 }
 

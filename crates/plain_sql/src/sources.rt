@@ -43,7 +43,11 @@ fn name_of(source: &Source) -> &Text
     }
 }
 
-fn scope_columns(alloc: Global, source: &[u8], columns: &[NamedType]) -> Result<Sequence<ScopeColumn>, AllocError>
+fn scope_columns(
+    alloc: Global,
+    source: &[u8],
+    columns: &[NamedType],
+) -> Result<Sequence<ScopeColumn>, AllocError>
     ensures { IfOk result (λ found. found ≡ map (scope_column source.now) columns.now) }
 {
     let mut found = Sequence::new(alloc);
@@ -89,7 +93,11 @@ fn source_read(alloc: Global, known: &[Known], source: &Source) -> Result<Read, 
 }
 
 /// The sources, up to the first that isn't there.
-pub fn sources_read(alloc: Global, known: &[Known], from: &FromClause) -> Result<Sequence<Read>, Refused>
+pub fn sources_read(
+    alloc: Global,
+    known: &[Known],
+    from: &FromClause,
+) -> Result<Sequence<Read>, Refused>
     ensures { Gives result (each (source_read known.now) (sources_of from.now)) }
 {
     let mut reads = Sequence::new(alloc);
@@ -111,7 +119,11 @@ fn copied_column(alloc: Global, column: &ScopeColumn) -> Result<ScopeColumn, All
     })
 }
 
-fn push_columns(alloc: Global, scope: &mut Sequence<ScopeColumn>, columns: &[ScopeColumn]) -> Result<(), AllocError>
+fn push_columns(
+    alloc: Global,
+    scope: &mut Sequence<ScopeColumn>,
+    columns: &[ScopeColumn],
+) -> Result<(), AllocError>
     ensures { OnOk result (scope.new ≡ scope.old ++ columns.now) }
 {
     for column in columns {

@@ -1,3 +1,4 @@
 mod Vectors
 mod SchemaVectors
 pub mod OrderLemmas
+pub mod TypedLemmas

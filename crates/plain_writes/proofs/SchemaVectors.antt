@@ -15,25 +15,29 @@ use Rattle.sql_ast.specs.declared.tables.TypeName.TheVariants as named
 use Rattle.sql_ast.specs.declared.statements.Insert.{Insert}
 use Rattle.sql_ast.specs.declared.statements.Entry.TheVariants as entry
 use Rattle.sql_ast.specs.declared.statements.Delete.{Delete}
+use Rattle.sql_ast.specs.declared.statements.AlterAction.TheVariants as action
 use Rattle.plain_writes.specs.Violations.{Checks}
 use Rattle.plain_writes.specs.Writes.{insert_effect, delete_effect}
-use Rattle.plain_writes.specs.Schemas.{schema_of, create_effect, drop_effect, alter_effect, changed_to, empty_table, Add, Remove, Modify}
+use Rattle.plain_writes.specs.Schemas.{schema_of, create_effect, drop_effect, alter_effect, changed_to, empty_table}
 
 -- CREATE TABLE t (id BIGINT PRIMARY KEY, u INT UNIQUE DEFAULT 7, FOREIGN KEY (u) REFERENCES t (id))
 abbrev create : CreateTable
 create = record {
-    if_not_exists = false; table = codes "t";
-    elements = element.Column (record { name = codes "id"; kind = named.BigInt; attributes = attribute.PrimaryKey ∷ [] })
-        ∷ element.Column (record { name = codes "u"; kind = named.BigInt; attributes = attribute.Unique ∷ attribute.Default false (literal.Whole 7) ∷ [] })
-        ∷ element.ForeignKey (record { name = None; columns = codes "u" ∷ []; parent = codes "t"; parent_columns = codes "id" ∷ [] }) ∷ [] }
+  if_not_exists = false;
+  table = codes "t";
+  elements = element.Column (record { name = codes "id"; kind = named.BigInt; attributes = attribute.PrimaryKey ∷ [] })
+      ∷ element.Column (record { name = codes "u"; kind = named.BigInt; attributes = attribute.Unique ∷ attribute.Default false (literal.Whole 7) ∷ [] })
+      ∷ element.ForeignKey (record { name = None; columns = codes "u" ∷ []; parent = codes "t"; parent_columns = codes "id" ∷ [] }) ∷ [];
+}
 
 abbrev schema : Schema
 schema = record {
-    columns = record { name = codes "id"; kind = type.BigInt; not_null = true; default = None } ∷ record { name = codes "u"; kind = type.BigInt; not_null = false; default = Some (cell.Int (pos 7)) } ∷ [];
-    key = 0 ∷ [];
-    indexes = record { name = codes "t_uq_1"; unique = true; columns = 1 ∷ [] } ∷ [];
-    checks = [];
-    foreign = record { name = codes "t_fk_1"; columns = 1 ∷ []; parent = codes "t"; parent_columns = codes "id" ∷ [] } ∷ [] }
+  columns = record { name = codes "id"; kind = type.BigInt; not_null = true; default = None } ∷ record { name = codes "u"; kind = type.BigInt; not_null = false; default = Some (cell.Int (pos 7)) } ∷ [];
+  key = 0 ∷ [];
+  indexes = record { name = codes "t_uq_1"; unique = true; columns = 1 ∷ [] } ∷ [];
+  checks = [];
+  foreign = record { name = codes "t_fk_1"; columns = 1 ∷ []; parent = codes "t"; parent_columns = codes "id" ∷ [] } ∷ [];
+}
 
 said : schema_of create ≡ schema
 unfolding digits
@@ -67,7 +71,7 @@ none_left : delete_effect no_checks empty (record { table = codes "t"; filter = 
 none_left = refl
 
 -- u stands in an index
-used : alter_effect no_checks empty (codes "t") (Remove (codes "u")) ≡ Err 9013
+used : alter_effect no_checks empty (record { table = codes "t"; action = action.Drop (codes "u") }) ≡ Err 9013
 used = refl
 
 abbrev with_row : PlainDatabase
@@ -78,5 +82,5 @@ rows_of [] = []
 rows_of (one ∷ more) = one.table.rows ∷ rows_of more
 
 -- ALTER TABLE t ADD COLUMN n BIGINT NOT NULL: no value for the row
-no_value : alter_effect no_checks with_row (codes "t") (Add (record { name = codes "n"; kind = named.BigInt; attributes = attribute.NotNull ∷ [] })) ≡ Err 1048
+no_value : alter_effect no_checks with_row (record { table = codes "t"; action = action.Add (record { name = codes "n"; kind = named.BigInt; attributes = attribute.NotNull ∷ [] }) }) ≡ Err 1048
 no_value = refl

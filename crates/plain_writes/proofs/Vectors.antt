@@ -1,13 +1,13 @@
 -- Worked examples.
 use Rattle.std.proofs.Common.{◌≡◌, refl, codes, ℕ, List, [], ◌∷◌, true, false, Option, None, Some, Ok, Err, pos, Bool, slice_index_or}
-use Rattle.tuple_codec.specs.Rows.{Cells}
+use Rattle.tuple_codec.specs.Rows.{Cells, cell_at}
 use Rattle.tuple_codec.specs.declared.values.Value.{Value}
 use Rattle.tuple_codec.specs.declared.values.Value.TheVariants as cell
 use Rattle.tuple_codec.specs.declared.values.SqlType.TheVariants as type
 use Rattle.sql_values.specs.declared.kinds.Kind.TheVariants as kind
 use Rattle.schema_model.specs.declared.schemas.Schema.{Schema}
 use Rattle.schema_model.specs.PlainTables.{PlainTable, NamedTable, PlainDatabase}
-use Rattle.plain_sql.specs.Answers.{given, Meaning, cell_at}
+use Rattle.plain_sql.specs.Answers.{given, Meaning}
 use Rattle.plain_writes.specs.Violations.{Checks, Found, violations, first_violation}
 use Rattle.plain_writes.specs.Writes.{Assign, result_of, turned, row_after, by_key, new_row, Worth, Nothing}
 
@@ -24,11 +24,12 @@ at place = λ cells. Some (cell_at cells place)
 -- a table of a key, a number that is unique, and a parent in the same table
 abbrev schema : Schema
 schema = record {
-    columns = record { name = codes "id"; kind = type.BigInt; not_null = true; default = None } ∷ record { name = codes "u"; kind = type.BigInt; not_null = false; default = None } ∷ [];
-    key = 0 ∷ [];
-    indexes = record { name = codes "t_uq_1"; unique = true; columns = 1 ∷ [] } ∷ [];
-    checks = [];
-    foreign = record { name = codes "t_fk_1"; columns = 1 ∷ []; parent = codes "t"; parent_columns = codes "id" ∷ [] } ∷ [] }
+  columns = record { name = codes "id"; kind = type.BigInt; not_null = true; default = None } ∷ record { name = codes "u"; kind = type.BigInt; not_null = false; default = None } ∷ [];
+  key = 0 ∷ [];
+  indexes = record { name = codes "t_uq_1"; unique = true; columns = 1 ∷ [] } ∷ [];
+  checks = [];
+  foreign = record { name = codes "t_fk_1"; columns = 1 ∷ []; parent = codes "t"; parent_columns = codes "id" ∷ [] } ∷ [];
+}
 
 abbrev holding : List Cells → PlainTable
 holding rows = record { schema = schema; rows = rows; conflicts = []; violations = [] }

@@ -1,11 +1,11 @@
 -- What CREATE, DROP and ALTER make of a database, or their first refusal.
-use Rattle.std.specs.Prelude.{ℕ, ◌==◌, ◌-◌, ◌+◌, Bool, true, false, ◌&&◌, ◌||◌, not, nat_lt, if◌then◌else◌, List, [], ◌∷◌, ◌++◌, map, filter, length, take, drop, set, Option, None, Some, Result, Ok, Err, bytes_eq, slice_get, slice_index_or, unwrap_or, zip}
+use Rattle.std.specs.Prelude.{ℕ, suc, ◌==◌, ◌-◌, ◌+◌, Bool, true, false, ◌&&◌, ◌||◌, not, nat_lt, if◌then◌else◌, List, [], ◌∷◌, ◌++◌, map, filter, length, take, drop, set, Option, None, Some, Result, Ok, Err, bytes_eq, slice_get, slice_index_or, unwrap_or, zip}
 use Rattle.std.specs.List.{flat_map, list_any, list_all, enumerate_from, filter_map, insert, remove}
 use Rattle.std.specs.Option.{option_and_then, option_map, option_map_or, option_to_list, option_or}
 use Rattle.std.specs.Ordering.{nat_cmp}
 use Rattle.std.specs.declared.cmp.Ordering.{Ordering}
 use Rattle.std.specs.Cmp.Lexicographic.{slice_cmp}
-use Rattle.tuple_codec.specs.Rows.{Cells}
+use Rattle.tuple_codec.specs.Rows.{Cells, cell_at}
 use Rattle.tuple_codec.specs.declared.values.SqlType.{SqlType}
 use Rattle.tuple_codec.specs.declared.values.SqlType.TheVariants as type
 use Rattle.tuple_codec.specs.declared.values.Value.{Value}
@@ -15,7 +15,7 @@ use Rattle.schema_model.specs.declared.schemas.IndexDef.{IndexDef}
 use Rattle.schema_model.specs.declared.schemas.CheckDef.{CheckDef}
 use Rattle.schema_model.specs.declared.schemas.ForeignKey.{ForeignKey}
 use Rattle.schema_model.specs.declared.schemas.Schema.{Schema}
-use Rattle.schema_model.specs.Limits.{is_within_limits}
+use Rattle.schema_model.specs.Limits.{is_within_limits, most_tables}
 use Rattle.schema_model.specs.PlainTables.{PlainTable, NamedTable, PlainDatabase}
 use Rattle.sql_values.specs.Kinds.{kind_of, may_assign}
 use Rattle.sql_values.specs.Assigning.{stored}
@@ -31,6 +31,9 @@ use Rattle.sql_ast.specs.declared.tables.Attribute.{Attribute}
 use Rattle.sql_ast.specs.declared.tables.Attribute.TheVariants as attribute
 use Rattle.sql_ast.specs.declared.tables.ColumnElement.{ColumnElement}
 use Rattle.sql_ast.specs.declared.tables.ForeignKeyElement.{ForeignKeyElement}
+use Rattle.sql_ast.specs.declared.statements.Alter.{Alter}
+use Rattle.sql_ast.specs.declared.statements.AlterAction.{AlterAction}
+use Rattle.sql_ast.specs.declared.statements.AlterAction.TheVariants as action
 use Rattle.sql_rules.specs.Names.{contains}
 use Rattle.sql_rules.specs.Tables.{type_of, keys_column, is_key_mark}
 use Rattle.sql_rules.specs.Defaults.{default_of, is_not_null, refuses_null_after}
@@ -41,7 +44,7 @@ use Rattle.sql_text.specs.Canon.{text}
 use Rattle.expr_eval.specs.Binding.{Outcome, and_then, mismatch}
 use Rattle.expr_eval.specs.declared.scopes.ScopeColumn.{ScopeColumn}
 use Rattle.plain_sql.specs.Lists.{or_refuse, unless, each, in_order}
-use Rattle.plain_sql.specs.Answers.{is_null, cell_at, Meaning}
+use Rattle.plain_sql.specs.Answers.{Meaning}
 use Rattle.plain_sql.specs.Plans.{condition}
 use Rattle.plain_writes.specs.Violations.{Checks, table_in, is_called, own_scope, column_place, places_of, types_at, same_types}
 use Rattle.plain_writes.specs.Writes.{Effect, assigned, if_small, with_rows, replaced, on_table, standard}
@@ -134,11 +137,12 @@ schema_of create =
     let elements = create.elements in
     let columns = columns_of elements in
     record {
-        columns = columns;
-        key = places columns (flat_map key_names elements);
-        indexes = all_named (made_names create.table elements sort.Unique) (flat_map (indexes_in columns) elements);
-        checks = all_named (made_names create.table elements sort.Check) (flat_map checks_in elements);
-        foreign = all_named (made_names create.table elements sort.ForeignKey) (flat_map (foreign_in columns) elements) }
+      columns = columns;
+      key = places columns (flat_map key_names elements);
+      indexes = all_named (made_names create.table elements sort.Unique) (flat_map (indexes_in columns) elements);
+      checks = all_named (made_names create.table elements sort.Check) (flat_map checks_in elements);
+      foreign = all_named (made_names create.table elements sort.ForeignKey) (flat_map (foreign_in columns) elements);
+    }
 
 -- ---- CREATE
 
@@ -180,7 +184,7 @@ abbrev pub made : PlainDatabase → CreateTable → Schema → Outcome Effect
 made database create schema =
     and_then (each (condition (own_scope create.table schema)) (flat_map conditions_in create.elements)) (λ conditions.
     and_then (each (foreign_judged database create.table schema) schema.foreign) (λ parents.
-    unless (not (is_within_limits schema) || nat_lt 255 (length database)) 9010 (Ok (changed_to (with_table database create.table schema)))))
+    unless (not (is_within_limits schema) || nat_lt most_tables (suc (length database))) 9010 (Ok (changed_to (with_table database create.table schema)))))
 
 -- a table of that name is there
 abbrev pub is_there : PlainDatabase → List ℕ → Bool
@@ -207,12 +211,6 @@ drop_effect database drop =
 
 -- ---- ALTER
 
--- what sql_ast's `Alter` has to have beside the table
-pub data Action : Type 0 where
-  Add : ColumnElement → Action
-  Remove : List ℕ → Action
-  Modify : ColumnElement → Action
-
 abbrev pub redefined : ColumnElement → SqlType → Column
 redefined column type = typed_column column.name (refuses_null_after false column.attributes) column.attributes type
 
@@ -231,11 +229,12 @@ moved_foreign move foreign = record { name = foreign.name; columns = map move fo
 
 abbrev pub with_columns : Schema → List Column → (ℕ → ℕ) → Schema
 with_columns schema columns move = record {
-    columns = columns;
-    key = map move schema.key;
-    indexes = map (moved_index move) schema.indexes;
-    checks = schema.checks;
-    foreign = map (moved_foreign move) schema.foreign }
+  columns = columns;
+  key = map move schema.key;
+  indexes = map (moved_index move) schema.indexes;
+  checks = schema.checks;
+  foreign = map (moved_foreign move) schema.foreign;
+}
 
 abbrev pub unmoved : ℕ → ℕ
 unmoved place = place
@@ -275,7 +274,7 @@ abbrev pub refilled : PlainDatabase → List ℕ → PlainTable → Schema → (
 refilled database name table schema change =
     and_then (each (λ row. and_then (change row) (if_small schema)) table.rows) (λ rows.
     unless (not (is_within_limits schema)) 9010
-        (Ok (changed_to (replaced name (record { schema = schema; rows = rows; conflicts = []; violations = [] }) database))))
+    (Ok (changed_to (replaced name (record { schema = schema; rows = rows; conflicts = []; violations = [] }) database))))
 
 abbrev pub with_last : Column → Cells → Outcome Cells
 with_last column row = and_then (standard column) (λ value. Ok (row ++ value ∷ []))
@@ -308,18 +307,18 @@ free_place checks database name schema column =
 abbrev pub has_column : Schema → List ℕ → Bool
 has_column schema name = list_any (λ column. bytes_eq column.name name) schema.columns
 
-abbrev pub acted : Checks → PlainDatabase → List ℕ → PlainTable → Action → Outcome Effect
-acted checks database name table (Add column) =
+abbrev pub acted : Checks → PlainDatabase → List ℕ → PlainTable → AlterAction → Outcome Effect
+acted checks database name table (action.Add column) =
     unless (has_column table.schema column.name) 9013 (and_then (column_made column) (added database name table))
-acted checks database name table (Remove column) =
+acted checks database name table (action.Drop column) =
     and_then (free_place checks database name table.schema column) (removed database name table)
-acted checks database name table (Modify column) =
+acted checks database name table (action.Modify column) =
     and_then (free_place checks database name table.schema column.name) (λ place. and_then (column_made column) (modified database name table place))
 
 abbrev pub is_some_of : {A : Type 0} → List A → Bool
 is_some_of xs = nat_lt 0 (length xs)
 
-abbrev pub alter_effect : Checks → PlainDatabase → List ℕ → Action → Outcome Effect
-alter_effect checks database name action =
-    on_table database name (λ table.
-    unless (is_some_of table.conflicts || is_some_of table.violations) 9011 (acted checks database name table action))
+abbrev pub alter_effect : Checks → PlainDatabase → Alter → Outcome Effect
+alter_effect checks database alter =
+    on_table database alter.table (λ table.
+    unless (is_some_of table.conflicts || is_some_of table.violations) 9011 (acted checks database alter.table table alter.action))

@@ -4,6 +4,7 @@ use Rattle.schema_model.specs.PlainTables as plain
 use Rattle.schema_model.specs.PlainTables.{Conflict, PlainTable, Violation}
 use Rattle.plain_sql.specs.Plans.{meaning}
 use Rattle.plain_writes.specs.declared.breaking.Broken.{Broken}
+use Rattle.plain_writes.specs.declared.effects.Effect as effects
 use Rattle.plain_writes.specs.declared.inserting.Given.{Given}
 use Rattle.plain_writes.specs.declared.inserting.Given.TheVariants as told
 use Rattle.plain_writes.specs.declared.listing.Found as listing
@@ -12,7 +13,7 @@ use Rattle.plain_writes.specs.declared.tables.NamedTable.{NamedTable}
 use Rattle.plain_writes.specs.declared.tables.Table.{Table}
 use Rattle.plain_writes.specs.declared.updating.Setting.{Setting}
 use Rattle.plain_writes.specs.Violations.{Found}
-use Rattle.plain_writes.specs.Writes.{Assign, Said, Nothing, Worth}
+use Rattle.plain_writes.specs.Writes.{Assign, Effect, Said, Nothing, Worth}
 
 abbrev pub setting_seen : Setting → Assign
 setting_seen s = record { place = s.place; column = s.column; kind = s.value.kind; meaning = meaning s.value }
@@ -35,3 +36,6 @@ named_seen n = record { name = n.name; table = table_seen n.table }
 
 abbrev pub found_seen : listing.Found → Found
 found_seen f = record { table = f.table; violation = broken_seen f.violation }
+
+abbrev pub effect_seen : effects.Effect → Effect
+effect_seen e = record { database = map named_seen e.database; count = e.count }

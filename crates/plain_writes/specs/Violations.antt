@@ -3,7 +3,7 @@ use Rattle.std.specs.Prelude.{ℕ, ◌==◌, Bool, true, false, ◌&&◌, ◌||�
 use Rattle.std.specs.List.{flat_map, list_any, list_all, find, position, enumerate_from}
 use Rattle.std.specs.Option.{option_and_then, option_map, option_map_or, option_to_list}
 use Rattle.std.specs.Ordering.{is_eq}
-use Rattle.tuple_codec.specs.Rows.{Cells, key_cmp, key_of}
+use Rattle.tuple_codec.specs.Rows.{Cells, cell_at, key_of, same_cells}
 use Rattle.tuple_codec.specs.declared.values.SqlType.{SqlType}
 use Rattle.tuple_codec.specs.declared.values.SqlType.TheVariants as type
 use Rattle.tuple_codec.specs.declared.values.Value.{Value}
@@ -18,7 +18,7 @@ use Rattle.expr_eval.specs.Binding.{Outcome, and_then}
 use Rattle.expr_eval.specs.declared.scopes.ScopeColumn.{ScopeColumn}
 use Rattle.sql_ast.specs.declared.expressions.Expr.{Expr}
 use Rattle.plain_sql.specs.Lists.{in_order}
-use Rattle.plain_sql.specs.Answers.{Meaning, cell_at, given, is_null, same_cells}
+use Rattle.plain_sql.specs.Answers.{Meaning, given, is_null}
 use Rattle.plain_sql.specs.Plans.{condition}
 
 -- ---- names
@@ -129,10 +129,10 @@ of_column schema rows x = if x.1.not_null then broken schema rows 4 x.1.name (br
 abbrev pub violations_in : Checks → PlainDatabase → List ℕ → Schema → List Cells → List Violation
 violations_in checks database name schema rows =
     in_order violation_cmp (
-        flat_map (of_foreign database schema rows) schema.foreign
-        ++ flat_map (of_index schema rows) schema.indexes
-        ++ flat_map (of_check checks name schema rows) schema.checks
-        ++ flat_map (of_column schema rows) (enumerate_from 0 schema.columns))
+    flat_map (of_foreign database schema rows) schema.foreign
+    ++ flat_map (of_index schema rows) schema.indexes
+    ++ flat_map (of_check checks name schema rows) schema.checks
+    ++ flat_map (of_column schema rows) (enumerate_from 0 schema.columns))
 
 pub record Found : Type 0 where
   pub table : List ℕ

@@ -4,18 +4,17 @@ use Rattle.std.specs.List.{list_any, position, enumerate_from, range_with_len, c
 use Rattle.std.specs.Option.{option_and_then, option_map, option_map_or, option_to_list}
 use Rattle.std.specs.Ordering.{is_eq, on}
 use Rattle.std.specs.declared.cmp.Ordering.{Ordering}
-use Rattle.tuple_codec.specs.Rows.{Cells, key_cmp, key_of}
-use Rattle.tuple_codec.specs.KeyBytes.{key_bytes}
+use Rattle.tuple_codec.specs.Rows.{Cells, cell_at, key_cmp, same_cells}
 use Rattle.tuple_codec.specs.declared.values.Value.{Value}
 use Rattle.tuple_codec.specs.declared.values.Value.TheVariants as cell
 use Rattle.schema_model.specs.declared.schemas.Column.{Column}
 use Rattle.schema_model.specs.declared.schemas.IndexDef.{IndexDef}
 use Rattle.schema_model.specs.declared.schemas.Schema.{Schema}
-use Rattle.schema_model.specs.PlainTables.{PlainTable, NamedTable, PlainDatabase, primary_key, body_bytes}
+use Rattle.schema_model.specs.PlainTables.{PlainTable, NamedTable, PlainDatabase, primary_key}
+use Rattle.schema_model.specs.Limits.{is_row_within_limits, most_rows, most_tables}
 use Rattle.sql_values.specs.Kinds.{may_assign}
-use Rattle.sql_values.specs.Assigning.{stored}
+use Rattle.sql_values.specs.Assigning.{misfit_number, stored}
 use Rattle.sql_values.specs.declared.assigning.Misfit.{Misfit}
-use Rattle.sql_values.specs.declared.assigning.Misfit.TheVariants.{OutOfRange, NotNull, TooLong, Mismatch}
 use Rattle.sql_values.specs.declared.kinds.Kind.{Kind}
 use Rattle.sql_ast.specs.declared.expressions.Expr.{Expr}
 use Rattle.sql_ast.specs.declared.statements.Insert.{Insert}
@@ -29,7 +28,7 @@ use Rattle.expr_eval.specs.declared.bound.BoundExpr.{BoundExpr}
 use Rattle.expr_eval.specs.declared.scopes.ScopeColumn.{ScopeColumn}
 use Rattle.plain_writes.specs.declared.updating.Later.{Later}
 use Rattle.plain_sql.specs.Lists.{or_refuse, unless, each, in_order, repeats}
-use Rattle.plain_sql.specs.Answers.{Meaning, given, is_null, passes, cell_at, same_cells}
+use Rattle.plain_sql.specs.Answers.{Meaning, given, is_null, passes}
 use Rattle.plain_sql.specs.Plans.{condition, meaning}
 use Rattle.plain_writes.specs.Violations.{Checks, table_in, is_called, own_scope, column_place, first_violation}
 
@@ -40,15 +39,9 @@ pub record Effect : Type 0 where
 
 -- ---- cells and rows
 
-abbrev pub refusal_of : Misfit → ℕ
-refusal_of OutOfRange = 1264
-refusal_of NotNull = 1048
-refusal_of TooLong = 1406
-refusal_of Mismatch = 9001
-
 abbrev pub or_misfit : Result Value Misfit → Outcome Value
 or_misfit (Ok value) = Ok value
-or_misfit (Err misfit) = Err (refusal_of misfit)
+or_misfit (Err misfit) = Err (misfit_number misfit)
 
 abbrev pub assigned : Kind → Column → Value → Outcome Value
 assigned kind column value = or_misfit (stored kind column.kind column.not_null value)
@@ -84,7 +77,7 @@ effect_if None large effect = unless large 9010 (Ok effect)
 
 -- by new violations, then by the number of rows
 abbrev pub judged : Checks → PlainDatabase → List Cells → Effect → Outcome Effect
-judged checks old rows effect = effect_if (first_violation checks old effect.database) (nat_lt 10000000 (length rows)) effect
+judged checks old rows effect = effect_if (first_violation checks old effect.database) (nat_lt most_rows (length rows)) effect
 
 abbrev pub filled : Checks → PlainDatabase → List ℕ → PlainTable → ℕ → List Cells → Outcome Effect
 filled checks old name table count rows = judged checks old rows (record { database = replaced name (with_rows table rows) old; count = Some count })

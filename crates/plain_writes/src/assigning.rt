@@ -1,24 +1,13 @@
 ghost use Rattle.std.specs.Prelude.{◌≡◌, true};
 ghost use Rattle.tuple_codec.specs.Limits.{is_type};
 ghost use Rattle.plain_sql.specs.Gives.{Gives};
-ghost use Rattle.plain_writes.specs.Writes.{assigned, refusal_of, standard, taken};
+ghost use Rattle.plain_writes.specs.Writes.{assigned, standard, taken};
 
 use plain_sql::{Refused, is_null};
 use schema_model::Column;
-use sql_values::{Kind, Misfit, assign};
+use sql_values::{Kind, assign};
 use std::alloc::Global;
 use tuple_codec::{Value, copy_value};
-
-fn refusal_of(misfit: &Misfit) -> u16
-    ensures { result ≡ refusal_of misfit.now }
-{
-    match misfit {
-        Misfit::OutOfRange => 1264,
-        Misfit::NotNull => 1048,
-        Misfit::TooLong => 1406,
-        Misfit::Mismatch => 9001,
-    }
-}
 
 /// What a column keeps of a value of this kind.
 pub fn assigned(kind: &Kind, column: &Column, value: Value) -> Result<Value, Refused>
@@ -27,7 +16,7 @@ pub fn assigned(kind: &Kind, column: &Column, value: Value) -> Result<Value, Ref
 {
     match assign(kind, &column.kind, column.not_null, value) {
         Ok(value) => Ok(value),
-        Err(misfit) => Err(Refused::By(refusal_of(&misfit))),
+        Err(misfit) => Err(Refused::By(misfit.number())),
     }
 }
 

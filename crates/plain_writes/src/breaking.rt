@@ -1,14 +1,13 @@
-ghost use Rattle.std.specs.Prelude.{◌≡◌, IfOk, filter, map};
+ghost use Rattle.std.specs.Prelude.{◌≡◌, IfOk};
 ghost use Rattle.std.specs.List.{list_any};
-ghost use Rattle.plain_sql.specs.Answers.{same_cells};
+ghost use Rattle.tuple_codec.specs.Rows.{same_cells};
 ghost use Rattle.plain_writes.specs.Violations.{breaks_foreign, breaks_not_null, breaks_unique, is_twin, violation};
 ghost use Rattle.plain_writes.specs.Seen.{broken_seen};
 
-use crate::places::{are_same_at, is_null_at, is_whole_at, key_of};
-use plain_sql::same_cells;
+use crate::places::{are_same_at, is_null_at, is_whole_at};
 use schema_model::Schema;
 use std::alloc::{AllocError, Global};
-use tuple_codec::{Row, Sequence, Text, Value, copy_row};
+use tuple_codec::{Row, Text, Value, copy_row, key_of, same_cells};
 
 /// A row that breaks a constraint.
 #[derive(Drop)]
@@ -53,7 +52,12 @@ fn is_among(keys: &[Row], key: &[Value]) -> bool
 }
 
 /// Whether the cells there, none of which is NULL, are no key of the parent.
-pub fn breaks_foreign(alloc: Global, keys: &[Row], places: &[u8], row: &[Value]) -> Result<bool, AllocError>
+pub fn breaks_foreign(
+    alloc: Global,
+    keys: &[Row],
+    places: &[u8],
+    row: &[Value],
+) -> Result<bool, AllocError>
     ensures { IfOk result (λ breaks. breaks ≡ breaks_foreign keys.now places.now row.now) }
 {
     if !is_whole_at(places, row) {
@@ -64,7 +68,13 @@ pub fn breaks_foreign(alloc: Global, keys: &[Row], places: &[u8], row: &[Value])
 }
 
 /// The entry of a row that breaks this constraint.
-pub fn entry_of(alloc: Global, schema: &Schema, kind: u8, name: &[u8], row: &[Value]) -> Result<Broken, AllocError>
+pub fn entry_of(
+    alloc: Global,
+    schema: &Schema,
+    kind: u8,
+    name: &[u8],
+    row: &[Value],
+) -> Result<Broken, AllocError>
     ensures { IfOk result (λ found. broken_seen found ≡ violation schema.now kind name.now row.now) }
 {
     Ok(Broken {

@@ -3,8 +3,8 @@ ghost use Rattle.std.specs.Option.{option_map};
 ghost use Rattle.plain_sql.specs.Plans.{condition, meaning};
 ghost use Rattle.plain_writes.specs.Violations.{breaks_check, is_false, meaning_if, said_of};
 
-use plain_sql::{Refused, ask, condition};
 use expr_eval::{BoundExpr, ScopeColumn};
+use plain_sql::{Refused, ask, condition};
 use sql_ast::Expr;
 use std::alloc::{AllocError, Global};
 use tuple_codec::{Row, Value};
@@ -21,7 +21,11 @@ pub trait Reads {
 }
 
 /// The condition that a CHECK's text is, bound; None where it is none.
-pub fn check_of<R: Reads>(alloc: Global, scope: &[ScopeColumn], text: &[u8]) -> Result<Option<BoundExpr>, AllocError>
+pub fn check_of<R: Reads>(
+    alloc: Global,
+    scope: &[ScopeColumn],
+    text: &[u8],
+) -> Result<Option<BoundExpr>, AllocError>
     ensures { IfOk result (λ found. option_map meaning found ≡ said_of R.reading scope.now text.now) }
 {
     match R::read(alloc, text)? {
@@ -30,7 +34,11 @@ pub fn check_of<R: Reads>(alloc: Global, scope: &[ScopeColumn], text: &[u8]) -> 
     }
 }
 
-fn bound_check(alloc: Global, scope: &[ScopeColumn], expr: &Expr) -> Result<Option<BoundExpr>, AllocError>
+fn bound_check(
+    alloc: Global,
+    scope: &[ScopeColumn],
+    expr: &Expr,
+) -> Result<Option<BoundExpr>, AllocError>
     ensures { IfOk result (λ found. option_map meaning found ≡ meaning_if (condition scope.now expr.now)) }
 {
     match condition(alloc, scope, expr) {

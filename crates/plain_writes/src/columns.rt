@@ -18,7 +18,11 @@ pub fn column_place(schema: &Schema, name: &[u8]) -> Option<usize>
 }
 
 /// A table's columns as a CHECK, an UPDATE or a DELETE names them.
-pub fn own_scope(alloc: Global, name: &[u8], schema: &Schema) -> Result<Sequence<ScopeColumn>, AllocError>
+pub fn own_scope(
+    alloc: Global,
+    name: &[u8],
+    schema: &Schema,
+) -> Result<Sequence<ScopeColumn>, AllocError>
     ensures { IfOk result (λ scope. scope ≡ own_scope name.now schema.now) }
 {
     let mut scope = Sequence::new(alloc);

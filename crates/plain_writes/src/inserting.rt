@@ -4,10 +4,11 @@ ghost use Rattle.tuple_codec.specs.Limits.{is_type};
 ghost use Rattle.plain_sql.specs.Gives.{Gives, GivesBy};
 ghost use Rattle.plain_sql.specs.Lists.{each};
 ghost use Rattle.plain_writes.specs.Seen.{given_seen};
-ghost use Rattle.plain_writes.specs.Writes.{cell_said, entry_at, entry_said, named_place, new_cell, places_named, said_by, said_if, tuple_said};
+ghost use Rattle.plain_writes.specs.Writes.{cell_said, entry_at, entry_said, named_place, new_cell, new_row, places_named, said_by, said_if, tuple_said};
 
 use crate::assigning::{assigned, standard};
 use crate::columns::column_place;
+use crate::limits::is_large;
 use expr_eval::BoundExpr;
 use plain_sql::{Refused, ask, bound};
 use schema_model::{Column, Schema};
@@ -52,7 +53,13 @@ fn entry_said(alloc: Global, schema: &Schema, entry: &Entry, place: usize) -> Re
     }
 }
 
-fn entry_at(alloc: Global, schema: &Schema, places: &[usize], at: usize, entry: &Entry) -> Result<Given, Refused>
+fn entry_at(
+    alloc: Global,
+    schema: &Schema,
+    places: &[usize],
+    at: usize,
+    entry: &Entry,
+) -> Result<Given, Refused>
     ensures { GivesBy given_seen result (entry_at schema.now places.now (at, entry.now)) }
 {
     match places.get(at) {
@@ -61,7 +68,12 @@ fn entry_at(alloc: Global, schema: &Schema, places: &[usize], at: usize, entry: 
     }
 }
 
-fn tuple_said(alloc: Global, schema: &Schema, places: &[usize], tuple: &Tuple) -> Result<Sequence<Given>, Refused>
+fn tuple_said(
+    alloc: Global,
+    schema: &Schema,
+    places: &[usize],
+    tuple: &Tuple,
+) -> Result<Sequence<Given>, Refused>
     ensures { GivesBy (map given_seen) result (tuple_said schema.now places.now tuple.now) }
 {
     let entries = tuple.as_slice();
@@ -76,7 +88,12 @@ fn tuple_said(alloc: Global, schema: &Schema, places: &[usize], tuple: &Tuple) -
 }
 
 /// What each tuple says, up to the first refusal.
-pub fn tuples_said(alloc: Global, schema: &Schema, places: &[usize], tuples: &[Tuple]) -> Result<Sequence<Sequence<Given>>, Refused>
+pub fn tuples_said(
+    alloc: Global,
+    schema: &Schema,
+    places: &[usize],
+    tuples: &[Tuple],
+) -> Result<Sequence<Sequence<Given>>, Refused>
     ensures { GivesBy (map (map given_seen)) result (each (tuple_said schema.now places.now) tuples.now) }
 {
     let mut all = Sequence::new(alloc);
@@ -95,7 +112,11 @@ fn named_place(schema: &Schema, name: &[u8]) -> Result<usize, Refused>
     }
 }
 
-fn places_of_names(alloc: Global, schema: &Schema, names: &[Text]) -> Result<Sequence<usize>, Refused>
+fn places_of_names(
+    alloc: Global,
+    schema: &Schema,
+    names: &[Text],
+) -> Result<Sequence<usize>, Refused>
     ensures { Gives result (each (named_place schema.now) names.now) }
 {
     let mut places = Sequence::new(alloc);
@@ -116,7 +137,11 @@ fn all_places(alloc: Global, count: usize) -> Result<Sequence<usize>, AllocError
 }
 
 /// The columns that an INSERT names, by their places; all, in their order, where it names none.
-pub fn places_named(alloc: Global, schema: &Schema, columns: &Option<Sequence<Text>>) -> Result<Sequence<usize>, Refused>
+pub fn places_named(
+    alloc: Global,
+    schema: &Schema,
+    columns: &Option<Sequence<Text>>,
+) -> Result<Sequence<usize>, Refused>
     ensures { Gives result (places_named schema.now columns.now) }
 {
     match columns {
@@ -139,7 +164,13 @@ fn cell_given(alloc: Global, column: &Column, given: &Given) -> Result<Value, Re
 }
 
 #[tactic(auto, using(Rattle.std.proofs.lemmas.Option.slice_get-map))]
-fn new_cell(alloc: Global, places: &[usize], said: &[Given], place: usize, column: &Column) -> Result<Value, Refused>
+fn new_cell(
+    alloc: Global,
+    places: &[usize],
+    said: &[Given],
+    place: usize,
+    column: &Column,
+) -> Result<Value, Refused>
     requires { is_type column.now.kind ≡ true }
     ensures { Gives result (new_cell places.now (map given_seen said.now) (place, column.now)) }
 {
@@ -153,7 +184,12 @@ fn new_cell(alloc: Global, places: &[usize], said: &[Given], place: usize, colum
 }
 
 /// A row's cells in the table's order of columns, up to the first refusal.
-pub fn new_cells(alloc: Global, schema: &Schema, places: &[usize], said: &[Given]) -> Result<Row, Refused>
+fn new_cells(
+    alloc: Global,
+    schema: &Schema,
+    places: &[usize],
+    said: &[Given],
+) -> Result<Row, Refused>
     requires { list_all (λ column. is_type column.kind) schema.now.columns ≡ true }
     ensures { Gives result (each (new_cell places.now (map given_seen said.now)) (enumerate_from 0 schema.now.columns)) }
 {
@@ -163,4 +199,33 @@ pub fn new_cells(alloc: Global, schema: &Schema, places: &[usize], said: &[Given
         cells.push(new_cell(alloc, places, said, place, column)?)?;
     }
     Ok(cells)
+}
+
+/// A row with its cells, unless it is longer than it may be.
+fn new_row(alloc: Global, schema: &Schema, places: &[usize], said: &[Given]) -> Result<Row, Refused>
+    requires { list_all (λ column. is_type column.kind) schema.now.columns ≡ true }
+    ensures { Gives result (new_row schema.now places.now (map given_seen said.now)) }
+{
+    let row = new_cells(alloc, schema, places, said)?;
+    if is_large(alloc, schema, row.as_slice())? {
+        return Err(Refused::By(9010));
+    }
+    Ok(row)
+}
+
+/// The rows that an INSERT brings, up to the first refusal.
+pub fn new_rows(
+    alloc: Global,
+    schema: &Schema,
+    places: &[usize],
+    said: &[Sequence<Given>],
+) -> Result<Sequence<Row>, Refused>
+    requires { list_all (λ column. is_type column.kind) schema.now.columns ≡ true }
+    ensures { Gives result (each (new_row schema.now places.now) (map (map given_seen) said.now)) }
+{
+    let mut rows = Sequence::new(alloc);
+    for one in said {
+        rows.push(new_row(alloc, schema, places, one.as_slice())?)?;
+    }
+    Ok(rows)
 }

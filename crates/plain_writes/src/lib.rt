@@ -2,11 +2,15 @@
 #![tactic(auto)]
 
 mod assigning;
+mod binding;
 mod breaking;
 mod checking;
 mod columns;
+mod copies;
+mod effects;
 mod inserting;
 mod keyed;
+mod limits;
 mod listing;
 mod parents;
 mod places;
@@ -16,5 +20,6 @@ mod violating;
 
 pub use breaking::Broken;
 pub use checking::Reads;
+pub use effects::{Effect, delete_effect, insert_effect, update_effect};
 pub use listing::{Found, first_violation, violations};
 pub use tables::{Dispute, NamedTable, Table};

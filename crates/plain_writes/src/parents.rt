@@ -22,7 +22,11 @@ pub fn widened(alloc: Global, places: &[u8]) -> Result<Sequence<usize>, AllocErr
 }
 
 /// The types of the columns at these places.
-pub fn types_at(alloc: Global, schema: &Schema, places: &[usize]) -> Result<Sequence<SqlType>, AllocError>
+pub fn types_at(
+    alloc: Global,
+    schema: &Schema,
+    places: &[usize],
+) -> Result<Sequence<SqlType>, AllocError>
     ensures { IfOk result (λ types. types ≡ types_at schema.now places.now) }
 {
     let mut types = Sequence::new(alloc);
@@ -59,7 +63,11 @@ pub fn same_types(a: &[SqlType], b: &[SqlType]) -> bool
 }
 
 /// Where these columns stand, if all of them are there.
-pub fn places_of(alloc: Global, schema: &Schema, names: &[Text]) -> Result<Option<Sequence<usize>>, AllocError>
+pub fn places_of(
+    alloc: Global,
+    schema: &Schema,
+    names: &[Text],
+) -> Result<Option<Sequence<usize>>, AllocError>
     ensures { IfOk result (λ places. places ≡ places_of schema.now names.now) }
 {
     let mut places = Sequence::new(alloc);
@@ -82,7 +90,13 @@ fn keys_of_rows(alloc: Global, places: &[usize], rows: &[Row]) -> Result<Sequenc
     Ok(keys)
 }
 
-fn keys_at(alloc: Global, schema: &Schema, foreign: &ForeignKey, parent: &Table, places: &[usize]) -> Result<Sequence<Row>, AllocError>
+fn keys_at(
+    alloc: Global,
+    schema: &Schema,
+    foreign: &ForeignKey,
+    parent: &Table,
+    places: &[usize],
+) -> Result<Sequence<Row>, AllocError>
     ensures { IfOk result (λ keys. keys ≡ keys_at schema.now foreign.now (table_seen parent.now) places.now) }
 {
     let own = widened(alloc, foreign.columns.as_slice())?;
@@ -95,7 +109,12 @@ fn keys_at(alloc: Global, schema: &Schema, foreign: &ForeignKey, parent: &Table,
     }
 }
 
-fn keys_of_parent(alloc: Global, schema: &Schema, foreign: &ForeignKey, parent: &Table) -> Result<Sequence<Row>, AllocError>
+fn keys_of_parent(
+    alloc: Global,
+    schema: &Schema,
+    foreign: &ForeignKey,
+    parent: &Table,
+) -> Result<Sequence<Row>, AllocError>
     ensures { IfOk result (λ keys. keys ≡ keys_of_parent schema.now foreign.now (table_seen parent.now)) }
 {
     match places_of(alloc, &parent.schema, foreign.parent_columns.as_slice())? {
@@ -105,7 +124,12 @@ fn keys_of_parent(alloc: Global, schema: &Schema, foreign: &ForeignKey, parent: 
 }
 
 /// What the parent's rows have in the columns that a foreign key names; nothing where the table, a column or a type is another.
-pub fn parent_keys(alloc: Global, database: &[NamedTable], schema: &Schema, foreign: &ForeignKey) -> Result<Sequence<Row>, AllocError>
+pub fn parent_keys(
+    alloc: Global,
+    database: &[NamedTable],
+    schema: &Schema,
+    foreign: &ForeignKey,
+) -> Result<Sequence<Row>, AllocError>
     ensures { IfOk result (λ keys. keys ≡ parent_keys (map named_seen database.now) schema.now foreign.now) }
 {
     match table_in(database, foreign.parent.as_slice()) {

@@ -5,15 +5,16 @@ ghost use Rattle.plain_sql.specs.Lists.{each};
 ghost use Rattle.plain_sql.specs.Gives.{Gives};
 ghost use Rattle.plain_sql.specs.Plans.{meaning};
 ghost use Rattle.plain_writes.specs.Seen.{setting_seen};
-ghost use Rattle.plain_writes.specs.Writes.{assigns, if_changed, keeps_null, keeps_null_at, row_after, turned, untouched};
+ghost use Rattle.plain_writes.specs.Writes.{assigns, if_changed, keeps_null, keeps_null_at, row_after, stays, turned, turned_small, untouched};
 
-use crate::places::is_null_at;
-use plain_sql::{Refused, ask, passes, same_cells};
-use expr_eval::BoundExpr;
 use crate::assigning::assigned;
+use crate::limits::is_large;
+use crate::places::is_null_at;
+use expr_eval::BoundExpr;
+use plain_sql::{Refused, ask, passes};
 use schema_model::{Column, Schema};
 use std::alloc::Global;
-use tuple_codec::{Row, Sequence, Value, copy_row};
+use tuple_codec::{Row, Sequence, Value, copy_row, same_cells};
 
 /// A column that an UPDATE sets, and to what.
 #[derive(Drop)]
@@ -91,7 +92,13 @@ fn untouched(alloc: Global, row: &Row) -> Result<Later, Refused>
     })
 }
 
-fn if_changed(alloc: Global, schema: &Schema, settings: &[Setting], old: &Row, new: Row) -> Result<Later, Refused>
+fn if_changed(
+    alloc: Global,
+    schema: &Schema,
+    settings: &[Setting],
+    old: &Row,
+    new: Row,
+) -> Result<Later, Refused>
     ensures { Gives result (if_changed schema.now (map setting_seen settings.now) old.now new) }
 {
     if same_cells(old.as_slice(), new.as_slice()) {
@@ -100,11 +107,20 @@ fn if_changed(alloc: Global, schema: &Schema, settings: &[Setting], old: &Row, n
     if keeps_null(schema, settings, new.as_slice()) {
         return Err(Refused::By(1048));
     }
-    Ok(Later { row: new, is_new: true })
+    Ok(Later {
+        row: new,
+        is_new: true,
+    })
 }
 
 /// A row after the UPDATE; WHERE is evaluated just before its cells.
-pub fn turned(alloc: Global, schema: &Schema, tests: &[BoundExpr], settings: &[Setting], row: &Row) -> Result<Later, Refused>
+pub fn turned(
+    alloc: Global,
+    schema: &Schema,
+    tests: &[BoundExpr],
+    settings: &[Setting],
+    row: &Row,
+) -> Result<Later, Refused>
     requires { list_all (λ one. is_type one.column.kind) settings.now ≡ true }
     ensures { Gives result (turned schema.now (map meaning tests.now) (map setting_seen settings.now) row.now) }
 {
@@ -115,14 +131,62 @@ pub fn turned(alloc: Global, schema: &Schema, tests: &[BoundExpr], settings: &[S
     if_changed(alloc, schema, settings, row, new)
 }
 
-/// Each row after the UPDATE, up to the first refusal.
-pub fn all_turned(alloc: Global, schema: &Schema, tests: &[BoundExpr], settings: &[Setting], rows: &[Row]) -> Result<Sequence<Later>, Refused>
+fn turned_small(
+    alloc: Global,
+    schema: &Schema,
+    tests: &[BoundExpr],
+    settings: &[Setting],
+    row: &Row,
+) -> Result<Later, Refused>
     requires { list_all (λ one. is_type one.column.kind) settings.now ≡ true }
-    ensures { Gives result (each (turned schema.now (map meaning tests.now) (map setting_seen settings.now)) rows.now) }
+    ensures { Gives result (turned_small schema.now (map meaning tests.now) (map setting_seen settings.now) row.now) }
+{
+    let later = turned(alloc, schema, tests, settings, row)?;
+    if later.is_new && is_large(alloc, schema, later.row.as_slice())? {
+        return Err(Refused::By(9010));
+    }
+    Ok(later)
+}
+
+/// Each row after the UPDATE, up to the first refusal.
+pub fn all_turned(
+    alloc: Global,
+    schema: &Schema,
+    tests: &[BoundExpr],
+    settings: &[Setting],
+    rows: &[Row],
+) -> Result<Sequence<Later>, Refused>
+    requires { list_all (λ one. is_type one.column.kind) settings.now ≡ true }
+    ensures { Gives result (each (turned_small schema.now (map meaning tests.now) (map setting_seen settings.now)) rows.now) }
 {
     let mut all = Sequence::new(alloc);
     for row in rows {
-        all.push(turned(alloc, schema, tests, settings, row)?)?;
+        all.push(turned_small(alloc, schema, tests, settings, row)?)?;
+    }
+    Ok(all)
+}
+
+fn stays(alloc: Global, tests: &[BoundExpr], row: &Row) -> Result<Later, Refused>
+    ensures { Gives result (stays (map meaning tests.now) row.now) }
+{
+    let chosen = passes(alloc, tests, row)?;
+    Ok(Later {
+        row: copy_row(alloc, row.as_slice())?,
+        is_new: chosen,
+    })
+}
+
+/// Each row, and whether a DELETE takes it, up to the first refusal.
+pub fn all_chosen(
+    alloc: Global,
+    tests: &[BoundExpr],
+    rows: &[Row],
+) -> Result<Sequence<Later>, Refused>
+    ensures { Gives result (each (stays (map meaning tests.now)) rows.now) }
+{
+    let mut all = Sequence::new(alloc);
+    for row in rows {
+        all.push(stays(alloc, tests, row)?)?;
     }
     Ok(all)
 }

@@ -17,7 +17,13 @@ use std::alloc::{AllocError, Global};
 use tuple_codec::{Row, Sequence};
 
 /// The rows that break a foreign key, whose parent has these keys.
-fn of_foreign(alloc: Global, keys: &[Row], schema: &Schema, rows: &[Row], foreign: &ForeignKey) -> Result<Sequence<Broken>, AllocError>
+fn of_foreign(
+    alloc: Global,
+    keys: &[Row],
+    schema: &Schema,
+    rows: &[Row],
+    foreign: &ForeignKey,
+) -> Result<Sequence<Broken>, AllocError>
     ensures { IfOk result (λ found. map broken_seen found ≡ broken schema.now rows.now 1 foreign.now.name (breaks_foreign keys.now foreign.now.columns)) }
 {
     let mut found = Sequence::new(alloc);
@@ -30,7 +36,12 @@ fn of_foreign(alloc: Global, keys: &[Row], schema: &Schema, rows: &[Row], foreig
 }
 
 /// The rows that break a unique index.
-fn of_index(alloc: Global, schema: &Schema, rows: &[Row], index: &IndexDef) -> Result<Sequence<Broken>, AllocError>
+fn of_index(
+    alloc: Global,
+    schema: &Schema,
+    rows: &[Row],
+    index: &IndexDef,
+) -> Result<Sequence<Broken>, AllocError>
     ensures { IfOk result (λ found. map broken_seen found ≡ of_index schema.now rows.now index.now) }
 {
     let mut found = Sequence::new(alloc);
@@ -44,7 +55,11 @@ fn of_index(alloc: Global, schema: &Schema, rows: &[Row], index: &IndexDef) -> R
     Ok(found)
 }
 
-pub fn of_indexes(alloc: Global, schema: &Schema, rows: &[Row]) -> Result<Sequence<Broken>, AllocError>
+pub fn of_indexes(
+    alloc: Global,
+    schema: &Schema,
+    rows: &[Row],
+) -> Result<Sequence<Broken>, AllocError>
     ensures { IfOk result (λ found. map broken_seen found ≡ flat_map (of_index schema.now rows.now) schema.now.indexes) }
 {
     let mut found = Sequence::new(alloc);
@@ -57,7 +72,13 @@ pub fn of_indexes(alloc: Global, schema: &Schema, rows: &[Row]) -> Result<Sequen
 }
 
 /// The rows with NULL in a NOT NULL column.
-fn of_column(alloc: Global, schema: &Schema, rows: &[Row], place: usize, column: &Column) -> Result<Sequence<Broken>, AllocError>
+fn of_column(
+    alloc: Global,
+    schema: &Schema,
+    rows: &[Row],
+    place: usize,
+    column: &Column,
+) -> Result<Sequence<Broken>, AllocError>
     ensures { IfOk result (λ found. map broken_seen found ≡ of_column schema.now rows.now (place, column.now)) }
 {
     let mut found = Sequence::new(alloc);
@@ -71,7 +92,11 @@ fn of_column(alloc: Global, schema: &Schema, rows: &[Row], place: usize, column:
     Ok(found)
 }
 
-pub fn of_columns(alloc: Global, schema: &Schema, rows: &[Row]) -> Result<Sequence<Broken>, AllocError>
+pub fn of_columns(
+    alloc: Global,
+    schema: &Schema,
+    rows: &[Row],
+) -> Result<Sequence<Broken>, AllocError>
     ensures { IfOk result (λ found. map broken_seen found ≡ flat_map (of_column schema.now rows.now) (enumerate_from 0 schema.now.columns)) }
 {
     let mut found = Sequence::new(alloc);
@@ -84,7 +109,13 @@ pub fn of_columns(alloc: Global, schema: &Schema, rows: &[Row]) -> Result<Sequen
 }
 
 /// The rows on which a CHECK is false.
-fn of_check<R: Reads>(alloc: Global, name: &[u8], schema: &Schema, rows: &[Row], check: &CheckDef) -> Result<Sequence<Broken>, AllocError>
+fn of_check<R: Reads>(
+    alloc: Global,
+    name: &[u8],
+    schema: &Schema,
+    rows: &[Row],
+    check: &CheckDef,
+) -> Result<Sequence<Broken>, AllocError>
     ensures { IfOk result (λ found. map broken_seen found ≡ of_check (checks_by R.reading) name.now schema.now rows.now check.now) }
 {
     let scope = own_scope(alloc, name, schema)?;
@@ -92,7 +123,13 @@ fn of_check<R: Reads>(alloc: Global, name: &[u8], schema: &Schema, rows: &[Row],
     broken_by(alloc, &said, schema, rows, check)
 }
 
-fn broken_by(alloc: Global, said: &Option<BoundExpr>, schema: &Schema, rows: &[Row], check: &CheckDef) -> Result<Sequence<Broken>, AllocError>
+fn broken_by(
+    alloc: Global,
+    said: &Option<BoundExpr>,
+    schema: &Schema,
+    rows: &[Row],
+    check: &CheckDef,
+) -> Result<Sequence<Broken>, AllocError>
     ensures { IfOk result (λ found. map broken_seen found ≡ broken schema.now rows.now 3 check.now.name (breaks_check (option_map meaning said.now))) }
 {
     let mut found = Sequence::new(alloc);
@@ -104,7 +141,12 @@ fn broken_by(alloc: Global, said: &Option<BoundExpr>, schema: &Schema, rows: &[R
     Ok(found)
 }
 
-pub fn of_checks<R: Reads>(alloc: Global, name: &[u8], schema: &Schema, rows: &[Row]) -> Result<Sequence<Broken>, AllocError>
+pub fn of_checks<R: Reads>(
+    alloc: Global,
+    name: &[u8],
+    schema: &Schema,
+    rows: &[Row],
+) -> Result<Sequence<Broken>, AllocError>
     ensures { IfOk result (λ found. map broken_seen found ≡ flat_map (of_check (checks_by R.reading) name.now schema.now rows.now) schema.now.checks) }
 {
     let mut found = Sequence::new(alloc);
@@ -117,14 +159,25 @@ pub fn of_checks<R: Reads>(alloc: Global, name: &[u8], schema: &Schema, rows: &[
 }
 
 /// The rows that break a foreign key, by what the parent has in this database.
-fn of_foreign_in(alloc: Global, database: &[NamedTable], schema: &Schema, rows: &[Row], foreign: &ForeignKey) -> Result<Sequence<Broken>, AllocError>
+fn of_foreign_in(
+    alloc: Global,
+    database: &[NamedTable],
+    schema: &Schema,
+    rows: &[Row],
+    foreign: &ForeignKey,
+) -> Result<Sequence<Broken>, AllocError>
     ensures { IfOk result (λ found. map broken_seen found ≡ of_foreign (map named_seen database.now) schema.now rows.now foreign.now) }
 {
     let keys = parent_keys(alloc, database, schema, foreign)?;
     of_foreign(alloc, keys.as_slice(), schema, rows, foreign)
 }
 
-pub fn of_foreigns(alloc: Global, database: &[NamedTable], schema: &Schema, rows: &[Row]) -> Result<Sequence<Broken>, AllocError>
+pub fn of_foreigns(
+    alloc: Global,
+    database: &[NamedTable],
+    schema: &Schema,
+    rows: &[Row],
+) -> Result<Sequence<Broken>, AllocError>
     ensures { IfOk result (λ found. map broken_seen found ≡ flat_map (of_foreign (map named_seen database.now) schema.now rows.now) schema.now.foreign) }
 {
     let mut found = Sequence::new(alloc);

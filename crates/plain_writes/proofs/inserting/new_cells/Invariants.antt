@@ -9,6 +9,7 @@ use Rattle.plain_writes.proofs.inserting.new_cells.Given as goal
 
 abbrev pub invariant-loop-place : goal.invariant-loop-place
 invariant-loop-place l = record {
-    types : list_all (λ column. is_type column.kind) (drop l.place l.columns) ≡ true;
-    rest : each (new_cell l.places (map given_seen l.said)) (enumerate_from 0 l.columns)
-        ≡ and_then (each (new_cell l.places (map given_seen l.said)) (enumerate_from l.place (drop l.place l.columns))) (λ more. Ok (l.cells ++ more)); }
+  types : list_all (λ column. is_type column.kind) (drop l.place l.columns) ≡ true;
+  rest : each (new_cell l.places (map given_seen l.said)) (enumerate_from 0 l.columns)
+      ≡ and_then (each (new_cell l.places (map given_seen l.said)) (enumerate_from l.place (drop l.place l.columns))) (λ more. Ok (l.cells ++ more));
+}
