@@ -1,4 +1,3 @@
 mod Vectors
-mod SchemaVectors
 pub mod OrderLemmas
-pub mod TypedLemmas
+pub mod PlaceLemmas

@@ -1,5 +1,4 @@
 pub mod Violations
 pub mod Writes
-pub mod Schemas
 pub mod Seen
 pub mod Typed

@@ -38,7 +38,7 @@ fn assign_to(
     })
 }
 
-#[tactic(auto, using(crate::proofs::TypedLemmas::all_at))]
+#[tactic(auto, using(crate::proofs::PlaceLemmas::all_at))]
 fn bound_assignment(
     alloc: Global,
     schema: &Schema,

@@ -163,7 +163,7 @@ fn cell_given(alloc: Global, column: &Column, given: &Given) -> Result<Value, Re
     }
 }
 
-#[tactic(auto, using(Rattle.std.proofs.lemmas.Option.slice_get-map))]
+#[tactic(auto, using(crate::proofs::PlaceLemmas::given_at))]
 fn new_cell(
     alloc: Global,
     places: &[usize],

@@ -18,7 +18,7 @@ use Rattle.sql_ast.specs.declared.statements.Delete.{Delete}
 use Rattle.sql_ast.specs.declared.statements.AlterAction.TheVariants as action
 use Rattle.plain_writes.specs.Violations.{Checks}
 use Rattle.plain_writes.specs.Writes.{insert_effect, delete_effect}
-use Rattle.plain_writes.specs.Schemas.{schema_of, create_effect, drop_effect, alter_effect, changed_to, empty_table}
+use Rattle.plain_schemas.specs.Schemas.{schema_of, create_effect, drop_effect, alter_effect, changed_to, empty_table}
 
 -- CREATE TABLE t (id BIGINT PRIMARY KEY, u INT UNIQUE DEFAULT 7, FOREIGN KEY (u) REFERENCES t (id))
 abbrev create : CreateTable
