@@ -1,3 +1,1 @@
 mod Vectors
-pub mod OrderLemmas
-pub mod PlaceLemmas

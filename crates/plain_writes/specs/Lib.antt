@@ -1,4 +1,2 @@
 pub mod Violations
 pub mod Writes
-pub mod Seen
-pub mod Typed

@@ -1,2 +1,0 @@
-//! What CREATE, DROP and ALTER make of one database: definitions, on which their code will stand.
-#![tactic(auto)]
