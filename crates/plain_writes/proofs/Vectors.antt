@@ -1,15 +1,15 @@
 -- Worked examples.
-use Rattle.std.proofs.Common.{◌≡◌, refl, codes, ℕ, List, [], ◌∷◌, true, false, Option, None, Some, Ok, Err, pos, Bool, slice_index_or}
+use Rattle.std.proofs.Common.{◌≡◌, refl, codes, ℕ, List, [], ◌∷◌, true, false, None, Some, Ok, Err, pos}
 use Rattle.tuple_codec.specs.Rows.{Cells, cell_at}
 use Rattle.tuple_codec.specs.declared.values.Value.{Value}
 use Rattle.tuple_codec.specs.declared.values.Value.TheVariants as cell
 use Rattle.tuple_codec.specs.declared.values.SqlType.TheVariants as type
 use Rattle.sql_values.specs.declared.kinds.Kind.TheVariants as kind
 use Rattle.schema_model.specs.declared.schemas.Schema.{Schema}
-use Rattle.schema_model.specs.PlainTables.{PlainTable, NamedTable, PlainDatabase}
+use Rattle.schema_model.specs.PlainTables.{PlainTable, PlainDatabase}
 use Rattle.plain_sql.specs.Answers.{given, Meaning}
 use Rattle.plain_writes.specs.Violations.{Checks, Found, violations, first_violation}
-use Rattle.plain_writes.specs.Writes.{Assign, result_of, turned, row_after, by_key, new_row, Worth, Nothing}
+use Rattle.plain_writes.specs.Writes.{Assign, result_of, turned, row_after, by_key, new_row, Worth}
 
 -- rows of two whole numbers
 abbrev n : ℕ → Value

@@ -1,17 +1,16 @@
 -- What INSERT, UPDATE and DELETE make of a database, or their first refusal.
-use Rattle.std.specs.Prelude.{ℕ, ◌==◌, ◌-◌, Bool, true, false, ◌&&◌, ◌||◌, not, nat_lt, if◌then◌else◌, List, [], ◌∷◌, ◌++◌, map, filter, length, set, Option, None, Some, Result, Ok, Err, bytes_eq, slice_get, slice_index_or, zip, unwrap_or}
+use Rattle.std.specs.Prelude.{ℕ, ◌==◌, Bool, true, false, ◌&&◌, not, nat_lt, if◌then◌else◌, List, [], ◌∷◌, ◌++◌, map, filter, length, set, Option, None, Some, Result, Ok, Err, slice_get, unwrap_or}
 use Rattle.std.specs.List.{list_any, position, enumerate_from, range_with_len, count_by}
-use Rattle.std.specs.Option.{option_and_then, option_map, option_map_or, option_to_list}
-use Rattle.std.specs.Ordering.{is_eq, on}
+use Rattle.std.specs.Option.{option_and_then, option_to_list}
+use Rattle.std.specs.Ordering.{on}
 use Rattle.std.specs.declared.cmp.Ordering.{Ordering}
 use Rattle.tuple_codec.specs.Rows.{Cells, cell_at, key_cmp, same_cells}
 use Rattle.tuple_codec.specs.declared.values.Value.{Value}
 use Rattle.tuple_codec.specs.declared.values.Value.TheVariants as cell
 use Rattle.schema_model.specs.declared.schemas.Column.{Column}
-use Rattle.schema_model.specs.declared.schemas.IndexDef.{IndexDef}
 use Rattle.schema_model.specs.declared.schemas.Schema.{Schema}
 use Rattle.schema_model.specs.PlainTables.{PlainTable, NamedTable, PlainDatabase, primary_key}
-use Rattle.schema_model.specs.Limits.{is_row_within_limits, most_rows, most_tables}
+use Rattle.schema_model.specs.Limits.{is_row_within_limits, most_rows}
 use Rattle.sql_values.specs.Kinds.{may_assign}
 use Rattle.sql_values.specs.Assigning.{misfit_number, stored}
 use Rattle.sql_values.specs.declared.assigning.Misfit.{Misfit}
