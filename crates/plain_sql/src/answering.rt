@@ -1,0 +1,174 @@
+ghost use Rattle.std.specs.Prelude.{◌≡◌, IfOk, map};
+ghost use Rattle.sql_values.specs.Kinds.{column_type};
+ghost use Rattle.plain_sql.specs.Answers.{answered, answered_of, are_too_many, arranged, cells_shown, headed, keys_shown, once_if, ranked};
+ghost use Rattle.plain_sql.specs.Gives.{Gives};
+ghost use Rattle.plain_sql.specs.Lists.{each};
+ghost use Rattle.plain_sql.specs.Plans.{answer, query_on};
+ghost use Rattle.plain_sql.specs.Seen.{heading_seen, key_seen, plan_seen};
+
+use crate::combining::kept;
+use crate::faults::Refused;
+use crate::grouping::groups;
+use crate::items::Heading;
+use crate::planning::{Plan, planned, planned_alone};
+use crate::ranking::{Rank, Sorter, cut, once, sorted};
+use crate::shown::cell_of;
+use crate::sources::{Known, Read, scope_of, sources_read};
+use sql_ast::{Query, Select};
+use std::alloc::{AllocError, Global};
+use tuple_codec::{Answer, Row, Sequence, SqlType, Text};
+
+#[tactic(auto, unfolding(crate::specs::Answers::cells_shown))]
+fn cells_of(alloc: Global, headings: &[Heading], rows: &[Row]) -> Result<Row, Refused>
+    ensures { Gives result (cells_shown (map heading_seen headings.now) rows.now) }
+{
+    let mut cells = Sequence::new(alloc);
+    for heading in headings {
+        cells.push(cell_of(alloc, &heading.shown, rows)?)?;
+    }
+    Ok(cells)
+}
+
+#[tactic(auto, unfolding(crate::specs::Answers::keys_shown))]
+fn keys_of(alloc: Global, keys: &[Sorter], rows: &[Row]) -> Result<Row, Refused>
+    ensures { Gives result (keys_shown (map key_seen keys.now) rows.now) }
+{
+    let mut cells = Sequence::new(alloc);
+    for key in keys {
+        cells.push(cell_of(alloc, &key.shown, rows)?)?;
+    }
+    Ok(cells)
+}
+
+/// What is shown of a group of rows, and what it is ordered by.
+fn ranked(alloc: Global, plan: &Plan, rows: &[Row]) -> Result<Rank, Refused>
+    ensures { Gives result (ranked (plan_seen plan.now) rows.now) }
+{
+    let cells = cells_of(alloc, plan.headings.as_slice(), rows)?;
+    let keys = keys_of(alloc, plan.keys.as_slice(), rows)?;
+    Ok(Rank { keys, cells })
+}
+
+fn all_ranked(
+    alloc: Global,
+    plan: &Plan,
+    groups: &[Sequence<Row>],
+) -> Result<Sequence<Rank>, Refused>
+    ensures { Gives result (each (ranked (plan_seen plan.now)) groups.now) }
+{
+    let mut ranks = Sequence::new(alloc);
+    for rows in groups {
+        ranks.push(ranked(alloc, plan, rows.as_slice())?)?;
+    }
+    Ok(ranks)
+}
+
+fn are_too_many(rows: &[Row]) -> bool
+    ensures { result ≡ are_too_many rows.now }
+{
+    rows.len() > 10_000_000
+}
+
+fn once_if(alloc: Global, distinct: bool, ranks: Vec<Rank>) -> Result<Vec<Rank>, AllocError>
+    ensures { IfOk result (λ left. left.items ≡ once_if distinct ranks.items) }
+{
+    if distinct {
+        once(alloc, ranks)
+    } else {
+        Ok(ranks)
+    }
+}
+
+/// DISTINCT, ORDER BY and LIMIT.
+fn arranged(alloc: Global, plan: &Plan, ranks: Vec<Rank>) -> Result<Vec<Rank>, AllocError>
+    ensures { IfOk result (λ left. left.items ≡ arranged (plan_seen plan.now) ranks.items) }
+{
+    let different = once_if(alloc, plan.distinct, ranks)?;
+    let ordered = sorted(alloc, plan.keys.as_slice(), different)?;
+    cut(&plan.limit, ordered)
+}
+
+fn names_of(alloc: Global, headings: &[Heading]) -> Result<Sequence<Text>, AllocError>
+    ensures { IfOk result (λ names. names ≡ map (λ heading. heading.name) (map heading_seen headings.now)) }
+{
+    let mut names = Sequence::new(alloc);
+    for heading in headings {
+        names.push(Text::from_slice(alloc, heading.name.as_slice())?)?;
+    }
+    Ok(names)
+}
+
+fn types_of(alloc: Global, headings: &[Heading]) -> Result<Sequence<SqlType>, AllocError>
+    ensures { IfOk result (λ kinds. kinds ≡ map (λ heading. column_type heading.kind) (map heading_seen headings.now)) }
+{
+    let mut kinds = Sequence::new(alloc);
+    for heading in headings {
+        kinds.push(heading.kind.column_type())?;
+    }
+    Ok(kinds)
+}
+
+fn rows_of(alloc: Global, ranks: Vec<Rank>) -> Result<Sequence<Row>, AllocError>
+    ensures { IfOk result (λ rows. rows ≡ map (λ rank. rank.cells) ranks.items) }
+{
+    let mut rows = Sequence::new(alloc);
+    for rank in ranks {
+        rows.push(rank.cells)?;
+    }
+    Ok(rows)
+}
+
+fn headed(alloc: Global, plan: &Plan, ranks: Sequence<Rank>) -> Result<Answer, AllocError>
+    ensures { IfOk result (λ found. found ≡ headed (plan_seen plan.now) ranks) }
+{
+    let headings = plan.headings.as_slice();
+    let ranks = arranged(alloc, plan, ranks.into_vec())?;
+    Ok(Answer {
+        names: names_of(alloc, headings)?,
+        kinds: types_of(alloc, headings)?,
+        rows: rows_of(alloc, ranks)?,
+    })
+}
+
+fn answered_of(alloc: Global, plan: &Plan, rows: Sequence<Row>) -> Result<Answer, Refused>
+    ensures { Gives result (answered_of (plan_seen plan.now) rows) }
+{
+    let too_many = are_too_many(rows.as_slice());
+    let groups = groups(alloc, &plan.grouping, rows)?;
+    let ranks = all_ranked(alloc, plan, groups.as_slice())?;
+    if too_many {
+        return Err(Refused::By(9010));
+    }
+    Ok(headed(alloc, plan, ranks)?)
+}
+
+fn answered(alloc: Global, plan: &Plan, sources: &[Read]) -> Result<Answer, Refused>
+    ensures { Gives result (answered (plan_seen plan.now) (map (λ source. source.rows) sources.now)) }
+{
+    let rows = kept(alloc, plan.tests.as_slice(), sources)?;
+    answered_of(alloc, plan, rows)
+}
+
+fn query_on(alloc: Global, sources: &[Read], query: &Query) -> Result<Answer, Refused>
+    ensures { Gives result (query_on sources.now query.now) }
+{
+    let scope = scope_of(alloc, sources)?;
+    let plan = planned(alloc, scope.as_slice(), query)?;
+    answered(alloc, &plan, sources)
+}
+
+/// What a SELECT shows of the tables and system tables that are known, or its first refusal.
+pub fn answer(alloc: Global, known: &[Known], select: &Select) -> Result<Answer, Refused>
+    ensures { Gives result (answer known.now select.now) }
+{
+    match select {
+        Select::From(query) => {
+            let sources = sources_read(alloc, known, &query.from)?;
+            query_on(alloc, sources.as_slice(), query)
+        }
+        Select::Alone(list) => {
+            let plan = planned_alone(alloc, list.as_slice())?;
+            answered(alloc, &plan, &[])
+        }
+    }
+}

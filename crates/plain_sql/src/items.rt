@@ -1,0 +1,230 @@
+ghost use Rattle.std.specs.Prelude.{◌≡◌, IfOk, map};
+ghost use Rattle.sql_ast.specs.declared.expressions.Expr.{out-Expr};
+ghost use Rattle.plain_sql.specs.Gives.{Gives, GivesBy};
+ghost use Rattle.plain_sql.specs.Lists.{all_of, each};
+ghost use Rattle.plain_sql.specs.Plans.{all_headings, column_heading, has_source, heading_in, heading_of, headings_of, item_headings, one_heading, own_name, shown_name, source_headings, sum_heading, value_heading};
+ghost use Rattle.plain_sql.specs.Seen.{heading_seen};
+
+use crate::binding::{bound, column_at};
+use crate::faults::Refused;
+use crate::lists::append;
+use crate::shown::Showing;
+use expr_eval::{BoundExpr, ScopeColumn};
+use sql_ast::{Expr, Item, Items, NamedExpr};
+use sql_text::canonical_text;
+use sql_values::Kind;
+use std::alloc::{AllocError, Global};
+use tuple_codec::{Sequence, Text};
+
+/// A column of the answer.
+#[derive(Drop)]
+pub struct Heading {
+    pub name: Text,
+    pub kind: Kind,
+    pub shown: Showing,
+}
+
+fn own_name(alloc: Global, expr: &Expr) -> Result<Text, AllocError>
+    ensures { IfOk result (λ name. name ≡ own_name expr.now (out-Expr expr.now)) }
+{
+    match expr {
+        Expr::Name(name) => Text::from_slice(alloc, name.as_slice()),
+        Expr::Qualified(_, name) => Text::from_slice(alloc, name.as_slice()),
+        _ => canonical_text(alloc, expr),
+    }
+}
+
+/// An item's name: by AS, else by the column's name, else by the canonical text.
+pub fn shown_name(alloc: Global, named: &NamedExpr) -> Result<Text, AllocError>
+    ensures { IfOk result (λ name. name ≡ shown_name named.now.name named.now.expr) }
+{
+    match &named.name {
+        Some(name) => Text::from_slice(alloc, name.as_slice()),
+        None => own_name(alloc, &named.expr),
+    }
+}
+
+fn value_heading(name: Text, bound: BoundExpr) -> Result<Heading, Refused>
+    ensures { GivesBy heading_seen result (value_heading name bound) }
+{
+    Ok(Heading {
+        name,
+        kind: bound.kind,
+        shown: Showing::Of(bound),
+    })
+}
+
+fn sum_heading(name: Text, bound: BoundExpr) -> Result<Heading, Refused>
+    ensures { GivesBy heading_seen result (sum_heading name bound) }
+{
+    match bound.kind {
+        Kind::Int | Kind::Decimal(_) => Ok(Heading {
+            name,
+            kind: bound.kind,
+            shown: Showing::Sum(bound),
+        }),
+        _ => Err(Refused::By(9001)),
+    }
+}
+
+/// What an item shows: an aggregate's call, or an expression.
+pub fn heading_of(
+    alloc: Global,
+    scope: &[ScopeColumn],
+    name: Text,
+    expr: &Expr,
+) -> Result<Heading, Refused>
+    ensures { GivesBy heading_seen result (heading_of scope.now name expr.now (out-Expr expr.now)) }
+{
+    match expr {
+        Expr::CountAll => Ok(Heading {
+            name,
+            kind: Kind::Int,
+            shown: Showing::Rows,
+        }),
+        Expr::Count(counted) => Ok(Heading {
+            name,
+            kind: Kind::Int,
+            shown: Showing::Count(bound(alloc, scope, counted.get())?),
+        }),
+        Expr::Sum(summed) => sum_heading(name, bound(alloc, scope, summed.get())?),
+        Expr::Min(compared) => {
+            let bound = bound(alloc, scope, compared.get())?;
+            Ok(Heading {
+                name,
+                kind: bound.kind,
+                shown: Showing::Least(bound),
+            })
+        }
+        Expr::Max(compared) => {
+            let bound = bound(alloc, scope, compared.get())?;
+            Ok(Heading {
+                name,
+                kind: bound.kind,
+                shown: Showing::Greatest(bound),
+            })
+        }
+        _ => value_heading(name, bound(alloc, scope, expr)?),
+    }
+}
+
+pub fn one_heading(
+    alloc: Global,
+    scope: &[ScopeColumn],
+    named: &NamedExpr,
+) -> Result<Heading, Refused>
+    ensures { GivesBy heading_seen result (one_heading scope.now named.now) }
+{
+    let name = shown_name(alloc, named)?;
+    heading_of(alloc, scope, name, &named.expr)
+}
+
+fn column_heading(
+    alloc: Global,
+    scope: &[ScopeColumn],
+    place: usize,
+    column: &ScopeColumn,
+) -> Result<Heading, Refused>
+    ensures { GivesBy heading_seen result (column_heading scope.now (place, column.now)) }
+{
+    let bound = column_at(scope, place)?;
+    value_heading(Text::from_slice(alloc, column.name.as_slice())?, bound)
+}
+
+fn all_headings(alloc: Global, scope: &[ScopeColumn]) -> Result<Sequence<Heading>, Refused>
+    ensures { GivesBy (map heading_seen) result (all_headings scope.now) }
+{
+    let mut headings = Sequence::new(alloc);
+    for (place, column) in scope.iter().enumerate() {
+        headings.push(column_heading(alloc, scope, place, column)?)?;
+    }
+    Ok(headings)
+}
+
+fn has_source(scope: &[ScopeColumn], source: &[u8]) -> bool
+    ensures { result ≡ has_source source.now scope.now }
+{
+    scope.iter().any(|column| column.source.is(source))
+}
+
+fn heading_in(
+    alloc: Global,
+    scope: &[ScopeColumn],
+    source: &[u8],
+    place: usize,
+    column: &ScopeColumn,
+) -> Result<Sequence<Heading>, Refused>
+    ensures { GivesBy (map heading_seen) result (heading_in scope.now source.now (place, column.now)) }
+{
+    let mut headings = Sequence::new(alloc);
+    if column.source.is(source) {
+        headings.push(column_heading(alloc, scope, place, column)?)?;
+    }
+    Ok(headings)
+}
+
+fn source_headings(
+    alloc: Global,
+    scope: &[ScopeColumn],
+    source: &[u8],
+) -> Result<Sequence<Heading>, Refused>
+    ensures { GivesBy (map heading_seen) result (source_headings scope.now source.now) }
+{
+    let mut headings = Sequence::new(alloc);
+    for (place, column) in scope.iter().enumerate() {
+        let more = heading_in(alloc, scope, source, place, column)?;
+        append(&mut headings, more)?;
+    }
+    Ok(headings)
+}
+
+fn item_headings(
+    alloc: Global,
+    scope: &[ScopeColumn],
+    item: &Item,
+) -> Result<Sequence<Heading>, Refused>
+    ensures { GivesBy (map heading_seen) result (item_headings scope.now item.now) }
+{
+    match item {
+        Item::AllOf(source) => {
+            if !has_source(scope, source.as_slice()) {
+                return Err(Refused::By(1054));
+            }
+            source_headings(alloc, scope, source.as_slice())
+        }
+        Item::One(named) => {
+            let mut headings = Sequence::new(alloc);
+            headings.push(one_heading(alloc, scope, named)?)?;
+            Ok(headings)
+        }
+    }
+}
+
+fn listed_headings(
+    alloc: Global,
+    scope: &[ScopeColumn],
+    list: &[Item],
+) -> Result<Sequence<Heading>, Refused>
+    ensures { GivesBy (map heading_seen) result (all_of (item_headings scope.now) list.now) }
+{
+    let mut headings = Sequence::new(alloc);
+    for item in list {
+        let more = item_headings(alloc, scope, item)?;
+        append(&mut headings, more)?;
+    }
+    Ok(headings)
+}
+
+/// The columns of the answer, up to the first refusal.
+pub fn headings_of(
+    alloc: Global,
+    scope: &[ScopeColumn],
+    items: &Items,
+) -> Result<Sequence<Heading>, Refused>
+    ensures { GivesBy (map heading_seen) result (headings_of scope.now items.now) }
+{
+    match items {
+        Items::All => all_headings(alloc, scope),
+        Items::Listed(list) => listed_headings(alloc, scope, list.as_slice()),
+    }
+}
