@@ -26,33 +26,22 @@ fn summed(alloc: Global) -> Result<Expr, AllocError> {
     Ok(Expr::Terms(name(alloc, b"a")?, rest))
 }
 
-/// BETWEENs of a BETWEEN, as many as the depth, whose innermost value is `a`.
-fn nested(alloc: Global, depth: usize) -> Result<Expr, AllocError> {
-    let mut value = Expr::Name(Text::from_slice(alloc, b"a")?);
-    for _turn in 0..depth {
-        let inner = Boxed::new(alloc, value)?;
-        let low = name(alloc, b"b")?;
-        let high = name(alloc, b"c")?;
-        value = Expr::Between(inner, low, high);
-    }
-    Ok(value)
-}
-
-/// `((a >= b) AND (a <= c))`, twice in `((V >= b) AND (V <= c))`, and so on: at a depth d, 22 * 2^d - 21 bytes.
-#[test]
-fn asks_for_the_size_of_a_text(rt: HostRuntime) -> Result<(), Fail> {
-    let alloc = rt.alloc();
-    assert!(rt; text_size(alloc, &nested(alloc, 1)?)? == 23);
-    assert!(rt; text_size(alloc, &nested(alloc, 20)?)? == (22 << 20) - 21);
-    assert!(rt; text_size(alloc, &nested(alloc, 60)?)? == 1 << 32);
-    assert!(rt; canonical_text(alloc, &nested(alloc, 60)?).is_err());
-    Ok(())
-}
-
 #[test]
 fn prints_lists(rt: HostRuntime) -> Result<(), Fail> {
     let text = canonical_text(rt.alloc(), &listed(rt.alloc())?)?;
     assert!(rt; text.is(b"(NOT (a IN ((- 83.40), TRUE)))"));
+    Ok(())
+}
+
+/// The size of that text.
+fn size_of_list(alloc: Global) -> Result<u64, AllocError> {
+    let list = listed(alloc)?;
+    text_size(alloc, &list)
+}
+
+#[test]
+fn tells_the_size_of_a_text(rt: HostRuntime) -> Result<(), Fail> {
+    assert!(rt; size_of_list(rt.alloc())? == 30);
     Ok(())
 }
 
