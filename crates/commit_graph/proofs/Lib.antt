@@ -1,3 +1,6 @@
 mod CommitLemmas
-mod Vectors
+pub mod FoundLemmas
+pub mod OrderLemmas
 mod StandingLemmas
+mod Vectors
+pub mod WalkLemmas

@@ -27,7 +27,7 @@ same_commit a b database parents height date committer message =
     ∙ ap (λ x. commit_as b.database b.parents x a.date a.committer a.message) height ∙ ap (λ x. commit_as b.database b.parents b.height x a.committer a.message) date
     ∙ ap (λ x. commit_as b.database b.parents b.height b.date x a.message) committer ∙ ap (λ x. commit_as b.database b.parents b.height b.date b.committer x) message
 
-commit_found : (address : List ℕ → List ℕ) (chunks : Chunks) (k : List ℕ) (commit : PlainCommit) → IsCommitThere address chunks k commit → IsCommitFound chunks k (commit_parts address commit)
+pub commit_found : (address : List ℕ → List ℕ) (chunks : Chunks) (k : List ℕ) (commit : PlainCommit) → IsCommitThere address chunks k commit → IsCommitFound chunks k (commit_parts address commit)
 commit_found address chunks k commit is = record { is_commit = is.is_commit; held = ap chunks (sym is.named) ∙ is.there.0 }
 
 -- ---- look-ups that agree

@@ -1,3 +1,4 @@
 pub mod Commits
 pub mod Reading
 pub mod Standing
+pub mod Walks

@@ -1,4 +1,4 @@
-use Rattle.std.proofs.Common.{◌≡◌, ◌∙◌, sym, ap}
+use Rattle.std.proofs.Common.{◌∙◌, ap}
 use Rattle.schema_model.proofs.PartLemmas.{nothing, some_is}
 use Rattle.schema_model.specs.WrittenForms.{commit_bytes}
 use Rattle.commit_graph.specs.Reading.{root_in}
