@@ -3,3 +3,7 @@ pub mod Replies
 pub mod Sessions
 pub mod Commands
 pub mod CommitRule
+pub mod Branching
+pub mod Merging
+pub mod SystemTables
+pub mod Statements
