@@ -7,3 +7,6 @@ pub mod Branching
 pub mod Merging
 pub mod SystemTables
 pub mod Statements
+pub mod Moments
+pub mod Runs
+pub mod Output
