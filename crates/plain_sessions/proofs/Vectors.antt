@@ -32,6 +32,7 @@ use Rattle.plain_sessions.specs.Commands.{Command, Begin, Change, Checkout, Comm
 use Rattle.plain_sessions.specs.CommitRule.{decide, recorded}
 use Rattle.plain_sessions.specs.Branching.{add, branch_step, checkout_step, to_commit}
 use Rattle.plain_sessions.specs.Merging.{Answers, Closes, Committing, Forwarding, Joining, merge, merge_reply, resolve}
+use Rattle.plain_sessions.specs.SystemTables.{conflicts_of, delete_entries, log, status}
 use Rattle.plain_sessions.specs.Moments.{closed, effect_alone}
 use Rattle.plain_sessions.specs.Statements.{worked}
 use Rattle.plain_sessions.specs.Runs.{Runner, Shortages, State, advance, run_along}
@@ -299,6 +300,32 @@ null_there = record conflict { theirs = Some (cell.Int (pos 1) ∷ cell.Null ∷
 null_taken : resolve (record { side = side.Theirs; tables = tables.All })
     (record { name = codes "t"; table = record { schema = schema; rows = row 1 9 1 ∷ []; conflicts = null_there ∷ []; violations = [] } } ∷ []) ≡ Err 1048
 null_taken = refl
+
+-- ---- system tables
+
+-- the table is staged and dropped from the working database
+shown_status : (status dirty).rows ≡ (cell.Text (codes "t") ∷ cell.Bool false ∷ cell.Text (codes "deleted") ∷ []) ∷ []
+unfolding is_same_database
+shown_status = refl
+
+-- the head's two ancestors, the later one first
+shown_log : (log transaction).rows
+    ≡ (cell.Text [] ∷ cell.Text (codes "a") ∷ cell.Int (pos 0) ∷ cell.Text (codes "m") ∷ [])
+    ∷ (cell.Text [] ∷ cell.Text (codes "a") ∷ cell.Int (pos 0) ∷ cell.Text (codes "m") ∷ []) ∷ []
+shown_log = refl
+
+shown_conflict : (conflicts_of (record { name = codes "t"; table = record { schema = schema; rows = []; conflicts = record conflict { ours = None } ∷ []; violations = [] } })).rows
+    ≡ (cell.Int (pos 1) ∷ cell.Int (pos 1) ∷ cell.Int (pos 1) ∷ cell.Null ∷ cell.Null ∷ cell.Null ∷ cell.Text (codes "removed")
+    ∷ cell.Int (pos 1) ∷ cell.Int (pos 8) ∷ cell.Int (pos 1) ∷ cell.Text (codes "modified") ∷ []) ∷ []
+shown_conflict = refl
+
+-- DELETE FROM dolt_conflicts_t
+entries_gone : delete_entries in_conflict (record { table = codes "dolt_conflicts_t"; filter = None })
+    ≡ Some (Ok (Answers (counted 1) (record in_conflict { working = holding (row 1 9 1 ∷ []) })))
+entries_gone = refl
+
+no_entries : delete_entries in_conflict (record { table = codes "dolt_conflicts_u"; filter = None }) ≡ Some (Err 1146)
+no_entries = refl
 
 -- ---- runs of two sessions on `main`
 

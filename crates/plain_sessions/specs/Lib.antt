@@ -6,6 +6,7 @@ pub mod CommitRule
 pub mod Branching
 pub mod Merging
 pub mod SystemTables
+pub mod StateLimits
 pub mod Statements
 pub mod Moments
 pub mod Runs
