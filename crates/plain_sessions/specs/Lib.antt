@@ -1,0 +1,13 @@
+pub mod Records
+pub mod Replies
+pub mod Sessions
+pub mod Commands
+pub mod CommitRule
+pub mod Branching
+pub mod Merging
+pub mod SystemTables
+pub mod StateLimits
+pub mod Statements
+pub mod Moments
+pub mod Runs
+pub mod Output
