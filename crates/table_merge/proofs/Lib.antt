@@ -1,0 +1,9 @@
+pub mod NameLemmas
+pub mod PartLemmas
+pub mod PlaceLemmas
+pub mod SchemaLemmas
+pub mod KeyLemmas
+pub mod MergedLemmas
+pub mod RiseLemmas
+pub mod MergeLemmas
+pub mod TableLemmas
