@@ -1,1 +1,4 @@
 mod Vectors
+pub mod OrderLemmas
+pub mod PlaceLemmas
+pub mod EffectLemmas
