@@ -1,1 +1,3 @@
 mod Vectors
+pub mod OrderLemmas
+pub mod ListingLemmas

@@ -1,2 +1,3 @@
 pub mod Violations
 pub mod Writes
+pub mod Seen
