@@ -66,10 +66,15 @@ fn same_type(a: &SqlType, b: &SqlType) -> bool
 pub fn same_types(a: &[SqlType], b: &[SqlType]) -> bool
     ensures { result ≡ same_types a.now b.now }
 {
-    match (a, b) {
-        ([], []) => true,
-        ([x, xs @ ..], [y, ys @ ..]) => same_type(x, y) && same_types(xs, ys),
-        ([], [_, ..]) | ([_, ..], []) => false,
+    match a {
+        [] => match b {
+            [] => true,
+            [_, ..] => false,
+        },
+        [x, xs @ ..] => match b {
+            [] => false,
+            [y, ys @ ..] => same_type(x, y) && same_types(xs, ys),
+        },
     }
 }
 
