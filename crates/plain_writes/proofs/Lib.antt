@@ -1,1 +1,5 @@
 mod Vectors
+pub mod OrderLemmas
+pub mod ListingLemmas
+pub mod PlaceLemmas
+pub mod EffectLemmas

@@ -1,2 +1,5 @@
 pub mod Violations
 pub mod Writes
+pub mod Seen
+pub mod Typed
+pub mod Steps

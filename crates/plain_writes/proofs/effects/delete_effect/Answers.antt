@@ -1,0 +1,20 @@
+use Rattle.std.proofs.Common.{map, subst, sym, Bor}
+use Rattle.expr_eval.specs.Binding.{Outcome}
+use Rattle.plain_sql.specs.Gives.{GivesBy}
+use Rattle.plain_writes.specs.declared.tables.Table.{Table}
+use Rattle.plain_writes.specs.Seen.{effect_seen, named_seen, table_seen}
+use Rattle.plain_writes.specs.Violations.{checks_by}
+use Rattle.plain_writes.specs.Writes.{Effect, deleted}
+use Rattle.plain_writes.proofs.EffectLemmas.{on_found, on_missing}
+use Rattle.plain_writes.proofs.effects.delete_effect.Goals as goal
+
+pub returns-in-Some : goal.returns-in-Some
+returns-in-Some g c =
+    let same = on_found (λ (table : Bor Table). table_seen table.now) (map named_seen c.args.database.now) c.args.delete.now.table c.as_slice.result.now
+    (deleted (checks_by g.R.Reads.reading) (map named_seen c.args.database.now) c.args.delete.now) c.table_in.result c.table_in.ensures c.as_slice.ensures c.in-Some.table c.in-Some.is in
+    subst (λ (outcome : Outcome Effect). GivesBy effect_seen c.deleted.result outcome) (sym same) c.deleted.ensures
+
+pub returns-in-None : goal.returns-in-None
+returns-in-None g c =
+    on_missing (λ (table : Bor Table). table_seen table.now) (map named_seen c.args.database.now) c.args.delete.now.table c.as_slice.result.now
+    (deleted (checks_by g.R.Reads.reading) (map named_seen c.args.database.now) c.args.delete.now) c.table_in.result c.table_in.ensures c.as_slice.ensures c.in-None.is
