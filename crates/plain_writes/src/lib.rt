@@ -23,3 +23,4 @@ pub use checking::Reads;
 pub use effects::{Effect, delete_effect, insert_effect, update_effect};
 pub use listing::{Found, first_violation, violations};
 pub use tables::{Dispute, NamedTable, Table};
+pub use updating::Later;

@@ -70,9 +70,12 @@ names_rise name table (named ∷ next ∷ database) h =
 tables_are : (P : PlainTable → Type 0) (name : List ℕ) (table : PlainTable) (database : PlainDatabase) → P table → AllByRecursion (λ (named : NamedTable). P named.table) database
     → AllByRecursion (λ (named : NamedTable). P named.table) (replaced name table database)
 tables_are P name table [] it others = tt
-tables_are P name table (named ∷ database) it others = (two (is_called name named)
-    (λ t. subst P (sym (ap (λ b. (cond b (record { name = name; table = table }) named).table) t)) it)
-    (λ t. subst P (sym (ap (λ b. (cond b (record { name = name; table = table }) named).table) t)) others.0), tables_are P name table database it others.1)
+tables_are P name table (named ∷ database) it others = (
+  two (is_called name named)
+      (λ t. subst P (sym (ap (λ b. (cond b (record { name = name; table = table }) named).table) t)) it)
+      (λ t. subst P (sym (ap (λ b. (cond b (record { name = name; table = table }) named).table) t)) others.0),
+  tables_are P name table database it others.1,
+)
 
 within_are : (name : List ℕ) (table : PlainTable) (database : PlainDatabase) → is_table_within_limits table ≡ true → list_all is_named_within_limits database ≡ true
     → list_all is_named_within_limits (replaced name table database) ≡ true
@@ -114,9 +117,12 @@ limits_so table h =
     let few = nat_le (length table.rows) most_rows in
     let all_four = left_so (is_within_limits table.schema && few && rows && conflicts) violations h in
     let three = left_so (is_within_limits table.schema && few && rows) conflicts all_four in
-    let two_ = left_so (is_within_limits table.schema && few) rows three in
-    (left_so (is_within_limits table.schema) few two_, right_so (is_within_limits table.schema && few) rows three, right_so (is_within_limits table.schema && few && rows) conflicts all_four,
-    right_so (is_within_limits table.schema && few && rows && conflicts) violations h)
+    let two_ = left_so (is_within_limits table.schema && few) rows three in (
+      left_so (is_within_limits table.schema) few two_,
+      right_so (is_within_limits table.schema && few) rows three,
+      right_so (is_within_limits table.schema && few && rows) conflicts all_four,
+      right_so (is_within_limits table.schema && few && rows && conflicts) violations h,
+    )
 
 -- the rows of a table within the limits are good
 pub rows_good : (table : PlainTable) → IsKeptTable table → list_all (is_good table.schema) table.rows ≡ true
@@ -137,9 +143,10 @@ by_key_so : (schema : Schema) (rows sorted : List Cells) → by_key schema rows 
     → (list_all (is_good schema) sorted ≡ true) × (rises (keyed_cmp schema) sorted ≡ true)
 by_key_so schema rows sorted e good =
     let parts = unless_so (repeats (keyed_cmp schema) rows) 1062 (Ok (in_order (keyed_cmp schema) rows)) sorted e in
-    let same : in_order (keyed_cmp schema) rows ≡ sorted = ok_same (Ok (in_order (keyed_cmp schema) rows)) (in_order (keyed_cmp schema) rows) sorted refl parts.1 in
-    (subst (λ l. list_all (is_good schema) l ≡ true) same (in_order_all (keyed_cmp schema) (is_good schema) rows good),
-    subst (λ l. rises (keyed_cmp schema) l ≡ true) same (in_order_rises (keyed_cmp schema) (keyed_total schema) rows parts.0))
+    let same : in_order (keyed_cmp schema) rows ≡ sorted = ok_same (Ok (in_order (keyed_cmp schema) rows)) (in_order (keyed_cmp schema) rows) sorted refl parts.1 in (
+      subst (λ l. list_all (is_good schema) l ≡ true) same (in_order_all (keyed_cmp schema) (is_good schema) rows good),
+      subst (λ l. rises (keyed_cmp schema) l ≡ true) same (in_order_rises (keyed_cmp schema) (keyed_total schema) rows parts.0),
+    )
 
 with_kept : (table : PlainTable) (rows : List Cells) → IsKeptTable table → list_all (is_good table.schema) rows ≡ true → rises (keyed_cmp table.schema) rows ≡ true
     → nat_le (length rows) most_rows ≡ true → IsKeptTable (with_rows table rows)

@@ -46,12 +46,12 @@ inserts_keep checks database insert effect kept e = kept_on database insert.tabl
     by_table : (table : PlainTable) → IsKeptTable table → inserted checks database insert table ≡ Ok effect → IsKept effect.database
     by_table table it h =
         let places = then_so (places_named table.schema insert.columns) (λ places.
-            and_then (each (tuple_said table.schema places) insert.tuples) (λ said.
-            and_then (each (new_row table.schema places) said) (λ rows.
-            result_of checks database insert.table table (table.rows ++ rows) (length rows)))) effect h in
+        and_then (each (tuple_said table.schema places) insert.tuples) (λ said.
+        and_then (each (new_row table.schema places) said) (λ rows.
+        result_of checks database insert.table table (table.rows ++ rows) (length rows)))) effect h in
         let said = then_so (each (tuple_said table.schema places.0) insert.tuples) (λ said.
-            and_then (each (new_row table.schema places.0) said) (λ rows.
-            result_of checks database insert.table table (table.rows ++ rows) (length rows))) effect places.2 in
+        and_then (each (new_row table.schema places.0) said) (λ rows.
+        result_of checks database insert.table table (table.rows ++ rows) (length rows))) effect places.2 in
         let rows = then_so (each (new_row table.schema places.0) said.0) (λ rows. result_of checks database insert.table table (table.rows ++ rows) (length rows)) effect said.2 in
         let is = it.is_table in
         result_kept checks database insert.table table (table.rows ++ rows.0) (length rows.0) effect kept it
@@ -64,14 +64,14 @@ updates_keep checks database update effect kept e = kept_on database update.tabl
     by_table table it h =
         let scope = own_scope update.table table.schema in
         let sets = then_so (each (bound_assignment table.schema scope) update.assignments) (λ sets.
-            and_then (tests_of scope update.filter) (λ tests.
-            and_then (each (turned_small table.schema tests sets) table.rows) (λ rows.
-            result_of checks database update.table table (map (λ (one : Later). one.row) rows) (count_by (λ (one : Later). one.is_new) rows)))) effect h in
+        and_then (tests_of scope update.filter) (λ tests.
+        and_then (each (turned_small table.schema tests sets) table.rows) (λ rows.
+        result_of checks database update.table table (map (λ (one : Later). one.row) rows) (count_by (λ (one : Later). one.is_new) rows)))) effect h in
         let tests = then_so (tests_of scope update.filter) (λ tests.
-            and_then (each (turned_small table.schema tests sets.0) table.rows) (λ rows.
-            result_of checks database update.table table (map (λ (one : Later). one.row) rows) (count_by (λ (one : Later). one.is_new) rows))) effect sets.2 in
+        and_then (each (turned_small table.schema tests sets.0) table.rows) (λ rows.
+        result_of checks database update.table table (map (λ (one : Later). one.row) rows) (count_by (λ (one : Later). one.is_new) rows))) effect sets.2 in
         let rows = then_so (each (turned_small table.schema tests.0 sets.0) table.rows) (λ rows.
-            result_of checks database update.table table (map (λ (one : Later). one.row) rows) (count_by (λ (one : Later). one.is_new) rows)) effect tests.2 in
+        result_of checks database update.table table (map (λ (one : Later). one.row) rows) (count_by (λ (one : Later). one.is_new) rows)) effect tests.2 in
         let placed : AllByRecursion (IsPlaced table.schema) sets.0 = each_have (bound_assignment table.schema scope) (IsPlaced table.schema) (assignment_placed table.schema scope) update.assignments sets.0 sets.1 in
         result_kept checks database update.table table (map (λ (one : Later). one.row) rows.0) (count_by (λ (one : Later). one.is_new) rows.0) effect kept it
         (all_rows table.schema rows.0 (turned_all_good table.schema tests.0 sets.0 table.rows rows.0 placed (rows_good table it) rows.1)) rows.2
@@ -82,8 +82,8 @@ deletes_keep checks database delete effect kept e = kept_on database delete.tabl
     by_table : (table : PlainTable) → IsKeptTable table → deleted checks database delete table ≡ Ok effect → IsKept effect.database
     by_table table it h =
         let tests = then_so (tests_of (own_scope delete.table table.schema) delete.filter) (λ tests.
-            and_then (each (stays tests) table.rows) (λ rows.
-            result_of checks database delete.table table (rest_of rows) (count_by (λ (one : Later). one.is_new) rows))) effect h in
+        and_then (each (stays tests) table.rows) (λ rows.
+        result_of checks database delete.table table (rest_of rows) (count_by (λ (one : Later). one.is_new) rows))) effect h in
         let rows = then_so (each (stays tests.0) table.rows) (λ rows. result_of checks database delete.table table (rest_of rows) (count_by (λ (one : Later). one.is_new) rows)) effect tests.2 in
         result_kept checks database delete.table table (rest_of rows.0) (count_by (λ (one : Later). one.is_new) rows.0) effect kept it
         (all_rest table.schema rows.0 (stay_all_good table.schema tests.0 table.rows rows.0 (rows_good table it) rows.1)) rows.2

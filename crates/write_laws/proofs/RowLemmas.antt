@@ -160,10 +160,12 @@ turned_so schema tests sets row one placed f e = by_choice tested.0 tested.2
   where
     tested : (chosen : Bool) × (passes tests row ≡ Ok chosen) × (turned_if schema sets row chosen ≡ Ok one)
     tested = then_so (passes tests row) (turned_if schema sets row) one e
+
     by_change : (new : Cells) → row_after sets row ≡ Ok new → (one ≡ untouched row) ⊎ (one ≡ record { row = new; is_new = true })
         → (one ≡ untouched row) ⊎ ((one.is_new ≡ true) × (is_row schema one.row ≡ true))
     by_change new made (inl same) = inl same
     by_change new made (inr same) = inr (ap (λ (o : Later). o.is_new) same, subst (λ (o : Later). is_row schema o.row ≡ true) (sym same) (row_after_fits schema sets row new placed f made))
+
     by_choice : (chosen : Bool) → turned_if schema sets row chosen ≡ Ok one → (one ≡ untouched row) ⊎ ((one.is_new ≡ true) × (is_row schema one.row ≡ true))
     by_choice false h = inl (sym (ok_same (Ok (untouched row)) (untouched row) one refl h))
     by_choice true h =
@@ -177,12 +179,16 @@ turned_good schema tests sets row one placed good e =
   where
     made : (t : Later) × (turned schema tests sets row ≡ Ok t) × (if_small_turned schema t ≡ Ok one)
     made = then_so (turned schema tests sets row) (if_small_turned schema) one e
+
     before : Outcome Later
     before = Ok made.0
+
     small : ((made.0.is_new && is_large schema made.0.row) ≡ false) × (before ≡ Ok one)
     small = unless_so (made.0.is_new && is_large schema made.0.row) 9010 before one made.2
+
     same : made.0 ≡ one
     same = ok_same before made.0 one refl small.1
+
     by_kind : (made.0 ≡ untouched row) ⊎ ((made.0.is_new ≡ true) × (is_row schema made.0.row ≡ true)) → is_good_later schema made.0 ≡ true
     by_kind (inl kept) = subst (λ o. is_good_later schema o ≡ true) (sym kept) good
     by_kind (inr new) = both_so new.1 (not_large schema made.0.row (not_both made.0.is_new (is_large schema made.0.row) small.0 new.0))
