@@ -1,0 +1,6 @@
+mod FoundLemmas
+mod EntryLemmas
+mod SortLemmas
+mod KeyLemmas
+mod ChangeLemmas
+mod IndexLemmas
