@@ -1,5 +1,5 @@
 -- What contracts see of the code's own types.
-use Rattle.std.specs.Prelude.{List, map}
+use Rattle.std.specs.Prelude.{map}
 use Rattle.schema_model.specs.PlainTables as plain
 use Rattle.schema_model.specs.PlainTables.{Conflict, PlainTable, Violation}
 use Rattle.plain_sql.specs.Plans.{meaning}

@@ -12,8 +12,11 @@ use tuple_codec::{Row, Text, Value, copy_row, key_of, same_cells};
 /// A row that breaks a constraint.
 #[derive(Drop)]
 pub struct Broken {
+    /// 1 a foreign key, 2 a unique index, 3 a check, 4 NULL in a NOT NULL column.
     pub kind: u8,
+    /// The constraint's name, of kind 4 the column's.
     pub constraint: Text,
+    /// The row's primary key.
     pub key: Row,
     pub row: Row,
 }

@@ -132,7 +132,7 @@ fn inserted<R: Reads>(
     result_of::<R>(alloc, database, insert.table.as_slice(), table, all, count)
 }
 
-/// INSERT.
+/// What an INSERT makes of a database, or its first refusal. CHECKs are read by `R`. The whole database is copied.
 pub fn insert_effect<R: Reads>(
     alloc: Global,
     database: &[NamedTable],
@@ -221,7 +221,7 @@ fn updated<R: Reads>(
     )
 }
 
-/// UPDATE.
+/// What an UPDATE makes of a database, or its first refusal; it counts the rows that really differ. CHECKs are read by `R`. The whole database is copied.
 pub fn update_effect<R: Reads>(
     alloc: Global,
     database: &[NamedTable],
@@ -272,7 +272,7 @@ fn deleted<R: Reads>(
     )
 }
 
-/// DELETE.
+/// What a DELETE makes of a database, or its first refusal. CHECKs are read by `R`, since other tables may refer to the rows that go. The whole database is copied.
 pub fn delete_effect<R: Reads>(
     alloc: Global,
     database: &[NamedTable],

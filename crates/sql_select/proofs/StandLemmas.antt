@@ -99,10 +99,3 @@ pub passed_over : (p : plain.NamedTable → Bool) (known kept new : List Known) 
 passed_over p known kept new named others database both read more is =
     more ∙ ap (λ l. l ++ map known_table (filter p others)) is
     ∙ sym (ap (λ b. known ++ map known_table (cond b (named ∷ filter p others) (filter p others))) read) ∙ sym (ap (λ d. known ++ map known_table (filter p d)) both)
-
-pub none_there : (address : List ℕ → List ℕ) (chunks : Chunks) (database : PlainDatabase) (tables : List NamedTable) → AreThere address chunks database tables → length tables ≡ 0 → database ≡ []
-none_there address chunks [] tables there none = refl
-none_there address chunks (named ∷ others) tables there none = absurd (none_suc (length (named_tables address others)) (sym (ap length there.listed) ∙ none))
-  where
-    none_suc : (n : ℕ) → suc n ≡ 0 → ⊥
-    none_suc n e = omega arith

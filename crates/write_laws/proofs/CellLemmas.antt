@@ -1,6 +1,6 @@
 -- What a column keeps of a value fits its type.
-use Rattle.std.proofs.Common.{◌≡◌, refl, sym, ap, ◌∙◌, subst, ℤ, pos, negsuc, zero, suc, Bool, true, false, cond, not, ◌&&◌, true≢false, List, [], ◌∷◌, Option, Some, None, Result, Ok, Err}
-use Rattle.tuple_codec.specs.Rows.{Cells, fits, fits_bits}
+use Rattle.std.proofs.Common.{◌≡◌, refl, sym, ap, ◌∙◌, ℤ, pos, negsuc, zero, suc, Bool, true, false, Option, Some, None, Ok}
+use Rattle.tuple_codec.specs.Rows.{fits, fits_bits}
 use Rattle.tuple_codec.specs.declared.values.SqlType.{SqlType}
 use Rattle.tuple_codec.specs.declared.values.SqlType.TheVariants as type
 use Rattle.tuple_codec.specs.declared.values.Value.{Value}
@@ -8,10 +8,8 @@ use Rattle.tuple_codec.specs.declared.values.Value.TheVariants as cell
 use Rattle.sql_values.specs.Assigning.{kept_bool, kept_if, kept_number, kept_number_or, kept_short, rounded, stored}
 use Rattle.sql_values.specs.Numbers.{number}
 use Rattle.sql_values.specs.Worths.{worth_of}
-use Rattle.sql_values.specs.declared.assigning.Misfit.{Misfit}
 use Rattle.sql_values.specs.declared.kinds.Kind.{Kind}
 use Rattle.sql_values.specs.declared.numbers.Number.{Number}
-use Rattle.schema_model.specs.Schemas.{default_fits}
 
 kept_so : (b : Bool) (v kept : Value) → kept_if b v ≡ Ok kept → (b ≡ true) × (v ≡ kept)
 kept_so true v kept e = (refl, cc)

@@ -1,25 +1,22 @@
 -- A database with other rows in one table.
-use Rattle.std.proofs.Common.{◌≡◌, refl, sym, ap, ◌∙◌, subst, ℕ, suc, ◌+◌, ◌≤◌, Bool, true, false, cond, not, ◌&&◌, true≢false, nat_le, nat_lt, nat_cmp, is_lt, List, [], ◌∷◌, ◌++◌, length, map, Option, Some, None, Result, Ok, Err, bytes_eq, arith}
+use Rattle.std.proofs.Common.{◌≡◌, refl, sym, ap, ◌∙◌, subst, ℕ, suc, Bool, true, false, cond, ◌&&◌, nat_le, nat_lt, nat_cmp, is_lt, List, [], ◌∷◌, length, Option, Some, None, Ok}
 use Rattle.std.specs.Cmp.{IsTotalOrder}
 use Rattle.std.specs.Cmp.Lexicographic.{bytes_decides, slice_cmp}
 use Rattle.std.specs.List.{list_all, AllByRecursion, find}
 use Rattle.std.specs.Option.{option_map}
-use Rattle.std.specs.Ordering.{on}
-use Rattle.std.specs.declared.cmp.Ordering.{Ordering}
 use Rattle.std.proofs.lemmas.Bool.{ltb-false, le-leb}
 use Rattle.std.proofs.lemmas.Cmp.{on_total}
-use Rattle.tuple_codec.specs.Rows.{Cells, key_cmp}
+use Rattle.tuple_codec.specs.Rows.{Cells}
 use Rattle.tuple_codec.proofs.Orders.{key_cmp_total}
 use Rattle.schema_model.specs.declared.schemas.Schema.{Schema}
-use Rattle.schema_model.specs.Limits.{is_conflict_within_limits, is_database_within_limits, is_named_within_limits, is_row_within_limits, is_short_name, is_table_within_limits, is_violation_within_limits, is_within_limits, most_rows, most_tables}
-use Rattle.schema_model.specs.PlainTables.{IsDatabase, IsTable, NamedTable, PlainDatabase, PlainTable, is_row, primary_key, rises}
+use Rattle.schema_model.specs.Limits.{is_conflict_within_limits, is_named_within_limits, is_row_within_limits, is_short_name, is_table_within_limits, is_violation_within_limits, is_within_limits, most_rows, most_tables}
+use Rattle.schema_model.specs.PlainTables.{IsTable, NamedTable, PlainDatabase, PlainTable, is_row, primary_key, rises}
 use Rattle.schema_model.specs.Schemas.{is_name}
-use Rattle.plain_sql.specs.Lists.{in_order, repeats, unless}
-use Rattle.expr_eval.specs.Binding.{Outcome, and_then}
+use Rattle.plain_sql.specs.Lists.{in_order, repeats}
 use Rattle.plain_writes.specs.Violations.{Checks, first_violation, is_called, table_in}
-use Rattle.plain_writes.specs.Writes.{Effect, by_key, effect_if, filled, judged, keyed_cmp, replaced, replaced_in, result_of, with_rows}
+use Rattle.plain_writes.specs.Writes.{Effect, by_key, effect_if, filled, keyed_cmp, replaced, replaced_in, result_of, with_rows}
 use Rattle.write_laws.specs.Laws.{IsKept}
-use Rattle.write_laws.proofs.OrderLemmas.{both_so, in_order_all, in_order_length, in_order_rises, left_so, right_so, two}
+use Rattle.write_laws.proofs.OrderLemmas.{both_so, in_order_all, in_order_rises, left_so, right_so, two}
 use Rattle.write_laws.proofs.OutcomeLemmas.{ok_same, then_so, unless_so}
 use Rattle.write_laws.proofs.RowLemmas.{all_both, all_left, all_right, is_good}
 

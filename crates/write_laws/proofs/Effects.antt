@@ -1,12 +1,11 @@
 -- INSERT, UPDATE and DELETE keep a database within the limits.
-use Rattle.std.proofs.Common.{◌≡◌, refl, sym, ap, ◌∙◌, subst, ℕ, Bool, true, ◌&&◌, List, [], ◌∷◌, ◌++◌, length, map, Option, Some, None, Result, Ok, Err, bytes_eq}
+use Rattle.std.proofs.Common.{◌≡◌, refl, ℕ, true, ◌&&◌, List, ◌++◌, length, map, Ok, Err, bytes_eq}
 use Rattle.std.specs.List.{list_all, AllByRecursion, count_by}
 use Rattle.std.specs.Prelude.{IfOk}
 use Rattle.sql_ast.specs.declared.statements.Insert.{Insert}
 use Rattle.sql_ast.specs.declared.statements.Update.{Update}
 use Rattle.sql_ast.specs.declared.statements.Delete.{Delete}
-use Rattle.tuple_codec.specs.Rows.{Cells}
-use Rattle.schema_model.specs.PlainTables.{IsTable, PlainDatabase, PlainTable, is_row}
+use Rattle.schema_model.specs.PlainTables.{PlainDatabase, PlainTable}
 use Rattle.schema_model.specs.Schemas.{are_checks, are_columns, are_distinct, are_few, are_foreign, are_indexes, is_column, is_key, is_schema}
 use Rattle.schema_model.specs.declared.schemas.Column.{Column}
 use Rattle.schema_model.specs.declared.schemas.Schema.{Schema}

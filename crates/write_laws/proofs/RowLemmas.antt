@@ -1,6 +1,6 @@
 -- Rows that statements write fit their table and keep the limits.
-use Rattle.std.proofs.Common.{◌≡◌, refl, sym, ap, ◌∙◌, subst, ℕ, zero, suc, ◌+◌, Bool, true, false, cond, not, ◌&&◌, ◌||◌, ◌⊎◌, inl, inr, true≢false, List, [], ◌∷◌, ◌++◌, length, map, filter, set, slice_get, Option, Some, None, Result, Ok, Err, unwrap_or}
-use Rattle.std.specs.List.{list_all, AllByRecursion, enumerate_from, position}
+use Rattle.std.proofs.Common.{◌≡◌, refl, sym, ap, ◌∙◌, subst, ℕ, zero, suc, ◌+◌, Bool, true, false, cond, not, ◌&&◌, ◌⊎◌, inl, inr, true≢false, List, [], ◌∷◌, ◌++◌, map, filter, set, slice_get, Option, Some, None, Result, Ok, Err, unwrap_or}
+use Rattle.std.specs.List.{list_all, AllByRecursion, enumerate_from}
 use Rattle.tuple_codec.specs.Rows.{Cells, fits, fits_all, same_cells}
 use Rattle.tuple_codec.specs.declared.values.SqlType.{SqlType}
 use Rattle.tuple_codec.specs.declared.values.Value.{Value}
@@ -8,15 +8,14 @@ use Rattle.tuple_codec.specs.declared.values.Value.TheVariants as cell
 use Rattle.schema_model.specs.declared.schemas.Column.{Column}
 use Rattle.schema_model.specs.declared.schemas.Schema.{Schema}
 use Rattle.schema_model.specs.Limits.{is_row_within_limits}
-use Rattle.schema_model.specs.PlainTables.{is_row, types_of}
+use Rattle.schema_model.specs.PlainTables.{is_row}
 use Rattle.schema_model.specs.Schemas.{default_fits, is_column, is_name}
 use Rattle.tuple_codec.specs.Limits.{is_type}
 use Rattle.sql_values.specs.Assigning.{stored}
 use Rattle.sql_values.specs.Kinds.{may_assign}
-use Rattle.plain_sql.specs.Plans.{condition, meaning}
+use Rattle.plain_sql.specs.Plans.{meaning}
 use Rattle.sql_values.specs.declared.assigning.Misfit.{Misfit}
 use Rattle.sql_values.specs.declared.kinds.Kind.{Kind}
-use Rattle.sql_ast.specs.declared.expressions.Expr.{Expr}
 use Rattle.sql_ast.specs.declared.statements.Assignment.{Assignment}
 use Rattle.expr_eval.specs.Binding.{Outcome, and_then, mismatch, bound}
 use Rattle.expr_eval.specs.declared.bound.BoundExpr.{BoundExpr}
@@ -24,7 +23,7 @@ use Rattle.expr_eval.specs.declared.scopes.ScopeColumn.{ScopeColumn}
 use Rattle.plain_sql.specs.Answers.{Meaning, given, is_null, passes}
 use Rattle.plain_sql.specs.Lists.{each, or_refuse, unless}
 use Rattle.plain_writes.specs.Violations.{column_place}
-use Rattle.plain_writes.specs.Writes.{Assign, Said, assign_if, assign_to, assigned, bound_assignment, cell_said, if_changed, if_small, if_small_turned, is_large, keeps_null, new_cell, new_row, or_misfit, rest_of, row_after, said_of, standard, stays, taken, turned, turned_if, turned_small, untouched}
+use Rattle.plain_writes.specs.Writes.{Assign, Said, assign_if, assign_to, assigned, bound_assignment, cell_said, if_changed, if_small, if_small_turned, is_large, keeps_null, new_cell, new_row, or_misfit, rest_of, row_after, said_of, standard, stays, turned, turned_if, turned_small, untouched}
 use Rattle.plain_writes.specs.Writes.Said.{Nothing, Worth}
 use Rattle.plain_writes.specs.declared.updating.Later.{Later}
 use Rattle.write_laws.proofs.OrderLemmas.{both_so, left_so, right_so, two}
@@ -135,10 +134,7 @@ row_after_fits schema (one ∷ more) row after placed f e =
     row_after_fits schema more (set row one.place kept.0) after placed.1
     (column_at schema.columns one.place one.column row kept.0 f placed.0 (assigned_fits one.kind one.column value.0 kept.0 kept.1)) kept.2
 
--- what is good of a row behind UPDATE: it fits, and where it is new it keeps the limits
-abbrev fits_later : Schema → Later → Bool
-fits_later schema one = is_row schema one.row && (not one.is_new || is_row_within_limits schema one.row)
-
+-- what is good of a row behind UPDATE
 abbrev pub is_good_later : Schema → Later → Bool
 is_good_later schema one = is_good schema one.row
 

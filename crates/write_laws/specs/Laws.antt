@@ -1,5 +1,5 @@
 -- What INSERT, UPDATE and DELETE keep.
-use Rattle.std.specs.Prelude.{◌≡◌, true, List, ℕ, IfOk}
+use Rattle.std.specs.Prelude.{◌≡◌, true, IfOk}
 use Rattle.schema_model.specs.Limits.{is_database_within_limits}
 use Rattle.schema_model.specs.PlainTables.{IsDatabase, PlainDatabase}
 use Rattle.sql_ast.specs.declared.statements.Insert.{Insert}
