@@ -11,7 +11,7 @@ use Rattle.tuple_codec.specs.declared.answers.Answer.{Answer}
 use Rattle.tuple_codec.specs.declared.values.SqlType.{SqlType}
 use Rattle.tuple_codec.specs.declared.values.Value.{Value}
 use Rattle.script_text.specs.declared.replies.Reply.{Reply}
-use Rattle.script_text.specs.declared.replies.Reply.TheVariants.{Done, Count, Rows, Refused, Collided}
+use Rattle.script_text.specs.declared.replies.Reply.TheVariants.{Done, Count, Rows, Refused, Syntax, Collided}
 use Rattle.script_text.specs.Output.{Clashes, answer_text, clash_text, refusal_text, reply_text, row_lines, shortage, shortage_of}
 use Rattle.script_text.specs.Shown.{is_one_line, is_shown_reply}
 use Rattle.value_text.specs.Values.{row_text}
@@ -72,7 +72,8 @@ pub record IsBrief (reply : Reply) : Type 0 where
 
 -- what a refusal's text tells behind its number: the number's own text, or a collision's address and byte strings
 pub record IsPlain (reply : Reply) (number : ℕ) (end : List ℕ) : Type 0 where
-  pub text : end ≡ unwrap_or (refusal_text number) []
+  -- without a collision's strings
+  pub third : number ≡ 3 → end ≡ codes "collision"
   pub want : shortage reply ≡ shortage_of number
 
 pub record IsClash (reply : Reply) (number : ℕ) (end : List ℕ) : Type 0 where
@@ -110,6 +111,10 @@ third_refusal : (end : List ℕ) → codes "refused 3 " ++ end ≡ codes "refuse
 unfolding digits
 third_refusal end = refl
 
+syntax_refusal : (end : List ℕ) → codes "refused 1064 " ++ end ≡ codes "refused " ++ (decimal 1064 ++ (32 ∷ end))
+unfolding digits
+syntax_refusal end = refl
+
 -- a new kind of reply is one line here
 shape : (reply : Reply) → is_shown_reply reply ≡ true → Shape reply
 shape Done shown = brief (record { end = []; text = refl; line = refl; want = refl })
@@ -127,7 +132,15 @@ shape (Refused number) shown = refusal (record {
   small = refusal_in_range number shown;
   text = simp append_assoc;
   line = refusal_in_line number;
-  cause = plain (record { text = refl; want = refl });
+  cause = plain (record { third = λ third. ap (λ n. unwrap_or (refusal_text n) []) third; want = refl });
+})
+shape (Syntax at) shown = refusal (record {
+  number = 1064;
+  end = codes "syntax at byte " ++ decimal at;
+  small = omega arith;
+  text = syntax_refusal (codes "syntax at byte " ++ decimal at);
+  line = decimal_in_line at;
+  cause = plain (record { third = λ third. absurd (omega arith); want = refl });
 })
 shape (Collided clash) shown = refusal (record {
   number = 3;
@@ -164,8 +177,8 @@ refusal_more number end x = ap (λ rest. codes "refused " ++ rest) (append_assoc
 at_space : (x : List ℕ) → Stops is_digit (32 ∷ x)
 at_space x = record { byte = 32; rest = x; is = refl; stops = refl }
 
-plain_or_clash : (clash : Clash) (number : ℕ) → number ≡ 3 → unwrap_or (refusal_text number) [] ≡ codes "collision" ++ clash_text clash → ⊥
-plain_or_clash clash number third e = told_clash clash (ap (drop 9) (sym (ap (λ n. unwrap_or (refusal_text n) []) third) ∙ e))
+plain_or_clash : (clash : Clash) (end : List ℕ) → end ≡ codes "collision" → end ≡ codes "collision" ++ clash_text clash → ⊥
+plain_or_clash clash end alone told = told_clash clash (ap (drop 9) (sym alone ∙ told))
 
 -- what refusals of one number and one text tell is the same
 same_cause : (a b : Reply) (m n : ℕ) (front head : List ℕ) → Cause a m front → Cause b n head → m ≡ n → front ≡ head → shortage a ≡ shortage b
@@ -173,8 +186,8 @@ same_cause a b m n front head (plain left) (plain right) numbers texts = left.wa
 same_cause a b m n front head (clashes left) (clashes right) numbers texts =
     let clash = one_clash left.clash right.clash left.shown right.shown (ap (drop 9) (sym left.text ∙ texts ∙ right.text)) in
     left.want ∙ ap (λ x. Some (Clashes x)) clash ∙ sym right.want
-same_cause a b m n front head (plain left) (clashes right) numbers texts = absurd (plain_or_clash right.clash m (numbers ∙ right.third) (sym left.text ∙ texts ∙ right.text))
-same_cause a b m n front head (clashes left) (plain right) numbers texts = absurd (plain_or_clash left.clash n (sym numbers ∙ left.third) (sym right.text ∙ sym texts ∙ left.text))
+same_cause a b m n front head (plain left) (clashes right) numbers texts = absurd (plain_or_clash right.clash front (left.third (numbers ∙ right.third)) (texts ∙ right.text))
+same_cause a b m n front head (clashes left) (plain right) numbers texts = absurd (plain_or_clash left.clash head (right.third (sym numbers ∙ left.third)) (sym texts ∙ left.text))
 
 refusal_part : (a b : Reply) (x y : List ℕ) → IsRefusal a → IsRefusal b → reply_text a ++ (10 ∷ x) ≡ reply_text b ++ (10 ∷ y) → ReadReply a b x y
 refusal_part a b x y left right e =

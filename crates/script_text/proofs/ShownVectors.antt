@@ -3,7 +3,7 @@ use Rattle.std.proofs.Common.{refl, codes, replicate, [], ◌∷◌}
 use Rattle.std.specs.List.{IsDistinct}
 use Rattle.script_text.specs.Shown.{IsShown}
 use Rattle.script_text.specs.declared.outputs.RunText.{RunText}
-use Rattle.script_text.specs.declared.replies.Reply.TheVariants.{Done, Count, Rows, Refused, Collided}
+use Rattle.script_text.specs.declared.replies.Reply.TheVariants.{Done, Count, Rows, Refused, Syntax, Collided}
 use Rattle.tuple_codec.specs.declared.values.SqlType.TheVariants as kind
 use Rattle.tuple_codec.specs.declared.values.Value.TheVariants as cell
 
@@ -12,7 +12,7 @@ use Rattle.tuple_codec.specs.declared.values.Value.TheVariants as cell
 run : RunText
 run = record {
   names = codes "order" ∷ codes "session" ∷ [];
-  replies = (Done ∷ Count 2 ∷ Rows (record { names = codes "a,b" ∷ []; kinds = kind.Varchar 20 ∷ []; rows = (cell.Text (codes "2 ok\norder") ∷ []) ∷ [] }) ∷ Refused 1050 ∷ Refused 3 ∷ Collided (record { address = record { 0 = replicate 20 255 }; first = codes "hi"; second = 0 ∷ 255 ∷ [] }) ∷ []) ∷ [] ∷ [];
+  replies = (Done ∷ Count 2 ∷ Rows (record { names = codes "a,b" ∷ []; kinds = kind.Varchar 20 ∷ []; rows = (cell.Text (codes "2 ok\norder") ∷ []) ∷ [] }) ∷ Refused 1050 ∷ Syntax 0 ∷ Refused 3 ∷ Collided (record { address = record { 0 = replicate 20 255 }; first = codes "hi"; second = 0 ∷ 255 ∷ [] }) ∷ []) ∷ [] ∷ [];
   order = (record { session = 0; statement = 1 }) ∷ (record { session = 0; statement = 3 }) ∷ [];
   branches = [];
 }

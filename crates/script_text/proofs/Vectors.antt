@@ -5,7 +5,7 @@ use Rattle.hex.specs.Hex.{encode_with}
 use Rattle.tuple_codec.specs.AddressTexts.{letter}
 use Rattle.script_text.specs.Input.{add_statement, is_skipped, lines_of, parts_of}
 use Rattle.script_text.specs.Output.{text}
-use Rattle.script_text.specs.declared.replies.Reply.TheVariants.{Done, Count, Rows, Refused, Collided}
+use Rattle.script_text.specs.declared.replies.Reply.TheVariants.{Done, Count, Rows, Refused, Syntax, Collided}
 use Rattle.tuple_codec.specs.declared.values.SqlType.TheVariants as kind
 use Rattle.tuple_codec.specs.declared.values.Value.TheVariants as cell
 
@@ -42,8 +42,8 @@ three_replies : text (record {
 unfolding digits
 three_replies = refl
 
-refused : text (record { names = codes "a" ∷ []; replies = (Refused 1050 ∷ Refused 9013 ∷ []) ∷ []; order = []; branches = [] })
-    ≡ codes "session a\n1 refused 1050 table exists\n2 refused 9013 outside the subset\norder\n"
+refused : text (record { names = codes "a" ∷ []; replies = (Refused 1050 ∷ Syntax 107 ∷ Refused 9013 ∷ []) ∷ []; order = []; branches = [] })
+    ≡ codes "session a\n1 refused 1050 table exists\n2 refused 1064 syntax at byte 107\n3 refused 9013 outside the subset\norder\n"
 unfolding digits
 refused = refl
 

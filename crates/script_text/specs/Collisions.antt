@@ -5,7 +5,7 @@ use Rattle.chunk_store.specs.declared.faults.Clash.{Clash}
 use Rattle.chunk_store.specs.declared.faults.PutFault.{PutFault}
 use Rattle.chunk_store.specs.declared.faults.PutFault.TheVariants.{Memory, Collision}
 use Rattle.script_text.specs.declared.replies.Reply.{Reply}
-use Rattle.script_text.specs.declared.replies.Reply.TheVariants.{Done, Count, Rows, Refused, Collided}
+use Rattle.script_text.specs.declared.replies.Reply.TheVariants.{Done, Count, Rows, Refused, Syntax, Collided}
 
 -- both have the address, and they differ
 pub record IsCollision (address : List ℕ → List ℕ) (clash : Clash) : Type 0 where
@@ -24,6 +24,7 @@ TellsTruly address Done = Unit {0}
 TellsTruly address (Count rows) = Unit {0}
 TellsTruly address (Rows answer) = Unit {0}
 TellsTruly address (Refused number) = Unit {0}
+TellsTruly address (Syntax at) = Unit {0}
 TellsTruly address (Collided clash) = IsCollision address clash
 
 -- all replies of all sessions do

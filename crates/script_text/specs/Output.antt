@@ -13,7 +13,7 @@ use Rattle.chunk_store.specs.declared.faults.Clash.{Clash}
 use Rattle.script_text.specs.declared.outputs.BranchLine.{BranchLine}
 use Rattle.script_text.specs.declared.outputs.RunText.{RunText}
 use Rattle.script_text.specs.declared.replies.Reply.{Reply}
-use Rattle.script_text.specs.declared.replies.Reply.TheVariants.{Done, Count, Rows, Refused, Collided}
+use Rattle.script_text.specs.declared.replies.Reply.TheVariants.{Done, Count, Rows, Refused, Syntax, Collided}
 use Rattle.script_text.specs.declared.scripts.Moment.{Moment}
 use Rattle.value_text.specs.Values.{row_text}
 
@@ -75,6 +75,7 @@ reply_text Done = codes "ok"
 reply_text (Count rows) = codes "ok " ++ decimal rows
 reply_text (Rows answer) = answer_text answer
 reply_text (Refused number) = codes "refused " ++ decimal number ++ codes " " ++ unwrap_or (refusal_text number) []
+reply_text (Syntax at) = codes "refused 1064 syntax at byte " ++ decimal at
 reply_text (Collided clash) = codes "refused 3 collision" ++ clash_text clash
 
 -- the replies of a session, each behind its statement's number
@@ -123,6 +124,7 @@ shortage Done = None
 shortage (Count rows) = None
 shortage (Rows answer) = None
 shortage (Refused number) = shortage_of number
+shortage (Syntax at) = None
 shortage (Collided clash) = Some (Clashes clash)
 
 -- which statements were answered so, by session and by the statement's number

@@ -11,7 +11,7 @@ use Rattle.script_text.specs.Input.{is_name_byte, is_name}
 use Rattle.script_text.specs.Output.{reply_text, refusal_text, shortages_in, text}
 use Rattle.script_text.specs.declared.outputs.RunText.{RunText}
 use Rattle.script_text.specs.declared.replies.Reply.{Reply}
-use Rattle.script_text.specs.declared.replies.Reply.TheVariants.{Done, Count, Rows, Refused, Collided}
+use Rattle.script_text.specs.declared.replies.Reply.TheVariants.{Done, Count, Rows, Refused, Syntax, Collided}
 use Rattle.script_text.specs.declared.scripts.Moment.{Moment}
 
 -- a decimal stands only under a type that tells its scale
@@ -35,6 +35,7 @@ is_printable_reply Done = true
 is_printable_reply (Count rows) = true
 is_printable_reply (Rows answer) = is_printable_answer answer
 is_printable_reply (Refused number) = is_some (refusal_text number)
+is_printable_reply (Syntax at) = true
 is_printable_reply (Collided clash) = true
 
 abbrev pub is_printable_moment : ℕ → Moment → Bool
@@ -62,6 +63,7 @@ is_shown_reply Done = true
 is_shown_reply (Count rows) = true
 is_shown_reply (Rows answer) = nat_lt (length answer.rows) (2 ^ 64) && list_all is_one_line answer.names
 is_shown_reply (Refused number) = is_some (refusal_text number)
+is_shown_reply (Syntax at) = true
 is_shown_reply (Collided clash) = is_whole_address clash.address.0 && are_bytes clash.first && are_bytes clash.second
 
 abbrev pub is_shown_name : List ℕ → Bool

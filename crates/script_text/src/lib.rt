@@ -23,5 +23,6 @@ pub use law::one_reading;
 pub use outputs::{BranchLine, RunText};
 pub use printing::{print_output, push_clash};
 pub use reading::read_script;
+pub use refusals::refusal_words;
 pub use replies::Reply;
 pub use scripts::{Line, Moment, OrderItem, Script};

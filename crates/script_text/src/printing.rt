@@ -6,7 +6,7 @@ ghost use Rattle.script_text.specs.Output.{answer_text, branch_line, clash_text,
 ghost use Rattle.hex.specs.Hex.{encode_lower};
 ghost use Rattle.tuple_codec.specs.AddressTexts.{address_text};
 ghost use Rattle.script_text.specs.Shown.{IsPrintable};
-ghost use Rattle.script_text.specs.declared.replies.Reply.TheVariants.{Refused};
+ghost use Rattle.script_text.specs.declared.replies.Reply.TheVariants.{Refused, Syntax};
 
 use crate::outputs::{BranchLine, RunText};
 use crate::refusals::refusal_words;
@@ -77,6 +77,7 @@ fn push_reply(alloc: Global, out: &mut Vec<u8>, reply: &Reply) -> Result<(), All
         }
         Reply::Rows(answer) => push_answer(alloc, out, answer),
         Reply::Refused(number) => push_refusal(alloc, out, *number),
+        Reply::Syntax(at) => push_syntax(alloc, out, *at),
         Reply::Collided(clash) => {
             out.extend_from_slice(b"refused 3 collision")?;
             push_clash(alloc, out, clash)
@@ -94,6 +95,13 @@ fn push_refusal(alloc: Global, out: &mut Vec<u8>, number: u16) -> Result<(), All
         Some(words) => out.extend_from_slice(words.as_bytes()),
         None => Ok(()),
     }
+}
+
+fn push_syntax(alloc: Global, out: &mut Vec<u8>, at: u32) -> Result<(), AllocError>
+    ensures { OnOk result (out.new.items ≡ out.old.items ++ reply_text (Syntax at)) }
+{
+    out.extend_from_slice(b"refused 1064 syntax at byte ")?;
+    push_number(alloc, out, u64::from(at))
 }
 
 /// Writes behind what `out` holds what follows the word `collision`: the address that two byte strings have, the one that

@@ -13,6 +13,8 @@ pub enum Reply {
     Rows(Answer),
     /// The number of the refusal; each has its text.
     Refused(u16),
+    /// A text that is no statement, number 1064, and the byte from 0 at which it stops to be one.
+    Syntax(u32),
     /// Two byte strings of one address were met: number 3.
     Collided(Clash),
 }
