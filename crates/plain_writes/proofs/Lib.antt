@@ -3,3 +3,5 @@ pub mod OrderLemmas
 pub mod ListingLemmas
 pub mod PlaceLemmas
 pub mod EffectLemmas
+pub mod InsertionLemmas
+pub mod SortLemmas

@@ -115,6 +115,7 @@ fn copy_keys(alloc: Global, keys: &[ForeignKey]) -> Result<Sequence<ForeignKey>,
     Ok(copy)
 }
 
+/// A copy, of which contracts know that it is the schema.
 pub fn copy_schema(alloc: Global, schema: &Schema) -> Result<Schema, AllocError>
     ensures { IfOk result (λ copy. copy ≡ schema.now) }
 {
@@ -127,6 +128,7 @@ pub fn copy_schema(alloc: Global, schema: &Schema) -> Result<Schema, AllocError>
     })
 }
 
+/// A copy, of which contracts know that it has these rows.
 pub fn copy_rows(alloc: Global, rows: &[Row]) -> Result<Sequence<Row>, AllocError>
     ensures { IfOk result (λ copy. copy ≡ rows.now) }
 {
@@ -200,6 +202,7 @@ pub fn with_rows(alloc: Global, table: &Table, rows: Sequence<Row>) -> Result<Ta
     })
 }
 
+/// A copy, of which contracts know that it is the table.
 pub fn copy_named(alloc: Global, named: &NamedTable) -> Result<NamedTable, AllocError>
     ensures { IfOk result (λ copy. copy ≡ named.now) }
 {

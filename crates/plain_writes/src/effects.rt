@@ -51,7 +51,8 @@ fn replaced_in(
     }
 }
 
-fn replaced(
+/// The database with this table in place of that of the name.
+pub fn replaced(
     alloc: Global,
     name: &[u8],
     table: &Table,

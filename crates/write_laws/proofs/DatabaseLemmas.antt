@@ -43,19 +43,19 @@ found_kept name database table kept e =
 
 -- ---- the table replaced
 
-name_same : (name : List ℕ) (table : PlainTable) (named : NamedTable) → (replaced_in name table named).name ≡ named.name
+pub name_same : (name : List ℕ) (table : PlainTable) (named : NamedTable) → (replaced_in name table named).name ≡ named.name
 name_same name table named = two (is_called name named)
     (λ t. ap (λ b. (cond b (record { name = name; table = table }) named).name) t ∙ sym ((bytes_decides named.name name).0 t))
     (λ t. ap (λ b. (cond b (record { name = name; table = table }) named).name) t)
 
-names_by : (p : List ℕ → Bool) (name : List ℕ) (table : PlainTable) (database : PlainDatabase) → list_all (λ (named : NamedTable). p named.name) database ≡ true
+pub names_by : (p : List ℕ → Bool) (name : List ℕ) (table : PlainTable) (database : PlainDatabase) → list_all (λ (named : NamedTable). p named.name) database ≡ true
     → list_all (λ (named : NamedTable). p named.name) (replaced name table database) ≡ true
 names_by p name table [] h = refl
 names_by p name table (named ∷ database) h =
     both_so (ap p (name_same name table named) ∙ left_so (p named.name) (list_all (λ (named : NamedTable). p named.name) database) h)
     (names_by p name table database (right_so (p named.name) (list_all (λ (named : NamedTable). p named.name) database) h))
 
-names_rise : (name : List ℕ) (table : PlainTable) (database : PlainDatabase) → rises (λ (a b : NamedTable). slice_cmp nat_cmp a.name b.name) database ≡ true
+pub names_rise : (name : List ℕ) (table : PlainTable) (database : PlainDatabase) → rises (λ (a b : NamedTable). slice_cmp nat_cmp a.name b.name) database ≡ true
     → rises (λ (a b : NamedTable). slice_cmp nat_cmp a.name b.name) (replaced name table database) ≡ true
 names_rise name table [] h = refl
 names_rise name table (named ∷ []) h = refl
@@ -64,7 +64,7 @@ names_rise name table (named ∷ next ∷ database) h =
     ∙ left_so (is_lt (slice_cmp nat_cmp named.name next.name)) (rises (λ (a b : NamedTable). slice_cmp nat_cmp a.name b.name) (next ∷ database)) h)
     (names_rise name table (next ∷ database) (right_so (is_lt (slice_cmp nat_cmp named.name next.name)) (rises (λ (a b : NamedTable). slice_cmp nat_cmp a.name b.name) (next ∷ database)) h))
 
-tables_are : (P : PlainTable → Type 0) (name : List ℕ) (table : PlainTable) (database : PlainDatabase) → P table → AllByRecursion (λ (named : NamedTable). P named.table) database
+pub tables_are : (P : PlainTable → Type 0) (name : List ℕ) (table : PlainTable) (database : PlainDatabase) → P table → AllByRecursion (λ (named : NamedTable). P named.table) database
     → AllByRecursion (λ (named : NamedTable). P named.table) (replaced name table database)
 tables_are P name table [] it others = tt
 tables_are P name table (named ∷ database) it others = (
@@ -87,7 +87,7 @@ within_are name table (named ∷ database) it others =
     first : is_named_within_limits named ≡ true
     first = left_so (is_named_within_limits named) (list_all is_named_within_limits database) others
 
-length_same : (name : List ℕ) (table : PlainTable) (database : PlainDatabase) → length (replaced name table database) ≡ length database
+pub length_same : (name : List ℕ) (table : PlainTable) (database : PlainDatabase) → length (replaced name table database) ≡ length database
 length_same name table [] = refl
 length_same name table (named ∷ database) = ap suc (length_same name table database)
 
@@ -104,7 +104,7 @@ replaced_kept name table database it kept = record {
 
 -- ---- a statement's result
 
-limits_so : (table : PlainTable) → is_table_within_limits table ≡ true
+pub limits_so : (table : PlainTable) → is_table_within_limits table ≡ true
     → (is_within_limits table.schema ≡ true) × (list_all (is_row_within_limits table.schema) table.rows ≡ true) × (list_all (is_conflict_within_limits table.schema) table.conflicts ≡ true)
     × (list_all (is_violation_within_limits table.schema) table.violations ≡ true)
 limits_so table h =
@@ -132,11 +132,11 @@ effect_so None large given effect e = let parts = unless_so large 9010 (Ok given
 few_so : (rows : List Cells) → nat_lt most_rows (length rows) ≡ false → nat_le (length rows) most_rows ≡ true
 few_so rows h = le-leb (length rows) most_rows (ltb-false most_rows (length rows) h)
 
-keyed_total : (schema : Schema) → IsTotalOrder (keyed_cmp schema)
+pub keyed_total : (schema : Schema) → IsTotalOrder (keyed_cmp schema)
 keyed_total schema = on_total (primary_key schema) key_cmp_total
 
 -- rows in key order, each key once
-by_key_so : (schema : Schema) (rows sorted : List Cells) → by_key schema rows ≡ Ok sorted → list_all (is_good schema) rows ≡ true
+pub by_key_so : (schema : Schema) (rows sorted : List Cells) → by_key schema rows ≡ Ok sorted → list_all (is_good schema) rows ≡ true
     → (list_all (is_good schema) sorted ≡ true) × (rises (keyed_cmp schema) sorted ≡ true)
 by_key_so schema rows sorted e good =
     let parts = unless_so (repeats (keyed_cmp schema) rows) 1062 (Ok (in_order (keyed_cmp schema) rows)) sorted e in

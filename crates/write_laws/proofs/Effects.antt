@@ -20,7 +20,7 @@ use Rattle.write_laws.proofs.OutcomeLemmas.{each_have, found_so, then_so}
 use Rattle.write_laws.proofs.RowLemmas.{IsPlaced, all_append, all_rest, all_rows, assignment_placed, is_good, new_rows_good, stay_all_good, turned_all_good}
 use Rattle.write_laws.proofs.DatabaseLemmas.{IsKeptTable, found_kept, result_kept, rows_good}
 
-columns_well : (schema : Schema) → is_schema schema ≡ true → list_all is_column schema.columns ≡ true
+pub columns_well : (schema : Schema) → is_schema schema ≡ true → list_all is_column schema.columns ≡ true
 columns_well schema h =
     let n = length schema.columns in
     let foreign = are_foreign n schema.foreign in
