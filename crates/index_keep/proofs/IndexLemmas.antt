@@ -14,7 +14,8 @@ use Rattle.schema_model.specs.declared.schemas.Schema.{Schema}
 use Rattle.edit_laws.proofs.Rising.{edited_rise}
 use Rattle.table_rows.specs.Rows.{RowItemsFollow}
 use Rattle.index_keep.specs.Entries.{AreSorted, changes_at, edits_of_change, edits_of_changes, entry_key, found, keys_of, row_change, row_key}
-use Rattle.index_keep.specs.Laws.{AreEditedRows, IndexListsFollow, table_of_rows}
+use Rattle.index_keep.specs.Keeping.{table_of_rows}
+use Rattle.index_keep.specs.Laws.{AreEditedRows, IndexListsFollow}
 use Rattle.index_keep.specs.Steps.{AreChanged}
 use Rattle.index_keep.proofs.ChangeLemmas.{rows_change}
 use Rattle.index_keep.proofs.EntryLemmas.{all_edits, edits_apart, index_edited}
@@ -32,13 +33,13 @@ module _ (spelled : IsOneSpelling key_bytes) (schema : Schema) (index : IndexDef
   edits_are (key ∷ keys) =
       ap (λ (l : List Edit). edits_of_change schema index (row_change (found (row_key schema) key rows) (found (row_key schema) key others)) ++ l) (edits_are keys)
 
-list_follows : IsOneSpelling key_bytes → (schema : Schema) (index : IndexDef) (rows others : List Cells) (keys : List (List ℕ)) (edits : List Edit) → is_index (length schema.columns) index ≡ true
+pub list_follows : IsOneSpelling key_bytes → (schema : Schema) (index : IndexDef) (rows others : List Cells) (keys : List (List ℕ)) (edits : List Edit) → is_index (length schema.columns) index ≡ true
     → AreChanged schema rows others keys → AreSorted (edits_of_changes schema index (changes_at schema rows others keys)) edits
     → EditsRiseAfter None edits × (edited (index_items (table_of_rows schema rows) index) edits ≡ index_items (table_of_rows schema others) index)
 list_follows spelled schema index rows others keys edits in_schema changed are_sorted =
-    let is = changed.others_of.valid in
+    let is = changed.valid in
     let fit = changed.rows_fit in
-    let others_fit = changed.others_of.fit in
+    let others_fit = changed.others_fit in
     let one = entry_one spelled schema index is in_schema in
     let all = edits_at_keys spelled schema index is in_schema rows others fit others_fit keys in
     let are : AreSorted all edits = subst (λ (l : List Edit). AreSorted l edits) (edits_are spelled schema index is in_schema rows others fit others_fit keys) are_sorted in
@@ -52,7 +53,7 @@ list_follows spelled schema index rows others keys edits in_schema changed are_s
 are_changed : RowItemsFollow → (schema : Schema) (rows others : List Cells) (edits : List Edit) → AreEditedRows schema rows others edits → AreChanged schema rows others (keys_of edits)
 are_changed follow schema rows others edits are =
     rows_change follow schema rows others edits are.rows_fit are.rows_rise are.rise are.items
-    (subst (λ (l : List Item). Rise l) (sym are.items) (edited_rise (map (row_item schema) rows) None edits are.rows_rise are.rise)) are.others_of
+    (subst (λ (l : List Item). Rise l) (sym are.items) (edited_rise (map (row_item schema) rows) None edits are.rows_rise are.rise)) are.valid are.others_fit
 
 pub lists_follow : RowItemsFollow → IsOneSpelling key_bytes → IndexListsFollow
 lists_follow follow spelled = record {

@@ -9,13 +9,14 @@ use Rattle.tuple_codec.specs.Limits.{are_types, is_type}
 use Rattle.tuple_codec.specs.Spellings.{IsOneSpelling}
 use Rattle.tuple_codec.specs.declared.values.SqlType.{SqlType}
 use Rattle.tuple_codec.specs.declared.values.Value.TheVariants as cell
-use Rattle.schema_model.specs.PlainTables.{is_row, kinds, primary_key}
+use Rattle.schema_model.specs.PlainTables.{is_row, key_types, kinds, primary_key}
 use Rattle.schema_model.specs.Schemas.{are_columns, are_positions, is_column, is_index, is_schema}
 use Rattle.schema_model.specs.declared.schemas.Column.{Column}
 use Rattle.schema_model.specs.declared.schemas.IndexDef.{IndexDef}
 use Rattle.schema_model.specs.declared.schemas.Schema.{Schema}
 use Rattle.index_keep.specs.Entries.{entry_key, row_key}
-use Rattle.index_keep.specs.Steps.{kinds_at}
+use Rattle.schema_model.proofs.FitLemmas.{key_types_fit, primary_key_fits}
+use Rattle.index_keep.specs.Steps.{entry_types, kinds_at}
 
 kind_fits : (column : Column) → is_column column ≡ true → is_type column.kind ≡ true
 kind_fits column h = (and_parts _ (is_type column.kind) (and_parts _ _ h).0).1
@@ -85,3 +86,14 @@ entry_one spelled schema index h in_schema a b fa fb e =
     (kinds_are_types schema.columns index.columns (columns_of schema h))
     (cells_fit schema.columns a index.columns fa places) (cells_fit schema.columns b index.columns fb places)
     (sym (bytes_joined (key_of index.columns a) (primary_key schema a)) ∙ e ∙ bytes_joined (key_of index.columns b) (primary_key schema b))).1
+
+-- the cells of an entry's key fit their types
+pub entry_types_fit : (schema : Schema) (index : IndexDef) → is_schema schema ≡ true → are_types (entry_types schema index) ≡ true
+entry_types_fit schema index h =
+    types_joined (kinds_at schema.columns index.columns) (key_types schema) (kinds_are_types schema.columns index.columns (columns_of schema h)) (key_types_fit schema h)
+
+pub entry_cells_fit : (schema : Schema) (index : IndexDef) (row : Cells) → is_schema schema ≡ true → is_index (length schema.columns) index ≡ true → is_row schema row ≡ true
+    → fits_all (entry_types schema index) (key_of index.columns row ++ primary_key schema row) ≡ true
+entry_cells_fit schema index row h in_schema fit =
+    fits_joined (kinds_at schema.columns index.columns) (key_types schema) (key_of index.columns row) (primary_key schema row)
+    (cells_fit schema.columns row index.columns fit (index_places (length schema.columns) index in_schema)) (primary_key_fits schema row h fit)

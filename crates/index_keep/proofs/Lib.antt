@@ -1,6 +1,12 @@
 mod FoundLemmas
 mod EntryLemmas
-mod SortLemmas
+pub mod SortLemmas
 mod KeyLemmas
 mod ChangeLemmas
 mod IndexLemmas
+mod PutLemmas
+mod StandLemmas
+mod TableLemmas
+mod MakingLemmas
+mod ReadLemmas
+mod SampleLemmas

@@ -1,3 +1,5 @@
 pub mod Entries
+pub mod Keeping
 pub mod Laws
 pub mod Steps
+pub mod Samples
