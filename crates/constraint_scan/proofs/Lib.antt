@@ -1,0 +1,4 @@
+pub mod RefusalLemmas
+pub mod FreeLemmas
+pub mod StandLemmas
+pub mod WrittenLemmas

@@ -1,0 +1,61 @@
+-- Databases that addresses in a draft stand for, as scans read them.
+use Rattle.std.specs.Prelude.{◌≡◌, ◌<◌, ◌^◌, ◌||◌, ℕ, Bool, true, not, List, [], length, map}
+use Rattle.std.specs.List.{AllByRecursion, list_any}
+use Rattle.schema_model.specs.Limits.{is_database_within_limits}
+use Rattle.schema_model.specs.Schemas.{is_empty}
+use Rattle.schema_model.specs.declared.schemas.Schema.{Schema}
+use Rattle.schema_model.specs.PlainTables as plain
+use Rattle.schema_model.specs.PlainTables.{PlainDatabase, PlainTable}
+use Rattle.schema_model.specs.WrittenForms.{table_address}
+use Rattle.chunk_store.specs.Chunks.{Chunks}
+use Rattle.table_root.specs.Standing.{IsDatabaseAt, IsTableAt, named_tables}
+use Rattle.table_root.specs.declared.records.NamedTable.{NamedTable}
+
+-- the address stands for the database, of fewer tables than its written form holds
+pub record IsReadAt (address : List ℕ → List ℕ) (chunks : Chunks) (k : List ℕ) (database : PlainDatabase) : Type 0 where
+  pub stands : IsDatabaseAt address chunks k database
+  pub few : length database < 2 ^ 16
+
+abbrev pub CanRead : (List ℕ → List ℕ) → Chunks → List ℕ → Type 0
+CanRead address chunks k = (database : PlainDatabase) × IsReadAt address chunks k database
+
+-- the address stands for the database, which keeps the limits on data
+pub record IsKeptAt (address : List ℕ → List ℕ) (chunks : Chunks) (k : List ℕ) (database : PlainDatabase) : Type 0 where
+  pub stands : IsDatabaseAt address chunks k database
+  pub within : is_database_within_limits database ≡ true
+
+abbrev pub HasKeptAt : (List ℕ → List ℕ) → Chunks → List ℕ → Type 0
+HasKeptAt address chunks k = (database : PlainDatabase) × IsKeptAt address chunks k database
+
+-- this list names the tables of the database, which stand
+pub record AreThere (address : List ℕ → List ℕ) (chunks : Chunks) (database : PlainDatabase) (tables : List NamedTable) : Type 0 where
+  pub stand : AllByRecursion (λ named. IsTableAt address chunks (table_address address named.table) named.table) database
+  pub listed : tables ≡ named_tables address database
+
+-- a table by its schema and rows alone: what a constraint looks at
+abbrev pub bare_table : PlainTable → PlainTable
+bare_table table = record { schema = table.schema; rows = table.rows; conflicts = []; violations = [] }
+
+abbrev pub bare_named : plain.NamedTable → plain.NamedTable
+bare_named named = record { name = named.name; table = bare_table named.table }
+
+abbrev pub bare : PlainDatabase → PlainDatabase
+bare database = map bare_named database
+
+-- a table by its schema alone
+abbrev pub empty_table : PlainTable → PlainTable
+empty_table table = record { schema = table.schema; rows = []; conflicts = []; violations = [] }
+
+abbrev pub empty_named : plain.NamedTable → plain.NamedTable
+empty_named named = record { name = named.name; table = empty_table named.table }
+
+abbrev pub skeleton : PlainDatabase → PlainDatabase
+skeleton database = map empty_named database
+
+-- a unique index, a CHECK or a foreign key: what rows may break beside NOT NULL
+abbrev pub is_constrained : Schema → Bool
+is_constrained schema = list_any (λ index. index.unique) schema.indexes || (not (is_empty schema.checks) || not (is_empty schema.foreign))
+
+-- some table has one
+abbrev pub has_constraints : PlainDatabase → Bool
+has_constraints database = list_any (λ named. is_constrained named.table.schema) database

@@ -1,0 +1,94 @@
+//! Violations with the bytes of their keys and rows.
+
+ghost use Rattle.std.specs.Prelude.{◌≡◌, ◌++◌, IfOk, OnOk, map, true};
+ghost use Rattle.std.specs.List.{flat_map, list_all};
+ghost use Rattle.schema_model.specs.PlainTables.{PlainDatabase};
+ghost use Rattle.chunk_store.specs.Drafts.{chunks_of};
+ghost use Rattle.plain_writes.specs.Seen.{broken_seen, found_seen, named_seen};
+ghost use Rattle.plain_writes.specs.Violations.{violations};
+ghost use Rattle.plain_schemas.specs.Statements.{checks};
+ghost use Rattle.constraint_scan.specs.Scanning.{CanRead, IsReadAt};
+ghost use Rattle.constraint_scan.specs.Written.{fits, fits_in, written, written_in};
+
+use crate::canonical::CanonicalChecks;
+use crate::reading::read_tables;
+use chunk_store::Draft;
+use plain_writes::{Found, NamedTable, table_in, violations as violations_of_tables};
+use schema_model::Schema;
+use std::alloc::{AllocError, Global};
+use table_rows::row_item;
+use tuple_codec::{Address, Blob, Digester, Text};
+
+/// A row that breaks a constraint, as the list of a table's violations keeps it.
+#[derive(Debug, Drop)]
+pub struct Violation {
+    pub table: Text,
+    /// 1 a foreign key, 2 a unique index, 3 a CHECK, 4 NULL in a NOT NULL column.
+    pub kind: u8,
+    /// The constraint's name, of kind 4 the column's.
+    pub constraint: Text,
+    /// The bytes of the row's primary key.
+    pub key: Blob,
+    /// The bytes of the row's other cells.
+    pub row: Blob,
+}
+
+fn written(alloc: Global, schema: &Schema, one: &Found) -> Result<Violation, AllocError>
+    requires { fits schema.now (broken_seen one.now.violation) ≡ true }
+    ensures { IfOk result (λ violation. violation ≡ written schema.now (found_seen one.now)) }
+{
+    let item = row_item(alloc, schema, one.violation.row.as_slice())?;
+    Ok(Violation {
+        table: Text::from_slice(alloc, one.table.as_slice())?,
+        kind: one.violation.kind,
+        constraint: Text::from_slice(alloc, one.violation.constraint.as_slice())?,
+        key: item.key,
+        row: item.value,
+    })
+}
+
+/// Adds a violation, by the schema of its table.
+fn push_written(
+    alloc: Global,
+    tables: &[NamedTable],
+    one: &Found,
+    list: &mut Vec<Violation>,
+) -> Result<(), AllocError>
+    requires { fits_in (map named_seen tables.now) (found_seen one.now) ≡ true }
+    ensures { OnOk result (list.new.items ≡ list.old.items ++ written_in (map named_seen tables.now) (found_seen one.now)) }
+{
+    if let Some(table) = table_in(tables, one.table.as_slice()) {
+        list.push(written(alloc, &table.schema, one)?)?;
+    }
+    Ok(())
+}
+
+fn written_all(
+    alloc: Global,
+    tables: &[NamedTable],
+    found: &[Found],
+) -> Result<Vec<Violation>, AllocError>
+    requires { list_all (fits_in (map named_seen tables.now)) (map found_seen found.now) ≡ true }
+    ensures { IfOk result (λ list. list.items ≡ flat_map (written_in (map named_seen tables.now)) (map found_seen found.now)) }
+{
+    let mut list = Vec::new(alloc);
+    for one in found {
+        push_written(alloc, tables, one, &mut list)?;
+    }
+    Ok(list)
+}
+
+/// The violations of the database at an address, by table, kind, constraint and key. Those that merges recorded take no part.
+pub fn violations<D: Digester>(
+    alloc: Global,
+    draft: &Draft<D>,
+    database: &Address,
+) -> Result<Vec<Violation>, AllocError>
+    requires { CanRead D.address (chunks_of draft.now.chunks) database.now.0 }
+    ensures { (contents : PlainDatabase) → IsReadAt D.address (chunks_of draft.now.chunks) database.now.0 contents
+        → IfOk result (λ list. list.items ≡ flat_map (written_in contents) (violations checks contents)) }
+{
+    let tables = read_tables(alloc, draft, database)?;
+    let found = violations_of_tables::<CanonicalChecks>(alloc, tables.as_slice())?;
+    written_all(alloc, tables.as_slice(), found.as_slice())
+}
