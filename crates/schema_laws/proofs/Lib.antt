@@ -1,0 +1,14 @@
+pub mod ListLemmas
+pub mod PlaceLemmas
+pub mod PositionLemmas
+pub mod DatabaseParts
+pub mod SchemaParts
+pub mod ColumnLemmas
+pub mod AlterSchemas
+pub mod Altering
+pub mod NameLists
+pub mod ColumnPlaces
+pub mod CreateColumns
+pub mod CreateNames
+pub mod Creating
+pub mod Keeping

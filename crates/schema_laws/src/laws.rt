@@ -1,0 +1,11 @@
+ghost use Rattle.schema_laws.specs.Laws.{AllKeep, SchemasKeep};
+
+/// A database that keeps the limits on data is one after each CREATE, DROP and ALTER that isn't refused.
+pub fn schemas_keep()
+    ensures { SchemasKeep }
+{}
+
+/// The same of every statement that writes.
+pub fn all_keep()
+    ensures { AllKeep }
+{}
