@@ -1,0 +1,86 @@
+-- A walk over two lists of rows, step by step.
+use Rattle.std.proofs.Common.{◌≡◌, ℕ, zero, suc, ◌+◌, ◌-◌, ◌<◌, take, arith, length-drop, Bool, true, false, List, [], ◌∷◌, map, length, drop, get_or, refl, sym, ap, ◌∙◌}
+use Rattle.std.specs.Prelude.{if◌then◌else◌, bytes_eq}
+use Rattle.std.specs.Ordering.{is_eq, match_ordering}
+use Rattle.std.specs.declared.cmp.Ordering.{Ordering}
+use Rattle.std.specs.declared.cmp.Ordering.TheVariants.{Less, Equal, Greater}
+use Rattle.std.proofs.lemmas.Map.Text.{is_eq-slice_cmp}
+use Rattle.std.specs.List.{list_all}
+use Rattle.std.proofs.lemmas.Bool.{and_parts}
+use Rattle.std.proofs.lemmas.List.{drop_more, take_all}
+use Rattle.tuple_codec.specs.Rows.{Cells}
+use Rattle.schema_model.specs.PlainTables.{row_item}
+use Rattle.schema_model.specs.declared.schemas.Schema.{Schema}
+use Rattle.tuple_codec.specs.Edits.{added, against, changed, order, removed, replaced}
+use Rattle.tuple_codec.specs.Nodes.{Item}
+use Rattle.tuple_codec.specs.declared.edits.Edit.{Edit}
+use Rattle.edit_laws.specs.ByKey.{as_edit, as_edits}
+use Rattle.edit_laws.proofs.Orders.{itself}
+use Rattle.sql_write.specs.Differences.{meeting, row_edits}
+use Rattle.sql_write.specs.declared.differences.Meeting.{Meeting}
+use Rattle.sql_write.specs.declared.differences.Meeting.TheVariants as meet
+
+is_equal : (o : Ordering) → is_eq o ≡ true → o ≡ Equal
+is_equal Less e = absurd cc
+is_equal Equal e = refl
+is_equal Greater e = absurd cc
+
+order_itself : (key : List ℕ) → order key key ≡ Equal
+order_itself key = is_equal (order key key) (is_eq-slice_cmp key key ∙ itself key)
+
+-- an item beside itself
+pub met_itself : (item other : Item) → item ≡ other → meet.Same ≡ meeting item other
+met_itself item other e = let same = sym e in rw same (sym (by (order item.key item.key) (bytes_eq item.body item.body) (order_itself item.key) (itself item.body))) where
+  by : (o : Ordering) (b : Bool) → o ≡ Equal → b ≡ true
+      → match_ordering o (meet.Put (as_edit (added item))) (if b then meet.Same else meet.Replaced (as_edit (replaced item item))) (meet.Removed (as_edit (removed item))) ≡ meet.Same
+  by o b is_same is_one = rw is_same (rw is_one refl)
+
+-- what is left of both lists, behind the edit of a step
+abbrev pub after : Meeting → Item → List Item → Item → List Item → List Edit
+after meet.Same item items other others = as_edits (changed items others)
+after (meet.Put edit) item items other others = edit ∷ as_edits (changed (item ∷ items) others)
+after (meet.Replaced edit) item items other others = edit ∷ as_edits (changed items others)
+after (meet.Removed edit) item items other others = edit ∷ as_edits (changed items (other ∷ others))
+
+step : (item other : Item) (items others : List Item) → as_edits (changed (item ∷ items) (other ∷ others)) ≡ after (meeting item other) item items other others
+step item other items others = by (order other.key item.key) (bytes_eq other.body item.body) where
+  by : (o : Ordering) (b : Bool)
+      → as_edits (match_ordering o (added other ∷ against item (changed items) others) (if b then changed items others else replaced item other ∷ changed items others) (removed item ∷ changed items (other ∷ others)))
+      ≡ after (match_ordering o (meet.Put (as_edit (added other))) (if b then meet.Same else meet.Replaced (as_edit (replaced item other))) (meet.Removed (as_edit (removed item)))) item items other others
+  by Less b = refl
+  by Equal true = refl
+  by Equal false = refl
+  by Greater b = refl
+
+-- the first that is left of a list
+pub here : {A : Type 0} → (xs : List A) (i : ℕ) (x : A) → i < length xs → x ≡ get_or xs i x → drop i xs ≡ x ∷ drop (i + 1) xs
+here xs i x within is = drop_more xs i x within ∙ ap (λ y. y ∷ drop (i + 1) xs) (sym is)
+
+-- what the first two say of what is left of both lists
+pub left_step : (schema : Schema) (rows others : List Cells) (i j : ℕ) (row other : Cells) (m : Meeting)
+    → i < length rows → j < length others → row ≡ get_or rows i row → other ≡ get_or others j other → m ≡ meeting (row_item schema row) (row_item schema other)
+    → row_edits schema (drop i rows) (drop j others)
+    ≡ after m (row_item schema row) (map (row_item schema) (drop (i + 1) rows)) (row_item schema other) (map (row_item schema) (drop (j + 1) others))
+left_step schema rows others i j row other m i_within j_within row_is other_is m_is =
+    ap (λ xs. row_edits schema xs (drop j others)) (here rows i row i_within row_is)
+    ∙ ap (λ ys. row_edits schema (row ∷ drop (i + 1) rows) ys) (here others j other j_within other_is)
+    ∙ step (row_item schema row) (row_item schema other) (map (row_item schema) (drop (i + 1) rows)) (map (row_item schema) (drop (j + 1) others))
+    ∙ ap (λ m. after m (row_item schema row) (map (row_item schema) (drop (i + 1) rows)) (row_item schema other) (map (row_item schema) (drop (j + 1) others))) (sym m_is)
+
+rest_is : {A : Type 0} → (xs : List A) (i : ℕ) → take (length xs - i) (drop i xs) ≡ drop i xs
+rest_is xs i = take_all (length xs - i) (drop i xs) (omega (arith, length-drop i xs))
+
+-- what fits a list fits what is left of it
+pub all_left : {A : Type 0} → (test : A → Bool) (xs : List A) (i : ℕ) → list_all test xs ≡ true → list_all test (drop i xs) ≡ true
+all_left test [] zero e = refl
+all_left test [] (suc i) e = refl
+all_left test (x ∷ xs) zero e = e
+all_left test (x ∷ xs) (suc i) e = all_left test xs i (and_parts (test x) (list_all test xs) e).1
+
+pub all_of_rest : {A : Type 0} → (test : A → Bool) (xs : List A) (i : ℕ) → list_all test xs ≡ true → list_all test (take (length xs - i) (drop i xs)) ≡ true
+all_of_rest test xs i e = ap (list_all test) (rest_is xs i) ∙ all_left test xs i e
+
+-- a list and itself differ nowhere
+pub no_changes : (items : List Item) → as_edits (changed items items) ≡ []
+no_changes [] = refl
+no_changes (item ∷ items) = step item item items items ∙ ap (λ m. after m item items item items) (sym (met_itself item item refl)) ∙ no_changes items

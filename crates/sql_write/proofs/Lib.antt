@@ -1,0 +1,16 @@
+pub mod EditLemmas
+pub mod RiseLemmas
+pub mod InsertLemmas
+pub mod TableLemmas
+pub mod PlaceLemmas
+pub mod SaidLemmas
+pub mod DifferenceLemmas
+pub mod TurningLemmas
+pub mod TurnLemmas
+pub mod KeepLemmas
+pub mod SkeletonLemmas
+pub mod BuildingLemmas
+pub mod ListingLemmas
+pub mod SchemaLemmas
+pub mod MakingLemmas
+pub mod AlteringLemmas

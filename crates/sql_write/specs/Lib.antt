@@ -1,0 +1,13 @@
+pub mod Writing
+pub mod Making
+pub mod Putting
+pub mod Finding
+pub mod Inserting
+pub mod Differences
+pub mod Turning
+pub mod Updating
+pub mod Skeletons
+pub mod Building
+pub mod Listing
+pub mod Adding
+pub mod Altering

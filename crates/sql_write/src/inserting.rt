@@ -1,0 +1,142 @@
+//! INSERT.
+
+ghost use Rattle.std.specs.Prelude.{◌≡◌, ◌+◌, ◌++◌, ◌<◌, ◌^◌, IfOk, List, length, true};
+ghost use Rattle.std.specs.List.{list_all};
+ghost use Rattle.tuple_codec.specs.Nodes.{Item};
+ghost use Rattle.tuple_codec.specs.Rows.{Cells};
+ghost use Rattle.schema_model.specs.PlainTables.{PlainDatabase, PlainTable};
+ghost use Rattle.schema_model.specs.Schemas.{is_schema};
+ghost use Rattle.chunk_store.specs.Drafts.{Longer, chunks_of};
+ghost use Rattle.chunk_store.specs.Standing.{IsTree};
+ghost use Rattle.prolly_tree.specs.Lists.{StandsForRows};
+ghost use Rattle.plain_sql.specs.Gives.{Gives};
+ghost use Rattle.plain_writes.specs.Writes.{insert_effect, inserted, result_of};
+ghost use Rattle.plain_schemas.specs.Statements.{checks};
+ghost use Rattle.constraint_scan.specs.Scanning.{HasKeptAt, IsKeptAt};
+ghost use Rattle.sql_write.specs.Finding.{IsFound};
+ghost use Rattle.sql_write.specs.Inserting.{MayInsert, is_good, rows_said};
+ghost use Rattle.sql_write.specs.Making.{Makes};
+
+use crate::edits::{edits_of, repeats_key};
+use crate::faults::SqlFault;
+use crate::finding::{Found, find};
+use crate::putting::fill_table;
+use crate::writing::Written;
+use chunk_store::Draft;
+use index_keep::sort_edits;
+use plain_sql::Refused;
+use plain_writes::{new_rows, places_named, tuples_said};
+use prolly_tree::count;
+use schema_model::Schema;
+use sql_ast::Insert;
+use std::alloc::{AllocError, Global};
+use table_rows::law_of_row_items;
+use tuple_codec::{Address, Digester, Edit, Row, Sequence};
+
+/// The rows that an INSERT brings, or its first refusal before any row of the table is looked at.
+fn rows_said(alloc: Global, schema: &Schema, insert: &Insert) -> Result<Sequence<Row>, Refused>
+    requires { is_schema schema.now ≡ true }
+    ensures said { Gives result (rows_said schema.now insert.now) }
+    ensures good { IfOk result (λ rows. list_all (is_good schema.now) rows ≡ true) }
+{
+    let places = places_named(alloc, schema, &insert.columns)?;
+    let said = tuples_said(alloc, schema, places.as_slice(), insert.tuples.as_slice())?;
+    new_rows(alloc, schema, places.as_slice(), said.as_slice())
+}
+
+/// How many rows there are where so many more come. No memory holds 2^63 of them.
+fn rows_after<D: Digester>(
+    draft: &Draft<D>,
+    root: &Address,
+    written: u64,
+) -> Result<u64, AllocError>
+    requires { StandsForRows D.address (chunks_of draft.now.chunks) root.now.0 }
+    ensures { (items : List Item) → IsTree D.address (chunks_of draft.now.chunks) root.now.0 items
+        → IfOk result (λ rows. (rows ≡ length items + written) × (rows < 2 ^ 63)) }
+{
+    match count(draft, root).checked_add(written) {
+        Some(rows) => {
+            if rows < 1 << 63 {
+                Ok(rows)
+            } else {
+                Err(AllocError)
+            }
+        }
+        None => Err(AllocError),
+    }
+}
+
+/// Puts the rows that edits put, none of which may have a key that stands already, or twice among them.
+fn insert_edits<D: Digester>(
+    alloc: Global,
+    draft: &mut Draft<D>,
+    database: &Address,
+    found: Found,
+    name: &[u8],
+    mut edits: Vec<Edit>,
+) -> Result<Written, SqlFault>
+    requires { (before : PlainDatabase) × (contents : PlainTable) × (rows : List Cells) × MayInsert D.address (chunks_of draft.old.chunks) database.now.0 name.now found edits.items before contents rows }
+    ensures done { (before : PlainDatabase) (contents : PlainTable) (rows : List Cells) → MayInsert D.address (chunks_of draft.old.chunks) database.now.0 name.now found edits.items before contents rows
+        → Makes D.address (chunks_of draft.new.chunks) result (result_of checks before name.now contents (contents.rows ++ rows) (length rows)) }
+    ensures longer { Longer draft.old.chunks draft.new.chunks }
+{
+    law_of_row_items();
+    let written = edits.len() as u64;
+    sort_edits(&mut edits)?;
+    if repeats_key(draft, &found.table.rows, edits.as_slice()) {
+        return Err(SqlFault::Refused(1062));
+    }
+    let rows = rows_after(draft, &found.table.rows, written)?;
+    fill_table(
+        alloc,
+        draft,
+        database,
+        found.tables,
+        name,
+        &found.table,
+        edits.as_slice(),
+        rows,
+        written,
+    )
+}
+
+/// Inserts into the table that was found.
+fn insert_into<D: Digester>(
+    alloc: Global,
+    draft: &mut Draft<D>,
+    database: &Address,
+    found: Found,
+    insert: &Insert,
+) -> Result<Written, SqlFault>
+    requires { (before : PlainDatabase) × (contents : PlainTable) × IsFound D.address (chunks_of draft.old.chunks) database.now.0 insert.now.table before contents found }
+    ensures done { (before : PlainDatabase) (contents : PlainTable) → IsFound D.address (chunks_of draft.old.chunks) database.now.0 insert.now.table before contents found
+        → Makes D.address (chunks_of draft.new.chunks) result (inserted checks before insert.now contents) }
+    ensures longer { Longer draft.old.chunks draft.new.chunks }
+{
+    let rows = rows_said(alloc, &found.table.schema, insert)?;
+    let edits = edits_of(alloc, &found.table.schema, rows.as_slice())?;
+    insert_edits(
+        alloc,
+        draft,
+        database,
+        found,
+        insert.table.as_slice(),
+        edits,
+    )
+}
+
+/// Adds rows to a table. Of the table's own rows, those alone are read whose keys or index entries lie beside those of new ones.
+pub(crate) fn insert<D: Digester>(
+    alloc: Global,
+    draft: &mut Draft<D>,
+    database: &Address,
+    insert: &Insert,
+) -> Result<Written, SqlFault>
+    requires { HasKeptAt D.address (chunks_of draft.old.chunks) database.now.0 }
+    ensures done { (contents : PlainDatabase) → IsKeptAt D.address (chunks_of draft.old.chunks) database.now.0 contents
+        → Makes D.address (chunks_of draft.new.chunks) result (insert_effect checks contents insert.now) }
+    ensures longer { Longer draft.old.chunks draft.new.chunks }
+{
+    let found = find(alloc, draft, database, insert.table.as_slice())?;
+    insert_into(alloc, draft, database, found, insert)
+}
