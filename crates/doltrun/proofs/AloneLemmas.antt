@@ -7,7 +7,7 @@ use Rattle.script_text.specs.declared.replies.Reply.{Reply}
 use Rattle.script_text.specs.declared.scripts.Line.{Line}
 use Rattle.script_text.specs.declared.scripts.Moment.{Moment}
 use Rattle.plain_model.specs.Machine.{After, Past, Still, Place, Shared, Transaction, Session, Runner, Shortages, advance, alone, awaiting, moment_at, runners_of, statements_of, put_runner, step, step_of, went_on}
-use Rattle.plain_model.specs.Tables.{Tables}
+use Rattle.schema_model.specs.PlainTables.{PlainDatabase}
 use Rattle.doltrun.specs.Alone.{resting, runner_of, session_after, state_before}
 
 pub if_false : {X : Type 0} (b : Bool) (x y : X) → b ≡ false → (if b then x else y) ≡ y
@@ -134,7 +134,7 @@ put_behind answers line lines spoken replies reply h =
     ∙ moved answers line lines 0 line.session spoken replies (replies ++ reply ∷ []) h zeroth
 
 -- a line without a moment
-pub by_itself : (answers : Shortages) (line : Line) (lines : List Line) (database : Tables) (spoken : List (List Reply)) (replies : List Reply) (reply : Reply) → slice_get spoken line.session ≡ Some replies
+pub by_itself : (answers : Shortages) (line : Line) (lines : List Line) (database : PlainDatabase) (spoken : List (List Reply)) (replies : List Reply) (reply : Reply) → slice_get spoken line.session ≡ Some replies
     → alone (answers line.session (length replies + 1)) (session_after (length replies)) line.statement ≡ Some (session_after (length replies + 1), reply)
     → state_before answers (line ∷ lines) database spoken ≡ state_before answers lines database (more_replies spoken line replies reply)
 by_itself answers line lines database spoken replies reply h said =
@@ -159,7 +159,7 @@ waits answers line lines spoken replies h said =
     found (record { session = session_after (length replies); replies = replies; todo = line.statement ∷ statements_of line.session lines }))) said
 
 -- a line with one moment
-pub by_moment : (answers : Shortages) (line : Line) (lines : List Line) (database next : Tables) (spoken : List (List Reply)) (replies : List Reply) (reply : Reply) → slice_get spoken line.session ≡ Some replies
+pub by_moment : (answers : Shortages) (line : Line) (lines : List Line) (database next : PlainDatabase) (spoken : List (List Reply)) (replies : List Reply) (reply : Reply) → slice_get spoken line.session ≡ Some replies
     → alone (answers line.session (length replies + 1)) (session_after (length replies)) line.statement ≡ None
     → moment_at (answers line.session (length replies + 1)) (record { working = database }) (session_after (length replies)) line.statement
     ≡ Some (record { working = next }, Past (session_after (length replies + 1), reply))
@@ -171,7 +171,7 @@ by_moment answers line lines database next spoken replies reply h waiting went =
     ∙ ap (λ runners. Some (record { shared = record { working = next }; runners = runners })) (put_behind answers line lines spoken replies reply h)
 
 -- a line with a start and a decision
-pub by_moments : (answers : Shortages) (line : Line) (lines : List Line) (database next : Tables) (spoken : List (List Reply)) (replies : List Reply) (reply : Reply) (transaction : Transaction) (place : Place)
+pub by_moments : (answers : Shortages) (line : Line) (lines : List Line) (database next : PlainDatabase) (spoken : List (List Reply)) (replies : List Reply) (reply : Reply) (transaction : Transaction) (place : Place)
     → slice_get spoken line.session ≡ Some replies
     → alone (answers line.session (length replies + 1)) (session_after (length replies)) line.statement ≡ None
     → moment_at (answers line.session (length replies + 1)) (record { working = database }) (session_after (length replies)) line.statement

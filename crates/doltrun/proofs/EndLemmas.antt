@@ -15,8 +15,10 @@ use Rattle.script_text.specs.declared.scripts.Line.{Line}
 use Rattle.script_text.specs.declared.scripts.Moment.{Moment}
 use Rattle.script_text.specs.declared.scripts.Script.{Script}
 use Rattle.plain_model.specs.Machine.{IsPlainRun, IsTextOrder, Runner, Shortages, is_over, line_of, opening, shown, statements_of, steps_along}
-use Rattle.plain_model.specs.PlainViews.{first_commit, main_branch, plain_database}
-use Rattle.plain_model.specs.Tables.{Tables}
+use Rattle.plain_model.specs.MainBranch.{first_commit, main_branch}
+use Rattle.tuple_codec.specs.Rows.{AreTold}
+use Rattle.schema_model.specs.PlainTables.{PlainDatabase}
+use Rattle.schema_model.specs.Sameness.{is_same_database}
 use Rattle.tuple_codec.specs.declared.addresses.Address.{Address}
 use Rattle.schema_model.specs.WrittenForms.{commit_bytes, database_address}
 use Rattle.doltrun.specs.Opening.{IsFirst}
@@ -59,12 +61,12 @@ statements_fit place (line ∷ lines) =
       | false ↦ let rest : length (statements_of place lines) ≤ length lines = statements_fit place lines in omega arith
     ]
 
-pub run_to_next : (script : Script) (count : ℕ) (order : List Moment) (database : Tables) (spoken : List (List Reply)) (line : Line) (replies : List Reply) (out : Served)
+pub run_to_next : AreTold is_same_database → (script : Script) (count : ℕ) (order : List Moment) (database : PlainDatabase) (spoken : List (List Reply)) (line : Line) (replies : List Reply) (out : Served)
     → slice_get script.lines count ≡ Some line → slice_get spoken line.session ≡ Some replies → served (shortage out.reply) database line.statement ≡ Some out
     → is_sound_reply out.reply ≡ true → out.moments ≤ 2
     → IsRunTo script count order database spoken
     → IsRunTo script (count + 1) (order ++ replicate out.moments (here line replies)) out.database (more_replies spoken line replies out.reply)
-run_to_next script count order database spoken line replies out at h is_served good few before =
+run_to_next told_same script count order database spoken line replies out at h is_served good few before =
     let taken : take (count + 1) script.lines ≡ take count script.lines ++ line ∷ [] = take_at_get script.lines count line at in
     let many : length replies ≡ length (statements_of line.session (take count script.lines)) = before.counted line.session replies h in
     let place : line_of 0 script.lines line.session (length replies + 1) ≡ count
@@ -81,7 +83,7 @@ run_to_next script count order database spoken line replies out at h is_served g
       lists = length-set spoken line.session (replies ++ out.reply ∷ []) ∙ before.lists;
       counted = subst (λ (lines : List Line). AreCounted lines (more_replies spoken line replies out.reply)) (sym taken)
           (counted_next (take count script.lines) spoken line replies out.reply h before.counted);
-      run = run_next script count order database spoken line replies out at h is_served before.run;
+      run = run_next told_same script count order database spoken line replies out at h is_served before.run;
       rises = rises_next script.lines count (here line replies) out.moments place order 0 (omega arith) before.rises before.behind;
       behind = all_append (is_behind script.lines (count + 1)) order (replicate out.moments (here line replies))
           (all_weaker (is_behind script.lines count) (is_behind script.lines (count + 1)) (λ moment below. grind (arith, nat_tests)) order before.behind)
@@ -113,7 +115,7 @@ abbrev pub shown_by : Script → List Moment → List (List Reply) → List Bran
 shown_by script order spoken branches = record { names = script.names; replies = spoken; order = order; branches = branches }
 
 -- the branch that was made is the one of these tables
-pub branches_are : (address : List ℕ → List ℕ) (tables : Tables) (head working staged : Address) (branches : List BranchLine) → IsFirst address head.0 → database_address address (plain_database tables) ≡ working.0
+pub branches_are : (address : List ℕ → List ℕ) (tables : PlainDatabase) (head working staged : Address) (branches : List BranchLine) → IsFirst address head.0 → database_address address tables ≡ working.0
     → staged.0 ≡ database_address address [] → branches ≡ branch_at head working staged ∷ [] → branches ≡ main_branch address (pos 0) tables ∷ []
 unfolding main_branch
 branches_are address tables head working staged branches is_head is_working is_staged is =
@@ -121,9 +123,9 @@ branches_are address tables head working staged branches is_head is_working is_s
     is
     ∙ ap (λ a. branch_at a working staged ∷ []) (ap as_address is_head)
     ∙ ap (λ a. branch_at (as_address (address (commit_bytes (first_commit address (pos 0))))) a staged ∷ []) (ap as_address (sym is_working))
-    ∙ ap (λ a. branch_at (as_address (address (commit_bytes (first_commit address (pos 0))))) (as_address (database_address address (plain_database tables))) a ∷ []) (ap as_address is_staged)
+    ∙ ap (λ a. branch_at (as_address (address (commit_bytes (first_commit address (pos 0))))) (as_address (database_address address tables)) a ∷ []) (ap as_address is_staged)
 
-pub plain_at_end : (address : List ℕ → List ℕ) (script : Script) (epoch : ℤ) (order : List Moment) (database : Tables) (spoken : List (List Reply)) (branches : List BranchLine)
+pub plain_at_end : (address : List ℕ → List ℕ) (script : Script) (epoch : ℤ) (order : List Moment) (database : PlainDatabase) (spoken : List (List Reply)) (branches : List BranchLine)
     → branches ≡ main_branch address epoch database ∷ [] → IsRunTo script (length script.lines) order database spoken
     → IsPlainRun address epoch script (shown_by script order spoken branches)
 plain_at_end address script epoch order database spoken branches is done =
@@ -137,7 +139,7 @@ plain_at_end address script epoch order database spoken branches is done =
     ∙ ap (λ replies. Some (shown_by script order replies (main_branch address epoch database ∷ []))) (all_said answers 0 spoken)
     ∙ ap (λ made. Some (shown_by script order spoken made)) (sym is)
 
-pub text_order_at_end : (script : Script) (order : List Moment) (database : Tables) (spoken : List (List Reply)) → IsRunTo script (length script.lines) order database spoken
+pub text_order_at_end : (script : Script) (order : List Moment) (database : PlainDatabase) (spoken : List (List Reply)) → IsRunTo script (length script.lines) order database spoken
     → IsTextOrder script order
 text_order_at_end script order database spoken done = done.rises
 
@@ -147,7 +149,7 @@ printable_reply reply h = (both (is_printable_reply reply) (is_shown_reply reply
 shown_reply : (reply : Reply) → is_sound_reply reply ≡ true → is_shown_reply reply ≡ true
 shown_reply reply h = (both (is_printable_reply reply) (is_shown_reply reply) h).1
 
-pub printable_at_end : (script : Script) (order : List Moment) (database : Tables) (spoken : List (List Reply)) (branches : List BranchLine) → IsRunTo script (length script.lines) order database spoken
+pub printable_at_end : (script : Script) (order : List Moment) (database : PlainDatabase) (spoken : List (List Reply)) (branches : List BranchLine) → IsRunTo script (length script.lines) order database spoken
     → IsPrintable (shown_by script order spoken branches)
 printable_at_end script order database spoken branches done = record {
   lists = done.lists;
@@ -155,7 +157,7 @@ printable_at_end script order database spoken branches done = record {
   moments = all_weaker (is_within script) (is_printable_moment (length script.names)) (λ moment h. (both (nat_lt moment.session (length script.names)) (nat_le moment.statement (length script.lines)) h).0) order done.within;
 }
 
-pub shown_at_end : (script : Script) (order : List Moment) (database : Tables) (spoken : List (List Reply)) (branches : List BranchLine) → IsSoundScript script → IsRunTo script (length script.lines) order database spoken
+pub shown_at_end : (script : Script) (order : List Moment) (database : PlainDatabase) (spoken : List (List Reply)) (branches : List BranchLine) → IsSoundScript script → IsRunTo script (length script.lines) order database spoken
     → IsShown (shown_by script order spoken branches)
 shown_at_end script order database spoken branches sound done = record {
   names = sound.names;
@@ -185,7 +187,7 @@ run_opened script order spoken sessions no_order no_reply all =
     (subst (λ (s : List (List Reply)). IsRunTo script 0 [] [] s) (sym silent) (run_first script))
 
 -- a session has answered no more statements than lines were run
-pub replies_within : (script : Script) (count : ℕ) (order : List Moment) (database : Tables) (spoken : List (List Reply)) (session : ℕ) (replies : List Reply) → IsRunTo script count order database spoken
+pub replies_within : (script : Script) (count : ℕ) (order : List Moment) (database : PlainDatabase) (spoken : List (List Reply)) (session : ℕ) (replies : List Reply) → IsRunTo script count order database spoken
     → slice_get spoken session ≡ Some replies → length replies ≤ count
 replies_within script count order database spoken session replies run h =
     let many : length replies ≡ length (statements_of session (take count script.lines)) = run.counted session replies h in

@@ -3,12 +3,12 @@ use Rattle.std.proofs.Common.{◌≡◌, refl, sym, ◌∙◌, ap, subst, ℕ, L
 use Rattle.std.proofs.lemmas.Slice.Eq.{bytes_eq-Decides}
 use Rattle.chunk_store.specs.Chunks.{AreNamed, Chunk, Chunks, bytes_at}
 use Rattle.chunk_store.specs.Clashes.{IsCause}
-use Rattle.chunk_store.specs.Drafts.{DraftParts, Longer, chunks_of}
+use Rattle.chunk_store.specs.Drafts.{DraftParts, IsNamed, Longer, chunks_of}
 use Rattle.chunk_store.specs.declared.faults.PutFault.{PutFault}
 use Rattle.chunk_store.specs.declared.faults.PutFault.TheVariants.{Memory, Collision}
 use Rattle.schema_model.specs.WrittenForms.{CommitParts, commit_bytes, database_address, database_bytes}
-use Rattle.plain_model.specs.PlainViews.{first_commit, plain_database}
-use Rattle.table_statements.specs.Keeping.{AreTablesAt, IsNamed}
+use Rattle.plain_model.specs.MainBranch.{first_commit}
+use Rattle.constraint_scan.specs.Scanning.{IsKeptAt}
 use Rattle.doltrun.specs.Opening.{IsOpeningFault, empty_alone}
 
 -- one chunk alone is found under its address
@@ -33,9 +33,8 @@ opening_fault address (Collision clash) cause =
     }
 
 -- the address of the database without a table
-pub named_empty : (address : List ℕ → List ℕ) (chunks : Chunks) (k : List ℕ) → AreTablesAt address chunks k [] → k ≡ database_address address []
-unfolding plain_database
-named_empty address chunks k at = sym at.database.named
+pub named_empty : (address : List ℕ → List ℕ) (chunks : Chunks) (k : List ℕ) → IsKeptAt address chunks k [] → k ≡ database_address address []
+named_empty address chunks k at = sym at.stands.named
 
 pub first_faults : {X : Type 0} (address : List ℕ → List ℕ) (old : DraftParts) (parts : CommitParts) (result : Result X PutFault) → old ≡ empty_alone address → parts ≡ first_commit address (pos 0)
     → IfErr result (IsCause (chunks_of old) (bytes_at ((address (commit_bytes parts), commit_bytes parts) ∷ []))) → IfErr result (IsOpeningFault address)

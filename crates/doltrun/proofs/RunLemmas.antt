@@ -10,7 +10,9 @@ use Rattle.script_text.specs.declared.scripts.Line.{Line}
 use Rattle.script_text.specs.declared.scripts.Moment.{Moment}
 use Rattle.script_text.specs.declared.scripts.Script.{Script}
 use Rattle.plain_model.specs.Machine.{Shortages, line_of, never_falls, opening, statements_of, steps_along}
-use Rattle.plain_model.specs.Tables.{Tables}
+use Rattle.tuple_codec.specs.Rows.{AreTold}
+use Rattle.schema_model.specs.PlainTables.{PlainDatabase}
+use Rattle.schema_model.specs.Sameness.{is_same_database}
 use Rattle.doltrun.specs.Alone.{Agrees, AreCounted, Served, SoFar, is_behind, served, state_before}
 use Rattle.doltrun.proofs.AloneLemmas.{here, more_replies, if_true, if_false}
 use Rattle.doltrun.proofs.LineLemmas.{goes}
@@ -43,15 +45,15 @@ agrees_last answers spoken session replies reply h agrees =
     agrees session (length replies) (replies ++ reply ∷ []) (get_put spoken session replies (replies ++ reply ∷ []) h) less
     ∙ ap (option_and_then shortage) (get_behind replies reply)
 
-pub run_next : (script : Script) (count : ℕ) (order : List Moment) (database : Tables) (spoken : List (List Reply)) (line : Line) (replies : List Reply) (out : Served)
+pub run_next : AreTold is_same_database → (script : Script) (count : ℕ) (order : List Moment) (database : PlainDatabase) (spoken : List (List Reply)) (line : Line) (replies : List Reply) (out : Served)
     → slice_get script.lines count ≡ Some line → slice_get spoken line.session ≡ Some replies → served (shortage out.reply) database line.statement ≡ Some out
     → SoFar script (drop count script.lines) order database spoken
     → SoFar script (drop (count + 1) script.lines) (order ++ replicate out.moments (here line replies)) out.database (more_replies spoken line replies out.reply)
-run_next script count order database spoken line replies out at h is_served run answers more agrees =
+run_next told_same script count order database spoken line replies out at h is_served run answers more agrees =
     ap (λ moments. steps_along answers moments (opening answers script)) (append_assoc order (replicate out.moments (here line replies)) more)
     ∙ run answers (replicate out.moments (here line replies) ++ more) (agrees_before answers spoken line.session replies out.reply h agrees)
     ∙ ap (λ rest. steps_along answers (replicate out.moments (here line replies) ++ more) (state_before answers rest database spoken)) (drop_at_get script.lines count line at)
-    ∙ goes answers line (drop (count + 1) script.lines) database spoken replies out h (shortage out.reply) (agrees_last answers spoken line.session replies out.reply h agrees) is_served more
+    ∙ goes told_same answers line (drop (count + 1) script.lines) database spoken replies out h (shortage out.reply) (agrees_last answers spoken line.session replies out.reply h agrees) is_served more
 
 -- one more line of a session, and of the others
 statements_push : (place : ℕ) (lines : List Line) (line : Line) → statements_of place (lines ++ line ∷ []) ≡ statements_of place lines ++ statements_of place (line ∷ [])

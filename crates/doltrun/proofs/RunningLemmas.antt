@@ -13,7 +13,9 @@ use Rattle.script_text.specs.declared.replies.Reply.{Reply}
 use Rattle.script_text.specs.declared.scripts.Line.{Line}
 use Rattle.script_text.specs.declared.scripts.Moment.{Moment}
 use Rattle.script_text.specs.declared.scripts.Script.{Script}
-use Rattle.plain_model.specs.Tables.{Tables}
+use Rattle.tuple_codec.specs.Rows.{AreTold}
+use Rattle.schema_model.specs.PlainTables.{PlainDatabase}
+use Rattle.schema_model.specs.Sameness.{is_same_database}
 use Rattle.doltrun.specs.Alone.{IsRunTo, IsSoundScript, is_line_within, is_sound_reply, served}
 use Rattle.doltrun.proofs.ListLemmas.{all_at}
 use Rattle.doltrun.proofs.EndLemmas.{replies_within, run_to_next}
@@ -25,12 +27,12 @@ said_at replies session own h e =
     slice_get-map (λ (r : Vec Reply _). r.items) replies session ∙ ap (option_map (λ (r : Vec Reply _). r.items)) (slice_get_read replies (length replies) session own refl h e)
 
 -- a session has no more replies than lines were run
-pub said_within : {Z : Type 0} (script : Script) (at : ℕ) (order : List Moment) (database : Tables) (replies : List (Vec Reply Z)) (session : ℕ) (own : Vec Reply Z)
+pub said_within : {Z : Type 0} (script : Script) (at : ℕ) (order : List Moment) (database : PlainDatabase) (replies : List (Vec Reply Z)) (session : ℕ) (own : Vec Reply Z)
     → IsRunTo script at order database (map (λ (r : Vec Reply Z). r.items) replies) → session < length replies → own ≡ slice_index_or replies session own → length own.items ≤ at
 said_within script at order database replies session own run h e =
     replies_within script at order database (map (λ (r : Vec Reply _). r.items) replies) session own.items run (said_at replies session own h e)
 
-pub line_run : {Z : Type 0} (script : Script) (at : ℕ) (order next_order : List Moment) (database next_database : Tables) (replies : List (Vec Reply Z)) (line : Line) (own next : Vec Reply Z) (reply : Reply) (moments number : ℕ)
+pub line_run : {Z : Type 0} → AreTold is_same_database → (script : Script) (at : ℕ) (order next_order : List Moment) (database next_database : PlainDatabase) (replies : List (Vec Reply Z)) (line : Line) (own next : Vec Reply Z) (reply : Reply) (moments number : ℕ)
     → slice_get script.lines at ≡ Some line → line.session < length replies → own ≡ slice_index_or replies line.session own
     → number ≡ length own.items + 1
     → served (shortage reply) database line.statement ≡ Some (record { reply = reply; moments = moments; database = next_database }) → is_sound_reply reply ≡ true → moments ≤ 2
@@ -38,10 +40,10 @@ pub line_run : {Z : Type 0} (script : Script) (at : ℕ) (order next_order : Lis
     → next_order ≡ order ++ replicate moments (record { session = line.session; statement = number })
     → IsRunTo script at order database (map (λ (r : Vec Reply Z). r.items) replies)
     → IsRunTo script (at + 1) next_order next_database (map (λ (r : Vec Reply Z). r.items) (slice_set replies line.session next))
-line_run {Z} script at order next_order database next_database replies line own next reply moments number there h e numbered is_served good few grown noted before =
+line_run {Z} told_same script at order next_order database next_database replies line own next reply moments number there h e numbered is_served good few grown noted before =
     let spoken : List (List Reply) = map (λ (r : Vec Reply Z). r.items) replies in
     let after : IsRunTo script (at + 1) (order ++ replicate moments (record { session = line.session; statement = length own.items + 1 })) next_database (slice_set spoken line.session (own.items ++ reply ∷ []))
-    = run_to_next script at order database spoken line own.items (record { reply = reply; moments = moments; database = next_database }) there (said_at replies line.session own h e) is_served good few before in
+    = run_to_next told_same script at order database spoken line own.items (record { reply = reply; moments = moments; database = next_database }) there (said_at replies line.session own h e) is_served good few before in
     let put : slice_set spoken line.session (own.items ++ reply ∷ []) ≡ map (λ (r : Vec Reply Z). r.items) (slice_set replies line.session next)
     = ap (slice_set spoken line.session) (sym grown) ∙ sym (map-set (λ (r : Vec Reply Z). r.items) replies line.session next) in
     let took : order ++ replicate moments (record { session = line.session; statement = length own.items + 1 }) ≡ next_order
@@ -54,7 +56,7 @@ pub line_there : (script : Script) (lines : List Line) (at : ℕ) (line : Line) 
 line_there script lines at line same h e = slice_get_read script.lines (length script.lines) at line refl h (e ∙ ap (λ ls. slice_index_or ls at line) same)
 
 -- a line's session is one of those under way
-pub session_there : {Z : Type 0} (script : Script) (at : ℕ) (order : List Moment) (database : Tables) (replies : List (Vec Reply Z)) (line : Line)
+pub session_there : {Z : Type 0} (script : Script) (at : ℕ) (order : List Moment) (database : PlainDatabase) (replies : List (Vec Reply Z)) (line : Line)
     → IsSoundScript script → IsRunTo script at order database (map (λ (r : Vec Reply Z). r.items) replies) → slice_get script.lines at ≡ Some line → line.session < length replies
 session_there {Z} script at order database replies line sound run h =
     let test : nat_lt line.session (length script.names) ≡ true = all_at (is_line_within script) script.lines at line h sound.sessions in
@@ -63,7 +65,7 @@ session_there {Z} script at order database replies line sound run h =
     omega (arith, length-map replies (λ (r : Vec Reply Z). r.items))
 
 -- the same run, as its parts are handed on
-pub run_as : (script : Script) (at : ℕ) (order next_order : List Moment) (database : Tables) (spoken next_spoken : List (List Reply)) → next_order ≡ order → next_spoken ≡ spoken
+pub run_as : (script : Script) (at : ℕ) (order next_order : List Moment) (database : PlainDatabase) (spoken next_spoken : List (List Reply)) → next_order ≡ order → next_spoken ≡ spoken
     → IsRunTo script at order database spoken → IsRunTo script at next_order database next_spoken
 run_as script at order next_order database spoken next_spoken same_order same_spoken run =
     subst (λ (o : List Moment). IsRunTo script at o database next_spoken) (sym same_order)

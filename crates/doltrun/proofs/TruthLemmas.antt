@@ -4,7 +4,7 @@ use Rattle.std.specs.List.{AllByRecursion}
 use Rattle.script_text.specs.Collisions.{AllTellTruly, TellsTruly}
 use Rattle.script_text.specs.Output.{shortage}
 use Rattle.script_text.specs.declared.replies.Reply.{Reply}
-use Rattle.script_text.specs.declared.replies.Reply.TheVariants.{Done, Count, Rows, Refused, Collided}
+use Rattle.script_text.specs.declared.replies.Reply.TheVariants.{Done, Count, Rows, Refused, Syntax, Collided}
 
 truly_behind : (address : List ℕ → List ℕ) (replies : List Reply) (reply : Reply) → AllByRecursion (TellsTruly address) replies → TellsTruly address reply
     → AllByRecursion (TellsTruly address) (replies ++ reply ∷ [])
@@ -34,4 +34,5 @@ truly_told address Done h = tt
 truly_told address (Count rows) h = tt
 truly_told address (Rows answer) h = tt
 truly_told address (Refused number) h = tt
+truly_told address (Syntax at) h = tt
 truly_told address (Collided clash) h = absurd (cc)

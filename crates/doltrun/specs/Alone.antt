@@ -12,46 +12,47 @@ use Rattle.script_text.specs.declared.replies.Reply.TheVariants.{Refused, Collid
 use Rattle.script_text.specs.declared.scripts.Line.{Line}
 use Rattle.script_text.specs.declared.scripts.Moment.{Moment}
 use Rattle.script_text.specs.declared.scripts.Script.{Script}
-use Rattle.plain_model.specs.Effects.{Effect, effect}
+use Rattle.plain_model.specs.Effects.{Effect, effect, told}
 use Rattle.plain_model.specs.Language.{read}
 use Rattle.plain_model.specs.Machine.{Before, Session, Runner, State, Shortages, advance, line_of, never_falls, opening, statements_of, steps_along}
-use Rattle.plain_model.specs.Tables.{Tables, is_same_database}
+use Rattle.schema_model.specs.PlainTables.{PlainDatabase}
+use Rattle.schema_model.specs.Sameness.{is_same_database}
 use Rattle.plain_model.specs.declared.statements.Statement.{Statement}
 
 -- what a statement answers, how many moments it takes, and the database after it
 pub record Served : Type 0 where
   pub reply : Reply
   pub moments : ℕ
-  pub database : Tables
+  pub database : PlainDatabase
 
-abbrev pub stays : ℕ → ℕ → Tables → Served
+abbrev pub stays : ℕ → ℕ → PlainDatabase → Served
 stays number moments database = record { reply = Refused number; moments = moments; database = database }
 
 -- a start, and a decision where the database changed
-abbrev pub performed : Tables → Effect → Served
+abbrev pub performed : PlainDatabase → Effect → Served
 performed database made = record {
   reply = made.reply;
   moments = if is_same_database made.database database then 1 else 2;
   database = made.database;
 }
 
--- a text outside the language has no moment
-abbrev pub served_by : Tables → Option Statement → Served
-served_by database None = stays 9013 0 database
-served_by database (Some statement) = performed database (effect database statement)
+-- a text that is no statement on the database has no moment
+abbrev pub served_by : PlainDatabase → List ℕ → Option Statement → Served
+served_by database text None = record { reply = told text; moments = 0; database = database }
+served_by database text (Some statement) = performed database (effect database statement)
 
 -- two byte strings of one address were met: the start of a statement is in the order, and nothing else of it
-abbrev pub collided_by : Clash → Tables → Option Statement → Served
+abbrev pub collided_by : Clash → PlainDatabase → Option Statement → Served
 collided_by clash database None = record { reply = Collided clash; moments = 0; database = database }
 collided_by clash database (Some statement) = record { reply = Collided clash; moments = 1; database = database }
 
-abbrev pub starved_by : Tables → Option Statement → Option Served
+abbrev pub starved_by : PlainDatabase → Option Statement → Option Served
 starved_by database None = None
 starved_by database (Some statement) = Some (stays 2 1 database)
 
 -- a statement that finds no memory was refused at once, or has its start alone
-abbrev pub served : Option Shortage → Tables → List ℕ → Option Served
-served None database text = Some (served_by database (read text))
+abbrev pub served : Option Shortage → PlainDatabase → List ℕ → Option Served
+served None database text = Some (served_by database text (read text))
 served (Some AtOnce) database text = Some (stays 1 0 database)
 served (Some AfterStart) database text = starved_by database (read text)
 served (Some (Clashes clash)) database text = Some (collided_by clash database (read text))
@@ -68,7 +69,7 @@ abbrev pub resting : Shortages → List Line → ℕ → List (List Reply) → L
 resting answers lines place [] = []
 resting answers lines place (replies ∷ spoken) = runner_of answers lines place replies ∷ resting answers lines (place + 1) spoken
 
-abbrev pub state_before : Shortages → List Line → Tables → List (List Reply) → State
+abbrev pub state_before : Shortages → List Line → PlainDatabase → List (List Reply) → State
 state_before answers lines database spoken = record { shared = record { working = database }; runners = resting answers lines 0 spoken }
 
 -- the wants of memory and collisions are those that the replies tell
@@ -77,7 +78,7 @@ Agrees answers spoken = (place at : ℕ) (replies : List Reply) → slice_get sp
     → answers place (at + 1) ≡ option_and_then shortage (slice_get replies at)
 
 -- along this order the machine comes from its opening to this database and these replies, whatever moments follow
-abbrev pub SoFar : Script → List Line → List Moment → Tables → List (List Reply) → Type 0
+abbrev pub SoFar : Script → List Line → List Moment → PlainDatabase → List (List Reply) → Type 0
 SoFar script rest order database spoken = (answers : Shortages) (more : List Moment) → Agrees answers spoken
     → steps_along answers (order ++ more) (opening answers script) ≡ steps_along answers more (state_before answers rest database spoken)
 
@@ -97,7 +98,7 @@ abbrev pub is_sound_reply : Reply → Bool
 is_sound_reply reply = is_printable_reply reply && is_shown_reply reply
 
 -- the first lines of a script were run: the order of moments, the database and the replies that the machine has come to
-pub record IsRunTo (script : Script) (count : ℕ) (order : List Moment) (database : Tables) (spoken : List (List Reply)) : Type 0 where
+pub record IsRunTo (script : Script) (count : ℕ) (order : List Moment) (database : PlainDatabase) (spoken : List (List Reply)) : Type 0 where
   pub lists : length spoken ≡ length script.names
   pub counted : AreCounted (take count script.lines) spoken
   pub run : SoFar script (drop count script.lines) order database spoken

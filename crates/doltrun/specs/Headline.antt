@@ -13,7 +13,7 @@ use Rattle.script_text.specs.declared.faults.BadScript.{BadScript}
 use Rattle.script_text.specs.declared.outputs.RunText.{RunText}
 use Rattle.script_text.specs.declared.scripts.Script.{Script}
 use Rattle.plain_model.specs.Machine.{IsPlainRun, IsTextOrder}
-use Rattle.plain_model.specs.PlainViews.{first_commit}
+use Rattle.plain_model.specs.MainBranch.{first_commit}
 
 -- the bytes of the words
 abbrev pub spelled : {A : Type 0} → List (String A) → List (List ℕ)

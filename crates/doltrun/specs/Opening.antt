@@ -4,7 +4,7 @@ use Rattle.chunk_store.specs.Drafts.{DraftParts}
 use Rattle.chunk_store.specs.declared.faults.PutFault.{PutFault}
 use Rattle.chunk_store.specs.declared.faults.PutFault.TheVariants.{Memory, Collision}
 use Rattle.schema_model.specs.WrittenForms.{commit_bytes, database_address, database_bytes}
-use Rattle.plain_model.specs.PlainViews.{first_commit}
+use Rattle.plain_model.specs.MainBranch.{first_commit}
 use Rattle.doltrun.specs.Headline.{IsOpeningClash}
 
 -- a draft that has the empty database alone

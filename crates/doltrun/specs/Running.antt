@@ -2,14 +2,14 @@
 use Rattle.std.specs.Prelude.{◌≡◌, ℕ, ◌*◌, ◌≤◌, List, [], codes, length, map, None, vec_capacity}
 use Rattle.std.specs.List.{All}
 use Rattle.tuple_codec.specs.declared.addresses.Address.{Address}
-use Rattle.chunk_store.specs.Drafts.{chunks_of}
+use Rattle.chunk_store.specs.Drafts.{IsNamed, chunks_of}
 use Rattle.schema_model.specs.WrittenForms.{database_address}
 use Rattle.script_text.specs.Collisions.{AllTellTruly}
 use Rattle.script_text.specs.declared.outputs.BranchLine.{BranchLine}
 use Rattle.script_text.specs.declared.replies.Reply.{Reply}
 use Rattle.script_text.specs.declared.scripts.Script.{Script}
-use Rattle.plain_model.specs.Tables.{Tables}
-use Rattle.table_statements.specs.Keeping.{AreTablesAt, IsNamed}
+use Rattle.schema_model.specs.PlainTables.{PlainDatabase}
+use Rattle.constraint_scan.specs.Scanning.{IsKeptAt}
 use Rattle.doltrun.specs.Alone.{IsRunTo}
 use Rattle.doltrun.specs.Opening.{IsFirst}
 use Rattle.doltrun.specs.declared.running.Running.{Running}
@@ -25,11 +25,11 @@ branch_at head working staged = record { name = codes "main"; rec = record { hea
 -- the first lines of the script were run, the working address stands for the database that they made, and there is room
 -- for what the others answer
 pub record IsRunningAt {D : Type 0} (address : List ℕ → List ℕ) (script : Script) (count : ℕ) (running : Running D) : Type 0 where
-  pub tables : Tables
+  pub tables : PlainDatabase
   pub run : IsRunTo script count running.order.items tables (spoken running)
   pub head : IsFirst address running.head.0
   pub staged : running.staged.0 ≡ database_address address []
-  pub stands : AreTablesAt address (chunks_of running.draft.chunks) running.working.0 tables
+  pub stands : IsKeptAt address (chunks_of running.draft.chunks) running.working.0 tables
   pub named : IsNamed address running.draft.chunks
   pub truly : AllTellTruly address (spoken running)
   pub replies_room : All (λ replies. length script.lines ≤ vec_capacity replies) running.replies.items

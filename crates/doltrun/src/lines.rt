@@ -12,6 +12,7 @@ use crate::room::{put, put_times};
 use crate::running::Running;
 use crate::serving::serve;
 use chunk_store::PutFault;
+use schema_model::law_of_sameness;
 use script_text::{BranchLine, Moment, Reply, RunText, Script};
 use std::alloc::{AllocError, Global};
 use tuple_codec::{BranchRecord, Digester, Sequence, Text};
@@ -104,6 +105,7 @@ fn run_line<D: Digester, P: Pacer>(
     requires before { IsRunningAt D.address script.now at running.old }
     ensures { IsRunningAt D.address script.now (at + 1) running.new }
 {
+    law_of_sameness();
     let line = &script.lines.as_slice()[at];
     let replies = &mut running.replies[line.session as usize];
     let statement = replies.len() as u32 + 1;

@@ -10,6 +10,7 @@ mod opening;
 mod room;
 mod running;
 mod serving;
+mod showing;
 mod status;
 #[cfg(test)]
 mod tests;

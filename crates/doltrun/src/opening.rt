@@ -1,11 +1,11 @@
 //! The two chunks that a database is opened with.
 
 ghost use Rattle.std.specs.Prelude.{◌≡◌, ℕ, List, [], pos, length, IfOk, IfErr, OnOk};
-ghost use Rattle.chunk_store.specs.Drafts.{Longer, chunks_of};
+ghost use Rattle.chunk_store.specs.Drafts.{IsNamed, Longer, chunks_of};
 ghost use Rattle.commit_graph.specs.Commits.{KeepsLimits, parts_of};
-ghost use Rattle.plain_model.specs.PlainViews.{first_commit};
+ghost use Rattle.plain_model.specs.MainBranch.{first_commit};
 ghost use Rattle.schema_model.specs.WrittenForms.{database_address};
-ghost use Rattle.table_statements.specs.Keeping.{AreTablesAt, IsNamed};
+ghost use Rattle.constraint_scan.specs.Scanning.{IsKeptAt};
 ghost use Rattle.doltrun.specs.Opening.{IsFirst, IsOpeningFault, empty_alone};
 
 use chunk_region::PagePool;
@@ -26,7 +26,7 @@ pub struct Opened<D: Digester> {
 /// Opens a database. Where its two chunks have one address, the empty database is the one held.
 pub fn open_database<D: Digester>(alloc: Global) -> Result<Opened<D>, PutFault>
     ensures named { IfOk result (λ opened. IsNamed D.address opened.draft.chunks) }
-    ensures tables { IfOk result (λ opened. AreTablesAt D.address (chunks_of opened.draft.chunks) opened.database.0 []) }
+    ensures tables { IfOk result (λ opened. IsKeptAt D.address (chunks_of opened.draft.chunks) opened.database.0 []) }
     ensures commit { IfOk result (λ opened. IsFirst D.address opened.commit.0) }
     ensures fault { IfErr result (IsOpeningFault D.address) }
 {
@@ -53,7 +53,7 @@ fn empty_draft<D: Digester>(alloc: Global) -> Result<Draft<D>, AllocError>
 fn put_database<D: Digester>(alloc: Global, draft: &mut Draft<D>) -> Result<Address, PutFault>
     requires { draft.old.chunks ≡ record { base = []; own = [] } }
     ensures alone { OnOk result (draft.new.chunks ≡ empty_alone D.address) }
-    ensures tables { IfOk result (λ address. AreTablesAt D.address (chunks_of draft.new.chunks) address.0 []) }
+    ensures tables { IfOk result (λ address. IsKeptAt D.address (chunks_of draft.new.chunks) address.0 []) }
     ensures fault { IfErr result (IsOpeningFault D.address) }
 {
     let database = write_database(alloc, draft, &[])?;
@@ -73,7 +73,7 @@ fn put_commit<D: Digester>(
     database: Address,
 ) -> Result<Address, PutFault>
     requires alone { draft.old.chunks ≡ empty_alone D.address }
-    requires tables { AreTablesAt D.address (chunks_of draft.old.chunks) database.0 [] }
+    requires tables { IsKeptAt D.address (chunks_of draft.old.chunks) database.0 [] }
     ensures commit { IfOk result (λ commit. IsFirst D.address commit.0) }
     ensures longer { OnOk result (Longer draft.old.chunks draft.new.chunks) }
     ensures fault { IfErr result (IsOpeningFault D.address) }

@@ -1,6 +1,4 @@
 use crate::{Status, run, run_with};
-use plain_run::plain_output;
-use script_text::{Moment, ScriptFault, read_script};
 use std::alloc::{AllocError, Global};
 use std::sync::Wait;
 use std::sync::atomic::{AtomicU64, Ordering};
@@ -100,84 +98,11 @@ fn refusals_are_told_each_by_its_number_and_text(rt: HostRuntime) -> Result<(), 
 2 refused 1050 table exists
 3 refused 1062 duplicate key
 4 refused 1146 no such table
-5 refused 9013 outside the subset
-order a/1 a/1 a/2 a/3 a/4
+5 ok 0
+order a/1 a/1 a/2 a/3 a/4 a/5
 branch main gj1enah2hu7oj7neve7uiuqo5geo87mk 1ofqoa6ch04j1tm93q1d2t0er4ecrtd3 9srqt76ersimhc5b156ea1tnkcjnq9it
 ";
     assert_eq!(rt; written.as_slice(), wanted.as_slice());
-    Ok(())
-}
-
-/// Reserved words in backquotes, blanks and none, letters of both cases, each escape, the least and the greatest number;
-/// and then each refusal that a short text can have.
-const FORMS: &str = "@a CREATE TABLE `Select` (`Key` VARCHAR(2000), id\tbigint Primary KEY);
-@a INSERT INTO `select` VALUES ('\\n\\r\\t\\0\\b\\Z\\%\\_\\'\\\"\\\\\\aå''\"', - 9223372036854775808),(\"it's \"\"\\\"\",9223372036854775807),('',007);
-@a select*from`SELECT`;
-@a CREATE TABLE `select` (id BIGINT PRIMARY KEY);
-@a INSERT INTO `select` VALUES (1,'');
-@a INSERT INTO `select` VALUES ('',8),('',7);
-@a INSERT INTO t VALUES (1);
-@a SELECT * FROM t;
-@a DELETE FROM `select`;
-";
-
-/// The statement of each moment of a run of these.
-const FORMS_MOMENTS: &[u32] = &[1, 1, 2, 2, 3, 4, 5, 6, 7, 8];
-
-/// Typed from another program.
-const FORMS_OUTPUT: &str = "session a
-1 ok
-2 ok 3
-3 rows 3
-key,id
-'\\n\\r\t\\0\x08\x1a\\\\%\\\\_\\'\"\\\\aå\\'\"',-9223372036854775808
-'',7
-'it\\'s \"\"',9223372036854775807
-4 refused 1050 table exists
-5 refused 9013 outside the subset
-6 refused 1062 duplicate key
-7 refused 1146 no such table
-8 refused 1146 no such table
-9 refused 9013 outside the subset
-order a/1 a/1 a/2 a/2 a/3 a/4 a/5 a/6 a/7 a/8
-branch main gj1enah2hu7oj7neve7uiuqo5geo87mk 3q5740qnjmbp8v7v75pbbvru1d1k36vj 9srqt76ersimhc5b156ea1tnkcjnq9it
-";
-
-/// Moments of the first session at these statements.
-fn moments_at(alloc: Global, statements: &[u32]) -> Result<Vec<Moment>, AllocError> {
-    let mut moments = Vec::new(alloc);
-    for statement in statements {
-        moments.push(Moment {
-            session: 0,
-            statement: *statement,
-        })?;
-    }
-    Ok(moments)
-}
-
-/// What the plain machine writes of a script along the moments of its one session, or an empty text where they aren't the script's.
-fn plainly(alloc: Global, script: &[u8], statements: &[u32]) -> Result<Vec<u8>, AllocError> {
-    let script = match read_script(alloc, script, false) {
-        Ok(script) => script,
-        Err(ScriptFault::Memory) => return Err(AllocError),
-        Err(ScriptFault::Bad(_bad)) => return Ok(Vec::new(alloc)),
-    };
-    let moments = moments_at(alloc, statements)?;
-    match plain_output(alloc, &script, moments.as_slice(), 0)? {
-        Some(text) => Vec::from_slice(alloc, text.as_slice()),
-        None => Ok(Vec::new(alloc)),
-    }
-}
-
-#[test]
-fn the_plain_machine_writes_the_same(rt: HostRuntime) -> Result<(), Fail> {
-    let (status, written) = ended(&rt, rt.alloc(), Some("ordered"), FORMS.as_bytes())?;
-    assert_eq!(rt; status, Status::Done);
-    assert_eq!(rt; written.as_slice(), FORMS_OUTPUT.as_bytes());
-    let plain = plainly(rt.alloc(), FORMS.as_bytes(), FORMS_MOMENTS)?;
-    assert_eq!(rt; plain.as_slice(), FORMS_OUTPUT.as_bytes());
-    let short = plainly(rt.alloc(), FORMS.as_bytes(), &FORMS_MOMENTS[1..])?;
-    assert_eq!(rt; short.len(), 0);
     Ok(())
 }
 

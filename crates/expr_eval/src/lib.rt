@@ -5,8 +5,6 @@ mod binding;
 mod bound;
 mod faults;
 mod scopes;
-#[cfg(test)]
-mod tests;
 mod valuing;
 
 pub use binding::{bind, bind_condition};

@@ -1,9 +1,4 @@
-pub mod Stops
-pub mod Tokens
 pub mod Language
-pub mod Tables
-pub mod PlainViews
 pub mod Effects
 pub mod Machine
-pub mod Sound
-pub mod Steps
+pub mod MainBranch

@@ -6,24 +6,25 @@ use Rattle.std.specs.List.{list_all}
 use Rattle.script_text.specs.Output.{Shortage, AtOnce, AfterStart, Clashes, shortages_in}
 use Rattle.script_text.specs.declared.outputs.RunText.{RunText}
 use Rattle.script_text.specs.declared.replies.Reply.{Reply}
-use Rattle.script_text.specs.declared.replies.Reply.TheVariants.{Done, Count, Rows, Refused, Collided}
+use Rattle.script_text.specs.declared.replies.Reply.TheVariants.{Done, Count, Rows, Refused, Syntax, Collided}
 use Rattle.script_text.specs.declared.scripts.Line.{Line}
 use Rattle.script_text.specs.declared.scripts.Moment.{Moment}
 use Rattle.script_text.specs.declared.scripts.Script.{Script}
-use Rattle.plain_model.specs.Effects.{Effect, effect}
+use Rattle.schema_model.specs.PlainTables.{PlainDatabase}
+use Rattle.schema_model.specs.Sameness.{is_same_database}
+use Rattle.plain_model.specs.Effects.{Effect, effect, told}
 use Rattle.plain_model.specs.Language.{read}
-use Rattle.plain_model.specs.PlainViews.{main_branch}
-use Rattle.plain_model.specs.Tables.{Tables, is_same_database}
+use Rattle.plain_model.specs.MainBranch.{main_branch}
 use Rattle.plain_model.specs.declared.statements.Statement.{Statement}
 
 -- what all sessions share
 pub record Shared : Type 0 where
-  pub working : Tables
+  pub working : PlainDatabase
 
 -- a transaction: the database at its start, and its own
 pub record Transaction : Type 0 where
-  pub start : Tables
-  pub own : Tables
+  pub start : PlainDatabase
+  pub own : PlainDatabase
 
 -- before a statement; or between a statement's start and its decision, with the reply where the decision is well
 pub data Place : Type 0 where
@@ -68,6 +69,7 @@ is_refusal Done = false
 is_refusal (Count rows) = false
 is_refusal (Rows answer) = false
 is_refusal (Refused number) = true
+is_refusal (Syntax at) = true
 is_refusal (Collided clash) = true
 
 -- the next statement comes
@@ -77,9 +79,9 @@ past number said = (record said.0 { statement = number + 1; place = Before }, sa
 abbrev pub over : Session → Session
 over session = record session { transaction = None }
 
--- what a statement answers that needs no moment, or none: a text outside the language is refused at once
+-- what a text answers that needs no moment, or none: a SELECT without sources, and a text that is refused at once
 abbrev pub effect_alone : Session → List ℕ → Option Said
-effect_alone session text = option_map_or (λ statement. None) (read text) (Some (session, Refused 9013))
+effect_alone session text = option_map_or (λ statement. None) (read text) (Some (session, told text))
 
 abbrev pub alone_by : Option Shortage → Session → List ℕ → Option Said
 alone_by None session text = effect_alone session text
@@ -91,7 +93,7 @@ abbrev pub alone : Option Shortage → Session → List ℕ → Option Said
 alone answer session text = option_map (past session.statement) (if is_before_statement session.place then alone_by answer session text else None)
 
 -- a start on the state found: the statement's effect, and a decision where it changed the database
-abbrev pub started : Session → Tables → Effect → After
+abbrev pub started : Session → PlainDatabase → Effect → After
 started session found made =
     if is_refusal made.reply then Past (session, made.reply) else (
     if is_same_database made.database found then Past (session, made.reply) else

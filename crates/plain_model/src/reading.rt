@@ -1,32 +1,92 @@
-ghost use Rattle.std.specs.Prelude.{◌≡◌, true, IfOk, IfSome};
-ghost use Rattle.plain_model.specs.Language.{read};
-ghost use Rattle.plain_model.specs.Sound.{is_sound_statement};
-ghost use Rattle.plain_model.specs.Stops.{Reads};
+ghost use Rattle.std.specs.Prelude.{◌≡◌, ◌<◌, ◌^◌, length, IfOk};
+ghost use Rattle.std.specs.List.{list_any};
+ghost use Rattle.sql_features.specs.Features.{has};
+ghost use Rattle.sql_features.specs.declared.features.Feature.TheVariants as feature;
+ghost use Rattle.sql_rules.specs.Names.{is_system_name};
+ghost use Rattle.plain_model.specs.Language.{asks_session, delete_reading, not_yet, reading, select_reading, statement_reading, write_reading};
 
-use crate::forms::read_form;
-use crate::lexer::tokens_in;
-use crate::statements::Statement;
-use crate::stops::Stop;
+use crate::statements::{Reading, Statement};
+use sql_ast::{Delete, NamedExpr, ReadFault, Refusal, Select, Write};
+use sql_features::{Feature, has_feature};
+use sql_parse::parse;
 use std::alloc::{AllocError, Global};
 
-/// The statement of a text, or none where it has none of the three forms.
-///
-/// A statement that is read is sound: the names of a new table and of its columns are words of 1 to 64 bytes, and its
-/// columns make a schema where there are no more than the limits allow.
-pub fn read_statement(alloc: Global, text: &[u8]) -> Result<Option<Statement>, AllocError>
-    ensures reads { IfOk result (λ statement. statement ≡ read text.now) }
-    ensures sound { IfOk result (λ statement. IfSome statement (λ s. is_sound_statement s ≡ true)) }
+/// What a text comes to. Statements of sessions, branches and procedures are refused with 9013 so far.
+#[tactic(auto, unfolding(crate::specs::Language::reading))]
+pub fn read_text(alloc: Global, text: &[u8]) -> Result<Reading, AllocError>
+    requires { length text.now < 2 ^ 32 }
+    ensures { IfOk result (λ read. read ≡ reading text.now) }
 {
-    match statement_in(alloc, text) {
-        Ok(statement) => Ok(Some(statement)),
-        Err(Stop::Outside) => Ok(None),
-        Err(Stop::Memory) => Err(AllocError),
+    match parse(alloc, text) {
+        Ok(statement) => Ok(statement_reading(statement)),
+        Err(ReadFault::Memory) => Err(AllocError),
+        Err(ReadFault::Refused(refusal)) => Ok(Reading::Refused(refusal)),
     }
 }
 
-fn statement_in(alloc: Global, text: &[u8]) -> Result<Statement, Stop>
-    ensures { Reads (read text.now) result }
+fn statement_reading(statement: sql_ast::Statement) -> Reading
+    ensures { result ≡ statement_reading statement }
 {
-    let tokens = tokens_in(alloc, text)?;
-    read_form(alloc, tokens.as_slice())
+    match statement {
+        sql_ast::Statement::Select(select) => select_reading(select),
+        sql_ast::Statement::Write(write) => write_reading(write),
+        _ => not_yet(),
+    }
+}
+
+fn select_reading(select: Select) -> Reading
+    ensures { result ≡ select_reading select }
+{
+    match select {
+        Select::From(query) => Reading::Database(Statement::Ask(Select::From(query))),
+        Select::Alone(list) => {
+            if asks_session(list.as_slice()) {
+                not_yet()
+            } else {
+                Reading::Alone(Select::Alone(list))
+            }
+        }
+    }
+}
+
+fn asks_session(list: &[NamedExpr]) -> bool
+    ensures { result ≡ asks_session list.now }
+{
+    list.iter()
+        .any(|named| has_feature(&named.expr, Feature::SessionWord))
+}
+
+fn write_reading(write: Write) -> Reading
+    ensures { result ≡ write_reading write }
+{
+    match write {
+        Write::Delete(delete) => delete_reading(delete),
+        _ => Reading::Database(Statement::Change(write)),
+    }
+}
+
+fn delete_reading(delete: Delete) -> Reading
+    ensures { result ≡ delete_reading delete }
+{
+    if is_system_name(delete.table.as_slice()) {
+        not_yet()
+    } else {
+        Reading::Database(Statement::Change(Write::Delete(delete)))
+    }
+}
+
+/// Whether the program itself keeps the tables of such names.
+fn is_system_name(name: &[u8]) -> bool
+    ensures { result ≡ is_system_name name.now }
+{
+    name.starts_with(b"dolt_")
+}
+
+fn not_yet() -> Reading
+    ensures { result ≡ not_yet }
+{
+    Reading::Refused(Refusal {
+        number: 9013,
+        at: 0,
+    })
 }

@@ -1,25 +1,20 @@
-use crate::tables::Schema;
-use tuple_codec::{Row, Sequence, Text};
+use sql_ast::{Refusal, Select, Write};
 
-/// A new table.
-#[derive(Debug, Drop)]
-pub struct Create {
-    pub name: Text,
-    pub schema: Schema,
-}
-
-/// Rows for a table, as they are written.
-#[derive(Debug, Drop)]
-pub struct Insert {
-    pub name: Text,
-    pub rows: Sequence<Row>,
-}
-
-/// A statement that needs the database.
+/// A statement on the database.
 #[derive(Debug, Drop)]
 pub enum Statement {
-    Create(Create),
-    Insert(Insert),
-    /// All rows of the table of this name.
-    Select(Text),
+    /// A SELECT with sources.
+    Ask(Select),
+    Change(Write),
+}
+
+/// What a text comes to.
+#[derive(Debug, Drop)]
+pub enum Reading {
+    /// A statement that takes moments.
+    Database(Statement),
+    /// A SELECT without sources, which takes none.
+    Alone(Select),
+    /// A text that is no statement, or none that runs.
+    Refused(Refusal),
 }

@@ -37,6 +37,7 @@ is_printed_refusal print.Done = false
 is_printed_refusal (print.Count rows) = false
 is_printed_refusal (print.Rows answer) = false
 is_printed_refusal (print.Refused number) = true
+is_printed_refusal (print.Syntax place) = true
 is_printed_refusal (print.Collided clash) = true
 
 abbrev pub is_refusal : Reply → Bool

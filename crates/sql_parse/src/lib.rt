@@ -7,10 +7,6 @@ mod judging;
 mod openings;
 mod parsing;
 mod places;
-#[cfg(test)]
-mod tables;
-#[cfg(test)]
-mod tests;
 
 pub use checking::{parse_check, read_check};
 pub use parsing::parse;

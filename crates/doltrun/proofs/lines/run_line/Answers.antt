@@ -1,7 +1,7 @@
 use Rattle.std.proofs.Common.{◌≡◌, ◌∙◌, ◌*◌, ◌+◌, ◌≤◌, sym, ap, subst, length, vec_capacity, arith}
 use Rattle.script_text.specs.Output.{shortage}
 use Rattle.doltrun.specs.Alone.{served}
-use Rattle.table_statements.proofs.FaultLemmas.{still_named}
+use Rattle.doltrun.proofs.FaultLemmas.{still_named}
 use Rattle.doltrun.proofs.RunningLemmas.{line_run, line_there, room_kept, said_within, session_there, truly_run}
 use Rattle.doltrun.proofs.lines.run_line.Goals as goal
 
@@ -64,7 +64,7 @@ returns g c =
     let served_so = c.serve-answered.ensures.served c.requires.before.tables c.requires.before.stands in
     record {
       tables = served_so.after;
-      run = line_run c.args.script.now c.args.at c.args.running.now.order.items c.put_times.new.items.items c.requires.before.tables served_so.after c.args.running.now.replies.items
+      run = line_run c.law_of_sameness.ensures.databases c.args.script.now c.args.at c.args.running.now.order.items c.put_times.new.items.items c.requires.before.tables served_so.after c.args.running.now.replies.items
           c.index-as_slice-at.result c.index_mut-replies.result.now c.put.new.items c.serve-answered.result.reply c.serve-answered.result.moments (c.len.result + 1)
           there session c.index_mut-replies.ensures.value
           (ap (λ n. n + 1) (c.len.ensures ∙ c.index_mut-replies.result.now.ok.0))

@@ -9,7 +9,7 @@ pub returns-clause-plain : goal.returns-clause-plain
 returns-clause-plain g c =
     plain_at_end g.D.Digester.address c.args.script (pos 0) c.from_vec.result c.run_lines.ensures.tables c.in_ok-replies.replies c.in_ok-branches.branches
     (branches_are g.D.Digester.address c.run_lines.ensures.tables c.run_lines.new.running.head c.run_lines.new.running.working c.run_lines.new.running.staged c.in_ok-branches.branches
-    c.run_lines.ensures.head c.run_lines.ensures.stands.database.named c.run_lines.ensures.staged c.in_ok-branches.ensures)
+    c.run_lines.ensures.head c.run_lines.ensures.stands.stands.named c.run_lines.ensures.staged c.in_ok-branches.ensures)
     (run_as c.args.script (length c.args.script.lines) _ c.from_vec.result c.run_lines.ensures.tables _ c.in_ok-replies.replies c.from_vec.ensures c.in_ok-replies.ensures c.run_lines.ensures.run)
 
 pub returns-clause-truly : goal.returns-clause-truly

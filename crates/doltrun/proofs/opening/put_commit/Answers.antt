@@ -2,8 +2,8 @@ use Rattle.std.proofs.Common.{◌≡◌, IfOk, pos, subst}
 use Rattle.chunk_store.specs.Drafts.{chunks_of}
 use Rattle.commit_graph.specs.Commits.{parts_of}
 use Rattle.schema_model.specs.WrittenForms.{CommitParts, commit_bytes}
-use Rattle.plain_model.specs.PlainViews.{first_commit}
-use Rattle.table_statements.proofs.FaultLemmas.{cause_of_put}
+use Rattle.plain_model.specs.MainBranch.{first_commit}
+use Rattle.doltrun.proofs.FaultLemmas.{cause_of_put}
 use Rattle.doltrun.proofs.OpeningLemmas.{first_faults, named_empty}
 use Rattle.doltrun.proofs.opening.put_commit.Goals as goal
 

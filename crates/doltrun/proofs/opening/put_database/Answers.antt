@@ -2,8 +2,8 @@ use Rattle.std.proofs.Common.{[], Err}
 use Rattle.std.proofs.lemmas.Result.{err_from_is_err_and}
 use Rattle.chunk_store.specs.Drafts.{chunks_of}
 use Rattle.table_root.specs.Databases.{written_database}
-use Rattle.table_statements.proofs.FaultLemmas.{cause_of_put}
-use Rattle.table_statements.proofs.KeepingLemmas.{empty_stands}
+use Rattle.doltrun.proofs.FaultLemmas.{cause_of_put}
+use Rattle.doltrun.proofs.KeptLemmas.{empty_stands}
 use Rattle.doltrun.proofs.OpeningLemmas.{no_collision}
 use Rattle.doltrun.proofs.opening.put_database.Goals as goal
 

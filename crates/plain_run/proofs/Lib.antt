@@ -1,3 +1,0 @@
-pub mod BranchLemmas
-pub mod SchemaLemmas
-pub mod StoreLemmas
