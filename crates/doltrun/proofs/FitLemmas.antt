@@ -1,5 +1,5 @@
 -- A statement that a text comes to is one that a text can be.
-use Rattle.std.proofs.Common.{◌≡◌, refl, sym, subst, Bool, true, false, List, ℕ, Result, Ok, Err, IfOk, if◌then◌else◌}
+use Rattle.std.proofs.Common.{◌≡◌, ◌==◌, refl, sym, subst, Bool, true, false, List, ℕ, Result, Ok, Err, IfOk, if◌then◌else◌}
 use Rattle.sql_ast.specs.declared.faults.Refusal.{Refusal}
 use Rattle.sql_ast.specs.declared.selects.Select.{Select}
 use Rattle.sql_ast.specs.declared.selects.Select.TheVariants as select
@@ -14,7 +14,7 @@ use Rattle.schema_laws.specs.Laws.{IsFit}
 use Rattle.sound_laws.specs.Laws.{ParsesSound}
 use Rattle.plain_model.specs.Language.{asks_session, not_yet, reading, reading_of, select_reading, statement_reading, write_reading}
 use Rattle.plain_model.specs.declared.statements.Reading.{Reading}
-use Rattle.plain_model.specs.declared.statements.Reading.TheVariants.{Alone, Database}
+use Rattle.plain_model.specs.declared.statements.Reading.TheVariants.{Alone, Database, Refused}
 use Rattle.plain_model.specs.declared.statements.Statement.TheVariants as form
 use Rattle.doltrun.specs.Serving.{IsFitReading}
 
@@ -50,7 +50,7 @@ unfolding reading
 reading_fits law text utf8 =
     elim (parsed text) as (λ r. parsed text ≡ r → IsFitReading (reading_of r)) [
       | Ok s ↦ λ is. statement_fits law text utf8 s is
-      | Err refusal ↦ λ is. tt
+      | Err refusal ↦ λ is. either_fits (refusal.number == 9008) not_yet (Refused refusal) tt tt
     ] refl
 
 -- so is what is kept of it in a box

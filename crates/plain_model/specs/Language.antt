@@ -1,5 +1,5 @@
 -- What a text comes to: a statement on the database, a SELECT without sources, or a refusal by the text alone.
-use Rattle.std.specs.Prelude.{ℕ, Bool, true, false, if◌then◌else◌, List, Option, Some, None, Result, Ok, Err}
+use Rattle.std.specs.Prelude.{ℕ, ◌==◌, Bool, true, false, if◌then◌else◌, List, Option, Some, None, Result, Ok, Err}
 use Rattle.std.specs.List.{list_any}
 use Rattle.sql_ast.specs.declared.faults.Refusal.{Refusal}
 use Rattle.sql_ast.specs.declared.selects.NamedExpr.{NamedExpr}
@@ -45,9 +45,13 @@ statement_reading (statement.Select select) = select_reading select
 statement_reading (statement.Write write) = write_reading write
 statement_reading other = not_yet
 
+-- a procedure's arguments aren't judged before the procedure runs
+abbrev pub refused : Refusal → Reading
+refused refusal = if refusal.number == 9008 then not_yet else Refused refusal
+
 abbrev pub reading_of : Result sql.Statement Refusal → Reading
 reading_of (Ok read) = statement_reading read
-reading_of (Err refusal) = Refused refusal
+reading_of (Err refusal) = refused refusal
 
 unfoldable pub reading : List ℕ → Reading
 reading text = reading_of (parsed text)

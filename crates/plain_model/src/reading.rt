@@ -3,7 +3,7 @@ ghost use Rattle.std.specs.List.{list_any};
 ghost use Rattle.sql_features.specs.Features.{has};
 ghost use Rattle.sql_features.specs.declared.features.Feature.TheVariants as feature;
 ghost use Rattle.sql_rules.specs.Names.{is_system_name};
-ghost use Rattle.plain_model.specs.Language.{asks_session, delete_reading, not_yet, reading, select_reading, statement_reading, write_reading};
+ghost use Rattle.plain_model.specs.Language.{asks_session, delete_reading, not_yet, reading, refused, select_reading, statement_reading, write_reading};
 
 use crate::statements::{Reading, Statement};
 use sql_ast::{Delete, NamedExpr, ReadFault, Refusal, Select, Write};
@@ -20,7 +20,18 @@ pub fn read_text(alloc: Global, text: &[u8]) -> Result<Reading, AllocError>
     match parse(alloc, text) {
         Ok(statement) => Ok(statement_reading(statement)),
         Err(ReadFault::Memory) => Err(AllocError),
-        Err(ReadFault::Refused(refusal)) => Ok(Reading::Refused(refusal)),
+        Err(ReadFault::Refused(refusal)) => Ok(refused(refusal)),
+    }
+}
+
+/// A procedure's arguments aren't judged before the procedure runs.
+fn refused(refusal: Refusal) -> Reading
+    ensures { result ≡ refused refusal }
+{
+    if refusal.number == 9008 {
+        not_yet()
+    } else {
+        Reading::Refused(refusal)
     }
 }
 
