@@ -25,9 +25,11 @@ use Rattle.sql_procedures.specs.declared.requests.Staging.TheVariants as staging
 use Rattle.sql_procedures.specs.declared.requests.Tables.TheVariants as tables
 use Rattle.plain_merge.specs.RootMerge.{root3}
 use Rattle.plain_merge.specs.TableMerge.{table3}
+use Rattle.plain_schemas.specs.Statements.{write_effect}
 use Rattle.plain_sessions.specs.Records.{BranchState, Shared, clean_at, is_same_state, no_commits}
 use Rattle.plain_sessions.specs.Sessions.{Session, Transaction, first_variables, new_session, within}
-use Rattle.plain_sessions.specs.Replies.{Reply, counted, done, one_row, refused, text_field}
+use Rattle.script_text.specs.declared.replies.Reply.{Reply}
+use Rattle.plain_sessions.specs.Replies.{counted, done, one_row, refused, text_field}
 use Rattle.plain_sessions.specs.Commands.{Command, Begin, Change, Checkout, CommitAll, Data, Rollback}
 use Rattle.plain_sessions.specs.CommitRule.{decide, recorded}
 use Rattle.plain_sessions.specs.Branching.{add, branch_step, checkout_step, to_commit}
@@ -357,19 +359,19 @@ at place number = record { session = place; statement = number }
 retried : option_map replies_of (run_along to_seven (pos 0) none_short (at 1 1 ∷ at 0 1 ∷ at 0 1 ∷ at 1 3 ∷ [])
     (opened none_short (delete_all ∷ []) (Begin ∷ drop_table ∷ CommitAll ∷ [])))
     ≡ Some ((counted 1 ∷ []) ∷ (done ∷ done ∷ refused 1213 ∷ []) ∷ [])
-unfolding worked decide is_same_state is_same_database root3
+unfolding worked write_effect decide is_same_state is_same_database root3
 retried = refl
 
 -- both emptied it
 agreed : option_map replies_of (run_along to_seven (pos 0) none_short (at 1 1 ∷ at 0 1 ∷ at 0 1 ∷ at 1 3 ∷ [])
     (opened none_short (delete_all ∷ []) (Begin ∷ delete_all ∷ CommitAll ∷ [])))
     ≡ Some ((counted 1 ∷ []) ∷ (done ∷ counted 1 ∷ done ∷ []) ∷ [])
-unfolding worked decide recorded is_same_state is_same_database root3
+unfolding worked write_effect decide recorded is_same_state is_same_database root3
 agreed = refl
 
 -- an order that is one moment short
 too_short : option_map replies_of (run_along to_seven (pos 0) none_short (at 0 1 ∷ []) (opened none_short (delete_all ∷ []) [])) ≡ None
-unfolding worked is_same_state is_same_database
+unfolding worked write_effect is_same_state is_same_database
 too_short = refl
 
 -- no memory after the start: the start is in the order, and nothing changed

@@ -27,7 +27,8 @@ use Rattle.plain_sql.specs.Lists.{each, in_order, or_refuse, unless}
 use Rattle.plain_writes.specs.Violations.{is_called, table_in}
 use Rattle.plain_sessions.specs.Records.{Branch, BranchState, Shared, clean_at, root_of, state_of, with_branch, without_branch}
 use Rattle.plain_sessions.specs.Sessions.{Head, Session}
-use Rattle.plain_sessions.specs.Replies.{Field, Reply, number_field, one_row, text_field}
+use Rattle.script_text.specs.declared.replies.Reply.{Reply}
+use Rattle.plain_sessions.specs.Replies.{Field, number_field, one_row, text_field}
 use Rattle.plain_sessions.specs.CommitRule.{has_conflicts, has_violations, is_none}
 
 abbrev pub status : Field

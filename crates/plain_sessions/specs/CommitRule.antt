@@ -3,11 +3,11 @@ use Rattle.std.specs.Prelude.{Bool, ◌&&◌, ◌||◌, not, is_some, if◌then�
 use Rattle.std.specs.List.{list_any}
 use Rattle.schema_model.specs.Limits.{is_database_within_limits}
 use Rattle.schema_model.specs.PlainTables.{NamedTable, PlainDatabase}
-use Rattle.sql_pieces.specs.Checking.{canonical_expression}
 use Rattle.expr_eval.specs.Binding.{Outcome, and_then}
 use Rattle.plain_sql.specs.Lists.{unless}
 use Rattle.plain_merge.specs.RootMerge.{MergedDatabase, SchemaConflict, root3}
-use Rattle.plain_writes.specs.Violations.{Checks, checks_by, violations_in}
+use Rattle.plain_writes.specs.Violations.{violations_in}
+use Rattle.plain_schemas.specs.Statements.{checks}
 use Rattle.plain_sessions.specs.Records.{BranchState, is_same_state}
 use Rattle.plain_sessions.specs.Sessions.{Variables}
 
@@ -33,10 +33,6 @@ abbrev pub is_unsettled : BranchState → Bool
 is_unsettled state = is_some state.merging || is_in_conflict state || is_in_violation state
 
 -- ---- violations recorded anew
-
--- how a CHECK's text is judged
-abbrev pub checks : Checks
-checks = checks_by canonical_expression
 
 abbrev pub with_violations : PlainDatabase → NamedTable → NamedTable
 with_violations database named = record {

@@ -27,8 +27,10 @@ use Rattle.plain_writes.specs.Violations.{first_violation, violations}
 use Rattle.plain_writes.specs.Writes.{keyed_cmp}
 use Rattle.plain_sessions.specs.Records.{BranchState, clean_at, root_of}
 use Rattle.plain_sessions.specs.Sessions.{Session, Transaction, own_root}
-use Rattle.plain_sessions.specs.Replies.{Reply, number_field, one_row, text_field}
-use Rattle.plain_sessions.specs.CommitRule.{checks, is_none, recorded}
+use Rattle.script_text.specs.declared.replies.Reply.{Reply}
+use Rattle.plain_sessions.specs.Replies.{number_field, one_row, text_field}
+use Rattle.plain_schemas.specs.Statements.{checks}
+use Rattle.plain_sessions.specs.CommitRule.{is_none, recorded}
 use Rattle.plain_sessions.specs.Branching.{is_in, resolved}
 
 -- what a closing call's decision is on

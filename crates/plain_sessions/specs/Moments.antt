@@ -12,7 +12,8 @@ use Rattle.plain_sql.specs.Lists.{unless}
 use Rattle.std.specs.Prelude.{codes}
 use Rattle.plain_sessions.specs.Records.{BranchState, Shared, clean_at, commit_on, is_same_state, root_of, state_of, with_branch, with_new_commit}
 use Rattle.plain_sessions.specs.Sessions.{Place, Before, Between, Closing, Said, Session, Transaction, is_autocommit, is_before_statement, is_changed, is_changed_since, over, taken, with_own, with_variable, within}
-use Rattle.plain_sessions.specs.Replies.{Reply, Printed, done, one_row, refused, refused_by, text_field}
+use Rattle.script_text.specs.declared.replies.Reply.{Reply}
+use Rattle.plain_sessions.specs.Replies.{done, one_row, refused, refused_by, text_field}
 use Rattle.plain_sessions.specs.Commands.{Command, Faulty, Begin, CommitAll, Rollback, Switch, Say, Data, OnBranches, Checkout, Work}
 use Rattle.plain_sessions.specs.CommitRule.{decide}
 use Rattle.plain_sessions.specs.Branching.{branch_step, checkout_name, checkout_step, moved_to, status, switched_to}
@@ -61,7 +62,7 @@ abbrev pub alone_by : Option Shortage → Session → Command → Option Said
 alone_by None session command = effect_alone session command
 alone_by (Some AtOnce) session command = Some (session, refused 1)
 alone_by (Some AfterStart) session command = None
-alone_by (Some (Clashes clash)) session command = if takes_start session command then None else Some (session, Printed (print.Collided clash))
+alone_by (Some (Clashes clash)) session command = if takes_start session command then None else Some (session, print.Collided clash)
 
 -- the next statement comes
 abbrev pub past : ℕ → Said → Said
@@ -233,7 +234,7 @@ abbrev pub moment_by : (List ℕ → List ℕ) → ℤ → Option Shortage → S
 moment_by address epoch None shared session command = moment_of address epoch shared session command
 moment_by address epoch (Some AtOnce) shared session command = None
 moment_by address epoch (Some AfterStart) shared session command = start_only shared session command (refused 2)
-moment_by address epoch (Some (Clashes clash)) shared session command = start_only shared session command (Printed (print.Collided clash))
+moment_by address epoch (Some (Clashes clash)) shared session command = start_only shared session command (print.Collided clash)
 
 abbrev pub closing_of : (List ℕ → List ℕ) → ℤ → Shared → Session → Command → Option (Shared × After)
 closing_of address epoch shared session (Data work) = decided_closing address epoch work shared session

@@ -4,45 +4,36 @@ use Rattle.tuple_codec.specs.declared.answers.Answer.{Answer}
 use Rattle.tuple_codec.specs.declared.values.SqlType.{SqlType}
 use Rattle.tuple_codec.specs.declared.values.Value.{Value}
 use Rattle.tuple_codec.specs.declared.values.Value.TheVariants as cell
-use Rattle.script_text.specs.declared.replies.Reply as printed
+use Rattle.script_text.specs.declared.replies.Reply.{Reply}
 use Rattle.script_text.specs.declared.replies.Reply.TheVariants as print
 use Rattle.sql_ast.specs.declared.faults.Refusal.{Refusal}
 use Rattle.sql_values.specs.Kinds.{column_type}
 use Rattle.sql_values.specs.declared.kinds.Kind.TheVariants as kind
 use Rattle.expr_eval.specs.Binding.{Outcome}
 
--- as it is printed; but 1064 of a text tells the byte too
-pub data Reply : Type 0 where
-  Printed : printed.Reply → Reply
-  BadSyntax : ℕ → Reply
-
 abbrev pub done : Reply
-done = Printed print.Done
+done = print.Done
 
 abbrev pub counted : ℕ → Reply
-counted rows = Printed (print.Count rows)
+counted rows = print.Count rows
 
 abbrev pub shown : Answer → Reply
-shown answer = Printed (print.Rows answer)
+shown answer = print.Rows answer
 
 abbrev pub refused : ℕ → Reply
-refused number = Printed (print.Refused number)
+refused number = print.Refused number
 
--- a text that is no statement
+-- a text that is no statement: 1064 tells at which byte
 abbrev pub refused_by : Refusal → Reply
-refused_by refusal = if refusal.number == 1064 then BadSyntax refusal.at else refused refusal.number
-
-abbrev pub is_printed_refusal : printed.Reply → Bool
-is_printed_refusal print.Done = false
-is_printed_refusal (print.Count rows) = false
-is_printed_refusal (print.Rows answer) = false
-is_printed_refusal (print.Refused number) = true
-is_printed_refusal (print.Syntax place) = true
-is_printed_refusal (print.Collided clash) = true
+refused_by refusal = if refusal.number == 1064 then print.Syntax refusal.at else refused refusal.number
 
 abbrev pub is_refusal : Reply → Bool
-is_refusal (Printed reply) = is_printed_refusal reply
-is_refusal (BadSyntax place) = true
+is_refusal print.Done = false
+is_refusal (print.Count rows) = false
+is_refusal (print.Rows answer) = false
+is_refusal (print.Refused number) = true
+is_refusal (print.Syntax place) = true
+is_refusal (print.Collided clash) = true
 
 abbrev pub shown_or_refused : Outcome Answer → Reply
 shown_or_refused (Ok answer) = shown answer

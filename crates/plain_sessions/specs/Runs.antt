@@ -9,7 +9,7 @@ use Rattle.script_text.specs.declared.scripts.Moment.{Moment}
 use Rattle.script_text.specs.declared.scripts.Script.{Script}
 use Rattle.plain_sessions.specs.Records.{Shared, opening}
 use Rattle.plain_sessions.specs.Sessions.{Place, Session, Transaction, new_session}
-use Rattle.plain_sessions.specs.Replies.{Reply}
+use Rattle.script_text.specs.declared.replies.Reply.{Reply}
 use Rattle.plain_sessions.specs.Commands.{Command, command}
 use Rattle.plain_sessions.specs.Moments.{After, Past, Still, alone, moment_at}
 

@@ -4,7 +4,7 @@ use Rattle.std.specs.Option.{option_map, option_map_or}
 use Rattle.schema_model.specs.PlainCommits.{Commits}
 use Rattle.schema_model.specs.PlainTables.{PlainDatabase}
 use Rattle.plain_sessions.specs.Records.{Branch, BranchState, Shared, is_same_state, root_of, state_of}
-use Rattle.plain_sessions.specs.Replies.{Reply}
+use Rattle.script_text.specs.declared.replies.Reply.{Reply}
 
 -- a branch's head, as it was at a transaction's start
 pub record Head : Type 0 where

@@ -14,14 +14,13 @@ use Rattle.sql_procedures.specs.declared.requests.CommitRequest.{CommitRequest}
 use Rattle.schema_model.specs.PlainTables.{PlainDatabase}
 use Rattle.expr_eval.specs.Binding.{Outcome, and_then}
 use Rattle.plain_sql.specs.Plans.{answer, shown_name}
-use Rattle.plain_writes.specs.Writes.{Effect, delete_effect, insert_effect, update_effect}
-use Rattle.plain_schemas.specs.Altered.{alter_effect}
-use Rattle.plain_schemas.specs.Effects.{create_effect, drop_effect}
+use Rattle.plain_writes.specs.Writes.{Effect}
 use Rattle.plain_sessions.specs.Records.{BranchState}
 use Rattle.plain_sessions.specs.Sessions.{Session, Transaction, is_on, own_root}
-use Rattle.plain_sessions.specs.Replies.{Reply, counted, done, one_row, shown, shown_or_refused}
+use Rattle.script_text.specs.declared.replies.Reply.{Reply}
+use Rattle.plain_sessions.specs.Replies.{counted, done, one_row, shown, shown_or_refused}
 use Rattle.plain_sessions.specs.Commands.{Work, Ask, Change, Add, ResetTo, Commit, Merge, Resolve, Verify}
-use Rattle.plain_sessions.specs.CommitRule.{checks}
+use Rattle.plain_schemas.specs.Statements.{write_effect}
 use Rattle.plain_sessions.specs.Branching.{add, reset_to, status, to_commit}
 use Rattle.plain_sessions.specs.Merging.{Worked, Answers, Closes, Committing, merge, resolve, verify}
 use Rattle.plain_sessions.specs.SystemTables.{delete_entries, known}
@@ -42,15 +41,11 @@ changed own effect = and_then effect (λ made. Ok (changed_by own made))
 -- a DELETE of entries, or of a table's rows
 abbrev pub or_of_rows : BranchState → Delete → Option (Outcome Worked) → Outcome Worked
 or_of_rows own delete (Some entries) = entries
-or_of_rows own delete None = changed own (delete_effect checks own.working delete)
+or_of_rows own delete None = changed own (write_effect own.working (write.Delete delete))
 
 abbrev pub write_worked : BranchState → Write → Outcome Worked
-write_worked own (write.Create create) = changed own (create_effect own.working create)
-write_worked own (write.Drop drop) = changed own (drop_effect own.working drop)
-write_worked own (write.Insert insert) = changed own (insert_effect checks own.working insert)
-write_worked own (write.Update update) = changed own (update_effect checks own.working update)
 write_worked own (write.Delete delete) = or_of_rows own delete (delete_entries own delete)
-write_worked own (write.Alter alter) = changed own (alter_effect checks own.working alter)
+write_worked own other = changed own (write_effect own.working other)
 
 -- ---- a database statement
 

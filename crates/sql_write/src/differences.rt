@@ -160,7 +160,7 @@ fn walked(alloc: Global, schema: &Schema, old: &[Row], new: &[Row]) -> Result<Ve
 }
 
 /// The edits, by rising key, that turn a table's rows into others, each list by rising key. A row that stays as it is has none.
-pub fn row_edits(
+pub(crate) fn row_edits(
     alloc: Global,
     schema: &Schema,
     old: &[Row],

@@ -19,8 +19,5 @@ mod turning;
 mod updating;
 mod writing;
 
-pub use differences::row_edits;
 pub use faults::SqlFault;
-pub use schemas::schemas_suffice;
-pub use turning::{Turned, deleted_rows, rows_come_first, updated_rows};
 pub use writing::{Written, write};

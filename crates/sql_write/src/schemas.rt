@@ -15,7 +15,7 @@ use std::alloc::Global;
 
 /// CREATE, DROP and ALTER look at the schemas of a database, and ALTER at the rows of its own table. For proofs: call it where one
 /// needs it. It does nothing.
-pub fn schemas_suffice()
+pub(crate) fn schemas_suffice()
     ensures { SchemasSuffice }
 {}
 

@@ -21,7 +21,7 @@ use tuple_codec::{Row, Sequence, copy_row};
 
 /// A table's rows after a statement, by rising key, and how many of them it wrote or took away.
 #[derive(Drop)]
-pub struct Turned {
+pub(crate) struct Turned {
     pub rows: Sequence<Row>,
     pub count: u64,
 }
@@ -87,7 +87,7 @@ fn updated_by(
 }
 
 /// The rows of a table after an UPDATE, or its first refusal up to there. It counts the rows that really differ.
-pub fn updated_rows(
+pub(crate) fn updated_rows(
     alloc: Global,
     schema: &Schema,
     rows: &[Row],
@@ -114,7 +114,7 @@ pub fn updated_rows(
 }
 
 /// The rows of a table after a DELETE, or its first refusal up to there. It counts the rows that went.
-pub fn deleted_rows(
+pub(crate) fn deleted_rows(
     alloc: Global,
     schema: &Schema,
     rows: &[Row],
@@ -131,6 +131,6 @@ pub fn deleted_rows(
 
 /// What an UPDATE or a DELETE makes of a database is what it makes of the rows, and then what comes of these. For proofs: call it
 /// where one needs it. It does nothing.
-pub fn rows_come_first()
+pub(crate) fn rows_come_first()
     ensures { RowsComeFirst }
 {}
