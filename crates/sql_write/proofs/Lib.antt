@@ -14,3 +14,4 @@ pub mod ListingLemmas
 pub mod SchemaLemmas
 pub mod MakingLemmas
 pub mod AlteringLemmas
+pub mod GrowthLemmas

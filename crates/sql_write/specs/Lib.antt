@@ -11,3 +11,4 @@ pub mod Building
 pub mod Listing
 pub mod Adding
 pub mod Altering
+pub mod Growing

@@ -5,7 +5,7 @@ ghost use Rattle.sql_ast.specs.declared.statements.Write.TheVariants as write;
 ghost use Rattle.schema_model.specs.PlainTables.{PlainDatabase, PlainTable};
 ghost use Rattle.tuple_codec.specs.Nodes.{Item};
 ghost use Rattle.chunk_store.specs.Clashes.{IsReason};
-ghost use Rattle.chunk_store.specs.Drafts.{Longer, chunks_of};
+ghost use Rattle.chunk_store.specs.Drafts.{Grows, chunks_of};
 ghost use Rattle.chunk_store.specs.Standing.{IsTree};
 ghost use Rattle.table_root.specs.Standing.{IsTableOf};
 ghost use Rattle.plain_sql.specs.Gives.{GivesBy};
@@ -17,6 +17,7 @@ ghost use Rattle.constraint_scan.specs.Scanning.{HasKeptAt, IsKeptAt, IsReadAt};
 ghost use Rattle.index_keep.specs.Keeping.{table_of_rows};
 ghost use Rattle.schema_laws.specs.Laws.{IsFit};
 ghost use Rattle.sql_write.specs.Altering.{CanRebuild};
+ghost use Rattle.sql_write.specs.Growing.{is_data};
 ghost use Rattle.sql_write.specs.Making.{Makes};
 ghost use Rattle.sql_write.specs.Skeletons.{table_altered};
 
@@ -122,7 +123,7 @@ fn rebuild_table<D: Digester>(
     requires { (database : PlainDatabase) × CanRebuild D.address (chunks_of draft.old.chunks) tables.items schema rows.now database }
     ensures stands { (database : PlainDatabase) → CanRebuild D.address (chunks_of draft.old.chunks) tables.items schema rows.now database
         → IfOk result (λ at. IsReadAt D.address (chunks_of draft.new.chunks) at.0 (replaced name.now (table_of_rows schema rows.now) database)) }
-    ensures longer { Longer draft.old.chunks draft.new.chunks }
+    ensures grows { Grows is_data draft.old draft.new }
     ensures cause { IfErr result (IsReason D.address (chunks_of draft.new.chunks)) }
 {
     laws_of_growth();
@@ -141,7 +142,7 @@ pub(crate) fn alter_table<D: Digester>(
     requires fit { IsFit (write.Alter alter.now) }
     ensures done { (contents : PlainDatabase) → IsKeptAt D.address (chunks_of draft.old.chunks) database.now.0 contents
         → Makes D.address (chunks_of draft.new.chunks) result (alter_effect checks contents alter.now) }
-    ensures longer { Longer draft.old.chunks draft.new.chunks }
+    ensures grows { Grows is_data draft.old draft.new }
 {
     laws_of_growth();
     schemas_suffice();

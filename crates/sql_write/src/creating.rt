@@ -4,11 +4,12 @@ ghost use Rattle.std.specs.Prelude.{IfErr, IfOk};
 ghost use Rattle.schema_model.specs.PlainTables.{PlainDatabase};
 ghost use Rattle.sql_ast.specs.declared.statements.Write.TheVariants as write;
 ghost use Rattle.chunk_store.specs.Clashes.{IsReason};
-ghost use Rattle.chunk_store.specs.Drafts.{Longer, chunks_of};
+ghost use Rattle.chunk_store.specs.Drafts.{Grows, chunks_of};
 ghost use Rattle.plain_schemas.specs.Effects.{create_effect, with_table};
 ghost use Rattle.constraint_scan.specs.Scanning.{HasKeptAt, IsKeptAt, IsReadAt};
 ghost use Rattle.schema_laws.specs.Laws.{IsFit};
 ghost use Rattle.sql_write.specs.Adding.{CanAdd};
+ghost use Rattle.sql_write.specs.Growing.{is_data};
 ghost use Rattle.sql_write.specs.Making.{Makes};
 
 use crate::building::new_table;
@@ -38,7 +39,7 @@ fn add_table<D: Digester>(
     requires { (database : PlainDatabase) × CanAdd D.address (chunks_of draft.old.chunks) tables.items name.now schema database }
     ensures stands { (database : PlainDatabase) → CanAdd D.address (chunks_of draft.old.chunks) tables.items name.now schema database
         → IfOk result (λ at. IsReadAt D.address (chunks_of draft.new.chunks) at.0 (with_table database name.now schema)) }
-    ensures longer { Longer draft.old.chunks draft.new.chunks }
+    ensures grows { Grows is_data draft.old draft.new }
     ensures cause { IfErr result (IsReason D.address (chunks_of draft.new.chunks)) }
 {
     laws_of_growth();
@@ -63,7 +64,7 @@ pub(crate) fn create_table<D: Digester>(
     requires fit { IsFit (write.Create create.now) }
     ensures done { (contents : PlainDatabase) → IsKeptAt D.address (chunks_of draft.old.chunks) database.now.0 contents
         → Makes D.address (chunks_of draft.new.chunks) result (create_effect contents create.now) }
-    ensures longer { Longer draft.old.chunks draft.new.chunks }
+    ensures grows { Grows is_data draft.old draft.new }
 {
     laws_of_growth();
     schemas_suffice();

@@ -1,9 +1,10 @@
 //! DROP TABLE over trees.
 
 ghost use Rattle.schema_model.specs.PlainTables.{PlainDatabase};
-ghost use Rattle.chunk_store.specs.Drafts.{Longer, chunks_of};
+ghost use Rattle.chunk_store.specs.Drafts.{Grows, chunks_of};
 ghost use Rattle.plain_schemas.specs.Effects.{drop_effect};
 ghost use Rattle.constraint_scan.specs.Scanning.{HasKeptAt, IsKeptAt};
+ghost use Rattle.sql_write.specs.Growing.{is_data};
 ghost use Rattle.sql_write.specs.Making.{Makes};
 
 use crate::faults::SqlFault;
@@ -29,7 +30,7 @@ pub(crate) fn drop_table<D: Digester>(
     requires { HasKeptAt D.address (chunks_of draft.old.chunks) database.now.0 }
     ensures done { (contents : PlainDatabase) → IsKeptAt D.address (chunks_of draft.old.chunks) database.now.0 contents
         → Makes D.address (chunks_of draft.new.chunks) result (drop_effect contents statement.now) }
-    ensures longer { Longer draft.old.chunks draft.new.chunks }
+    ensures grows { Grows is_data draft.old draft.new }
 {
     laws_of_growth();
     schemas_suffice();

@@ -6,7 +6,7 @@ ghost use Rattle.tuple_codec.specs.Nodes.{Item};
 ghost use Rattle.tuple_codec.specs.Rows.{Cells};
 ghost use Rattle.schema_model.specs.PlainTables.{PlainDatabase, PlainTable};
 ghost use Rattle.schema_model.specs.Schemas.{is_schema};
-ghost use Rattle.chunk_store.specs.Drafts.{Longer, chunks_of};
+ghost use Rattle.chunk_store.specs.Drafts.{Grows, chunks_of};
 ghost use Rattle.chunk_store.specs.Standing.{IsTree};
 ghost use Rattle.prolly_tree.specs.Lists.{StandsForRows};
 ghost use Rattle.plain_sql.specs.Gives.{Gives};
@@ -14,6 +14,7 @@ ghost use Rattle.plain_writes.specs.Writes.{insert_effect, inserted, result_of};
 ghost use Rattle.plain_schemas.specs.Statements.{checks};
 ghost use Rattle.constraint_scan.specs.Scanning.{HasKeptAt, IsKeptAt};
 ghost use Rattle.sql_write.specs.Finding.{IsFound};
+ghost use Rattle.sql_write.specs.Growing.{is_data};
 ghost use Rattle.sql_write.specs.Inserting.{MayInsert, is_good, rows_said};
 ghost use Rattle.sql_write.specs.Making.{Makes};
 
@@ -78,7 +79,7 @@ fn insert_edits<D: Digester>(
     requires { (before : PlainDatabase) × (contents : PlainTable) × (rows : List Cells) × MayInsert D.address (chunks_of draft.old.chunks) database.now.0 name.now found edits.items before contents rows }
     ensures done { (before : PlainDatabase) (contents : PlainTable) (rows : List Cells) → MayInsert D.address (chunks_of draft.old.chunks) database.now.0 name.now found edits.items before contents rows
         → Makes D.address (chunks_of draft.new.chunks) result (result_of checks before name.now contents (contents.rows ++ rows) (length rows)) }
-    ensures longer { Longer draft.old.chunks draft.new.chunks }
+    ensures grows { Grows is_data draft.old draft.new }
 {
     law_of_row_items();
     let written = edits.len() as u64;
@@ -111,7 +112,7 @@ fn insert_into<D: Digester>(
     requires { (before : PlainDatabase) × (contents : PlainTable) × IsFound D.address (chunks_of draft.old.chunks) database.now.0 insert.now.table before contents found }
     ensures done { (before : PlainDatabase) (contents : PlainTable) → IsFound D.address (chunks_of draft.old.chunks) database.now.0 insert.now.table before contents found
         → Makes D.address (chunks_of draft.new.chunks) result (inserted checks before insert.now contents) }
-    ensures longer { Longer draft.old.chunks draft.new.chunks }
+    ensures grows { Grows is_data draft.old draft.new }
 {
     let rows = rows_said(alloc, &found.table.schema, insert)?;
     let edits = edits_of(alloc, &found.table.schema, rows.as_slice())?;
@@ -135,7 +136,7 @@ pub(crate) fn insert<D: Digester>(
     requires { HasKeptAt D.address (chunks_of draft.old.chunks) database.now.0 }
     ensures done { (contents : PlainDatabase) → IsKeptAt D.address (chunks_of draft.old.chunks) database.now.0 contents
         → Makes D.address (chunks_of draft.new.chunks) result (insert_effect checks contents insert.now) }
-    ensures longer { Longer draft.old.chunks draft.new.chunks }
+    ensures grows { Grows is_data draft.old draft.new }
 {
     let found = find(alloc, draft, database, insert.table.as_slice())?;
     insert_into(alloc, draft, database, found, insert)

@@ -5,11 +5,12 @@ ghost use Rattle.tuple_codec.specs.Rows.{Cells};
 ghost use Rattle.schema_model.specs.Limits.{most_rows};
 ghost use Rattle.schema_model.specs.PlainTables.{PlainDatabase, PlainTable};
 ghost use Rattle.chunk_store.specs.Clashes.{IsReason};
-ghost use Rattle.chunk_store.specs.Drafts.{Longer, chunks_of};
+ghost use Rattle.chunk_store.specs.Drafts.{Grows, chunks_of};
 ghost use Rattle.plain_writes.specs.Violations.{first_violation};
 ghost use Rattle.plain_writes.specs.Writes.{effect_if, filled, replaced, with_rows};
 ghost use Rattle.plain_schemas.specs.Statements.{checks};
 ghost use Rattle.constraint_scan.specs.Scanning.{CanRead, IsReadAt};
+ghost use Rattle.sql_write.specs.Growing.{is_data};
 ghost use Rattle.sql_write.specs.Making.{Makes};
 ghost use Rattle.sql_write.specs.Putting.{CanFill, CanPut};
 
@@ -38,7 +39,7 @@ pub(crate) fn put_rows<D: Digester>(
     requires { (database : PlainDatabase) × (contents : PlainTable) × (rows : List Cells) × CanPut D.address (chunks_of draft.old.chunks) tables.items table.now edits.now database contents rows }
     ensures stands { (database : PlainDatabase) (contents : PlainTable) (rows : List Cells) → CanPut D.address (chunks_of draft.old.chunks) tables.items table.now edits.now database contents rows
         → IfOk result (λ at. IsReadAt D.address (chunks_of draft.new.chunks) at.0 (replaced name.now (with_rows contents rows) database)) }
-    ensures longer { Longer draft.old.chunks draft.new.chunks }
+    ensures grows { Grows is_data draft.old draft.new }
     ensures cause { IfErr result (IsReason D.address (chunks_of draft.new.chunks)) }
 {
     laws_of_growth();
@@ -92,7 +93,7 @@ pub(crate) fn fill_table<D: Digester>(
     ensures done { (before : PlainDatabase) (contents : PlainTable) (after : List Cells)
         → CanFill D.address (chunks_of draft.old.chunks) database.now.0 tables.items table.now edits.now rows before contents after
         → Makes D.address (chunks_of draft.new.chunks) result (filled checks before name.now contents count after) }
-    ensures longer { Longer draft.old.chunks draft.new.chunks }
+    ensures grows { Grows is_data draft.old draft.new }
 {
     laws_of_growth();
     let new = put_rows(alloc, draft, tables, name, table, edits)?;

@@ -3,10 +3,11 @@
 ghost use Rattle.std.specs.Prelude.{◌≡◌, IfErr, IfOk};
 ghost use Rattle.schema_model.specs.PlainTables.{PlainDatabase, PlainTable};
 ghost use Rattle.chunk_store.specs.Clashes.{IsReason};
-ghost use Rattle.chunk_store.specs.Drafts.{Longer, chunks_of};
+ghost use Rattle.chunk_store.specs.Drafts.{Grows, chunks_of};
 ghost use Rattle.table_root.specs.Standing.{IsTableAt, IsTableOf};
 ghost use Rattle.plain_writes.specs.Writes.{replaced};
 ghost use Rattle.constraint_scan.specs.Scanning.{HasKeptAt, IsKeptAt, IsReadAt};
+ghost use Rattle.sql_write.specs.Growing.{is_data};
 ghost use Rattle.sql_write.specs.Putting.{AreListed, AreListedAt, MayReplace, MayStand, address_in, readdress, readdressed};
 
 use crate::laws::laws_of_growth;
@@ -93,7 +94,7 @@ pub(crate) fn put_database<D: Digester>(
     requires { (database : PlainDatabase) × AreListed D.address (chunks_of draft.old.chunks) tables.now database }
     ensures stands { (database : PlainDatabase) → AreListed D.address (chunks_of draft.old.chunks) tables.now database
         → IfOk result (λ at. IsReadAt D.address (chunks_of draft.new.chunks) at.0 database) }
-    ensures longer { Longer draft.old.chunks draft.new.chunks }
+    ensures grows { Grows is_data draft.old draft.new }
     ensures cause { IfErr result (IsReason D.address (chunks_of draft.new.chunks)) }
 {
     laws_of_growth();
@@ -110,7 +111,7 @@ pub(crate) fn keep_table<D: Digester>(
     requires { (contents : PlainTable) × MayStand D.address (chunks_of draft.old.chunks) table.now contents }
     ensures stands { (contents : PlainTable) → MayStand D.address (chunks_of draft.old.chunks) table.now contents
         → IfOk result (λ at. IsTableAt D.address (chunks_of draft.new.chunks) at.0 contents) }
-    ensures longer { Longer draft.old.chunks draft.new.chunks }
+    ensures grows { Grows is_data draft.old draft.new }
     ensures cause { IfErr result (IsReason D.address (chunks_of draft.new.chunks)) }
 {
     laws_of_growth();
@@ -129,7 +130,7 @@ pub(crate) fn put_table<D: Digester>(
     requires { (database : PlainDatabase) × (contents : PlainTable) × MayReplace D.address (chunks_of draft.old.chunks) tables.items table.now database contents }
     ensures stands { (database : PlainDatabase) (contents : PlainTable) → MayReplace D.address (chunks_of draft.old.chunks) tables.items table.now database contents
         → IfOk result (λ at. IsReadAt D.address (chunks_of draft.new.chunks) at.0 (replaced name.now contents database)) }
-    ensures longer { Longer draft.old.chunks draft.new.chunks }
+    ensures grows { Grows is_data draft.old draft.new }
     ensures cause { IfErr result (IsReason D.address (chunks_of draft.new.chunks)) }
 {
     laws_of_growth();

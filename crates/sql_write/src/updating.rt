@@ -2,12 +2,13 @@
 
 ghost use Rattle.std.specs.Prelude.{◌≡◌, IfOk};
 ghost use Rattle.schema_model.specs.PlainTables.{PlainDatabase, PlainTable};
-ghost use Rattle.chunk_store.specs.Drafts.{Longer, chunks_of};
+ghost use Rattle.chunk_store.specs.Drafts.{Grows, chunks_of};
 ghost use Rattle.table_root.specs.Standing.{IsTableOf};
 ghost use Rattle.plain_writes.specs.Writes.{delete_effect, deleted, update_effect, updated};
 ghost use Rattle.plain_schemas.specs.Statements.{checks};
 ghost use Rattle.constraint_scan.specs.Scanning.{HasKeptAt, IsKeptAt};
 ghost use Rattle.sql_write.specs.Finding.{IsFound};
+ghost use Rattle.sql_write.specs.Growing.{is_data};
 ghost use Rattle.sql_write.specs.Making.{Makes};
 ghost use Rattle.sql_write.specs.Turning.{filling};
 ghost use Rattle.sql_write.specs.Updating.{MayTurn};
@@ -37,7 +38,7 @@ fn put_turned<D: Digester>(
     requires { (before : PlainDatabase) × (contents : PlainTable) × MayTurn D.address (chunks_of draft.old.chunks) database.now.0 name.now found old.now turned.now before contents }
     ensures done { (before : PlainDatabase) (contents : PlainTable) → MayTurn D.address (chunks_of draft.old.chunks) database.now.0 name.now found old.now turned.now before contents
         → Makes D.address (chunks_of draft.new.chunks) result (filling checks before name.now contents turned.now) }
-    ensures longer { Longer draft.old.chunks draft.new.chunks }
+    ensures grows { Grows is_data draft.old draft.new }
 {
     let rows = turned.rows.as_slice();
     let edits = row_edits(alloc, &found.table.schema, old, rows)?;
@@ -64,7 +65,7 @@ fn update_found<D: Digester>(
     requires { (before : PlainDatabase) × (contents : PlainTable) × IsFound D.address (chunks_of draft.old.chunks) database.now.0 update.now.table before contents found }
     ensures done { (before : PlainDatabase) (contents : PlainTable) → IsFound D.address (chunks_of draft.old.chunks) database.now.0 update.now.table before contents found
         → Makes D.address (chunks_of draft.new.chunks) result (updated checks before update.now contents) }
-    ensures longer { Longer draft.old.chunks draft.new.chunks }
+    ensures grows { Grows is_data draft.old draft.new }
 {
     rows_come_first();
     let old = rows_of(alloc, draft, &found)?;
@@ -83,7 +84,7 @@ fn delete_found<D: Digester>(
     requires { (before : PlainDatabase) × (contents : PlainTable) × IsFound D.address (chunks_of draft.old.chunks) database.now.0 delete.now.table before contents found }
     ensures done { (before : PlainDatabase) (contents : PlainTable) → IsFound D.address (chunks_of draft.old.chunks) database.now.0 delete.now.table before contents found
         → Makes D.address (chunks_of draft.new.chunks) result (deleted checks before delete.now contents) }
-    ensures longer { Longer draft.old.chunks draft.new.chunks }
+    ensures grows { Grows is_data draft.old draft.new }
 {
     rows_come_first();
     let old = rows_of(alloc, draft, &found)?;
@@ -114,7 +115,7 @@ pub(crate) fn update<D: Digester>(
     requires { HasKeptAt D.address (chunks_of draft.old.chunks) database.now.0 }
     ensures done { (contents : PlainDatabase) → IsKeptAt D.address (chunks_of draft.old.chunks) database.now.0 contents
         → Makes D.address (chunks_of draft.new.chunks) result (update_effect checks contents update.now) }
-    ensures longer { Longer draft.old.chunks draft.new.chunks }
+    ensures grows { Grows is_data draft.old draft.new }
 {
     let found = find(alloc, draft, database, update.table.as_slice())?;
     update_found(alloc, draft, database, found, update)
@@ -130,7 +131,7 @@ pub(crate) fn delete<D: Digester>(
     requires { HasKeptAt D.address (chunks_of draft.old.chunks) database.now.0 }
     ensures done { (contents : PlainDatabase) → IsKeptAt D.address (chunks_of draft.old.chunks) database.now.0 contents
         → Makes D.address (chunks_of draft.new.chunks) result (delete_effect checks contents delete.now) }
-    ensures longer { Longer draft.old.chunks draft.new.chunks }
+    ensures grows { Grows is_data draft.old draft.new }
 {
     let found = find(alloc, draft, database, delete.table.as_slice())?;
     delete_found(alloc, draft, database, found, delete)

@@ -1,8 +1,9 @@
 ghost use Rattle.schema_model.specs.PlainTables.{PlainDatabase};
-ghost use Rattle.chunk_store.specs.Drafts.{Longer, chunks_of};
+ghost use Rattle.chunk_store.specs.Drafts.{Grows, Longer, chunks_of};
 ghost use Rattle.constraint_scan.specs.Scanning.{HasKeptAt, IsKeptAt};
 ghost use Rattle.plain_schemas.specs.Statements.{write_effect};
 ghost use Rattle.schema_laws.specs.Laws.{IsFit};
+ghost use Rattle.sql_write.specs.Growing.{is_data};
 ghost use Rattle.sql_write.specs.Making.{Makes};
 ghost use Rattle.sql_write.specs.Writing.{Writes};
 
@@ -37,7 +38,7 @@ fn made<D: Digester>(
     requires fit { IsFit statement.now }
     ensures done { (contents : PlainDatabase) → IsKeptAt D.address (chunks_of draft.old.chunks) database.now.0 contents
         → Makes D.address (chunks_of draft.new.chunks) result (write_effect contents statement.now) }
-    ensures longer { Longer draft.old.chunks draft.new.chunks }
+    ensures grows { Grows is_data draft.old draft.new }
 {
     match statement {
         Write::Create(create) => create_table(alloc, draft, database, create),
@@ -61,6 +62,7 @@ pub fn write<D: Digester>(
     requires fit { IsFit statement.now }
     ensures done { (contents : PlainDatabase) → IsKeptAt D.address (chunks_of draft.old.chunks) database.now.0 contents
         → Writes D.address (chunks_of draft.new.chunks) result (write_effect contents statement.now) }
+    ensures grows { Grows is_data draft.old draft.new }
     ensures longer { Longer draft.old.chunks draft.new.chunks }
 {
     all_keep();

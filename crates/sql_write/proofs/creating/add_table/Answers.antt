@@ -5,6 +5,7 @@ use Rattle.chunk_store.specs.Kinds.{is_node}
 use Rattle.table_root.specs.declared.records.NamedTable.{NamedTable}
 use Rattle.plain_schemas.specs.Effects.{empty_table, with_table}
 use Rattle.index_keep.specs.Keeping.{table_of_rows}
+use Rattle.sql_write.specs.Growing.{is_data}
 use Rattle.sql_write.specs.Putting.{AreListed}
 use Rattle.sql_write.proofs.MakingLemmas.{added_listed, can_build_empty}
 use Rattle.sql_write.proofs.SchemaLemmas.{new_kept}
@@ -30,7 +31,7 @@ put_database-requires-after_bounds g c κs within =
     let two = c.keep_table.new.draft in
     let laws = c.laws_of_growth.ensures in
     let more : Extends (chunks_of old.chunks) (chunks_of two.chunks) = laws.drafts.longer_extends old.chunks two.chunks
-    (laws.drafts.in_steps old.chunks one.chunks two.chunks (laws.growth.is_longer is_node old one c.new_table.ensures.grows) c.keep_table.ensures.longer) in
+    (laws.drafts.in_steps old.chunks one.chunks two.chunks (laws.growth.is_longer is_node old one c.new_table.ensures.grows) (laws.growth.is_longer is_data one two c.keep_table.ensures.grows)) in
     let database = c.requires.0 in
     let can = c.requires.1 in
     let kept = new_kept database c.args.name.now c.args.schema can.absent can.kept in
@@ -49,7 +50,7 @@ returns-clause-stands g c = λ database can.
     let two = c.keep_table.new.draft in
     let laws = c.laws_of_growth.ensures in
     let more : Extends (chunks_of old.chunks) (chunks_of two.chunks) = laws.drafts.longer_extends old.chunks two.chunks
-    (laws.drafts.in_steps old.chunks one.chunks two.chunks (laws.growth.is_longer is_node old one c.new_table.ensures.grows) c.keep_table.ensures.longer) in
+    (laws.drafts.in_steps old.chunks one.chunks two.chunks (laws.growth.is_longer is_node old one c.new_table.ensures.grows) (laws.growth.is_longer is_data one two c.keep_table.ensures.grows)) in
     let kept = new_kept database c.args.name.now c.args.schema can.absent can.kept in
     let at = c.in_ok-address.ensures.stands (table_of_rows c.args.schema []) (record { stands = c.in_ok-table.ensures.stands; limits = (limits_so (empty_table c.args.schema) kept.within).0 }) in
     c.put_database.ensures.stands (with_table database c.args.name.now c.args.schema)

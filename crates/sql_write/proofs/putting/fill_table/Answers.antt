@@ -5,6 +5,7 @@ use Rattle.schema_model.specs.Limits.{most_rows}
 use Rattle.plain_writes.specs.Violations.{first_violation}
 use Rattle.plain_writes.specs.Writes.{effect_if, replaced, with_rows}
 use Rattle.plain_schemas.specs.Statements.{checks}
+use Rattle.sql_write.specs.Growing.{is_data}
 use Rattle.sql_write.specs.Making.{Makes}
 use Rattle.sql_write.proofs.TableLemmas.{read_later}
 use Rattle.sql_write.proofs.putting.fill_table.Goals as goal
@@ -14,7 +15,7 @@ judged-requires-clause-old g c κs within =
     let old = c.args.draft.now.chunks in
     let new = c.put_rows.new.draft.chunks in
     let laws = c.laws_of_growth.ensures in
-    let more : Extends (chunks_of old) (chunks_of new) = laws.drafts.longer_extends old new c.put_rows.ensures.longer in
+    let more : Extends (chunks_of old) (chunks_of new) = laws.drafts.longer_extends old new (laws.growth.is_longer is_data c.args.draft.now c.put_rows.new.draft c.put_rows.ensures.grows) in
     let can = c.requires.3 in
     (c.requires.0, read_later g.D.Digester.address (chunks_of old) (chunks_of new) more laws.databases c.args.database.now.0 c.requires.0 can.at)
 
@@ -29,7 +30,7 @@ returns-clause-done g c = λ before contents after can.
     let old = c.args.draft.now.chunks in
     let new = c.put_rows.new.draft.chunks in
     let laws = c.laws_of_growth.ensures in
-    let more : Extends (chunks_of old) (chunks_of new) = laws.drafts.longer_extends old new c.put_rows.ensures.longer in
+    let more : Extends (chunks_of old) (chunks_of new) = laws.drafts.longer_extends old new (laws.growth.is_longer is_data c.args.draft.now c.put_rows.new.draft c.put_rows.ensures.grows) in
     let made = replaced c.args.name.now (with_rows contents after) before in
     subst (λ (n : ℕ). Makes address (chunks_of new) c.judged.result (effect_if (first_violation checks before made) (nat_lt most_rows n) (record { database = made; count = Some c.args.count })))
     can.counted
