@@ -14,4 +14,3 @@ pub mod ListingLemmas
 pub mod SchemaLemmas
 pub mod MakingLemmas
 pub mod AlteringLemmas
-pub mod GrowthLemmas

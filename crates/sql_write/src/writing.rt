@@ -12,6 +12,7 @@ use crate::creating::create_table;
 use crate::dropping::drop_table;
 use crate::faults::SqlFault;
 use crate::inserting::insert;
+use crate::laws::laws_of_growth;
 use crate::updating::{delete, update};
 use chunk_store::Draft;
 use schema_laws::all_keep;
@@ -66,5 +67,6 @@ pub fn write<D: Digester>(
     ensures longer { Longer draft.old.chunks draft.new.chunks }
 {
     all_keep();
+    laws_of_growth();
     made(alloc, draft, database, statement)
 }
