@@ -1,5 +1,5 @@
 -- What a statement's text asks of a session.
-use Rattle.std.specs.Prelude.{ℕ, List, Result, Ok, Err}
+use Rattle.std.specs.Prelude.{ℕ, List, Option, Result, Ok, Err}
 use Rattle.std.specs.Option.{option_and_then, option_map_or}
 use Rattle.sql_ast.specs.declared.faults.Refusal.{Refusal}
 use Rattle.sql_ast.specs.declared.selects.Select.{Select}
@@ -34,9 +34,11 @@ abbrev pub misused : Command
 misused = Faulty (record { number = 9008; at = 0 })
 
 -- a text that is a statement calls a procedure with arguments that it takes
+abbrev pub requested : Option Request → Command
+requested request = option_map_or request_command request misused
+
 abbrev pub call_command : Call → Command
-call_command call =
-    option_map_or request_command (option_and_then (λ procedure. request_of procedure call.arguments) (procedure_of call.name)) misused
+call_command call = requested (option_and_then (λ procedure. request_of procedure call.arguments) (procedure_of call.name))
 
 abbrev pub statement_command : Statement → Command
 statement_command (statement.Write write) = Data (Change write)

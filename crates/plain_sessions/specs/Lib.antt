@@ -3,6 +3,7 @@ pub mod Replies
 pub mod Sessions
 pub mod Commands
 pub mod Narrowing
+pub mod Fitness
 pub mod CommitRule
 pub mod Branching
 pub mod Merging

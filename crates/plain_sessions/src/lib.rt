@@ -2,5 +2,7 @@
 #![tactic(auto)]
 
 mod commands;
+mod reading;
 
 pub use commands::{Command, Work};
+pub use reading::read_command;
