@@ -30,7 +30,9 @@ use Rattle.plain_sessions.specs.Records.{BranchState, Shared, clean_at, is_same_
 use Rattle.plain_sessions.specs.Sessions.{Session, Transaction, first_variables, new_session, within}
 use Rattle.script_text.specs.declared.replies.Reply.{Reply}
 use Rattle.plain_sessions.specs.Replies.{counted, done, one_row, refused, text_field}
-use Rattle.plain_sessions.specs.Commands.{Command, Begin, Change, Checkout, CommitAll, Data, Rollback}
+use Rattle.plain_sessions.specs.declared.commands.Command.{Command}
+use Rattle.plain_sessions.specs.declared.commands.Command.TheVariants.{Begin, Checkout, CommitAll, Data, Rollback}
+use Rattle.plain_sessions.specs.declared.commands.Work.TheVariants.{Change}
 use Rattle.plain_sessions.specs.CommitRule.{decide, recorded}
 use Rattle.plain_sessions.specs.Branching.{add, branch_step, checkout_step, to_commit}
 use Rattle.plain_sessions.specs.Merging.{Answers, Closes, Committing, Forwarding, Joining, merge, merge_reply, resolve}

@@ -1,53 +1,19 @@
 -- What a statement's text asks of a session.
-use Rattle.std.specs.Prelude.{ℕ, Bool, List, Result, Ok, Err}
+use Rattle.std.specs.Prelude.{ℕ, List, Option, Result, Ok, Err}
 use Rattle.std.specs.Option.{option_and_then, option_map_or}
 use Rattle.sql_ast.specs.declared.faults.Refusal.{Refusal}
-use Rattle.sql_ast.specs.declared.selects.NamedExpr.{NamedExpr}
-use Rattle.sql_ast.specs.declared.selects.Query.{Query}
 use Rattle.sql_ast.specs.declared.selects.Select.{Select}
 use Rattle.sql_ast.specs.declared.selects.Select.TheVariants as select
 use Rattle.sql_ast.specs.declared.statements.Call.{Call}
 use Rattle.sql_ast.specs.declared.statements.Statement.{Statement}
 use Rattle.sql_ast.specs.declared.statements.Statement.TheVariants as statement
-use Rattle.sql_ast.specs.declared.statements.Write.{Write}
 use Rattle.sql_parse.specs.Parsing.{parsed}
 use Rattle.sql_procedures.specs.Arguments.{procedure_of, request_of}
-use Rattle.sql_procedures.specs.declared.requests.BranchRequest.{BranchRequest}
-use Rattle.sql_procedures.specs.declared.requests.CheckoutRequest.{CheckoutRequest}
-use Rattle.sql_procedures.specs.declared.requests.CommitRequest.{CommitRequest}
-use Rattle.sql_procedures.specs.declared.requests.MergeRequest.{MergeRequest}
 use Rattle.sql_procedures.specs.declared.requests.Request.{Request}
 use Rattle.sql_procedures.specs.declared.requests.Request.TheVariants as request
-use Rattle.sql_procedures.specs.declared.requests.Reset.{Reset}
-use Rattle.sql_procedures.specs.declared.requests.Resolution.{Resolution}
-use Rattle.sql_procedures.specs.declared.requests.Tables.{Tables}
-use Rattle.sql_procedures.specs.declared.requests.Verification.{Verification}
-
--- a database statement: it reads or changes the session's own state, in a transaction
-pub data Work : Type 0 where
-  -- SELECT with FROM
-  Ask : Query → Work
-  -- CREATE, DROP, INSERT, UPDATE, DELETE, ALTER
-  Change : Write → Work
-  Add : Tables → Work
-  ResetTo : Reset → Work
-  Commit : CommitRequest → Work
-  Merge : MergeRequest → Work
-  Resolve : Resolution → Work
-  Verify : Verification → Work
-
-pub data Command : Type 0 where
-  -- refused by its text alone
-  Faulty : Refusal → Command
-  Begin : Command
-  CommitAll : Command
-  Rollback : Command
-  Switch : List ℕ → Bool → Command
-  -- SELECT without FROM
-  Say : List NamedExpr → Command
-  Data : Work → Command
-  OnBranches : BranchRequest → Command
-  Checkout : CheckoutRequest → Command
+use Rattle.plain_sessions.specs.declared.commands.Command.{Command}
+use Rattle.plain_sessions.specs.declared.commands.Command.TheVariants.{Faulty, Begin, CommitAll, Rollback, Switch, Say, Data, OnBranches, Checkout}
+use Rattle.plain_sessions.specs.declared.commands.Work.TheVariants.{Ask, Change, Add, ResetTo, Commit, Merge, Resolve, Verify}
 
 -- a SELECT has sources or not
 abbrev pub select_command : Select → Command
@@ -68,9 +34,11 @@ abbrev pub misused : Command
 misused = Faulty (record { number = 9008; at = 0 })
 
 -- a text that is a statement calls a procedure with arguments that it takes
+abbrev pub requested : Option Request → Command
+requested request = option_map_or request_command request misused
+
 abbrev pub call_command : Call → Command
-call_command call =
-    option_map_or request_command (option_and_then (λ procedure. request_of procedure call.arguments) (procedure_of call.name)) misused
+call_command call = requested (option_and_then (λ procedure. request_of procedure call.arguments) (procedure_of call.name))
 
 abbrev pub statement_command : Statement → Command
 statement_command (statement.Write write) = Data (Change write)
@@ -79,13 +47,13 @@ statement_command statement.Begin = Begin
 statement_command statement.Start = Begin
 statement_command statement.Commit = CommitAll
 statement_command statement.Rollback = Rollback
-statement_command (statement.Set setting) = Switch setting.variable setting.on
+statement_command (statement.Set setting) = Switch setting
 statement_command (statement.Call call) = call_command call
 
 abbrev pub command_or_fault : Result Statement Refusal → Command
 command_or_fault (Ok statement) = statement_command statement
 command_or_fault (Err refusal) = Faulty refusal
 
--- what a text asks
+-- what a text asks, of the whole language
 unfoldable pub command : List ℕ → Command
 command text = command_or_fault (parsed text)

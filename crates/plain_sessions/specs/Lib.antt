@@ -2,6 +2,8 @@ pub mod Records
 pub mod Replies
 pub mod Sessions
 pub mod Commands
+pub mod Narrowing
+pub mod Fitness
 pub mod CommitRule
 pub mod Branching
 pub mod Merging

@@ -14,7 +14,9 @@ use Rattle.plain_sessions.specs.Records.{BranchState, Shared, clean_at, commit_o
 use Rattle.plain_sessions.specs.Sessions.{Place, Before, Between, Closing, Said, Session, Transaction, is_autocommit, is_before_statement, is_changed, is_changed_since, over, taken, with_own, with_variable, within}
 use Rattle.script_text.specs.declared.replies.Reply.{Reply}
 use Rattle.plain_sessions.specs.Replies.{done, one_row, refused, refused_by, text_field}
-use Rattle.plain_sessions.specs.Commands.{Command, Faulty, Begin, CommitAll, Rollback, Switch, Say, Data, OnBranches, Checkout, Work}
+use Rattle.plain_sessions.specs.declared.commands.Command.{Command}
+use Rattle.plain_sessions.specs.declared.commands.Command.TheVariants.{Faulty, Begin, CommitAll, Rollback, Switch, Say, Data, OnBranches, Checkout}
+use Rattle.plain_sessions.specs.declared.commands.Work.{Work}
 use Rattle.plain_sessions.specs.CommitRule.{decide}
 use Rattle.plain_sessions.specs.Branching.{branch_step, checkout_name, checkout_step, moved_to, status, switched_to}
 use Rattle.plain_sessions.specs.Merging.{Worked, Answers, Closes, Ending, Committing, Forwarding, Joining, merge_reply}
@@ -51,7 +53,7 @@ effect_alone session (Faulty refusal) = Some (session, refused_by refusal)
 effect_alone session Begin = None
 effect_alone session CommitAll = if is_changed session then None else Some (over session, done)
 effect_alone session Rollback = Some (over session, done)
-effect_alone session (Switch variable on) = set_alone session variable on
+effect_alone session (Switch setting) = set_alone session setting.variable setting.on
 effect_alone session (Say list) = Some (session, said session list)
 effect_alone session (Data work) = option_and_then (λ t. if_answered session t (worked session t work)) session.transaction
 effect_alone session (OnBranches request) = None
@@ -219,7 +221,7 @@ moment_of address epoch shared session (Faulty refusal) = None
 moment_of address epoch shared session Begin = begin address shared session
 moment_of address epoch shared session CommitAll = decided address (over session) done shared session
 moment_of address epoch shared session Rollback = None
-moment_of address epoch shared session (Switch variable on) = decided address (with_variable variable on (over session)) done shared session
+moment_of address epoch shared session (Switch setting) = decided address (with_variable setting.variable setting.on (over session)) done shared session
 moment_of address epoch shared session (Say list) = None
 moment_of address epoch shared session (Data work) =
     if is_in_transaction session then decided_closing address epoch work shared session else start_of shared session work

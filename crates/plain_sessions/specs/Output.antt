@@ -9,6 +9,7 @@ use Rattle.script_text.specs.declared.outputs.BranchLine.{BranchLine}
 use Rattle.script_text.specs.declared.outputs.RunText.{RunText}
 use Rattle.script_text.specs.declared.scripts.Moment.{Moment}
 use Rattle.script_text.specs.declared.scripts.Script.{Script}
+use Rattle.plain_sessions.specs.declared.commands.Command.{Command}
 use Rattle.plain_sessions.specs.Records.{Branch}
 use Rattle.plain_sessions.specs.Runs.{State, plain_run}
 
@@ -35,7 +36,7 @@ shown address script order state = record {
   branches = map (shown_branch address) state.shared.branches;
 }
 
--- what a run shows is the machine's run along the order, and with the wants of memory and collisions, that it shows itself
-abbrev pub IsPlainRun : (List ℕ → List ℕ) → ℤ → Script → RunText → Type 0
-IsPlainRun address epoch script run =
-    option_map (shown address script run.order) (plain_run address script run.order (shortages_in run.replies) epoch) ≡ Some run
+-- what a run shows is the machine's run over this reading, along the order and with the wants of memory and collisions, that it shows itself
+abbrev pub IsPlainRun : (List ℕ → Command) → (List ℕ → List ℕ) → ℤ → Script → RunText → Type 0
+IsPlainRun reads address epoch script run =
+    option_map (shown address script run.order) (plain_run reads address script run.order (shortages_in run.replies) epoch) ≡ Some run

@@ -10,7 +10,7 @@ use Rattle.script_text.specs.declared.scripts.Script.{Script}
 use Rattle.plain_sessions.specs.Records.{Shared, opening}
 use Rattle.plain_sessions.specs.Sessions.{Place, Session, Transaction, new_session}
 use Rattle.script_text.specs.declared.replies.Reply.{Reply}
-use Rattle.plain_sessions.specs.Commands.{Command, command}
+use Rattle.plain_sessions.specs.declared.commands.Command.{Command}
 use Rattle.plain_sessions.specs.Moments.{After, Past, Still, alone, moment_at}
 
 -- a session, what it has answered, and what its statements to come ask
@@ -85,23 +85,24 @@ run_along address epoch answers order state =
 
 -- ---- a script's run
 
--- what a session's statements ask, in the script's order
-abbrev pub commands_of : ℕ → List Line → List Command
-commands_of place [] = []
-commands_of place (line ∷ lines) =
-    if line.session == place then command line.statement ∷ commands_of place lines else commands_of place lines
+-- what a session's statements ask, in the script's order. What a text asks is an argument: `command`, or a narrower reading where not
+-- every command runs yet
+abbrev pub commands_of : (List ℕ → Command) → ℕ → List Line → List Command
+commands_of reads place [] = []
+commands_of reads place (line ∷ lines) =
+    if line.session == place then reads line.statement ∷ commands_of reads place lines else commands_of reads place lines
 
-abbrev pub runners_of : Shortages → List Line → ℕ → List (List ℕ) → List Runner
-runners_of answers lines place [] = []
-runners_of answers lines place (name ∷ names) =
-    advance (answers place) (commands_of place lines) [] (new_session place name) ∷ runners_of answers lines (place + 1) names
+abbrev pub runners_of : (List ℕ → Command) → Shortages → List Line → ℕ → List (List ℕ) → List Runner
+runners_of reads answers lines place [] = []
+runners_of reads answers lines place (name ∷ names) =
+    advance (answers place) (commands_of reads place lines) [] (new_session place name) ∷ runners_of reads answers lines (place + 1) names
 
 -- each session gone on to its first moment
-abbrev pub opened : (List ℕ → List ℕ) → ℤ → Shortages → Script → State
-opened address epoch answers script =
-    record { shared = opening address epoch script.names; runners = runners_of answers script.lines 0 script.names }
+abbrev pub opened : (List ℕ → Command) → (List ℕ → List ℕ) → ℤ → Shortages → Script → State
+opened reads address epoch answers script =
+    record { shared = opening address epoch script.names; runners = runners_of reads answers script.lines 0 script.names }
 
 -- the state after a script's run along an order, with these answers that no rule tells; none where the order isn't one
 -- of the script's
-unfoldable pub plain_run : (List ℕ → List ℕ) → Script → List Moment → Shortages → ℤ → Option State
-plain_run address script order answers epoch = run_along address epoch answers order (opened address epoch answers script)
+unfoldable pub plain_run : (List ℕ → Command) → (List ℕ → List ℕ) → Script → List Moment → Shortages → ℤ → Option State
+plain_run reads address script order answers epoch = run_along address epoch answers order (opened reads address epoch answers script)

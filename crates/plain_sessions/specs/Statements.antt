@@ -19,7 +19,8 @@ use Rattle.plain_sessions.specs.Records.{BranchState}
 use Rattle.plain_sessions.specs.Sessions.{Session, Transaction, is_on, own_root}
 use Rattle.script_text.specs.declared.replies.Reply.{Reply}
 use Rattle.plain_sessions.specs.Replies.{counted, done, one_row, shown, shown_or_refused}
-use Rattle.plain_sessions.specs.Commands.{Work, Ask, Change, Add, ResetTo, Commit, Merge, Resolve, Verify}
+use Rattle.plain_sessions.specs.declared.commands.Work.{Work}
+use Rattle.plain_sessions.specs.declared.commands.Work.TheVariants.{Ask, Change, Add, ResetTo, Commit, Merge, Resolve, Verify}
 use Rattle.plain_schemas.specs.Statements.{write_effect}
 use Rattle.plain_sessions.specs.Branching.{add, reset_to, status, to_commit}
 use Rattle.plain_sessions.specs.Merging.{Worked, Answers, Closes, Committing, merge, resolve, verify}

@@ -1,0 +1,37 @@
+use sql_ast::{NamedExpr, Query, Refusal, Setting, Write};
+use sql_procedures::{
+    BranchRequest, CheckoutRequest, CommitRequest, MergeRequest, Reset, Resolution, Tables,
+    Verification,
+};
+use tuple_codec::Sequence;
+
+/// A database statement: it reads or changes the session's own state, in a transaction.
+#[derive(Debug, Drop)]
+pub enum Work {
+    /// SELECT with FROM.
+    Ask(Query),
+    /// CREATE, DROP, INSERT, UPDATE, DELETE or ALTER.
+    Change(Write),
+    Add(Tables),
+    ResetTo(Reset),
+    Commit(CommitRequest),
+    Merge(MergeRequest),
+    Resolve(Resolution),
+    Verify(Verification),
+}
+
+/// What a statement's text asks of a session.
+#[derive(Debug, Drop)]
+pub enum Command {
+    /// Refused by its text alone.
+    Faulty(Refusal),
+    Begin,
+    CommitAll,
+    Rollback,
+    Switch(Setting),
+    /// SELECT without FROM.
+    Say(Sequence<NamedExpr>),
+    Data(Work),
+    OnBranches(BranchRequest),
+    Checkout(CheckoutRequest),
+}
