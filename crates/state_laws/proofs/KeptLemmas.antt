@@ -4,7 +4,7 @@ use Rattle.std.specs.Cmp.Lexicographic.{slice_cmp}
 use Rattle.std.specs.List.{list_all, AllByRecursion}
 use Rattle.std.proofs.lemmas.Bool.{and_parts}
 use Rattle.std.proofs.lemmas.List.{length-map}
-use Rattle.schema_model.specs.Limits.{is_named_within_limits, is_row_within_limits, is_short_name, is_table_within_limits, is_violation_within_limits, most_tables}
+use Rattle.schema_model.specs.Limits.{is_named_within_limits, is_row_within_limits, is_short_name, is_table_within_limits, is_violation_within_limits, most_rows, most_tables}
 use Rattle.schema_model.specs.PlainTables.{IsTable, NamedTable, PlainDatabase, PlainTable, is_violation, rises}
 use Rattle.schema_model.specs.Schemas.{is_name}
 use Rattle.plain_sql.specs.Lists.{repeats}
@@ -101,12 +101,15 @@ module _ (f : NamedTable → NamedTable) (same : (named : NamedTable) → (f nam
 pub rows_once : (table : PlainTable) → IsTable table → repeats (keyed_cmp table.schema) table.rows ≡ false
 rows_once table is = risen_once (keyed_cmp table.schema) (keyed_total table.schema) table.rows is.keys
 
+pub few_rows : (table : PlainTable) → is_table_within_limits table ≡ true → nat_le (length table.rows) most_rows ≡ true
+few_rows table h =
+    (and_parts _ (nat_le (length table.rows) most_rows) (and_parts _ (list_all (is_row_within_limits table.schema) table.rows) (and_parts _ _ (and_parts _ _ h).0).0).0).1
+
 recorded_table : (database : PlainDatabase) (named : NamedTable) → IsKeptTable named.table → IsKeptTable (with_violations database named).table
 recorded_table database named kept =
     let table = named.table in
     let is = kept.is_table in
     let limits = limits_so table kept.within in
-    let few = and_parts _ (nat_le (length table.rows) _) (and_parts _ (list_all (is_row_within_limits table.schema) table.rows) (and_parts _ _ (and_parts _ _ kept.within).0).0).0 in
     let found = violations_well checks database named.name table.schema table.rows is.schema limits.0 (rows_good table kept) (rows_once table is) in
     let list = violations_in checks database named.name table.schema table.rows in
     record {
@@ -119,7 +122,7 @@ recorded_table database named kept =
         violations = all_left (is_violation table.schema) (is_violation_within_limits table.schema) list found.0;
         violation_keys = found.1;
       };
-      within = both_so (both_so (both_so (both_so limits.0 few.1) limits.1) limits.2) (all_right (is_violation table.schema) (is_violation_within_limits table.schema) list found.0);
+      within = both_so (both_so (both_so (both_so limits.0 (few_rows table kept.within)) limits.1) limits.2) (all_right (is_violation table.schema) (is_violation_within_limits table.schema) list found.0);
     }
 
 pub recorded_kept : (database : PlainDatabase) → IsKept database → IsKept (recorded database)

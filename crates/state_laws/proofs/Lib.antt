@@ -4,3 +4,8 @@ pub mod KeptLemmas
 pub mod RootLemmas
 pub mod DecideLemmas
 pub mod PutLemmas
+pub mod WorkLemmas
+pub mod ResolveLemmas
+pub mod EntryLemmas
+pub mod MergingLemmas
+pub mod StatementLemmas

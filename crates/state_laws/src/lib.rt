@@ -3,4 +3,4 @@
 
 mod laws;
 
-pub use laws::decisions_keep;
+pub use laws::{decisions_keep, work_keeps};
