@@ -9,3 +9,5 @@ pub mod ResolveLemmas
 pub mod EntryLemmas
 pub mod MergingLemmas
 pub mod StatementLemmas
+pub mod ChangeLemmas
+pub mod SharedLemmas

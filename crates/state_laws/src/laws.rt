@@ -1,4 +1,4 @@
-ghost use Rattle.state_laws.specs.Laws.{DecisionsKeep, WorkKeeps};
+ghost use Rattle.state_laws.specs.Laws.{ChangesKeep, DecisionsKeep, SharedKeep, WorkKeeps};
 
 use schema_laws::all_keep;
 use table_merge::law_of_merged_tables;
@@ -17,3 +17,15 @@ pub fn work_keeps()
     all_keep();
     law_of_merged_tables();
 }
+
+/// What a decision makes of a branch is such a state, and the commit that it makes has such a database, two parents at most, its height and the epoch as its date.
+pub fn changes_keep()
+    ensures { ChangesKeep }
+{
+    law_of_merged_tables();
+}
+
+/// The shared state begins so, and stays so after changes, DOLT_BRANCH and DOLT_CHECKOUT; a transaction starts so.
+pub fn shared_keeps()
+    ensures { SharedKeep }
+{}

@@ -3,4 +3,4 @@
 
 mod laws;
 
-pub use laws::{decisions_keep, work_keeps};
+pub use laws::{changes_keep, decisions_keep, shared_keeps, work_keeps};
