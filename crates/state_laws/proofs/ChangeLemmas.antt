@@ -1,13 +1,11 @@
 -- What a decision makes of a branch, and the commit that it makes.
-use Rattle.std.proofs.Common.{◌≡◌, refl, ℕ, ℤ, true, not, nat_le, List, [], ◌∷◌, codes, length, Option, None, Some, Ok}
+use Rattle.std.proofs.Common.{◌≡◌, refl, ℕ, ℤ, true, not, nat_le, List, [], ◌∷◌, length, Option, None, Some, Ok}
 use Rattle.std.specs.Option.{option_to_list}
-use Rattle.tuple_codec.specs.AddressTexts.{address_text}
 use Rattle.script_text.specs.declared.replies.Reply.{Reply}
 use Rattle.schema_model.specs.Limits.{most_parents}
-use Rattle.schema_model.specs.PlainCommits.{Commits, PlainCommit}
+use Rattle.schema_model.specs.PlainCommits.{Commits}
 use Rattle.schema_model.specs.PlainTables.{PlainDatabase}
 use Rattle.expr_eval.specs.Binding.{Outcome}
-use Rattle.plain_sql.specs.Lists.{unless}
 use Rattle.table_merge.specs.Laws.{MergesAreTables}
 use Rattle.plain_sessions.specs.CommitRule.{decide}
 use Rattle.plain_sessions.specs.Merging.{Ending, Committing, Forwarding, Joining}
@@ -17,8 +15,9 @@ use Rattle.plain_sessions.specs.Sessions.{Session, Transaction}
 use Rattle.write_laws.specs.Laws.{IsKept}
 use Rattle.write_laws.proofs.OutcomeLemmas.{then_so, unless_so}
 use Rattle.state_laws.specs.Laws.{AreKeptCommits, ChangesKeep, IsKeptChange, IsKeptCommit, IsKeptEnding, IsKeptState, IsKeptTransaction}
-use Rattle.state_laws.proofs.DecideLemmas.{decided_kept, if_ok, ok_has}
+use Rattle.state_laws.proofs.DecideLemmas.{decided_kept}
 use Rattle.state_laws.proofs.WorkLemmas.{clean_kept, root_kept}
+use Rattle.state_laws.proofs.TestLemmas.{if_ok, ok_has}
 
 few_parents : (head : List ℕ) (other : Option (List ℕ)) → nat_le (length (head ∷ option_to_list other)) most_parents ≡ true
 few_parents head None = refl

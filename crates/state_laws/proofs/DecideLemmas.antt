@@ -1,9 +1,9 @@
 -- What the commit rule leaves.
-use Rattle.std.proofs.Common.{◌≡◌, refl, sym, ap, ◌∙◌, subst, Bool, true, false, cond, not, ◌&&◌, ◌||◌, is_some, Option, Result, Ok, Err}
+use Rattle.std.proofs.Common.{◌≡◌, refl, sym, ap, ◌∙◌, subst, Bool, true, false, cond, not, ◌&&◌, ◌||◌, is_some, Option, Result, Ok, Err, None}
 use Rattle.std.specs.Prelude.{IfOk}
 use Rattle.std.proofs.lemmas.Bool.{and_parts}
 use Rattle.schema_model.specs.Limits.{is_database_within_limits}
-use Rattle.schema_model.specs.PlainTables.{PlainDatabase}
+use Rattle.schema_model.specs.PlainTables.{IsDatabase, PlainDatabase}
 use Rattle.expr_eval.specs.Binding.{Outcome, and_then}
 use Rattle.plain_sql.specs.Lists.{unless}
 use Rattle.plain_merge.specs.RootMerge.{MergedDatabase, SchemaConflict, root3}
@@ -14,21 +14,11 @@ use Rattle.plain_sessions.specs.Records.{BranchState, is_same_state}
 use Rattle.plain_sessions.specs.Sessions.{Variables}
 use Rattle.write_laws.specs.Laws.{IsKept}
 use Rattle.write_laws.proofs.OrderLemmas.{two}
-use Rattle.write_laws.proofs.OutcomeLemmas.{ok_same, then_so, unless_so}
+use Rattle.write_laws.proofs.OutcomeLemmas.{then_so, unless_so}
 use Rattle.state_laws.specs.Laws.{DecisionsKeep, IsKeptState}
 use Rattle.state_laws.proofs.KeptLemmas.{recorded_kept}
 use Rattle.state_laws.proofs.RootLemmas.{root_is}
-
-pub not_false : (b : Bool) → not b ≡ false → b ≡ true
-not_false true e = refl
-not_false false e = sym e
-
-pub if_ok : {A : Type 0} (P : A → Type 0) (o : Outcome A) → ((x : A) → o ≡ Ok x → P x) → IfOk o P
-if_ok P (Ok x) f = f x refl
-if_ok P (Err number) f = tt
-
-pub ok_has : {A : Type 0} (P : A → Type 0) (a b : A) → P a → ◌≡◌ {A = Outcome A} (Ok a) (Ok b) → P b
-ok_has P a b h e = let same : a ≡ b = cc in subst P same h
+use Rattle.state_laws.proofs.TestLemmas.{if_ok, not_false, ok_has}
 
 clean_merged : (r : Result MergedDatabase SchemaConflict) (database : PlainDatabase) → without_conflicts r ≡ Ok database → (m : MergedDatabase) × (r ≡ Ok m) × (m.database ≡ database)
 clean_merged (Ok m) database e =
@@ -42,7 +32,7 @@ module _ (law : MergesAreTables) where
   root_clean base ours theirs database b o t e within =
       let m = clean_merged (root3 base ours theirs) database e in
       let is = root_is law base ours theirs m.0 b o t m.1 in
-      record { is_database = subst (λ (d : PlainDatabase). Rattle.schema_model.specs.PlainTables.IsDatabase d) m.2 is; within = within }
+      record { is_database = subst IsDatabase m.2 is; within = within }
 
   merged_kept : (start present own state : BranchState) → IsKeptState start → IsKeptState present → IsKeptState own → rule.merged start present own ≡ Ok state → IsKeptState state
   merged_kept start present own state s p o e =
@@ -53,7 +43,7 @@ module _ (law : MergesAreTables) where
       let working = then_so (without_conflicts (root3 start.working present.working own.working)) (λ working.
       and_then (without_conflicts (root3 start.staged present.staged own.staged)) (λ staged. both_merged present working staged)) state settled.1 in
       let staged = then_so (without_conflicts (root3 start.staged present.staged own.staged)) (λ staged. both_merged present working.0 staged) state working.2 in
-      let made : BranchState = record { head = present.head; working = recorded working.0; staged = staged.0; merging = Rattle.std.proofs.Common.None } in
+      let made : BranchState = record { head = present.head; working = recorded working.0; staged = staged.0; merging = None } in
       let small = unless_so (not (is_database_within_limits working.0 && is_database_within_limits staged.0)) 9010 (Ok made) state staged.2 in
       let limits = and_parts (is_database_within_limits working.0) (is_database_within_limits staged.0) (not_false _ small.0) in
       ok_has IsKeptState made state

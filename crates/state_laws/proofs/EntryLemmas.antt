@@ -1,5 +1,5 @@
 -- What DELETE of conflicts and of recorded violations leaves.
-use Rattle.std.proofs.Common.{◌≡◌, ◌∙◌, refl, sym, ap, subst, ℕ, Bool, true, false, cond, ◌&&◌, is_lt, is_some, List, [], ◌∷◌, ◌++◌, Option, None, Some, Ok, Err}
+use Rattle.std.proofs.Common.{◌≡◌, ◌∙◌, refl, sym, ap, subst, ℕ, Bool, true, false, cond, is_lt, is_some, List, [], ◌∷◌, ◌++◌, Option, None, Some, Ok}
 use Rattle.std.specs.Cmp.{IsTotalOrder}
 use Rattle.std.specs.List.{list_all}
 use Rattle.std.specs.declared.cmp.Ordering.{Ordering}
@@ -25,17 +25,12 @@ use Rattle.write_laws.proofs.OrderLemmas.{both_so, two}
 use Rattle.write_laws.proofs.OutcomeLemmas.{found_so, then_so}
 use Rattle.write_laws.proofs.RowLemmas.{all_append}
 use Rattle.state_laws.specs.Laws.{IsKeptState, IsKeptWork}
-use Rattle.state_laws.proofs.DecideLemmas.{ok_has}
 use Rattle.state_laws.proofs.KeptLemmas.{IsKeptNamed, are_kept, few_rows, few_tables, is_kept}
 use Rattle.state_laws.proofs.PutLemmas.{IsFoundWell, found_well, put_few, put_kept}
 use Rattle.state_laws.proofs.RecordingLemmas.{violation_total}
+use Rattle.state_laws.proofs.TestLemmas.{less_so, ok_has}
 
 -- ---- what no test chooses
-
-less_so : (o : Ordering) → is_lt o ≡ true → o ≡ Less
-less_so Less e = refl
-less_so Equal e = absurd (cc)
-less_so Greater e = absurd (cc)
 
 module _ {A : Type 0} (tests : List Meaning) (row : A → Cells) where
   left_all : (p : A → Bool) (entries left : List A) → list_all p entries ≡ true → entries_left tests row entries ≡ Ok left → list_all p left ≡ true
@@ -45,7 +40,7 @@ module _ {A : Type 0} (tests : List Meaning) (row : A → Cells) where
       let rest = then_so (all_of (entry_left tests row) xs) (λ more. Ok (first.0 ++ more)) left first.2 in
       let chosen = then_so (passes tests (row x)) (λ chosen. Ok (entry_if x chosen)) first.0 first.1 in
       let parts = and_parts (p x) (list_all p xs) h in
-      let here : list_all p (entry_if x chosen.0) ≡ true = elim chosen.0 as (λ b. list_all p (cond b [] (x ∷ [])) ≡ true) [ | true ↦ refl | false ↦ both_so parts.0 refl ] in
+      let here : list_all p (entry_if x chosen.0) ≡ true = elim chosen.0 as (λ b. list_all p (cond b [] (x ∷ [])) ≡ true) [ true ↦ refl | false ↦ both_so parts.0 refl ] in
       ok_has (λ (l : List A). list_all p l ≡ true) (first.0 ++ rest.0) left
       (all_append p first.0 rest.0 (ok_has (λ (l : List A). list_all p l ≡ true) (entry_if x chosen.0) first.0 here chosen.2) (left_all p xs rest.0 parts.1 rest.1)) rest.2
 

@@ -1,14 +1,15 @@
 -- Databases within the limits by their tables, changed table by table.
-use Rattle.std.proofs.Common.{◌≡◌, refl, sym, ap, ◌∙◌, subst, Bool, true, false, not, ◌&&◌, nat_le, nat_cmp, is_lt, List, [], ◌∷◌, filter, length, map}
+use Rattle.std.proofs.Common.{◌≡◌, refl, ap, ◌∙◌, true, false, nat_le, nat_cmp, is_lt, List, [], ◌∷◌, length, map}
 use Rattle.std.specs.Cmp.Lexicographic.{slice_cmp}
 use Rattle.std.specs.List.{list_all, AllByRecursion}
+use Rattle.std.specs.declared.cmp.Ordering.{Ordering}
 use Rattle.std.proofs.lemmas.Bool.{and_parts}
 use Rattle.std.proofs.lemmas.List.{length-map}
 use Rattle.schema_model.specs.Limits.{is_named_within_limits, is_row_within_limits, is_short_name, is_table_within_limits, is_violation_within_limits, most_rows, most_tables}
 use Rattle.schema_model.specs.PlainTables.{IsTable, NamedTable, PlainDatabase, PlainTable, is_violation, rises}
 use Rattle.schema_model.specs.Schemas.{is_name}
 use Rattle.plain_sql.specs.Lists.{repeats}
-use Rattle.plain_writes.specs.Violations.{Checks, violations_in}
+use Rattle.plain_writes.specs.Violations.{violations_in}
 use Rattle.plain_writes.specs.Writes.{keyed_cmp}
 use Rattle.plain_writes.proofs.SortLemmas.{risen_once}
 use Rattle.plain_schemas.specs.Statements.{checks}
@@ -21,7 +22,7 @@ use Rattle.state_laws.proofs.RecordingLemmas.{violations_well}
 
 -- ---- by its tables
 
-abbrev pub by_name : NamedTable → NamedTable → Rattle.std.specs.declared.cmp.Ordering.Ordering
+abbrev pub by_name : NamedTable → NamedTable → Ordering
 by_name a b = slice_cmp nat_cmp a.name b.name
 
 pub record IsKeptNamed (named : NamedTable) : Type 0 where

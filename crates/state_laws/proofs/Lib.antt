@@ -1,3 +1,4 @@
+pub mod TestLemmas
 pub mod OnceLemmas
 pub mod RecordingLemmas
 pub mod KeptLemmas

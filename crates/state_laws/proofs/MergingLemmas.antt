@@ -1,9 +1,8 @@
 -- What a merge between branches comes to.
-use Rattle.std.proofs.Common.{◌≡◌, ◌∙◌, refl, sym, ap, subst, ℕ, Bool, true, false, cond, not, ◌&&◌, is_some, List, [], Option, None, Some, Result, Ok, Err, codes}
+use Rattle.std.proofs.Common.{◌≡◌, ◌∙◌, refl, sym, ap, ℕ, true, false, cond, not, ◌&&◌, is_some, List, [], Option, None, Some, Result, Ok, Err, codes}
 use Rattle.std.specs.Option.{option_map_or}
 use Rattle.schema_model.specs.Limits.{is_database_within_limits}
 use Rattle.schema_model.specs.PlainCommits.{Commits, base, is_ancestor}
-use Rattle.schema_model.specs.PlainTables.{PlainDatabase}
 use Rattle.sql_procedures.specs.declared.requests.MergeOf.{MergeOf}
 use Rattle.sql_procedures.specs.declared.requests.MergeRequest.{MergeRequest}
 use Rattle.sql_procedures.specs.declared.requests.MergeRequest.TheVariants as merging
@@ -12,18 +11,17 @@ use Rattle.plain_sql.specs.Lists.{or_refuse, unless}
 use Rattle.plain_merge.specs.RootMerge.{MergedDatabase, SchemaConflict, root3}
 use Rattle.table_merge.specs.Laws.{MergesAreTables}
 use Rattle.plain_sessions.specs.Branching.{resolved}
-use Rattle.plain_sessions.specs.CommitRule.{recorded}
 use Rattle.plain_sessions.specs.Merging.{Answers, Closes, Forwarding, Joining, Worked, base_root, has_changes, if_within_limits, in_progress, is_clean, merge, merge_made, merge_message, merge_reply, merge_with, merged_with, or_schema_conflict}
-use Rattle.plain_sessions.specs.Records.{BranchState, clean_at, root_of}
+use Rattle.plain_sessions.specs.Records.{clean_at, root_of}
 use Rattle.plain_sessions.specs.Sessions.{Session, Transaction, own_root}
 use Rattle.write_laws.specs.Laws.{IsKept}
 use Rattle.write_laws.proofs.OrderLemmas.{two}
 use Rattle.write_laws.proofs.OutcomeLemmas.{then_so, unless_so}
 use Rattle.state_laws.specs.Laws.{AreKeptCommits, IsKeptState, IsKeptTransaction, IsKeptWork}
-use Rattle.state_laws.proofs.DecideLemmas.{not_false, ok_has}
 use Rattle.state_laws.proofs.KeptLemmas.{recorded_kept}
 use Rattle.state_laws.proofs.RootLemmas.{root_is}
 use Rattle.state_laws.proofs.WorkLemmas.{clean_kept, empty_kept, root_kept}
+use Rattle.state_laws.proofs.TestLemmas.{not_false, ok_has}
 
 base_kept : (commits : Commits) (k : Option (List ℕ)) → AreKeptCommits commits → IsKept (option_map_or (root_of commits) k [])
 base_kept commits None kept = empty_kept

@@ -1,5 +1,5 @@
 -- Lists in which no item stands twice.
-use Rattle.std.proofs.Common.{◌≡◌, refl, sym, ap, ◌∙◌, ℕ, ◌+◌, Bool, true, false, cond, not, ◌&&◌, ◌||◌, true≢false, List, [], ◌∷◌, ◌++◌, bytes_eq}
+use Rattle.std.proofs.Common.{◌≡◌, refl, ap, ◌∙◌, ℕ, ◌+◌, Bool, true, false, not, List, [], ◌∷◌, ◌++◌, bytes_eq}
 use Rattle.std.specs.Cmp.Lexicographic.{bytes_decides}
 use Rattle.std.specs.List.{enumerate_from, flat_map, list_all, list_any}
 use Rattle.std.specs.Ordering.{is_eq}
@@ -8,7 +8,7 @@ use Rattle.std.proofs.lemmas.Bool.{and_parts, not-true, not_from_false, or_parts
 use Rattle.std.proofs.lemmas.List.Folds.{list_all-append, list_any-append}
 use Rattle.schema_model.specs.Schemas.{are_distinct}
 use Rattle.plain_sql.specs.Lists.{has, repeats}
-use Rattle.write_laws.proofs.OrderLemmas.{both_so, clash, neither_so, two}
+use Rattle.write_laws.proofs.OrderLemmas.{both_so, neither_so}
 
 -- ---- tests of all
 

@@ -1,27 +1,26 @@
 -- A database that takes a table, or its absence, from another.
-use Rattle.std.proofs.Common.{◌≡◌, ◌≤◌, refl, sym, ap, ◌∙◌, subst, ℕ, suc, Bool, true, false, cond, not, ◌&&◌, ◌||◌, true≢false, nat_le, nat_cmp, is_lt, is_some, List, [], ◌∷◌, ◌++◌, filter, fold, length, map, Option, None, Some, bytes_eq, arith}
+use Rattle.std.proofs.Common.{◌≡◌, ◌≤◌, refl, sym, ap, ◌∙◌, subst, ℕ, suc, Bool, true, false, cond, not, ◌||◌, true≢false, nat_le, nat_cmp, is_lt, is_some, List, [], ◌∷◌, ◌++◌, filter, fold, length, Option, None, Some, bytes_eq, arith}
 use Rattle.std.specs.Cmp.{IsTotalOrder, tied_itself}
 use Rattle.std.specs.Cmp.Lexicographic.{bytes_decides, slice_cmp}
 use Rattle.std.specs.List.{AllByRecursion, find, list_all, list_any}
 use Rattle.std.specs.Option.{option_map}
-use Rattle.std.specs.Ordering.{is_eq}
 use Rattle.std.specs.declared.cmp.Ordering.{Ordering}
-use Rattle.std.proofs.lemmas.Bool.{and_parts, le-leb, leb-true, not-true, or_parts}
+use Rattle.std.proofs.lemmas.Bool.{and_parts, le-leb, leb-true, not-true, or_left, or_right}
 use Rattle.std.proofs.lemmas.Cmp.{nat_list_cmp_total, on_total}
 use Rattle.std.proofs.lemmas.Map.Text.{is_eq-slice_cmp}
 use Rattle.schema_model.specs.Limits.{is_short_name, most_tables}
 use Rattle.schema_model.specs.PlainTables.{NamedTable, PlainDatabase, PlainTable, rises}
 use Rattle.schema_model.specs.Schemas.{is_name}
-use Rattle.plain_sql.specs.Lists.{has, in_order, placed, repeats}
+use Rattle.plain_sql.specs.Lists.{has, in_order, placed}
 use Rattle.plain_writes.specs.Violations.{is_called, table_in}
 use Rattle.plain_writes.proofs.SortLemmas.{risen_once}
 use Rattle.plain_sessions.specs.Branching.{is_in, names_in, put_table, table_cmp, taking, taking_all, without_table}
 use Rattle.schema_laws.proofs.ListLemmas.{filter_few, filter_have, filter_keep}
-use Rattle.write_laws.specs.Laws.{IsKept}
 use Rattle.write_laws.proofs.OrderLemmas.{both_so, either_way, in_order_length, in_order_rises, neither_so, placed_past, placed_stop, two}
 use Rattle.state_laws.proofs.KeptLemmas.{AreKept, IsKeptNamed, by_name, have_so}
 use Rattle.state_laws.proofs.OnceLemmas.{none_tied}
-use Rattle.state_laws.proofs.RootLemmas.{TablesRise, is_past, rise_behind, rises_of, tables_lower}
+use Rattle.state_laws.proofs.RootLemmas.{TablesRise, rise_behind, rises_of, tables_lower}
+use Rattle.state_laws.proofs.TestLemmas.{not_so}
 
 -- ---- in order
 
@@ -128,10 +127,6 @@ put_few name table database there few =
 
 -- ---- no more tables than there are names
 
-not_so : (b : Bool) → (b ≡ true → ⊥) → b ≡ false
-not_so true f = absurd (f refl)
-not_so false f = refl
-
 abbrev other : List ℕ → NamedTable → Bool
 other name named = not (bytes_eq name named.name)
 
@@ -208,19 +203,12 @@ taking_left : (from into : PlainDatabase) (names : List (List ℕ)) → AllByRec
 taking_left from into [] h = h
 taking_left from into (name ∷ names) h = taking_left from (taking from into name) names (put_left from name names into (table_in from name) refl h)
 
-or_right : (a : Bool) {b : Bool} → b ≡ true → (a || b) ≡ true
-or_right true e = refl
-or_right false e = e
-
-or_left : {a : Bool} (b : Bool) → a ≡ true → (a || b) ≡ true
-or_left b e = ap (λ t. t || b) e
-
 names_there : (database : PlainDatabase) (more : List (List ℕ)) → AllByRecursion (λ (named : NamedTable). list_any (bytes_eq named.name) (names_in database ++ more) ≡ true) database
 names_there [] more = tt
 names_there (named ∷ database) more = (
-  or_left _ ((bytes_decides named.name named.name).1 refl),
+  or_left _ _ ((bytes_decides named.name named.name).1 refl),
   have_so (λ (one : NamedTable). list_any (bytes_eq one.name) (names_in database ++ more) ≡ true) (λ (one : NamedTable). list_any (bytes_eq one.name) (names_in (named ∷ database) ++ more) ≡ true) database
-      (λ one h. or_right (bytes_eq one.name named.name) h) (names_there database more),
+      (λ one h. or_right (bytes_eq one.name named.name) _ h) (names_there database more),
 )
 
 or_nothing : (b : Bool) → (b || false) ≡ true → b ≡ true
@@ -234,7 +222,7 @@ taking_few from into more f i few =
     let names = names_in into ++ more in
     let whole = taking_all from into names in
     let kept = taking_kept from into names f i in
-    let left = taking_left from into names (have_so (λ (one : NamedTable). list_any (bytes_eq one.name) names ≡ true) (IsLeft from names) into (λ one h. or_right (is_in from one.name) h) (names_there into more)) in
+    let left = taking_left from into names (have_so (λ (one : NamedTable). list_any (bytes_eq one.name) names ≡ true) (IsLeft from names) into (λ one h. or_right (is_in from one.name) _ h) (names_there into more)) in
     let size = no_more from whole (tables_rise whole kept.rise) (have_so (IsLeft from []) (λ (one : NamedTable). is_in from one.name ≡ true) whole (λ one h. or_nothing (is_in from one.name) h) left) in
     let most = leb-true (length from) most_tables few in
     le-leb (length whole) most_tables (omega (arith, size, most))

@@ -1,5 +1,5 @@
 -- A table's violations, found anew, are violations of it within the limits, and rise.
-use Rattle.std.proofs.Common.{◌≡◌, ◌<◌, refl, sym, ap, ◌∙◌, subst, ℕ, Bool, true, false, cond, not, ◌&&◌, ◌||◌, true≢false, nat_le, nat_lt, nat_cmp, ◌==◌, List, [], ◌∷◌, ◌++◌, filter, map, bytes_eq, arith}
+use Rattle.std.proofs.Common.{◌≡◌, ◌<◌, refl, sym, ap, ◌∙◌, ℕ, Bool, true, false, cond, ◌&&◌, true≢false, nat_le, nat_lt, nat_cmp, ◌==◌, List, [], ◌∷◌, ◌++◌, filter, map, bytes_eq, arith}
 use Rattle.std.specs.Cmp.{IsTotalOrder, tied_itself}
 use Rattle.std.specs.Cmp.Lexicographic.{bytes_decides, slice_cmp}
 use Rattle.std.specs.FinMap.{nat_cmp-IsAntisymmetric}
@@ -22,13 +22,14 @@ use Rattle.schema_model.specs.declared.schemas.ForeignKey.{ForeignKey}
 use Rattle.schema_model.specs.declared.schemas.IndexDef.{IndexDef}
 use Rattle.schema_model.specs.declared.schemas.Schema.{Schema}
 use Rattle.schema_model.proofs.FitLemmas.{primary_key_fits}
-use Rattle.plain_sql.specs.Lists.{has, in_order, repeats}
-use Rattle.plain_writes.specs.Violations.{Checks, breaks_check, breaks_foreign, breaks_not_null, breaks_unique, broken, of_check, of_column, of_foreign, of_index, parent_keys, violation, violations_in}
+use Rattle.plain_sql.specs.Lists.{has, repeats}
+use Rattle.plain_writes.specs.Violations.{Checks, breaks_not_null, breaks_unique, broken, of_check, of_column, of_foreign, of_index, violation, violations_in}
 use Rattle.plain_writes.specs.Writes.{keyed_cmp}
 use Rattle.schema_laws.proofs.ListLemmas.{all_combined}
 use Rattle.write_laws.proofs.OrderLemmas.{both_so, in_order_all, in_order_rises, neither_so}
 use Rattle.write_laws.proofs.RowLemmas.{is_good}
 use Rattle.state_laws.proofs.OnceLemmas.{flat_all, numbered_all, numbered_distinct, once_append, once_flat}
+use Rattle.state_laws.proofs.TestLemmas.{not_so}
 
 -- ---- the order
 
@@ -54,10 +55,6 @@ equal_so : (o : Ordering) → is_eq o ≡ true → o ≡ Equal
 equal_so Less e = absurd (true≢false (sym e))
 equal_so Equal e = refl
 equal_so Greater e = absurd (true≢false (sym e))
-
-not_so : (b : Bool) → (b ≡ true → ⊥) → b ≡ false
-not_so true f = absurd (f refl)
-not_so false f = refl
 
 kinds_apart : (m : ℕ) (v w : Violation) → nat_lt v.kind m ≡ true → (w.kind == m) ≡ true → is_eq (violation_cmp v w) ≡ false
 kinds_apart m v w p q =
@@ -198,11 +195,11 @@ module _ (schema : Schema) (is : is_schema schema ≡ true) where
           ∙ both_so (flat_all p (λ (part : ForeignKey). is_named part.name) (of_foreign database schema rows) (λ x named. broken_well 1 x.name _ refl named) schema.foreign names.foreign)
           (flat_all p (λ (part : IndexDef). is_named part.name) (of_index schema rows)
           (λ x named. let well = broken_well 2 x.name (breaks_unique schema rows x.columns) refl named in
-          elim x.unique as (λ b. list_all p (cond b (broken schema rows 2 x.name (breaks_unique schema rows x.columns)) []) ≡ true) [ | true ↦ well | false ↦ refl ]) schema.indexes names.indexes))
+          elim x.unique as (λ b. list_all p (cond b (broken schema rows 2 x.name (breaks_unique schema rows x.columns)) []) ≡ true) [ true ↦ well | false ↦ refl ]) schema.indexes names.indexes))
           (flat_all p (λ (part : CheckDef). is_named part.name) (of_check checks table schema rows) (λ x named. broken_well 3 x.name _ refl named) schema.checks names.checks))
           (flat_all p (λ (x : ℕ × Column). is_named x.1.name) (of_column schema rows)
           (λ x named. let well = broken_well 4 x.1.name (breaks_not_null x.0) refl named in
-          elim x.1.not_null as (λ b. list_all p (cond b (broken schema rows 4 x.1.name (breaks_not_null x.0)) []) ≡ true) [ | true ↦ well | false ↦ refl ])
+          elim x.1.not_null as (λ b. list_all p (cond b (broken schema rows 4 x.1.name (breaks_not_null x.0)) []) ≡ true) [ true ↦ well | false ↦ refl ])
           (enumerate_from 0 schema.columns) (numbered_all (λ (part : Column). is_named part.name) 0 schema.columns names.columns))
 
     found_well : list_all (is_well schema) (violations_in checks database table schema rows) ≡ true
@@ -233,9 +230,9 @@ module _ (schema : Schema) (is : is_schema schema ≡ true) where
     index_once : repeats violation_cmp (flat_map (of_index schema rows) schema.indexes) ≡ false
     index_once = once_flat violation_cmp (λ (x : IndexDef). x.name) (λ (v : Violation). v.constraint) (of_index schema rows) labels_apart
         (λ x. let well = labelled 2 x.name (breaks_unique schema rows x.columns) in
-        elim x.unique as (λ b. list_all (λ (v : Violation). bytes_eq v.constraint x.name) (cond b (broken schema rows 2 x.name (breaks_unique schema rows x.columns)) []) ≡ true) [ | true ↦ well | false ↦ refl ])
+        elim x.unique as (λ b. list_all (λ (v : Violation). bytes_eq v.constraint x.name) (cond b (broken schema rows 2 x.name (breaks_unique schema rows x.columns)) []) ≡ true) [ true ↦ well | false ↦ refl ])
         (λ x. let well = each_once 2 x.name (breaks_unique schema rows x.columns) in
-        elim x.unique as (λ b. repeats violation_cmp (cond b (broken schema rows 2 x.name (breaks_unique schema rows x.columns)) []) ≡ false) [ | true ↦ well | false ↦ refl ])
+        elim x.unique as (λ b. repeats violation_cmp (cond b (broken schema rows 2 x.name (breaks_unique schema rows x.columns)) []) ≡ false) [ true ↦ well | false ↦ refl ])
         schema.indexes names.indexes_apart
 
     check_once : repeats violation_cmp (flat_map (of_check checks table schema rows) schema.checks) ≡ false
@@ -245,9 +242,9 @@ module _ (schema : Schema) (is : is_schema schema ≡ true) where
     column_once : repeats violation_cmp (flat_map (of_column schema rows) (enumerate_from 0 schema.columns)) ≡ false
     column_once = once_flat violation_cmp (λ (x : ℕ × Column). x.1.name) (λ (v : Violation). v.constraint) (of_column schema rows) labels_apart
         (λ x. let well = labelled 4 x.1.name (breaks_not_null x.0) in
-        elim x.1.not_null as (λ b. list_all (λ (v : Violation). bytes_eq v.constraint x.1.name) (cond b (broken schema rows 4 x.1.name (breaks_not_null x.0)) []) ≡ true) [ | true ↦ well | false ↦ refl ])
+        elim x.1.not_null as (λ b. list_all (λ (v : Violation). bytes_eq v.constraint x.1.name) (cond b (broken schema rows 4 x.1.name (breaks_not_null x.0)) []) ≡ true) [ true ↦ well | false ↦ refl ])
         (λ x. let well = each_once 4 x.1.name (breaks_not_null x.0) in
-        elim x.1.not_null as (λ b. repeats violation_cmp (cond b (broken schema rows 4 x.1.name (breaks_not_null x.0)) []) ≡ false) [ | true ↦ well | false ↦ refl ])
+        elim x.1.not_null as (λ b. repeats violation_cmp (cond b (broken schema rows 4 x.1.name (breaks_not_null x.0)) []) ≡ false) [ true ↦ well | false ↦ refl ])
         (enumerate_from 0 schema.columns) (numbered_distinct (λ (a b : Column). bytes_eq a.name b.name) 0 schema.columns names.columns_apart)
 
     -- ---- by kinds
@@ -265,7 +262,7 @@ module _ (schema : Schema) (is : is_schema schema ≡ true) where
     index_kind : (p : ℕ → Bool) → p 2 ≡ true → list_all (λ (v : Violation). p v.kind) (flat_map (of_index schema rows) schema.indexes) ≡ true
     index_kind p e = any_all (λ (v : Violation). p v.kind) (of_index schema rows)
         (λ x. let well = by_kind p 2 x.name (breaks_unique schema rows x.columns) e in
-        elim x.unique as (λ b. list_all (λ (v : Violation). p v.kind) (cond b (broken schema rows 2 x.name (breaks_unique schema rows x.columns)) []) ≡ true) [ | true ↦ well | false ↦ refl ]) schema.indexes
+        elim x.unique as (λ b. list_all (λ (v : Violation). p v.kind) (cond b (broken schema rows 2 x.name (breaks_unique schema rows x.columns)) []) ≡ true) [ true ↦ well | false ↦ refl ]) schema.indexes
 
     check_kind : (p : ℕ → Bool) → p 3 ≡ true → list_all (λ (v : Violation). p v.kind) (flat_map (of_check checks table schema rows) schema.checks) ≡ true
     check_kind p e = any_all (λ (v : Violation). p v.kind) (of_check checks table schema rows) (λ x. by_kind p 3 x.name _ e) schema.checks
@@ -273,7 +270,7 @@ module _ (schema : Schema) (is : is_schema schema ≡ true) where
     column_kind : (p : ℕ → Bool) → p 4 ≡ true → list_all (λ (v : Violation). p v.kind) (flat_map (of_column schema rows) (enumerate_from 0 schema.columns)) ≡ true
     column_kind p e = any_all (λ (v : Violation). p v.kind) (of_column schema rows)
         (λ x. let well = by_kind p 4 x.1.name (breaks_not_null x.0) e in
-        elim x.1.not_null as (λ b. list_all (λ (v : Violation). p v.kind) (cond b (broken schema rows 4 x.1.name (breaks_not_null x.0)) []) ≡ true) [ | true ↦ well | false ↦ refl ]) (enumerate_from 0 schema.columns)
+        elim x.1.not_null as (λ b. list_all (λ (v : Violation). p v.kind) (cond b (broken schema rows 4 x.1.name (breaks_not_null x.0)) []) ≡ true) [ true ↦ well | false ↦ refl ]) (enumerate_from 0 schema.columns)
 
     abbrev is_below : ℕ → Violation → Bool
     is_below m v = nat_lt v.kind m

@@ -1,21 +1,21 @@
 -- Conflicts resolved: theirs' rows at the conflicts' keys are rows of the table, each key once.
-use Rattle.std.proofs.Common.{◌≡◌, refl, sym, ap, ◌∙◌, subst, ℕ, Bool, true, false, cond, not, ◌&&◌, ◌||◌, true≢false, nat_le, nat_lt, List, [], ◌∷◌, ◌++◌, filter, length, map, Option, None, Some, Ok, Err}
+use Rattle.std.proofs.Common.{◌≡◌, refl, sym, ap, ◌∙◌, subst, ℕ, Bool, true, false, cond, not, ◌&&◌, ◌||◌, true≢false, nat_le, nat_lt, List, [], ◌∷◌, ◌++◌, filter, length, Option, None, Some, Ok}
 use Rattle.std.specs.List.{AllByRecursion, flat_map, list_all, list_any}
 use Rattle.std.specs.Option.{option_to_list}
 use Rattle.std.specs.Ordering.{is_eq}
 use Rattle.std.specs.declared.cmp.Ordering.{Ordering}
-use Rattle.std.proofs.lemmas.Bool.{and_parts, le-leb, ltb-false, not-true, or_parts}
+use Rattle.std.proofs.lemmas.Bool.{and_parts, le-leb, ltb-false, not-true, or_left, or_parts, or_right}
 use Rattle.std.proofs.lemmas.Cmp.{on_total}
 use Rattle.tuple_codec.specs.Rows.{Cells, key_cmp, same_cells}
 use Rattle.tuple_codec.proofs.Orders.{cells_told, key_cmp_total}
-use Rattle.schema_model.specs.Limits.{is_conflict_within_limits, is_row_within_limits, is_short_in, is_short_key, is_short_row, is_short_side, is_violation_within_limits, most_rows}
-use Rattle.schema_model.specs.PlainTables.{Conflict, NamedTable, PlainDatabase, PlainTable, is_conflict, is_row, is_side_at, primary_key}
+use Rattle.schema_model.specs.Limits.{is_conflict_within_limits, is_row_within_limits, is_short_key, is_short_row, is_short_side, most_rows}
+use Rattle.schema_model.specs.PlainTables.{Conflict, NamedTable, PlainDatabase, PlainTable, is_conflict, is_row, is_side_at, primary_key, rises}
 use Rattle.schema_model.specs.declared.schemas.Schema.{Schema}
 use Rattle.sql_procedures.specs.declared.requests.Resolution.{Resolution}
 use Rattle.sql_procedures.specs.declared.requests.Side.{Side}
 use Rattle.sql_procedures.specs.declared.requests.Side.TheVariants as side
-use Rattle.expr_eval.specs.Binding.{Outcome, and_then}
-use Rattle.plain_sql.specs.Lists.{each, has, in_order, repeats, unless}
+use Rattle.expr_eval.specs.Binding.{Outcome}
+use Rattle.plain_sql.specs.Lists.{each, has, repeats, unless}
 use Rattle.plain_schemas.specs.Statements.{checks}
 use Rattle.plain_writes.specs.Violations.{first_violation}
 use Rattle.plain_writes.specs.Writes.{keyed_cmp}
@@ -27,20 +27,9 @@ use Rattle.write_laws.proofs.DatabaseLemmas.{IsKeptTable, keyed_total, limits_so
 use Rattle.write_laws.proofs.OrderLemmas.{both_so, in_order_all, in_order_rises, neither_so, two}
 use Rattle.write_laws.proofs.OutcomeLemmas.{then_so, unless_so}
 use Rattle.write_laws.proofs.RowLemmas.{all_append, all_left, all_right, is_good}
-use Rattle.state_laws.proofs.DecideLemmas.{not_false, ok_has}
 use Rattle.state_laws.proofs.KeptLemmas.{IsKeptNamed, are_kept, few_rows, mapped_kept, rows_once}
 use Rattle.state_laws.proofs.OnceLemmas.{all_so, once_append}
-
-not_so : (b : Bool) → (b ≡ true → ⊥) → b ≡ false
-not_so true f = absurd (f refl)
-not_so false f = refl
-
-or_right : (a : Bool) {b : Bool} → b ≡ true → (a || b) ≡ true
-or_right true e = refl
-or_right false e = e
-
-or_left : {a : Bool} (b : Bool) → a ≡ true → (a || b) ≡ true
-or_left b e = ap (λ t. t || b) e
+use Rattle.state_laws.proofs.TestLemmas.{not_false, not_so, ok_has}
 
 -- ---- filtered
 
@@ -112,11 +101,11 @@ module _ (schema : Schema) where
   theirs_in (conflict ∷ conflicts) h =
       let here = and_parts (is_conflict schema conflict) (list_all (is_conflict schema) conflicts) h in
       by conflict.theirs (side_of conflict here.0)
-      (all_so (conflicted_in schema conflicts) (conflicted_in schema (conflict ∷ conflicts)) (theirs_of conflicts) (λ row e. or_right (same_cells conflict.key (primary_key schema row)) e) (theirs_in conflicts here.1)) where
+      (all_so (conflicted_in schema conflicts) (conflicted_in schema (conflict ∷ conflicts)) (theirs_of conflicts) (λ row e. or_right (same_cells conflict.key (primary_key schema row)) _ e) (theirs_in conflicts here.1)) where
         by : (o : Option Cells) → is_side_at schema conflict.key o ≡ true → list_all (conflicted_in schema (conflict ∷ conflicts)) (theirs_of conflicts) ≡ true
             → list_all (conflicted_in schema (conflict ∷ conflicts)) (option_to_list o ++ theirs_of conflicts) ≡ true
         by None at more = more
-        by (Some row) at more = both_so (or_left _ ((cells_told conflict.key (primary_key schema row)).1 (sym (at_key conflict.key row at)))) more
+        by (Some row) at more = both_so (or_left _ _ ((cells_told conflict.key (primary_key schema row)).1 (sym (at_key conflict.key row at)))) more
 
   none_theirs : (row : Cells) (conflicts : List Conflict) → list_all (is_conflict schema) conflicts ≡ true
       → list_any (λ (other : Conflict). is_eq (key_cmp (primary_key schema row) other.key)) conflicts ≡ false → has (keyed_cmp schema) (theirs_of conflicts) row ≡ false
@@ -145,7 +134,7 @@ module _ (schema : Schema) where
 -- ---- a table without conflicts
 
 without_conflicts : (table : PlainTable) (rows : List Cells) → IsKeptTable table → list_all (is_good table.schema) rows ≡ true
-    → Rattle.schema_model.specs.PlainTables.rises (keyed_cmp table.schema) rows ≡ true → nat_le (length rows) most_rows ≡ true → IsKeptTable (record table { rows = rows; conflicts = [] })
+    → rises (keyed_cmp table.schema) rows ≡ true → nat_le (length rows) most_rows ≡ true → IsKeptTable (record table { rows = rows; conflicts = [] })
 without_conflicts table rows kept good rise few =
     let is = kept.is_table in
     let limits = limits_so table kept.within in

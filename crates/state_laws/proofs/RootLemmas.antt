@@ -1,5 +1,5 @@
 -- What databases merge to is a database, of tables of the sides' names.
-use Rattle.std.proofs.Common.{◌≡◌, refl, sym, ap, ◌∙◌, subst, ℕ, Bool, true, false, cond, ◌&&◌, true≢false, nat_cmp, is_lt, List, [], ◌∷◌, map, Option, None, Some, Result, Ok, Err, bytes_eq}
+use Rattle.std.proofs.Common.{◌≡◌, refl, sym, ap, subst, ℕ, Bool, true, false, cond, true≢false, nat_cmp, is_lt, List, [], ◌∷◌, Option, None, Some, Result, Ok, Err, bytes_eq}
 use Rattle.std.specs.Cmp.Lexicographic.{slice_cmp}
 use Rattle.std.specs.List.{list_all, AllByRecursion}
 use Rattle.std.specs.Ordering.{match_ordering}
@@ -8,19 +8,19 @@ use Rattle.std.specs.declared.cmp.Ordering.TheVariants.{Less, Equal, Greater}
 use Rattle.std.proofs.lemmas.Bool.{and_parts}
 use Rattle.std.proofs.lemmas.Cmp.{nat_list_cmp_total}
 use Rattle.tuple_codec.specs.RowRule.{same_option, three_way}
-use Rattle.schema_model.specs.Limits.{is_within_limits}
 use Rattle.schema_model.specs.PlainTables.{IsDatabase, IsTable, NamedTable, PlainDatabase, PlainTable, rises}
 use Rattle.schema_model.specs.Sameness.{is_same_table}
 use Rattle.schema_model.specs.Schemas.{is_name}
 use Rattle.plain_merge.specs.KeyByKey.{all_keys, key_among, keys_with}
-use Rattle.plain_merge.specs.RootMerge.{MergedDatabase, MergedTable, SchemaConflict, added, by_rows, either_table, merged, names_of, or_by_rows, over_names, root3, step, table_in, unmerged, with_table}
+use Rattle.plain_merge.specs.RootMerge.{MergedDatabase, MergedTable, SchemaConflict, by_rows, either_table, merged, names_of, or_by_rows, over_names, root3, step, table_in, unmerged, with_table}
 use Rattle.plain_merge.specs.TableMerge.{table3}
 use Rattle.plain_merge.proofs.Keys.{KeysRise, with_rise}
 use Rattle.table_merge.specs.Laws.{IsTablePerhaps, MergesAreTables}
 use Rattle.write_laws.specs.Laws.{IsKept}
 use Rattle.write_laws.proofs.DatabaseLemmas.{IsKeptTable, limits_so}
 use Rattle.write_laws.proofs.OrderLemmas.{both_so, two}
-use Rattle.state_laws.proofs.KeptLemmas.{AreKept, IsKeptNamed, are_kept, by_name}
+use Rattle.state_laws.proofs.KeptLemmas.{IsKeptNamed, are_kept, by_name}
+use Rattle.state_laws.proofs.TestLemmas.{less_so, ok_has, some_ok}
 
 abbrev pub IsKeptPerhaps : Option PlainTable → Type 0
 IsKeptPerhaps None = Unit {0}
@@ -44,13 +44,10 @@ table_perhaps (Some table) h = h.is_table
 
 -- ---- one table
 
-pub either_ok : {A E : Type 0} (P : A → Type 0) (a b : A) → P a → ◌≡◌ {A = Result A E} (Ok a) (Ok b) → P b
-either_ok P a b h e = let same : a ≡ b = cc in subst P same h
-
 rows_are : MergesAreTables → (base : Option PlainTable) (ours theirs : PlainTable) → IsKeptPerhaps base → IsKeptTable ours → IsKeptTable theirs
     → (r : Result PlainTable (List ℕ)) → table3 base ours theirs ≡ r → (one : MergedTable) → merged r ≡ Ok one → IsTablePerhaps one.table
 rows_are law base ours theirs b o t (Ok table) at one e =
-    either_ok (λ (m : MergedTable). IsTablePerhaps m.table) (record { table = Some table; conflicts = _ }) one
+    ok_has (λ (m : MergedTable). IsTablePerhaps m.table) (record { table = Some table; conflicts = _ }) one
     (law base ours theirs table (table_perhaps base b) o.is_table t.is_table (limits_so ours o.within).0 (limits_so theirs t.within).0 at) e
 rows_are law base ours theirs b o t (Err part) at one e = cc
 
@@ -63,11 +60,8 @@ by_rows_are law base None None b o t one e = cc
 
 or_by_rows_are : MergesAreTables → (base ours theirs : Option PlainTable) → IsKeptPerhaps base → IsKeptPerhaps ours → IsKeptPerhaps theirs → (whole : Option (Option PlainTable))
     → ((table : Option PlainTable) → whole ≡ Some table → IsTablePerhaps table) → (one : MergedTable) → or_by_rows whole base ours theirs ≡ Ok one → IsTablePerhaps one.table
-or_by_rows_are law base ours theirs b o t (Some table) w one e = either_ok (λ (m : MergedTable). IsTablePerhaps m.table) (unmerged table) one (w table refl) e
+or_by_rows_are law base ours theirs b o t (Some table) w one e = ok_has (λ (m : MergedTable). IsTablePerhaps m.table) (unmerged table) one (w table refl) e
 or_by_rows_are law base ours theirs b o t None w one e = by_rows_are law base ours theirs b o t one e
-
-pub some_ok : {A : Type 0} (P : A → Type 0) (a b : A) → P a → Some a ≡ Some b → P b
-some_ok P a b h e = let same : a ≡ b = cc in subst P same h
 
 -- what three have a property of, and one is chosen
 chosen_has : {A : Type 0} (P : A → Type 0) (same : A → A → Bool) (base ours theirs : A) → P ours → P theirs → (one : A) → three_way same base ours theirs ≡ Some one → P one
@@ -98,11 +92,6 @@ NamesRise low (name ∷ names) = (is_past low name ≡ true) × NamesRise (Some 
 abbrev pub TablesRise : Option (List ℕ) → PlainDatabase → Type 0
 TablesRise low [] = Unit {0}
 TablesRise low (named ∷ database) = (is_past low named.name ≡ true) × TablesRise (Some named.name) database
-
-less_so : (o : Ordering) → is_lt o ≡ true → o ≡ Less
-less_so Less e = refl
-less_so Equal e = absurd (true≢false (sym e))
-less_so Greater e = absurd (true≢false (sym e))
 
 past_through : (low : Option (List ℕ)) (a b : List ℕ) → is_past low a ≡ true → is_past (Some a) b ≡ true → is_past low b ≡ true
 past_through None a b p q = refl
@@ -182,7 +171,7 @@ put_first low name (Some table) database p n t are = record { tables = (t, are.t
 module _ (law : MergesAreTables) (base ours theirs : PlainDatabase) (b : AllByRecursion IsKeptNamed base) (o : AllByRecursion IsKeptNamed ours) (t : AllByRecursion IsKeptNamed theirs) where
   over_names_are : (low : Option (List ℕ)) (names : List (List ℕ)) → NamesRise low names → AllByRecursion (λ name. is_name name ≡ true) names → (whole : MergedDatabase)
       → over_names base ours theirs names ≡ Ok whole → AreRising low whole.database
-  over_names_are low [] r n whole e = either_ok (λ (m : MergedDatabase). AreRising low m.database) (record { database = []; conflicts = 0 }) whole (record { tables = tt; names = refl; rise = tt }) e
+  over_names_are low [] r n whole e = ok_has (λ (m : MergedDatabase). AreRising low m.database) (record { database = []; conflicts = 0 }) whole (record { tables = tt; names = refl; rise = tt }) e
   over_names_are low (name ∷ names) r n whole e =
       by (either_table (table_in name base) (table_in name ours) (table_in name theirs)) refl (over_names base ours theirs names) refl (λ others rest. over_names_are (Some name) names r.1 n.1 others rest) e where
         by : (one : Result MergedTable (List ℕ)) → either_table (table_in name base) (table_in name ours) (table_in name theirs) ≡ one
@@ -190,7 +179,7 @@ module _ (law : MergesAreTables) (base ours theirs : PlainDatabase) (b : AllByRe
             → ((others : MergedDatabase) → over_names base ours theirs names ≡ Ok others → AreRising (Some name) others.database) → step name one others ≡ Ok whole
             → AreRising low whole.database
         by (Ok one) at (Ok others) rest more e =
-            either_ok (λ (m : MergedDatabase). AreRising low m.database) (record { database = with_table name one.table others.database; conflicts = _ }) whole
+            ok_has (λ (m : MergedDatabase). AreRising low m.database) (record { database = with_table name one.table others.database; conflicts = _ }) whole
             (put_first low name one.table others.database r.0 n.0
             (either_is law (table_in name base) (table_in name ours) (table_in name theirs) (found_kept name base b) (found_kept name ours o) (found_kept name theirs t) one at)
             (more others rest)) e

@@ -1,6 +1,6 @@
 -- The shared state: its beginning, its changes, and steps on branches.
-use Rattle.std.proofs.Common.{◌≡◌, ◌∙◌, refl, sym, ap, subst, ℕ, ℤ, Bool, true, false, cond, not, nat_le, List, [], ◌∷◌, codes, filter, find, length, Option, None, Some, Ok, bytes_eq, unwrap_or}
-use Rattle.std.specs.List.{AllByRecursion}
+use Rattle.std.proofs.Common.{◌≡◌, ◌∙◌, refl, sym, ap, ℕ, ℤ, cond, not, nat_le, List, [], ◌∷◌, length, Option, None, Some, Ok, bytes_eq}
+use Rattle.std.specs.List.{AllByRecursion, find}
 use Rattle.std.specs.Option.{option_map}
 use Rattle.schema_model.specs.Limits.{most_branches}
 use Rattle.schema_model.specs.PlainCommits.{Commits, PlainCommit, commit_address, with_commit}
@@ -9,21 +9,20 @@ use Rattle.sql_procedures.specs.declared.requests.BranchRequest.TheVariants as b
 use Rattle.sql_procedures.specs.declared.requests.CheckoutRequest.{CheckoutRequest}
 use Rattle.sql_procedures.specs.declared.requests.CheckoutRequest.TheVariants as checkout
 use Rattle.sql_procedures.specs.declared.requests.NewBranch.{NewBranch}
-use Rattle.expr_eval.specs.Binding.{Outcome, and_then}
+use Rattle.expr_eval.specs.Binding.{Outcome}
 use Rattle.plain_sql.specs.Lists.{or_refuse, unless}
-use Rattle.plain_sessions.specs.Branching.{branch_step, checked_out, checkout_step, create_branch, delete_branch, is_branch_there, is_checked_out, made_at, point_in}
+use Rattle.plain_sessions.specs.Branching.{branch_step, checked_out, checkout_step, create_branch, is_branch_there, is_checked_out, made_at, point_in}
 use Rattle.plain_sessions.specs.Moments.{Change, changed_by, commits_with, with_change}
-use Rattle.plain_sessions.specs.Records.{Branch, BranchState, Shared, added_at, branch_cmp, clean_at, first_commit, is_branch, is_same_commit, no_commits, opening, root_of, state_of, with_branch, with_new_commit, without_branch}
-use Rattle.plain_sessions.specs.Sessions.{Session, started_at}
+use Rattle.plain_sessions.specs.Records.{Branch, BranchState, Shared, added_at, branch_cmp, clean_at, first_commit, is_branch, is_same_commit, no_commits, root_of, state_of, with_branch, without_branch}
+use Rattle.plain_sessions.specs.Sessions.{Session}
 use Rattle.schema_laws.proofs.ListLemmas.{filter_have}
 use Rattle.write_laws.specs.Laws.{IsKept}
 use Rattle.write_laws.proofs.OrderLemmas.{two}
 use Rattle.write_laws.proofs.OutcomeLemmas.{then_so, unless_so}
-use Rattle.state_laws.specs.Laws.{AreKeptCommits, IsKeptChange, IsKeptCommitPerhaps, IsKeptShared, IsKeptState, IsKeptTransaction, SharedKeep}
-use Rattle.state_laws.proofs.DecideLemmas.{if_ok, ok_has}
+use Rattle.state_laws.specs.Laws.{AreKeptCommits, IsKeptChange, IsKeptCommitPerhaps, IsKeptShared, IsKeptState, SharedKeep}
 use Rattle.state_laws.proofs.PutLemmas.{in_order_have}
-use Rattle.state_laws.proofs.RootLemmas.{some_ok}
 use Rattle.state_laws.proofs.WorkLemmas.{clean_kept, empty_kept, root_kept}
+use Rattle.state_laws.proofs.TestLemmas.{if_ok, ok_has, some_ok}
 
 -- ---- branches
 
@@ -40,8 +39,8 @@ put_kept name state branches s b =
 found_kept : (branches : List Branch) (name : List ℕ) (state : BranchState) → AreKeptBranches branches → state_of branches name ≡ Some state → IsKeptState state
 found_kept [] name state b e = cc
 found_kept (one ∷ branches) name state b e = two (is_branch name one)
-    (λ t. some_ok IsKeptState one.state state b.0 (sym (ap (λ c. option_map (λ (branch : Branch). branch.state) (cond c (Some one) (Rattle.std.specs.List.find (is_branch name) branches))) t) ∙ e))
-    (λ t. found_kept branches name state b.1 (sym (ap (λ c. option_map (λ (branch : Branch). branch.state) (cond c (Some one) (Rattle.std.specs.List.find (is_branch name) branches))) t) ∙ e))
+    (λ t. some_ok IsKeptState one.state state b.0 (sym (ap (λ c. option_map (λ (branch : Branch). branch.state) (cond c (Some one) (find (is_branch name) branches))) t) ∙ e))
+    (λ t. found_kept branches name state b.1 (sym (ap (λ c. option_map (λ (branch : Branch). branch.state) (cond c (Some one) (find (is_branch name) branches))) t) ∙ e))
 
 -- ---- commits
 

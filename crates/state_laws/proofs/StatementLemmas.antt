@@ -1,11 +1,10 @@
 -- What each database statement comes to.
-use Rattle.std.proofs.Common.{◌≡◌, refl, List, [], ◌∷◌, Option, None, Some, Ok, Err}
-use Rattle.schema_model.specs.PlainTables.{PlainDatabase}
+use Rattle.std.proofs.Common.{◌≡◌, refl, [], ◌∷◌, Option, None, Some, Ok}
 use Rattle.sql_ast.specs.declared.selects.Select.TheVariants as select
 use Rattle.sql_ast.specs.declared.statements.Delete.{Delete}
 use Rattle.sql_ast.specs.declared.statements.Write.{Write}
 use Rattle.sql_ast.specs.declared.statements.Write.TheVariants as write
-use Rattle.expr_eval.specs.Binding.{Outcome, and_then}
+use Rattle.expr_eval.specs.Binding.{Outcome}
 use Rattle.plain_sql.specs.Plans.{answer}
 use Rattle.plain_schemas.specs.Statements.{write_effect}
 use Rattle.schema_laws.specs.Laws.{AllKeep, IsFit}
@@ -22,11 +21,11 @@ use Rattle.plain_sessions.specs.Statements.{or_of_rows, staged, worked, write_wo
 use Rattle.plain_sessions.specs.SystemTables.{delete_entries, known}
 use Rattle.write_laws.proofs.OutcomeLemmas.{then_so}
 use Rattle.state_laws.specs.Laws.{IsKeptState, IsKeptTransaction, IsKeptWork, WorkKeeps}
-use Rattle.state_laws.proofs.DecideLemmas.{if_ok, ok_has}
 use Rattle.state_laws.proofs.EntryLemmas.{entries_kept}
 use Rattle.state_laws.proofs.MergingLemmas.{merge_kept}
 use Rattle.state_laws.proofs.ResolveLemmas.{resolved_kept}
 use Rattle.state_laws.proofs.WorkLemmas.{add_kept, changed_kept, reset_kept, root_kept, to_commit_kept, verified_kept}
+use Rattle.state_laws.proofs.TestLemmas.{if_ok, ok_has}
 
 module _ (all : AllKeep) (law : MergesAreTables) where
   delete_kept : (own : BranchState) (delete : Delete) (w : Worked) (entries : Option (Outcome Worked)) → IsKeptState own → IsFit (write.Delete delete)

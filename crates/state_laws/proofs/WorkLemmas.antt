@@ -1,5 +1,5 @@
 -- What staging, resetting, committing, writing and verifying leave.
-use Rattle.std.proofs.Common.{◌≡◌, refl, ℕ, Bool, true, false, not, ◌&&◌, nat_lt, List, [], ◌∷◌, ◌++◌, length, Option, None, Some, Ok, Err}
+use Rattle.std.proofs.Common.{◌≡◌, refl, ℕ, Bool, true, false, not, ◌&&◌, nat_lt, List, [], ◌∷◌, ◌++◌, length, Option, None, Some, Ok, Err, nat_le}
 use Rattle.std.specs.Prelude.{IfOk}
 use Rattle.std.proofs.lemmas.Bool.{le-leb, ltb-false}
 use Rattle.schema_model.specs.Limits.{most_tables}
@@ -14,19 +14,19 @@ use Rattle.sql_procedures.specs.declared.requests.Tables.{Tables}
 use Rattle.sql_procedures.specs.declared.requests.Tables.TheVariants as tables
 use Rattle.sql_procedures.specs.declared.requests.Verification.{Verification}
 use Rattle.sql_procedures.specs.declared.requests.Verification.TheVariants as verification
-use Rattle.expr_eval.specs.Binding.{Outcome, and_then}
+use Rattle.expr_eval.specs.Binding.{Outcome}
 use Rattle.plain_sql.specs.Lists.{each, unless}
 use Rattle.plain_writes.specs.Writes.{Effect}
 use Rattle.plain_sessions.specs.Branching.{add, is_open, may_reset, may_stage, names_in, reset_to, says_something, staged_as, staged_first, taking_all, to_commit}
-use Rattle.plain_sessions.specs.Merging.{Worked, Answers, verified}
+use Rattle.plain_sessions.specs.Merging.{Worked, verified}
 use Rattle.plain_sessions.specs.Records.{BranchState, clean_at, database_in, root_of}
 use Rattle.plain_sessions.specs.Statements.{changed, changed_by}
 use Rattle.write_laws.specs.Laws.{IsKept}
 use Rattle.write_laws.proofs.OutcomeLemmas.{then_so, unless_so}
 use Rattle.state_laws.specs.Laws.{AreKeptCommits, IsKeptState, IsKeptWork}
-use Rattle.state_laws.proofs.DecideLemmas.{ok_has}
 use Rattle.state_laws.proofs.KeptLemmas.{AreKept, are_kept, few_tables, is_kept, recorded_kept}
 use Rattle.state_laws.proofs.PutLemmas.{taking_few, taking_kept}
+use Rattle.state_laws.proofs.TestLemmas.{ok_has}
 
 -- ---- commits
 
@@ -51,7 +51,7 @@ changed_kept own (Err number) o kept w e = cc
 
 -- ---- staging
 
-few_so : (n : ℕ) → nat_lt most_tables n ≡ false → Rattle.std.proofs.Common.nat_le n most_tables ≡ true
+few_so : (n : ℕ) → nat_lt most_tables n ≡ false → nat_le n most_tables ≡ true
 few_so n h = le-leb n most_tables (ltb-false most_tables n h)
 
 staged_kept : (own state : BranchState) (staged : PlainDatabase) → IsKeptState own → AreKept staged → staged_as own staged ≡ Ok state → IsKeptState state
