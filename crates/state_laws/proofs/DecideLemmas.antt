@@ -1,6 +1,5 @@
 -- What the commit rule leaves.
-use Rattle.std.proofs.Common.{◌≡◌, refl, sym, ap, ◌∙◌, subst, Bool, true, false, cond, not, ◌&&◌, ◌||◌, is_some, Option, Result, Ok, Err, None}
-use Rattle.std.specs.Prelude.{IfOk}
+use Rattle.std.proofs.Common.{◌≡◌, refl, sym, ap, ◌∙◌, subst, true, cond, not, ◌&&◌, ◌||◌, Result, Ok, Err, None}
 use Rattle.std.proofs.lemmas.Bool.{and_parts}
 use Rattle.schema_model.specs.Limits.{is_database_within_limits}
 use Rattle.schema_model.specs.PlainTables.{IsDatabase, PlainDatabase}

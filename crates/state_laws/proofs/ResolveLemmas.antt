@@ -1,5 +1,5 @@
 -- Conflicts resolved: theirs' rows at the conflicts' keys are rows of the table, each key once.
-use Rattle.std.proofs.Common.{◌≡◌, refl, sym, ap, ◌∙◌, subst, ℕ, Bool, true, false, cond, not, ◌&&◌, ◌||◌, true≢false, nat_le, nat_lt, List, [], ◌∷◌, ◌++◌, filter, length, Option, None, Some, Ok}
+use Rattle.std.proofs.Common.{◌≡◌, refl, sym, ap, ◌∙◌, subst, ℕ, Bool, true, false, cond, not, ◌&&◌, true≢false, nat_le, nat_lt, List, [], ◌∷◌, ◌++◌, filter, length, Option, None, Some, Ok}
 use Rattle.std.specs.List.{AllByRecursion, flat_map, list_all, list_any}
 use Rattle.std.specs.Option.{option_to_list}
 use Rattle.std.specs.Ordering.{is_eq}

@@ -1,5 +1,5 @@
 -- What databases merge to is a database, of tables of the sides' names.
-use Rattle.std.proofs.Common.{◌≡◌, refl, sym, ap, subst, ℕ, Bool, true, false, cond, true≢false, nat_cmp, is_lt, List, [], ◌∷◌, Option, None, Some, Result, Ok, Err, bytes_eq}
+use Rattle.std.proofs.Common.{◌≡◌, refl, ap, ℕ, Bool, true, false, cond, nat_cmp, is_lt, List, [], ◌∷◌, Option, None, Some, Result, Ok, Err, bytes_eq}
 use Rattle.std.specs.Cmp.Lexicographic.{slice_cmp}
 use Rattle.std.specs.List.{list_all, AllByRecursion}
 use Rattle.std.specs.Ordering.{match_ordering}

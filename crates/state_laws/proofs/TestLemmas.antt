@@ -1,5 +1,5 @@
 -- Tests, orderings, and what an outcome that isn't refused has.
-use Rattle.std.proofs.Common.{◌≡◌, refl, sym, subst, Bool, true, false, not, is_lt, Option, Some, Result, Ok, Err}
+use Rattle.std.proofs.Common.{◌≡◌, refl, sym, subst, Bool, true, false, not, is_lt, Some, Result, Ok, Err}
 use Rattle.std.specs.Prelude.{IfOk}
 use Rattle.std.specs.declared.cmp.Ordering.{Ordering}
 use Rattle.std.specs.declared.cmp.Ordering.TheVariants.{Less, Equal, Greater}

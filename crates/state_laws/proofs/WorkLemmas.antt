@@ -1,5 +1,5 @@
 -- What staging, resetting, committing, writing and verifying leave.
-use Rattle.std.proofs.Common.{◌≡◌, refl, ℕ, Bool, true, false, not, ◌&&◌, nat_lt, List, [], ◌∷◌, ◌++◌, length, Option, None, Some, Ok, Err, nat_le}
+use Rattle.std.proofs.Common.{◌≡◌, refl, ℕ, true, false, not, nat_lt, List, [], ◌++◌, length, Option, None, Some, Ok, Err, nat_le}
 use Rattle.std.specs.Prelude.{IfOk}
 use Rattle.std.proofs.lemmas.Bool.{le-leb, ltb-false}
 use Rattle.schema_model.specs.Limits.{most_tables}
