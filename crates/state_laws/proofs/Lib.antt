@@ -1,0 +1,14 @@
+pub mod TestLemmas
+pub mod OnceLemmas
+pub mod RecordingLemmas
+pub mod KeptLemmas
+pub mod RootLemmas
+pub mod DecideLemmas
+pub mod PutLemmas
+pub mod WorkLemmas
+pub mod ResolveLemmas
+pub mod EntryLemmas
+pub mod MergingLemmas
+pub mod StatementLemmas
+pub mod ChangeLemmas
+pub mod SharedLemmas
