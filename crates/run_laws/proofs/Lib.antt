@@ -1,0 +1,6 @@
+pub mod ListLemmas
+pub mod Steps
+pub mod Resting
+pub mod LineLemmas
+pub mod OrderLemmas
+pub mod RunLemmas

@@ -1,0 +1,4 @@
+pub mod Turns
+pub mod Orders
+pub mod Lines
+pub mod Laws
