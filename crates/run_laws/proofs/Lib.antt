@@ -4,3 +4,5 @@ pub mod Resting
 pub mod LineLemmas
 pub mod OrderLemmas
 pub mod RunLemmas
+pub mod SeenLemmas
+pub mod ReplayLemmas

@@ -8,7 +8,7 @@ use Rattle.script_text.specs.declared.scripts.Moment.{Moment}
 use Rattle.plain_sessions.specs.Records.{Shared}
 use Rattle.plain_sessions.specs.Sessions.{Said, Session, is_before_statement}
 use Rattle.plain_sessions.specs.declared.commands.Command.{Command}
-use Rattle.plain_sessions.specs.Moments.{After, Past, Still, alone_by, moment_at, moment_in, past, past_moment}
+use Rattle.plain_sessions.specs.Moments.{After, Past, Still, alone, alone_by, moment_at, moment_in, past, past_moment}
 use Rattle.plain_sessions.specs.Runs.{Runner, Shortages, put_runner, step, step_of, went_on}
 use Rattle.run_laws.specs.Turns.{Turn, IsPast, ServedIn}
 use Rattle.run_laws.proofs.ListLemmas.{if_true}
@@ -60,6 +60,13 @@ past_after number (Some (shared, Past before)) left said h =
     let same : past number before ≡ said = ap (said_in said) h in
     (ap (λ (s : Said). s.0.statement) (sym same), ap (λ (s : Said). is_before_statement s.0.place) (sym same))
 past_after number (Some (shared, Still transaction place)) left said h = let apart : false ≡ true = ap is_answered h in absurd (cc)
+
+pub alone_past : (answer : Option Shortage) (session : Session) (command : Command) (said : Said) → alone answer session command ≡ Some said → IsPast session.statement said.0
+alone_past answer session command said is = past_alone session.statement (if is_before_statement session.place then alone_by answer session command else None) said is
+
+pub moment_past : (address : List ℕ → List ℕ) (epoch : ℤ) (answer : Option Shortage) (shared : Shared) (session : Session) (command : Command) (left : Shared) (said : Said)
+    → moment_at address epoch answer shared session command ≡ Some (left, Past said) → IsPast session.statement said.0
+moment_past address epoch answer shared session command left said is = past_after session.statement (moment_in address epoch answer shared session command session.place) left said is
 
 pub served_number : (address : List ℕ → List ℕ) (epoch : ℤ) (answer : Option Shortage) (session : Session) (command : Command) (turns : List Turn) (said : Said)
     → ServedIn address epoch answer session command turns said → IsPast session.statement said.0

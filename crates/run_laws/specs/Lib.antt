@@ -1,4 +1,5 @@
 pub mod Turns
 pub mod Orders
 pub mod Lines
+pub mod Replaying
 pub mod Laws

@@ -5,4 +5,4 @@
 
 mod laws;
 
-pub use laws::{law_of_lines, law_of_statements};
+pub use laws::{law_of_lines, law_of_orders, law_of_statements};
