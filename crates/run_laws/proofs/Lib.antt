@@ -6,3 +6,5 @@ pub mod OrderLemmas
 pub mod RunLemmas
 pub mod SeenLemmas
 pub mod ReplayLemmas
+pub mod ThreadLemmas
+pub mod HistoryLemmas

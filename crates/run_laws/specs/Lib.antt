@@ -2,4 +2,5 @@ pub mod Turns
 pub mod Orders
 pub mod Lines
 pub mod Replaying
+pub mod Histories
 pub mod Laws
