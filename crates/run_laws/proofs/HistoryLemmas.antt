@@ -1,0 +1,58 @@
+-- Sessions that each went their own way through one history are the machine's run along it.
+use Rattle.std.proofs.Common.{◌≡◌, ◌≢◌, refl, sym, ◌∙◌, ap, subst, ℕ, ℤ, zero, suc, ◌<◌, true, false, ◌==◌, List, [], ◌∷◌, length, map, Some, slice_get, slice_set, arith}
+use Rattle.std.specs.List.{AllByRecursion}
+use Rattle.std.specs.Option.{option_map, option_and_then}
+use Rattle.std.proofs.lemmas.List.{length-set}
+use Rattle.std.proofs.lemmas.Bool.Decides.{nat_tests}
+use Rattle.plain_sessions.specs.Records.{Shared}
+use Rattle.plain_sessions.specs.Runs.{Runner, Shortages, put_runner, step, step_of, steps_along}
+use Rattle.run_laws.specs.Histories.{Entry, GoesTold, left_last, moment_of_entry, told_by}
+use Rattle.run_laws.proofs.ListLemmas.{get_put, get_put_other, if_false, if_true}
+
+there : {X : Type 0} (xs : List X) (i : ℕ) → i < length xs → (x : X) × (slice_get xs i ≡ Some x)
+there [] i below = absurd (omega arith)
+there (x ∷ xs) zero below = (x, refl)
+there (x ∷ xs) (suc i) below = there xs i (omega arith)
+
+same_lists : {X : Type 0} (xs ys : List X) → length xs ≡ length ys → ((i : ℕ) (x y : X) → slice_get xs i ≡ Some x → slice_get ys i ≡ Some y → x ≡ y) → xs ≡ ys
+same_lists [] [] h same = refl
+same_lists [] (y ∷ ys) h same = absurd (omega arith)
+same_lists (x ∷ xs) [] h same = absurd (omega arith)
+same_lists (x ∷ xs) (y ∷ ys) h same =
+    ap (λ z. z ∷ xs) (same 0 x y refl refl) ∙ ap (λ more. y ∷ more) (same_lists xs ys (omega arith) (λ i a b. same (suc i) a b))
+
+module _ {Words : Type 0} (Stands : Words → Shared → Type 0) (address : List ℕ → List ℕ) (epoch : ℤ) (answers : Shortages) (one : (words : Words) (s t : Shared) → Stands words s → Stands words t → s ≡ t) where
+  pub along_history : (log : List (Entry Words)) (before : Words) (found : Shared) (runners finals : List Runner) → Stands before found → length runners ≡ length finals
+      → AllByRecursion (λ (entry : Entry Words). entry.session < length finals) log
+      → ((j : ℕ) (r q : Runner) → slice_get runners j ≡ Some r → slice_get finals j ≡ Some q → GoesTold Stands address epoch (answers j) r (told_by j before log) q)
+      → (last : Shared) × Stands (left_last before log) last
+      × (steps_along address epoch answers (map moment_of_entry log) (record { shared = found; runners = runners }) ≡ Some (record { shared = last; runners = finals }))
+  along_history [] before found runners finals stands lengths within goes =
+      (found, stands, ap (λ rs. Some (record { shared = found; runners = rs })) (same_lists runners finals lengths goes))
+  along_history (entry ∷ log) before found runners finals stands lengths within goes =
+      let place : ℕ = entry.session in
+      let inside : place < length finals = within.0 in
+      let own = there runners place (omega arith) in
+      let final = there finals place inside in
+      let test : (place == place) ≡ true = grind (arith, nat_tests) in
+      let way = subst (λ told. GoesTold Stands address epoch (answers place) own.0 told final.0) (if_true (place == place) _ _ test) (goes place own.0 final.0 own.1 final.1) in
+      let same : way.0 ≡ found = one before way.0 found way.3 stands in
+      let next : Runner = way.2 in
+      let stepped : step address epoch answers (moment_of_entry entry) (record { shared = found; runners = runners }) ≡ Some (record { shared = way.1; runners = slice_set runners place next })
+      = ap (option_and_then (λ (r : Runner). option_map (put_runner place runners) (step_of address epoch (answers place) entry.statement found r.session r.replies r.todo))) own.1
+      ∙ ap (option_map (put_runner place runners)) (ap (λ s. step_of address epoch (answers place) entry.statement s own.0.session own.0.replies own.0.todo) (sym same) ∙ way.5) in
+      let rest = along_history log entry.left way.1 (slice_set runners place next) finals way.4 (length-set runners place next ∙ lengths) within.1
+      (λ j r q h1 h2. elim (place == j) as (λ test. (place == j) ≡ test → GoesTold Stands address epoch (answers j) r (told_by j entry.left log) q) [
+        | true ↦ λ test.
+            let at : place ≡ j = grind (arith, nat_tests) in
+            let r_is : next ≡ r = cc (ap (slice_get (slice_set runners place next)) at, get_put runners place own.0 next own.1) in
+            let q_is : final.0 ≡ q = cc (ap (slice_get finals) at, final.1) in
+            subst (λ n. GoesTold Stands address epoch (answers n) r (told_by n entry.left log) q) at
+            (subst (λ (x : Runner). GoesTold Stands address epoch (answers place) x (told_by place entry.left log) q) r_is
+            (subst (λ (x : Runner). GoesTold Stands address epoch (answers place) next (told_by place entry.left log) x) q_is way.6))
+        | false ↦ λ test.
+            let apart : j ≢ place = grind (arith, nat_tests) in
+            subst (λ told. GoesTold Stands address epoch (answers j) r told q) (if_false (place == j) _ _ test)
+            (goes j r q (sym (get_put_other runners place j next apart) ∙ h1) h2)
+      ] refl) in
+      (rest.0, rest.1, ap (option_and_then (steps_along address epoch answers (map moment_of_entry log))) stepped ∙ rest.2)

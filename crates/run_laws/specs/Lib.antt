@@ -1,0 +1,6 @@
+pub mod Turns
+pub mod Orders
+pub mod Lines
+pub mod Replaying
+pub mod Histories
+pub mod Laws
