@@ -1,5 +1,5 @@
 -- What a decision's change stands for, and what it leaves of the shared state.
-use Rattle.std.specs.Prelude.{◌≡◌, ⊥, ℕ, ◌≤◌, Bool, true, List, [], ◌∷◌, ◌++◌, length, Some}
+use Rattle.std.specs.Prelude.{◌≡◌, ℕ, ◌≤◌, Bool, true, List, [], ◌∷◌, ◌++◌, length, Some}
 use Rattle.std.specs.List.{list_all}
 use Rattle.tuple_codec.specs.declared.records.BranchRecord.{BranchRecord}
 use Rattle.schema_model.specs.Limits.{most_branches}

@@ -1,5 +1,5 @@
 -- The commits that stand in chunks, and no others.
-use Rattle.std.specs.Prelude.{◌≡◌, ⊥, ℕ, true, List, Some}
+use Rattle.std.specs.Prelude.{◌≡◌, ℕ, true, List, Some}
 use Rattle.schema_model.specs.Limits.{is_database_within_limits}
 use Rattle.schema_model.specs.PlainCommits.{Commits, PlainCommit, is_known}
 use Rattle.chunk_store.specs.Chunks.{Chunk, Chunks, bytes_at}

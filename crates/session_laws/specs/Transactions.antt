@@ -1,5 +1,5 @@
 -- What a session sees of the shared state: a look at one moment, and a transaction that began with it.
-use Rattle.std.specs.Prelude.{◌≡◌, ⊥, ⊤, ℕ, true, List, map, Option, None, Some}
+use Rattle.std.specs.Prelude.{◌≡◌, ⊤, ℕ, true, List, map, Option, None, Some}
 use Rattle.std.specs.List.{list_all}
 use Rattle.tuple_codec.specs.declared.records.BranchRecord.{BranchRecord}
 use Rattle.schema_model.specs.PlainCommits.{Commits, is_known}
