@@ -37,6 +37,11 @@ pub record CommitsFollow : Type 0 where
   -- chunks more, of which none is a commit
   pub beside : (address : List ℕ → List ℕ) (store more : List Chunk) (commits : Commits) → HasNoCommit more → CommitsAreThere address (bytes_at store) commits
       → CommitsAreThere address (bytes_at (store ++ more)) commits
+  -- chunks more, of which no other than this one is a commit: it has a parent
+  pub with_one : (address : List ℕ → List ℕ) (store more : List Chunk) (commits : Commits) (commit : PlainCommit) → CommitsAreThere address (bytes_at store) commits
+      → IsCommitThere address (bytes_at (store ++ more)) (commit_address address commit) commit → IsGrown commits commit → is_database_within_limits commit.database ≡ true
+      → 0 < length commit.parents → ((k bytes : List ℕ) → bytes_at more k ≡ Some bytes → is_commit bytes ≡ true → k ≡ commit_address address commit)
+      → (after : Commits) × (with_new_commit address commit commits ≡ Some after) × CommitsAreThere address (bytes_at (store ++ more)) after
 
 -- a transaction that starts at a look stands in a draft over the look's store; and it goes on standing, with whatever own record, where the
 -- draft grew
