@@ -1,10 +1,12 @@
 -- The commits that stand in chunks, and no others: they are determined, and grow with the chunks.
-use Rattle.std.proofs.Common.{◌≡◌, refl, ◌∙◌, sym, ap, subst, fun_ext, ℕ, zero, suc, ◌<◌, Bool, true, false, cond, ◌||◌, List, [], ◌∷◌, ◌++◌, ◌⊎◌, inl, inr, length, Option, Some, None, arith}
+use Rattle.std.proofs.Common.{◌≡◌, refl, ◌∙◌, sym, ap, subst, ℕ, zero, suc, Bool, true, false, true≢false, cond, ◌||◌, List, [], ◌∷◌, ◌++◌, ◌⊎◌, inl, inr, Option, Some, None}
 use Rattle.std.specs.Prelude.{bytes_eq, is_some}
 use Rattle.std.specs.List.{list_all, list_any}
-use Rattle.std.specs.Cmp.Lexicographic.{bytes_decides}
+use Rattle.std.specs.Cmp.Lexicographic.{bytes_decides, pointwise_decides}
+use Rattle.std.proofs.lemmas.Bool.Decides.{Decides-and, Decides-eqb, Decides-int_eq}
+use Rattle.std.proofs.lemmas.Option.{cond_some, same_Some}
 use Rattle.schema_model.specs.Limits.{is_database_within_limits}
-use Rattle.schema_model.specs.PlainCommits.{AreGrown, Commits, IsAncestor, IsAncestorBy, IsGrown, PlainCommit, commit_address, has_address, is_known, parents_of, plain_commit_bytes, with_commit}
+use Rattle.schema_model.specs.PlainCommits.{AreGrown, Commits, IsAncestor, IsAncestorBy, IsGrown, PlainCommit, commit_address, has_address, is_known, parents_in, parents_of, plain_commit_bytes, with_commit}
 use Rattle.schema_model.specs.Sameness.{SamenessIsEquality}
 use Rattle.chunk_store.specs.Chunks.{Chunk, Chunks, Extends, bytes_at}
 use Rattle.chunk_store.specs.Kinds.{is_commit}
@@ -52,3 +54,174 @@ parent_known : (commits : Commits) → AreGrown commits → (o : Option PlainCom
 parent_known commits grown None k parent at has = absurd (cc)
 parent_known commits grown (Some commit) k parent at has =
     has_parent commits commit.parents parent (grown k commit at).parents (sym (ap (λ o. has_address (parents_in o) parent) at) ∙ has)
+
+same_at : (commits others : Commits) → AreAmong commits others → (k : List ℕ) → is_known commits k ≡ true → commits k ≡ others k
+same_at commits others among k known = let commit = what_is_known (commits k) known in commit.1 ∙ sym (among k commit.0 commit.1)
+
+-- a walk from a known commit stays among those
+walk_stays : (commits others : Commits) → AreAmong commits others → AreGrown commits → (steps : ℕ) (k last : List ℕ) → is_known commits k ≡ true → IsAncestorBy others steps k last
+    → is_known commits last ≡ true
+walk_stays commits others among grown zero k last known (there, is) = subst (λ (j : List ℕ). is_known commits j ≡ true) is known
+walk_stays commits others among grown (suc steps) k last known (parent, has, rest) =
+    let here : has_address (parents_of commits k) parent ≡ true = ap (λ (o : Option PlainCommit). has_address (parents_in o) parent) (same_at commits others among k known) ∙ has in
+    walk_stays commits others among grown steps parent last (parent_known commits grown (commits k) k parent refl here) rest
+
+has_more : (commits others : Commits) → AreAmong commits others → (o : Option PlainCommit) (k parent : List ℕ) → commits k ≡ o → has_address (parents_of commits k) parent ≡ true
+    → has_address (parents_of others k) parent ≡ true
+has_more commits others among None k parent at has =
+    absurd (true≢false (sym has ∙ ap (λ (o : Option PlainCommit). has_address (parents_in o) parent) at))
+has_more commits others among (Some commit) k parent at has =
+    ap (λ (o : Option PlainCommit). has_address (parents_in o) parent) (among k commit at ∙ sym at) ∙ has
+
+ancestor_more : (commits others : Commits) → AreAmong commits others → (steps : ℕ) (k last : List ℕ) → IsAncestorBy commits steps k last → IsAncestorBy others steps k last
+ancestor_more commits others among zero k last (there, is) = (known_among commits others among k there, is)
+ancestor_more commits others among (suc steps) k last (parent, has, rest) =
+    (parent, has_more commits others among (commits k) k parent refl has, ancestor_more commits others among steps parent last rest)
+
+ancestor_joins : (commits : Commits) (steps : ℕ) (k middle last : List ℕ) → IsAncestorBy commits steps k middle → IsAncestor commits middle last → IsAncestor commits k last
+ancestor_joins commits zero k middle last (there, is) more = subst (λ (j : List ℕ). IsAncestor commits j last) (sym is) more
+ancestor_joins commits (suc steps) k middle last (parent, has, rest) more =
+    let found = ancestor_joins commits steps parent middle last rest more in (suc found.0, (parent, has, found.1))
+
+-- two look-ups that go on from a third, which has a commit: the first of the one is the first of both
+first_of_both : (base some others both : Commits) → AreAmong base some → AreAmong base others → AreAmong some both → AreAmong others both → AreGrown base
+    → ((k : List ℕ) → is_known both k ≡ true → (is_known some k ≡ true) ⊎ (is_known others k ≡ true))
+    → (k first last : List ℕ) → is_known base k ≡ true → IsFirst some first → IsFirst others last → IsFirst both first
+first_of_both base some others both in_some in_others some_in others_in grown either k first last known is_first is_last j known_both =
+    let walk = is_last k (known_among base others in_others k known) in
+    let middle = is_first last (known_among base some in_some last (walk_stays base others in_others grown walk.0 k last known walk.1)) in
+    elim (either j known_both) [
+      | inl l ↦ (let way = is_first j l in (way.0, ancestor_more some both some_in way.0 j first way.1))
+      | inr r ↦ (let way = is_last j r in
+        ancestor_joins both way.0 j last first (ancestor_more others both others_in way.0 j last way.1) (middle.0, ancestor_more some both some_in middle.0 last first middle.1))
+    ]
+
+-- ---- commits that are the same
+
+commit_told : SamenessIsEquality → (a b : PlainCommit) → a ≡ b → is_same_commit a b ≡ true
+commit_told same a b is =
+    (Decides-and _ _ (Decides-and _ _ (Decides-and _ _ (Decides-and _ _ (Decides-and _ _ (same.databases a.database b.database) (pointwise_decides bytes_decides a.parents b.parents))
+    (Decides-eqb a.height b.height)) (Decides-int_eq a.date b.date)) (bytes_decides a.committer b.committer)) (bytes_decides a.message b.message)).1
+    (((((ap (λ (c : PlainCommit). c.database) is, ap (λ (c : PlainCommit). c.parents) is), ap (λ (c : PlainCommit). c.height) is), ap (λ (c : PlainCommit). c.date) is),
+    ap (λ (c : PlainCommit). c.committer) is), ap (λ (c : PlainCommit). c.message) is)
+
+-- ---- what stands
+
+only_one : (o p : Option PlainCommit) (k : List ℕ) (P : PlainCommit → Type 0) (commit : PlainCommit) → ((c : PlainCommit) → o ≡ Some c → P c) → ((c : PlainCommit) → p ≡ Some c → P c)
+    → first_of o p ≡ Some commit → P commit
+only_one None p k P commit first second e = second commit e
+only_one (Some c) p k P commit first second e = first commit e
+
+itself : (o p : Option PlainCommit) → ((c : PlainCommit) → p ≡ Some c → o ≡ Some c) → o ≡ first_of o p
+itself None None among = refl
+itself None (Some c) among = among c refl
+itself (Some d) p among = refl
+
+either_itself : (commits base : Commits) → AreAmong base commits → commits ≡ in_either commits base
+either_itself commits base among = λ i k. itself (commits k) (base k) (among k) i
+
+module _ (chunk_laws : ChunksFollow) (laws : graph.CommitsFollow) (address : List ℕ → List ℕ) where
+  pub all_among : (old new : Chunks) (commits others : Commits) → Extends old new → CommitsAreThere address old commits → CommitsAreThere address new others → AreAmong commits others
+  all_among old new commits others more a b k commit at =
+      let is = (laws.later address old new commits more a.stand).each k commit at in
+      let held : new k ≡ Some (plain_commit_bytes address commit) = ap new (sym is.named) ∙ is.there.0 in
+      let other = what_is_known (others k) (b.no_others k (plain_commit_bytes address commit) held refl) in
+      other.1 ∙ ap Some (laws.one address new k other.0 commit (b.stand.each k other.0 other.1) is)
+
+  same_by : (commits others : Commits) → AreAmong commits others → AreAmong others commits → (k : List ℕ) (o p : Option PlainCommit) → commits k ≡ o → others k ≡ p → commits k ≡ others k
+  same_by commits others here there k None None e f = e ∙ sym f
+  same_by commits others here there k None (Some c) e f = there k c f ∙ sym f
+  same_by commits others here there k (Some c) p e f = e ∙ sym (here k c e)
+
+  pub same_commits : (chunks : Chunks) (commits others : Commits) → CommitsAreThere address chunks commits → CommitsAreThere address chunks others → (k : List ℕ) → commits k ≡ others k
+  same_commits chunks commits others a b k =
+      let itself_more : Extends chunks chunks = λ j bytes held. held in
+      same_by commits others (all_among chunks chunks commits others itself_more a b) (all_among chunks chunks others commits itself_more b a) k (commits k) (others k) refl refl
+
+  in_one : (store more : List Chunk) (k bytes : List ℕ) → bytes_at (store ++ more) k ≡ Some bytes → (bytes_at store k ≡ Some bytes) ⊎ (bytes_at more k ≡ Some bytes)
+  in_one store more k bytes held = either_some (bytes_at store k) (bytes_at more k) bytes (sym (at_join store more k) ∙ held)
+
+  still_there : (store more : List Chunk) (commits : Commits) → ((k bytes : List ℕ) → bytes_at more k ≡ Some bytes → is_commit bytes ≡ true → is_known commits k ≡ true)
+      → CommitsAreThere address (bytes_at store) commits → CommitsAreThere address (bytes_at (store ++ more)) commits
+  still_there store more commits none there = record {
+    stand = laws.later address (bytes_at store) (bytes_at (store ++ more)) commits (chunk_laws.extends_left store more) there.stand;
+    no_others = λ k bytes held is. elim (in_one store more k bytes held) [ inl l ↦ there.no_others k bytes l is | inr r ↦ none k bytes r is ];
+    within = there.within;
+    first = there.first;
+  }
+
+  pub there_beside : (store more : List Chunk) (commits : Commits) → HasNoCommit more → CommitsAreThere address (bytes_at store) commits → CommitsAreThere address (bytes_at (store ++ more)) commits
+  there_beside store more commits none there = still_there store more commits (λ k bytes held is. absurd (none k bytes held is)) there
+
+  -- ---- one more
+
+  from_parent : (commits after : Commits) (k parent first : List ℕ) (commit : PlainCommit) → AreAmong commits after → IsGrown commits commit → after k ≡ Some commit
+      → has_address commit.parents parent ≡ true → IsFirst commits first → IsAncestor after k first
+  from_parent commits after k parent first commit among grown at has is_first =
+      let way = is_first parent (has_parent commits commit.parents parent grown.parents has) in
+      (suc way.0, (parent, ap (λ (o : Option PlainCommit). has_address (parents_in o) parent) at ∙ has, ancestor_more commits after among way.0 parent first way.1))
+
+  with_among : (commits : Commits) (k j : List ℕ) (commit c : PlainCommit) (same : Bool) → commits k ≡ None → bytes_eq j k ≡ same → commits j ≡ Some c → cond same (Some commit) (commits j) ≡ Some c
+  with_among commits k j commit c true none e at = absurd (nothing c (sym none ∙ ap commits (sym ((bytes_decides j k).0 e)) ∙ at)) where
+    nothing : (x : PlainCommit) → ◌≡◌ {A = Option PlainCommit} None (Some x) → ⊥
+    nothing x is = cc
+  with_among commits k j commit c false none e at = at
+
+  with_itself : (commits : Commits) (k : List ℕ) (commit : PlainCommit) → with_commit k commit commits k ≡ Some commit
+  with_itself commits k commit = ap (λ b. cond b (Some commit) (commits k)) ((bytes_decides k k).1 refl)
+
+  within_with : (commits : Commits) (commit c : PlainCommit) (j : List ℕ) (same : Bool) → ((d : PlainCommit) → commits j ≡ Some d → is_database_within_limits d.database ≡ true)
+      → is_database_within_limits commit.database ≡ true → cond same (Some commit) (commits j) ≡ Some c → is_database_within_limits c.database ≡ true
+  within_with commits commit c j true each is e = subst (λ (d : PlainCommit). is_database_within_limits d.database ≡ true) (same_Some commit c e) is
+  within_with commits commit c j false each is e = each c e
+
+  first_with : (commits after : Commits) (k j first : List ℕ) (same : Bool) (o : Option PlainCommit) → AreAmong commits after → IsFirst commits first → IsAncestor after k first
+      → bytes_eq j k ≡ same → cond same o (commits j) ≡ after j → is_known after j ≡ true → IsAncestor after j first
+  first_with commits after k j first true o among is_first new e at known = subst (λ (i : List ℕ). IsAncestor after i first) (sym ((bytes_decides j k).0 e)) new
+  first_with commits after k j first false o among is_first new e at known =
+      let way = is_first j (ap is_some at ∙ known) in (way.0, ancestor_more commits after among way.0 j first way.1)
+
+  module _ (same : SamenessIsEquality) where
+    one_by : (store more : List Chunk) (commits : Commits) (commit : PlainCommit) (o : Option PlainCommit) → commits (commit_address address commit) ≡ o
+        → CommitsAreThere address (bytes_at store) commits → IsCommitThere address (bytes_at (store ++ more)) (commit_address address commit) commit → IsGrown commits commit
+        → is_database_within_limits commit.database ≡ true → (parent : List ℕ) → has_address commit.parents parent ≡ true
+        → ((k bytes : List ℕ) → bytes_at more k ≡ Some bytes → is_commit bytes ≡ true → k ≡ commit_address address commit)
+        → (after : Commits) × (added_at (commit_address address commit) commit o commits ≡ Some after) × CommitsAreThere address (bytes_at (store ++ more)) after
+    one_by store more commits commit None at there is grown within parent has only =
+        let k = commit_address address commit in
+        let after = with_commit k commit commits in
+        let extends = chunk_laws.extends_left store more in
+        let among : AreAmong commits after = λ j c here. with_among commits k j commit c (bytes_eq j k) at refl here in
+        let known : is_known after k ≡ true = ap is_some (with_itself commits k commit) in
+        (after, refl, record {
+          stand = laws.put address (bytes_at (store ++ more)) commits k commit (laws.later address (bytes_at store) (bytes_at (store ++ more)) commits extends there.stand) is grown;
+          no_others = λ j bytes held five. elim (in_one store more j bytes held) [
+            | inl l ↦ known_among commits after among j (there.no_others j bytes l five)
+            | inr r ↦ ap (is_known after) (only j bytes r five) ∙ known
+          ];
+          within = λ j c here. within_with commits commit c j (bytes_eq j k) (there.within j) within here;
+          first = (there.first.0, λ j here. first_with commits after k j there.first.0 (bytes_eq j k) (Some commit) among there.first.1
+            (from_parent commits after k parent there.first.0 commit among grown (with_itself commits k commit) has there.first.1) refl refl here);
+        })
+    one_by store more commits commit (Some other) at there is grown within parent has only =
+        let k = commit_address address commit in
+        let extends = chunk_laws.extends_left store more in
+        let stands = (laws.later address (bytes_at store) (bytes_at (store ++ more)) commits extends there.stand).each k other at in
+        let told = commit_told same commit other (laws.one address (bytes_at (store ++ more)) k commit other is stands) in
+        (commits, ap (λ b. cond b (Some commits) None) told,
+        still_there store more commits (λ j bytes held five. ap (is_known commits) (only j bytes held five) ∙ ap is_some at) there)
+
+    pub there_with_one : (store more : List Chunk) (commits : Commits) (commit : PlainCommit) → CommitsAreThere address (bytes_at store) commits
+        → IsCommitThere address (bytes_at (store ++ more)) (commit_address address commit) commit → IsGrown commits commit → is_database_within_limits commit.database ≡ true
+        → (parent : List ℕ) → has_address commit.parents parent ≡ true
+        → ((k bytes : List ℕ) → bytes_at more k ≡ Some bytes → is_commit bytes ≡ true → k ≡ commit_address address commit)
+        → (after : Commits) × (with_new_commit address commit commits ≡ Some after) × CommitsAreThere address (bytes_at (store ++ more)) after
+    there_with_one store more commits commit = one_by store more commits commit (commits (commit_address address commit)) refl
+
+pub commits_follow : ChunksFollow → graph.CommitsFollow → SamenessIsEquality → CommitsFollow
+commits_follow chunk_laws laws same = record {
+  one = λ address. same_commits chunk_laws laws address;
+  among = λ address. all_among chunk_laws laws address;
+  beside = λ address. there_beside chunk_laws laws address;
+  with_one = λ address. there_with_one chunk_laws laws address same;
+}

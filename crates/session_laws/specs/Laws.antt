@@ -2,14 +2,17 @@
 use Rattle.std.specs.Prelude.{◌≡◌, ℕ, true, List, [], ◌++◌, map, Some, bytes_eq, if◌then◌else◌}
 use Rattle.tuple_codec.specs.Rows.{AreTold}
 use Rattle.tuple_codec.specs.declared.records.BranchRecord.{BranchRecord}
-use Rattle.schema_model.specs.PlainCommits.{Commits, is_known}
+use Rattle.schema_model.specs.Limits.{is_database_within_limits}
+use Rattle.schema_model.specs.PlainCommits.{Commits, IsGrown, PlainCommit, commit_address, has_address, is_known}
 use Rattle.chunk_store.specs.Chunks.{Agree, Chunk, Chunks, Extends, IsSingle, Lists, bytes_at}
 use Rattle.chunk_store.specs.Drafts.{DraftParts, Longer, chunks_of}
 use Rattle.chunk_store.specs.Stores.{IsUnion, all_chunks}
+use Rattle.chunk_store.specs.Kinds.{is_commit}
+use Rattle.commit_graph.specs.Standing.{IsCommitThere}
 use Rattle.script_text.specs.declared.outputs.BranchLine.{BranchLine}
 use Rattle.table_root.specs.declared.heads.Look.{Look}
 use Rattle.plain_sessions.specs.Moments.{Change, commits_with, with_change}
-use Rattle.plain_sessions.specs.Records.{BranchState, Shared, is_same_state, state_of}
+use Rattle.plain_sessions.specs.Records.{BranchState, Shared, is_same_state, state_of, with_new_commit}
 use Rattle.plain_sessions.specs.Sessions.{Transaction, started_at}
 use Rattle.session_laws.specs.Changes.{ChangeStands, Parts, StateStands}
 use Rattle.session_laws.specs.Commits.{AreAmong, CommitsAreThere, HasNoCommit}
@@ -27,8 +30,8 @@ pub record RecordsFollow : Type 0 where
       → RecordStands address chunks commits rec state → RecordStands address chunks others other state → rec ≡ other
   pub told : AreTold is_same_state
 
--- commits that stand in the same chunks are the same; they are among those of chunks in which more is found; and with one commit more, in
--- chunks where it is the only one more, all stand
+-- commits that stand in the same chunks are the same; they are among those of chunks in which more is found; and they stand where chunks
+-- are added, of which none or only the one that is made is a commit
 pub record CommitsFollow : Type 0 where
   pub one : (address : List ℕ → List ℕ) (chunks : Chunks) (commits others : Commits) → CommitsAreThere address chunks commits → CommitsAreThere address chunks others
       → (k : List ℕ) → commits k ≡ others k
@@ -37,10 +40,11 @@ pub record CommitsFollow : Type 0 where
   -- chunks more, of which none is a commit
   pub beside : (address : List ℕ → List ℕ) (store more : List Chunk) (commits : Commits) → HasNoCommit more → CommitsAreThere address (bytes_at store) commits
       → CommitsAreThere address (bytes_at (store ++ more)) commits
-  -- chunks more, of which no other than this one is a commit: it has a parent
+  -- chunks more, of which no other than this one is a commit, and it has a parent
   pub with_one : (address : List ℕ → List ℕ) (store more : List Chunk) (commits : Commits) (commit : PlainCommit) → CommitsAreThere address (bytes_at store) commits
       → IsCommitThere address (bytes_at (store ++ more)) (commit_address address commit) commit → IsGrown commits commit → is_database_within_limits commit.database ≡ true
-      → 0 < length commit.parents → ((k bytes : List ℕ) → bytes_at more k ≡ Some bytes → is_commit bytes ≡ true → k ≡ commit_address address commit)
+      → (parent : List ℕ) → has_address commit.parents parent ≡ true
+      → ((k bytes : List ℕ) → bytes_at more k ≡ Some bytes → is_commit bytes ≡ true → k ≡ commit_address address commit)
       → (after : Commits) × (with_new_commit address commit commits ≡ Some after) × CommitsAreThere address (bytes_at (store ++ more)) after
 
 -- a transaction that starts at a look stands in a draft over the look's store; and it goes on standing, with whatever own record, where the

@@ -19,6 +19,7 @@ pub fn law_of_standing_commits()
     ensures { CommitsFollow }
 {
     law_of_chunks();
+    law_of_sameness();
     commit_graph::law_of_standing_commits();
 }
 
