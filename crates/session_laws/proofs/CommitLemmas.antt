@@ -15,6 +15,7 @@ use Rattle.chunk_store.proofs.ChunkLemmas.{at_join, either_some}
 use Rattle.commit_graph.specs.Standing as graph
 use Rattle.commit_graph.specs.Standing.{CommitsStand, IsCommitThere, first_of, in_either}
 use Rattle.plain_sessions.specs.Records.{added_at, is_same_commit, with_new_commit}
+use Rattle.plain_sessions.specs.Moments.{commits_with}
 use Rattle.plain_sessions.specs.StateLimits.{IsFirst}
 use Rattle.plain_writes.proofs.InsertionLemmas.{two, left_so, right_so}
 use Rattle.session_laws.specs.Commits.{AreAmong, CommitsAreThere, HasNoCommit}
@@ -120,7 +121,7 @@ itself (Some d) p among = refl
 either_itself : (commits base : Commits) → AreAmong base commits → commits ≡ in_either commits base
 either_itself commits base among = λ i k. itself (commits k) (base k) (among k) i
 
-module _ (chunk_laws : ChunksFollow) (laws : graph.CommitsFollow) (address : List ℕ → List ℕ) where
+module _ (laws : graph.CommitsFollow) (address : List ℕ → List ℕ) where
   pub all_among : (old new : Chunks) (commits others : Commits) → Extends old new → CommitsAreThere address old commits → CommitsAreThere address new others → AreAmong commits others
   all_among old new commits others more a b k commit at =
       let is = (laws.later address old new commits more a.stand).each k commit at in
@@ -138,6 +139,7 @@ module _ (chunk_laws : ChunksFollow) (laws : graph.CommitsFollow) (address : Lis
       let itself_more : Extends chunks chunks = λ j bytes held. held in
       same_by commits others (all_among chunks chunks commits others itself_more a b) (all_among chunks chunks others commits itself_more b a) k (commits k) (others k) refl refl
 
+module _ (chunk_laws : ChunksFollow) (laws : graph.CommitsFollow) (address : List ℕ → List ℕ) where
   in_one : (store more : List Chunk) (k bytes : List ℕ) → bytes_at (store ++ more) k ≡ Some bytes → (bytes_at store k ≡ Some bytes) ⊎ (bytes_at more k ≡ Some bytes)
   in_one store more k bytes held = either_some (bytes_at store k) (bytes_at more k) bytes (sym (at_join store more k) ∙ held)
 
@@ -218,10 +220,84 @@ module _ (chunk_laws : ChunksFollow) (laws : graph.CommitsFollow) (address : Lis
         → (after : Commits) × (with_new_commit address commit commits ≡ Some after) × CommitsAreThere address (bytes_at (store ++ more)) after
     there_with_one store more commits commit = one_by store more commits commit (commits (commit_address address commit)) refl
 
+-- ---- a commit that was made over some of the commits, made over all
+
+module _ (same : SamenessIsEquality) (address : List ℕ → List ℕ) (base commits over : Commits) (among : AreAmong base commits)
+    (one : (k : List ℕ) (c d : PlainCommit) → commits k ≡ Some c → over k ≡ Some d → d ≡ c) where
+  beside_at : (k j : List ℕ) (commit : PlainCommit) (t : Bool) → bytes_eq j k ≡ t → commits k ≡ None → cond t (Some commit) (commits j) ≡ first_of (commits j) (cond t (Some commit) (base j))
+  beside_at k j commit true e none = sym (ap (λ (o : Option PlainCommit). first_of o (Some commit)) (ap commits ((bytes_decides j k).0 e) ∙ none))
+  beside_at k j commit false e none = itself (commits j) (base j) (among j)
+
+  held_at : (k j : List ℕ) (commit d : PlainCommit) (t : Bool) → bytes_eq j k ≡ t → commits k ≡ Some d → commits j ≡ first_of (commits j) (cond t (Some commit) (base j))
+  held_at k j commit d true e some =
+      let at : commits j ≡ Some d = ap commits ((bytes_decides j k).0 e) ∙ some in at ∙ sym (ap (λ (o : Option PlainCommit). first_of o (Some commit)) at)
+  held_at k j commit d false e some = itself (commits j) (base j) (among j)
+
+  new_by : (k : List ℕ) (commit : PlainCommit) (o p : Option PlainCommit) → base k ≡ o → commits k ≡ p → added_at k commit o base ≡ Some over
+      → added_at k commit p commits ≡ Some (in_either commits over)
+  new_by k commit None None e f is =
+      ap Some (subst (λ (x : Commits). with_commit k commit commits ≡ in_either commits x) (same_Some (with_commit k commit base) over is)
+      (λ i j. beside_at k j commit (bytes_eq j k) refl f i))
+  new_by k commit None (Some d) e f is =
+      let made : with_commit k commit base ≡ over = same_Some (with_commit k commit base) over is in
+      let at : over k ≡ Some commit = ap (λ (x : Commits). x k) (sym made) ∙ ap (λ b. cond b (Some commit) (base k)) ((bytes_decides k k).1 refl) in
+      ap (λ b. cond b (Some commits) None) (commit_told same commit d (one k d commit f at))
+      ∙ ap Some (subst (λ (x : Commits). commits ≡ in_either commits x) made (λ i j. held_at k j commit d (bytes_eq j k) refl f i))
+  new_by k commit (Some c) p e f is =
+      let parts = cond_some (is_same_commit commit c) base over is in
+      subst (λ (q : Option PlainCommit). added_at k commit q commits ≡ Some (in_either commits over)) (sym (among k c e) ∙ f)
+      (ap (λ b. cond b (Some commits) None) parts.0 ∙ ap Some (subst (λ (x : Commits). commits ≡ in_either commits x) parts.1 (either_itself commits base among)))
+
+  made_by : (made : Option PlainCommit) → commits_with address made base ≡ Some over → commits_with address made commits ≡ Some (in_either commits over)
+  made_by None is = ap Some (subst (λ (x : Commits). commits ≡ in_either commits x) (same_Some base over is) (either_itself commits base among))
+  made_by (Some commit) is = new_by (commit_address address commit) commit (base (commit_address address commit)) (commits (commit_address address commit)) refl refl is
+
+second_keeps : (o p : Option PlainCommit) (c : PlainCommit) → ((d : PlainCommit) → o ≡ Some d → d ≡ c) → p ≡ Some c → first_of o p ≡ Some c
+second_keeps None p c same at = at
+second_keeps (Some d) p c same at = ap Some (same d refl)
+
+-- what was made over a store whose commits are among those found, where both are held together with it
+module _ (laws : graph.CommitsFollow) (same : SamenessIsEquality) (address : List ℕ → List ℕ) (store found planned all : Chunks) (base commits over : Commits)
+    (in_found : Extends store found) (in_planned : Extends store planned) (found_in : Extends found all) (planned_in : Extends planned all)
+    (base_there : CommitsAreThere address store base) (commits_there : CommitsAreThere address found commits) (over_there : CommitsAreThere address planned over) where
+  abbrev base_found : AreAmong base commits
+  base_found = all_among laws address store found base commits in_found base_there commits_there
+
+  abbrev base_planned : AreAmong base over
+  base_planned = all_among laws address store planned base over in_planned base_there over_there
+
+  both_one : (k : List ℕ) (c d : PlainCommit) → commits k ≡ Some c → over k ≡ Some d → d ≡ c
+  both_one k c d here there =
+      laws.one address all k d c ((laws.later address planned all over planned_in over_there.stand).each k d there) ((laws.later address found all commits found_in commits_there.stand).each k c here)
+
+  pub made_over : (made : Option PlainCommit) → commits_with address made base ≡ Some over → commits_with address made commits ≡ Some (in_either commits over)
+  made_over = made_by same address base commits over base_found both_one
+
+  pub over_known : (k : List ℕ) → is_known over k ≡ true → is_known (in_either commits over) k ≡ true
+  over_known k known = known_second (commits k) (over k) known
+
+  pub commits_known : (k : List ℕ) → is_known commits k ≡ true → is_known (in_either commits over) k ≡ true
+  commits_known k known = known_first (commits k) (over k) known
+
+  pub both_there : (head : List ℕ) → is_known base head ≡ true → ((k bytes : List ℕ) → all k ≡ Some bytes → (found k ≡ Some bytes) ⊎ (planned k ≡ Some bytes))
+      → CommitsAreThere address all (in_either commits over)
+  both_there head known only = record {
+    stand = laws.either address all commits over (laws.later address found all commits found_in commits_there.stand) (laws.later address planned all over planned_in over_there.stand);
+    no_others = λ k bytes held is. elim (only k bytes held) [
+      | inl l ↦ commits_known k (commits_there.no_others k bytes l is)
+      | inr r ↦ over_known k (over_there.no_others k bytes r is)
+    ];
+    within = λ k c at. only_one (commits k) (over k) k (λ (d : PlainCommit). is_database_within_limits d.database ≡ true) c (commits_there.within k) (over_there.within k) at;
+    first = (commits_there.first.0, first_of_both base commits over (in_either commits over) base_found base_planned
+      (λ k c at. ap (λ (o : Option PlainCommit). first_of o (over k)) at)
+      (λ k c at. second_keeps (commits k) (over k) c (λ d here. sym (both_one k d c here at)) at)
+      base_there.stand.grown (λ k here. either_known (commits k) (over k) here) head commits_there.first.0 over_there.first.0 known commits_there.first.1 over_there.first.1);
+  }
+
 pub commits_follow : ChunksFollow → graph.CommitsFollow → SamenessIsEquality → CommitsFollow
 commits_follow chunk_laws laws same = record {
-  one = λ address. same_commits chunk_laws laws address;
-  among = λ address. all_among chunk_laws laws address;
+  one = λ address. same_commits laws address;
+  among = λ address. all_among laws address;
   beside = λ address. there_beside chunk_laws laws address;
   with_one = λ address. there_with_one chunk_laws laws address same;
 }

@@ -1,2 +1,5 @@
+pub mod BranchLemmas
 pub mod CommitLemmas
 pub mod RecordLemmas
+pub mod StateLemmas
+pub mod TransactionLemmas
