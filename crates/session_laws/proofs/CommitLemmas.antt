@@ -270,16 +270,16 @@ module _ (laws : graph.CommitsFollow) (same : SamenessIsEquality) (address : Lis
   both_one k c d here there =
       laws.one address all k d c ((laws.later address planned all over planned_in over_there.stand).each k d there) ((laws.later address found all commits found_in commits_there.stand).each k c here)
 
-  pub made_over : (made : Option PlainCommit) → commits_with address made base ≡ Some over → commits_with address made commits ≡ Some (in_either commits over)
+  made_over : (made : Option PlainCommit) → commits_with address made base ≡ Some over → commits_with address made commits ≡ Some (in_either commits over)
   made_over = made_by same address base commits over base_found both_one
 
-  pub over_known : (k : List ℕ) → is_known over k ≡ true → is_known (in_either commits over) k ≡ true
+  over_known : (k : List ℕ) → is_known over k ≡ true → is_known (in_either commits over) k ≡ true
   over_known k known = known_second (commits k) (over k) known
 
-  pub commits_known : (k : List ℕ) → is_known commits k ≡ true → is_known (in_either commits over) k ≡ true
+  commits_known : (k : List ℕ) → is_known commits k ≡ true → is_known (in_either commits over) k ≡ true
   commits_known k known = known_first (commits k) (over k) known
 
-  pub both_there : (head : List ℕ) → is_known base head ≡ true → ((k bytes : List ℕ) → all k ≡ Some bytes → (found k ≡ Some bytes) ⊎ (planned k ≡ Some bytes))
+  both_there : (head : List ℕ) → is_known base head ≡ true → ((k bytes : List ℕ) → all k ≡ Some bytes → (found k ≡ Some bytes) ⊎ (planned k ≡ Some bytes))
       → CommitsAreThere address all (in_either commits over)
   both_there head known only = record {
     stand = laws.either address all commits over (laws.later address found all commits found_in commits_there.stand) (laws.later address planned all over planned_in over_there.stand);
@@ -293,6 +293,12 @@ module _ (laws : graph.CommitsFollow) (same : SamenessIsEquality) (address : Lis
       (λ k c at. second_keeps (commits k) (over k) c (λ d here. sym (both_one k d c here at)) at)
       base_there.stand.grown (λ k here. either_known (commits k) (over k) here) head commits_there.first.0 over_there.first.0 known commits_there.first.1 over_there.first.1);
   }
+
+  pub made_over_all : (made : Option PlainCommit) (head : List ℕ) → commits_with address made base ≡ Some over → is_known base head ≡ true
+      → ((k bytes : List ℕ) → all k ≡ Some bytes → (found k ≡ Some bytes) ⊎ (planned k ≡ Some bytes))
+      → (commits_with address made commits ≡ Some (in_either commits over)) × CommitsAreThere address all (in_either commits over)
+      × ((k : List ℕ) → is_known over k ≡ true → is_known (in_either commits over) k ≡ true) × ((k : List ℕ) → is_known commits k ≡ true → is_known (in_either commits over) k ≡ true)
+  made_over_all made head is known only = (made_over made is, both_there head known only, over_known, commits_known)
 
 pub commits_follow : ChunksFollow → graph.CommitsFollow → SamenessIsEquality → CommitsFollow
 commits_follow chunk_laws laws same = record {

@@ -30,7 +30,8 @@ use Rattle.session_laws.specs.Laws.{StatesFollow, head_in, with_record}
 use Rattle.session_laws.specs.Records.{RecordStands}
 use Rattle.session_laws.specs.Transactions.{IsLookOf, head_seen}
 use Rattle.session_laws.proofs.BranchLemmas.{put_in_place, replaced, replacing, still_found}
-use Rattle.session_laws.proofs.CommitLemmas.{both_there, commits_known, made_over, over_known, same_commits}
+use Rattle.session_laws.proofs.CommitLemmas.{made_over_all, same_commits}
+use Rattle.session_laws.proofs.OpeningLemmas.{opening_stands}
 use Rattle.session_laws.proofs.RecordLemmas.{one_state, record_later}
 
 -- ---- lines, and the branches for which they stand
@@ -96,7 +97,7 @@ module _ (address : List ℕ → List ℕ) (chunks : List Chunk) (commits : Comm
             → (state : BranchState) × (state_of branches name ≡ Some state) × RecordStands address (bytes_at chunks) commits line.rec state)
           → (state : BranchState) × (option_map (λ (c : Branch). c.state) (cond t (Some b) (find (is_branch name) branches)) ≡ Some state)
             × RecordStands address (bytes_at chunks) commits line.rec state
-      by true here rest = (b.state, (refl, subst (λ (l : BranchLine). RecordStands address (bytes_at chunks) commits l.rec b.state) (same_Some x line here) stand.0.stands))
+      by true here rest = (b.state, refl, subst (λ (l : BranchLine). RecordStands address (bytes_at chunks) commits l.rec b.state) (same_Some x line here) stand.0.stands)
       by false here rest = rest here
 
 module _ (databases : DatabasesStand) (laws : graph.CommitsFollow) (address : List ℕ → List ℕ) where
@@ -166,5 +167,64 @@ module _ (databases : DatabasesStand) (laws : graph.CommitsFollow) (address : Li
   lines_settled old new commits after name rec state (x ∷ lines) [] more known is stand = absurd stand
   lines_settled old new commits after name rec state (x ∷ lines) (b ∷ branches) more known is stand =
       (line_settled old new commits after name rec state x b more known is stand.0, lines_settled old new commits after name rec state lines branches more known is stand.1)
-pub states_follow : StatesFollow
-states_follow = ?
+some_mapped : (o : Option Branch) → is_some (option_map (λ (branch : Branch). branch.state) o) ≡ is_some o
+some_mapped None = refl
+some_mapped (Some branch) = refl
+
+-- what was planned over a store that the parts list, and what is left of them with what was sealed
+module _ (chunk_laws : ChunksFollow) (store sealed some left : List Chunk) (lists : Lists store some) (union : IsUnion some sealed left) (single : IsSingle left) where
+  planned_held : Extends (bytes_at (store ++ sealed)) (bytes_at left)
+  planned_held k bytes held = elim (either_some (bytes_at store k) (bytes_at sealed k) bytes (sym (at_join store sealed k) ∙ held)) [
+    | inl l ↦ chunk_laws.is_found left k bytes single (union.left k bytes (lists k bytes (chunk_laws.is_listed store k bytes l)))
+    | inr r ↦ chunk_laws.is_found left k bytes single (union.right k bytes (chunk_laws.is_listed sealed k bytes r))
+  ]
+
+  in_either_part : IsSingle some → (k bytes : List ℕ) → bytes_at left k ≡ Some bytes → (bytes_at some k ≡ Some bytes) ⊎ (bytes_at (store ++ sealed) k ≡ Some bytes)
+  in_either_part single_some k bytes held = elim (union.only k bytes (chunk_laws.is_listed left k bytes held)) [
+    | inl l ↦ inl (chunk_laws.is_found some k bytes single_some l)
+    | inr r ↦ (let found = listed_finds (store ++ sealed) k bytes ((chunk_laws.listed_either store sealed).1 k bytes r) in
+      inr (found.1 ∙ ap Some (same_Some found.0 bytes (sym (planned_held k found.0 found.1) ∙ held))))
+  ]
+
+module _ (chunk_laws : ChunksFollow) (segments : SegmentsFollow) (databases : DatabasesStand) (same : SamenessIsEquality) (laws : graph.CommitsFollow) (address : List ℕ → List ℕ) where
+  pub settle_stands : (store sealed : List Chunk) (look : Commits) (parts left : Parts) (found : Shared) (name head : List ℕ) (rec : BranchRecord) (state : BranchState) (change : Change)
+      → CommitsAreThere address (bytes_at store) look → is_known look head ≡ true → Lists store parts.chunks
+      → ChangeStands address store sealed look rec change
+      → StateStands address parts found → state_of found.branches name ≡ Some state
+      → left.branches ≡ with_record name rec parts.branches → left.places ≡ parts.places
+      → IsUnion parts.chunks sealed left.chunks → IsSingle left.chunks
+      → (after : Commits) × (commits_with address change.made found.commits ≡ Some after) × StateStands address left (with_change name change found after)
+  settle_stands store sealed look parts left found name head rec state change look_there known lists changes stands at branches places union single =
+      let found_in = chunk_laws.lists_extends parts.chunks left.chunks single union.left in
+      let planned_in = planned_held chunk_laws store sealed parts.chunks left.chunks lists union single in
+      let after = in_either found.commits changes.after in
+      let made = made_over_all laws same address (bytes_at store) (bytes_at parts.chunks) (bytes_at (store ++ sealed)) (bytes_at left.chunks) look found.commits changes.after
+          (chunk_laws.lists_extends store parts.chunks stands.single lists) (chunk_laws.extends_left store sealed) found_in planned_in look_there stands.commits changes.commits_after
+          change.made head changes.is known (in_either_part chunk_laws store sealed parts.chunks left.chunks lists union single stands.single) in
+      let put : with_branch name change.becomes found.branches ≡ replaced name change.becomes found.branches =
+          put_in_place name change.becomes found.branches (sym (branches_rise address parts.chunks found.commits parts.branches found.branches stands.branches) ∙ stands.rise)
+          (sym (some_mapped (find (is_branch name) found.branches)) ∙ ap is_some at) in
+      let lines = lines_settled databases laws address parts.chunks left.chunks found.commits after name rec change.becomes parts.branches found.branches found_in made.3
+          (record_later databases address (bytes_at (store ++ sealed)) (bytes_at left.chunks) changes.after after rec change.becomes planned_in made.2 changes.stands) stands.branches in
+      let there : (n : List ℕ) → is_branch_there (with_change name change found after) n ≡ is_branch_there found n =
+          λ n. ap (λ l. is_some (state_of l n)) put ∙ still_found name change.becomes n found.branches in
+      (after, made.0, record {
+        branches = subst (λ l. Paired (BranchStands address left.chunks after) l (with_branch name change.becomes found.branches)) (sym branches)
+            (subst (λ l. Paired (BranchStands address left.chunks after) (with_record name rec parts.branches) l) (sym put) lines);
+        rise = ap lines_rise branches ∙ lines_still_rise name rec parts.branches ∙ stands.rise;
+        few = subst (λ n. n ≤ most_branches) (sym (ap length branches ∙ length-map parts.branches (line_replacing name rec))) stands.few;
+        places = places ∙ stands.places;
+        placed = ap (λ (p : List ℕ → Bool). list_all p found.places) (λ i n. there n i) ∙ stands.placed;
+        commits = made.1;
+        named = chunk_laws.named_fewer address left.chunks (parts.chunks ++ sealed) (segments.union_lists parts.chunks sealed left.chunks union)
+            (chunk_laws.named_join address parts.chunks sealed stands.named changes.named);
+        single = single;
+      })
+
+pub states_follow : ChunksFollow → SegmentsFollow → DatabasesStand → SamenessIsEquality → graph.CommitsFollow → StatesFollow
+states_follow chunk_laws segments databases same laws = record {
+  settled = settle_stands chunk_laws segments databases same laws;
+  one = one_shared databases laws;
+  looked = look_shows databases laws;
+  opened = opening_stands;
+}
