@@ -10,7 +10,7 @@ use Rattle.std.proofs.lemmas.Cmp.{nat_list_cmp_total}
 use Rattle.std.proofs.lemmas.Map.Text.{is_eq-slice_cmp}
 use Rattle.schema_model.specs.PlainTables.{rises}
 use Rattle.plain_sql.specs.Lists.{in_order, placed}
-use Rattle.plain_writes.proofs.InsertionLemmas.{two, clash, left_so, right_so, both_so, placed_stop, placed_past}
+use Rattle.plain_writes.proofs.InsertionLemmas.{two, clash, left_so, right_so, placed_stop, placed_past}
 use Rattle.plain_sessions.specs.Records.{Branch, BranchState, branch_cmp, is_branch, state_of, with_branch, without_branch}
 
 -- ---- names that rise
@@ -96,7 +96,7 @@ others_stay : (name : List ℕ) (state : BranchState) (x : Branch) (branches : L
 others_stay name state x [] is below = (refl, refl)
 others_stay name state x (y ∷ branches) is below =
     let other : bytes_eq y.name name ≡ false = two (bytes_eq y.name name)
-        (λ e. clash ((bytes_decides x.name y.name).1 (is ∙ sym ((bytes_decides y.name name).0 e))) (apart x y below.0)) (λ e. e) in
+    (λ e. clash ((bytes_decides x.name y.name).1 (is ∙ sym ((bytes_decides y.name name).0 e))) (apart x y below.0)) (λ e. e) in
     let rest = others_stay name state x branches is below.1 in (
       ap (λ b. cond (not b) (y ∷ without_branch name branches) (without_branch name branches)) other ∙ ap (λ l. y ∷ l) rest.0,
       ap (λ b. cond b (record { name = name; state = state }) y ∷ replaced name state branches) other ∙ ap (λ l. y ∷ l) rest.1,

@@ -1,7 +1,7 @@
 -- The commits that stand in chunks, and no others: they are determined, and grow with the chunks.
 use Rattle.std.proofs.Common.{◌≡◌, refl, ◌∙◌, sym, ap, subst, ℕ, zero, suc, Bool, true, false, true≢false, cond, ◌||◌, List, [], ◌∷◌, ◌++◌, ◌⊎◌, inl, inr, Option, Some, None}
 use Rattle.std.specs.Prelude.{bytes_eq, is_some}
-use Rattle.std.specs.List.{list_all, list_any}
+use Rattle.std.specs.List.{list_all}
 use Rattle.std.specs.Cmp.Lexicographic.{bytes_decides, pointwise_decides}
 use Rattle.std.proofs.lemmas.Bool.Decides.{Decides-and, Decides-eqb, Decides-int_eq}
 use Rattle.std.proofs.lemmas.Option.{cond_some, same_Some}
@@ -13,7 +13,7 @@ use Rattle.chunk_store.specs.Kinds.{is_commit}
 use Rattle.chunk_store.specs.Laws.{ChunksFollow}
 use Rattle.chunk_store.proofs.ChunkLemmas.{at_join, either_some}
 use Rattle.commit_graph.specs.Standing as graph
-use Rattle.commit_graph.specs.Standing.{CommitsStand, IsCommitThere, first_of, in_either}
+use Rattle.commit_graph.specs.Standing.{IsCommitThere, first_of, in_either}
 use Rattle.plain_sessions.specs.Records.{added_at, is_same_commit, with_new_commit}
 use Rattle.plain_sessions.specs.Moments.{commits_with}
 use Rattle.plain_sessions.specs.StateLimits.{IsFirst}
@@ -94,7 +94,7 @@ first_of_both base some others both in_some in_others some_in others_in grown ei
     elim (either j known_both) [
       | inl l ↦ (let way = is_first j l in (way.0, ancestor_more some both some_in way.0 j first way.1))
       | inr r ↦ (let way = is_last j r in
-        ancestor_joins both way.0 j last first (ancestor_more others both others_in way.0 j last way.1) (middle.0, ancestor_more some both some_in middle.0 last first middle.1))
+          ancestor_joins both way.0 j last first (ancestor_more others both others_in way.0 j last way.1) (middle.0, ancestor_more some both some_in middle.0 last first middle.1))
     ]
 
 -- ---- commits that are the same
@@ -102,9 +102,13 @@ first_of_both base some others both in_some in_others some_in others_in grown ei
 commit_told : SamenessIsEquality → (a b : PlainCommit) → a ≡ b → is_same_commit a b ≡ true
 commit_told same a b is =
     (Decides-and _ _ (Decides-and _ _ (Decides-and _ _ (Decides-and _ _ (Decides-and _ _ (same.databases a.database b.database) (pointwise_decides bytes_decides a.parents b.parents))
-    (Decides-eqb a.height b.height)) (Decides-int_eq a.date b.date)) (bytes_decides a.committer b.committer)) (bytes_decides a.message b.message)).1
-    (((((ap (λ (c : PlainCommit). c.database) is, ap (λ (c : PlainCommit). c.parents) is), ap (λ (c : PlainCommit). c.height) is), ap (λ (c : PlainCommit). c.date) is),
-    ap (λ (c : PlainCommit). c.committer) is), ap (λ (c : PlainCommit). c.message) is)
+    (Decides-eqb a.height b.height)) (Decides-int_eq a.date b.date)) (bytes_decides a.committer b.committer)) (bytes_decides a.message b.message)).1 (
+      (
+        (((ap (λ (c : PlainCommit). c.database) is, ap (λ (c : PlainCommit). c.parents) is), ap (λ (c : PlainCommit). c.height) is), ap (λ (c : PlainCommit). c.date) is),
+        ap (λ (c : PlainCommit). c.committer) is,
+      ),
+      ap (λ (c : PlainCommit). c.message) is,
+    )
 
 -- ---- what stands
 
@@ -194,24 +198,32 @@ module _ (chunk_laws : ChunksFollow) (laws : graph.CommitsFollow) (address : Lis
         let after = with_commit k commit commits in
         let extends = chunk_laws.extends_left store more in
         let among : AreAmong commits after = λ j c here. with_among commits k j commit c (bytes_eq j k) at refl here in
-        let known : is_known after k ≡ true = ap is_some (with_itself commits k commit) in
-        (after, refl, record {
-          stand = laws.put address (bytes_at (store ++ more)) commits k commit (laws.later address (bytes_at store) (bytes_at (store ++ more)) commits extends there.stand) is grown;
-          no_others = λ j bytes held five. elim (in_one store more j bytes held) [
-            | inl l ↦ known_among commits after among j (there.no_others j bytes l five)
-            | inr r ↦ ap (is_known after) (only j bytes r five) ∙ known
-          ];
-          within = λ j c here. within_with commits commit c j (bytes_eq j k) (there.within j) within here;
-          first = (there.first.0, λ j here. first_with commits after k j there.first.0 (bytes_eq j k) (Some commit) among there.first.1
-            (from_parent commits after k parent there.first.0 commit among grown (with_itself commits k commit) has there.first.1) refl refl here);
-        })
+        let known : is_known after k ≡ true = ap is_some (with_itself commits k commit) in (
+          after,
+          refl,
+          record {
+            stand = laws.put address (bytes_at (store ++ more)) commits k commit (laws.later address (bytes_at store) (bytes_at (store ++ more)) commits extends there.stand) is grown;
+            no_others = λ j bytes held five. elim (in_one store more j bytes held) [
+              | inl l ↦ known_among commits after among j (there.no_others j bytes l five)
+              | inr r ↦ ap (is_known after) (only j bytes r five) ∙ known
+            ];
+            within = λ j c here. within_with commits commit c j (bytes_eq j k) (there.within j) within here;
+            first = (
+              there.first.0,
+              λ j here. first_with commits after k j there.first.0 (bytes_eq j k) (Some commit) among there.first.1
+                  (from_parent commits after k parent there.first.0 commit among grown (with_itself commits k commit) has there.first.1) refl refl here,
+            );
+          },
+        )
     one_by store more commits commit (Some other) at there is grown within parent has only =
         let k = commit_address address commit in
         let extends = chunk_laws.extends_left store more in
         let stands = (laws.later address (bytes_at store) (bytes_at (store ++ more)) commits extends there.stand).each k other at in
-        let told = commit_told same commit other (laws.one address (bytes_at (store ++ more)) k commit other is stands) in
-        (commits, ap (λ b. cond b (Some commits) None) told,
-        still_there store more commits (λ j bytes held five. ap (is_known commits) (only j bytes held five) ∙ ap is_some at) there)
+        let told = commit_told same commit other (laws.one address (bytes_at (store ++ more)) k commit other is stands) in (
+          commits,
+          ap (λ b. cond b (Some commits) None) told,
+          still_there store more commits (λ j bytes held five. ap (is_known commits) (only j bytes held five) ∙ ap is_some at) there,
+        )
 
     pub there_with_one : (store more : List Chunk) (commits : Commits) (commit : PlainCommit) → CommitsAreThere address (bytes_at store) commits
         → IsCommitThere address (bytes_at (store ++ more)) (commit_address address commit) commit → IsGrown commits commit → is_database_within_limits commit.database ≡ true
@@ -288,10 +300,13 @@ module _ (laws : graph.CommitsFollow) (same : SamenessIsEquality) (address : Lis
       | inr r ↦ over_known k (over_there.no_others k bytes r is)
     ];
     within = λ k c at. only_one (commits k) (over k) k (λ (d : PlainCommit). is_database_within_limits d.database ≡ true) c (commits_there.within k) (over_there.within k) at;
-    first = (commits_there.first.0, first_of_both base commits over (in_either commits over) base_found base_planned
-      (λ k c at. ap (λ (o : Option PlainCommit). first_of o (over k)) at)
-      (λ k c at. second_keeps (commits k) (over k) c (λ d here. sym (both_one k d c here at)) at)
-      base_there.stand.grown (λ k here. either_known (commits k) (over k) here) head commits_there.first.0 over_there.first.0 known commits_there.first.1 over_there.first.1);
+    first = (
+      commits_there.first.0,
+      first_of_both base commits over (in_either commits over) base_found base_planned
+          (λ k c at. ap (λ (o : Option PlainCommit). first_of o (over k)) at)
+          (λ k c at. second_keeps (commits k) (over k) c (λ d here. sym (both_one k d c here at)) at)
+          base_there.stand.grown (λ k here. either_known (commits k) (over k) here) head commits_there.first.0 over_there.first.0 known commits_there.first.1 over_there.first.1,
+    );
   }
 
   pub made_over_all : (made : Option PlainCommit) (head : List ℕ) → commits_with address made base ≡ Some over → is_known base head ≡ true

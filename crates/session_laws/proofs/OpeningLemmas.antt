@@ -1,5 +1,5 @@
 -- The shared state at its opening stands in the first commit and the empty database.
-use Rattle.std.proofs.Common.{◌≡◌, refl, ◌∙◌, sym, ap, subst, ℕ, ◌==◌, ◌≤◌, ◌≤ℤ◌, ℤ, pos, negsuc, Bool, true, false, cond, List, [], ◌∷◌, map, length, codes, Option, Some, None, option_map, is_some, arith}
+use Rattle.std.proofs.Common.{◌≡◌, refl, ◌∙◌, sym, ap, subst, ℕ, ◌==◌, ◌≤◌, ℤ, pos, negsuc, Bool, true, false, cond, List, [], ◌∷◌, map, length, codes, Some, None, option_map, is_some, arith}
 use Rattle.std.specs.Prelude.{bytes_eq}
 use Rattle.std.specs.List.{list_all}
 use Rattle.std.specs.Cmp.Lexicographic.{bytes_decides}
@@ -8,18 +8,17 @@ use Rattle.std.proofs.lemmas.Option.{cond_some}
 use Rattle.tuple_codec.specs.declared.addresses.Address.{Address}
 use Rattle.tuple_codec.specs.declared.records.BranchRecord.{BranchRecord}
 use Rattle.schema_model.specs.Limits.{is_database_within_limits, most_branches}
-use Rattle.schema_model.specs.PlainCommits.{Commits, IsAncestor, IsGrown, PlainCommit, commit_address, commit_parts, is_known, plain_commit_bytes, with_commit}
+use Rattle.schema_model.specs.PlainCommits.{Commits, IsGrown, PlainCommit, commit_address, commit_parts, is_known, plain_commit_bytes, with_commit}
 use Rattle.schema_model.specs.WrittenForms.{database_address, database_bytes}
 use Rattle.chunk_store.specs.Chunks.{AreNamed, Chunks, IsSingle, bytes_at}
 use Rattle.chunk_store.specs.Kinds.{is_commit}
 use Rattle.chunk_store.specs.Standing.{IsThere}
 use Rattle.commit_graph.specs.Commits.{IsCommit}
 use Rattle.commit_graph.specs.Standing.{IsCommitThere}
-use Rattle.script_text.specs.declared.outputs.BranchLine.{BranchLine}
 use Rattle.table_root.specs.Standing.{IsDatabaseAt}
 use Rattle.constraint_scan.specs.Scanning.{IsKeptAt}
 use Rattle.plain_sessions.specs.Branching.{is_branch_there}
-use Rattle.plain_sessions.specs.Records.{Branch, clean_at, first_commit, no_commits, opening}
+use Rattle.plain_sessions.specs.Records.{clean_at, first_commit, no_commits, opening}
 use Rattle.plain_sessions.specs.StateLimits.{is_date}
 use Rattle.session_laws.specs.Changes.{BranchStands, Paired, Parts, StateStands, lines_rise}
 use Rattle.session_laws.specs.Commits.{CommitsAreThere}
@@ -98,8 +97,8 @@ pub opening_stands : (address : List ℕ → List ℕ) (epoch : ℤ) (names : Li
 opening_stands address epoch names parts rec date held there only named single branches head working staged merging places =
     let chunks = bytes_at parts.chunks in
     let line : BranchStands address parts.chunks (opening address epoch names).commits (record { name = codes "main"; rec = rec })
-          (record { name = codes "main"; state = clean_at (commit_address address (first_commit epoch)) [] }) =
-        record { name = refl; form = refl; stands = first_record address chunks there epoch date held rec head working staged merging } in
+    (record { name = codes "main"; state = clean_at (commit_address address (first_commit epoch)) [] }) =
+    record { name = refl; form = refl; stands = first_record address chunks there epoch date held rec head working staged merging } in
     record {
       branches = subst (λ l. Paired (BranchStands address parts.chunks (opening address epoch names).commits) l (opening address epoch names).branches) (sym branches) (line, tt);
       rise = ap lines_rise branches;

@@ -9,7 +9,7 @@ use Rattle.tuple_codec.specs.declared.addresses.Address.{Address}
 use Rattle.tuple_codec.specs.declared.records.BranchRecord.{BranchRecord}
 use Rattle.schema_model.specs.PlainCommits.{Commits, is_known}
 use Rattle.schema_model.specs.PlainTables.{PlainDatabase}
-use Rattle.schema_model.specs.Sameness.{SamenessIsEquality, is_same_database, is_same_option}
+use Rattle.schema_model.specs.Sameness.{SamenessIsEquality, is_same_option}
 use Rattle.chunk_store.specs.Chunks.{Chunks, Extends}
 use Rattle.table_root.specs.Standing.{DatabasesStand}
 use Rattle.constraint_scan.specs.Scanning.{IsKeptAt}

@@ -11,7 +11,7 @@ use Rattle.schema_model.specs.Limits.{most_branches}
 use Rattle.schema_model.specs.PlainCommits.{Commits, is_known}
 use Rattle.schema_model.specs.PlainTables.{rises}
 use Rattle.schema_model.specs.Sameness.{SamenessIsEquality}
-use Rattle.chunk_store.specs.Chunks.{AreNamed, Chunk, Chunks, Extends, IsSingle, Listed, Lists, bytes_at}
+use Rattle.chunk_store.specs.Chunks.{AreNamed, Chunk, Extends, IsSingle, Lists, bytes_at}
 use Rattle.chunk_store.specs.Laws.{ChunksFollow, SegmentsFollow}
 use Rattle.chunk_store.specs.Stores.{IsUnion, all_chunks}
 use Rattle.chunk_store.proofs.ChunkLemmas.{at_join, either_some, listed_finds}
@@ -86,17 +86,17 @@ module _ (address : List ℕ → List ℕ) (chunks : List Chunk) (commits : Comm
   state_found name line (x ∷ lines) [] stand found = absurd stand
   state_found name line (x ∷ lines) (b ∷ branches) stand found =
       let rest : find (λ (other : BranchLine). bytes_eq other.name name) lines ≡ Some line
-          → (state : BranchState) × (state_of branches name ≡ Some state) × RecordStands address (bytes_at chunks) commits line.rec state =
-          state_found name line lines branches stand.1 in
+      → (state : BranchState) × (state_of branches name ≡ Some state) × RecordStands address (bytes_at chunks) commits line.rec state =
+      state_found name line lines branches stand.1 in
       subst (λ n. (state : BranchState) × (option_map (λ (c : Branch). c.state) (cond (bytes_eq n name) (Some b) (find (is_branch name) branches)) ≡ Some state)
-        × RecordStands address (bytes_at chunks) commits line.rec state) stand.0.name
+      × RecordStands address (bytes_at chunks) commits line.rec state) stand.0.name
       (by (bytes_eq x.name name) found rest)
     where
       by : (t : Bool) → cond t (Some x) (find (λ (other : BranchLine). bytes_eq other.name name) lines) ≡ Some line
           → (find (λ (other : BranchLine). bytes_eq other.name name) lines ≡ Some line
-            → (state : BranchState) × (state_of branches name ≡ Some state) × RecordStands address (bytes_at chunks) commits line.rec state)
+          → (state : BranchState) × (state_of branches name ≡ Some state) × RecordStands address (bytes_at chunks) commits line.rec state)
           → (state : BranchState) × (option_map (λ (c : Branch). c.state) (cond t (Some b) (find (is_branch name) branches)) ≡ Some state)
-            × RecordStands address (bytes_at chunks) commits line.rec state
+          × RecordStands address (bytes_at chunks) commits line.rec state
       by true here rest = (b.state, refl, subst (λ (l : BranchLine). RecordStands address (bytes_at chunks) commits l.rec b.state) (same_Some x line here) stand.0.stands)
       by false here rest = rest here
 
@@ -167,6 +167,7 @@ module _ (databases : DatabasesStand) (laws : graph.CommitsFollow) (address : Li
   lines_settled old new commits after name rec state (x ∷ lines) [] more known is stand = absurd stand
   lines_settled old new commits after name rec state (x ∷ lines) (b ∷ branches) more known is stand =
       (line_settled old new commits after name rec state x b more known is stand.0, lines_settled old new commits after name rec state lines branches more known is stand.1)
+
 some_mapped : (o : Option Branch) → is_some (option_map (λ (branch : Branch). branch.state) o) ≡ is_some o
 some_mapped None = refl
 some_mapped (Some branch) = refl
@@ -183,7 +184,7 @@ module _ (chunk_laws : ChunksFollow) (store sealed some left : List Chunk) (list
   in_either_part single_some k bytes held = elim (union.only k bytes (chunk_laws.is_listed left k bytes held)) [
     | inl l ↦ inl (chunk_laws.is_found some k bytes single_some l)
     | inr r ↦ (let found = listed_finds (store ++ sealed) k bytes ((chunk_laws.listed_either store sealed).1 k bytes r) in
-      inr (found.1 ∙ ap Some (same_Some found.0 bytes (sym (planned_held k found.0 found.1) ∙ held))))
+        inr (found.1 ∙ ap Some (same_Some found.0 bytes (sym (planned_held k found.0 found.1) ∙ held))))
   ]
 
 module _ (chunk_laws : ChunksFollow) (segments : SegmentsFollow) (databases : DatabasesStand) (same : SamenessIsEquality) (laws : graph.CommitsFollow) (address : List ℕ → List ℕ) where
@@ -199,27 +200,30 @@ module _ (chunk_laws : ChunksFollow) (segments : SegmentsFollow) (databases : Da
       let planned_in = planned_held chunk_laws store sealed parts.chunks left.chunks lists union single in
       let after = in_either found.commits changes.after in
       let made = made_over_all laws same address (bytes_at store) (bytes_at parts.chunks) (bytes_at (store ++ sealed)) (bytes_at left.chunks) look found.commits changes.after
-          (chunk_laws.lists_extends store parts.chunks stands.single lists) (chunk_laws.extends_left store sealed) found_in planned_in look_there stands.commits changes.commits_after
-          change.made head changes.is known (in_either_part chunk_laws store sealed parts.chunks left.chunks lists union single stands.single) in
+      (chunk_laws.lists_extends store parts.chunks stands.single lists) (chunk_laws.extends_left store sealed) found_in planned_in look_there stands.commits changes.commits_after
+      change.made head changes.is known (in_either_part chunk_laws store sealed parts.chunks left.chunks lists union single stands.single) in
       let put : with_branch name change.becomes found.branches ≡ replaced name change.becomes found.branches =
-          put_in_place name change.becomes found.branches (sym (branches_rise address parts.chunks found.commits parts.branches found.branches stands.branches) ∙ stands.rise)
-          (sym (some_mapped (find (is_branch name) found.branches)) ∙ ap is_some at) in
+      put_in_place name change.becomes found.branches (sym (branches_rise address parts.chunks found.commits parts.branches found.branches stands.branches) ∙ stands.rise)
+      (sym (some_mapped (find (is_branch name) found.branches)) ∙ ap is_some at) in
       let lines = lines_settled databases laws address parts.chunks left.chunks found.commits after name rec change.becomes parts.branches found.branches found_in made.3
-          (record_later databases address (bytes_at (store ++ sealed)) (bytes_at left.chunks) changes.after after rec change.becomes planned_in made.2 changes.stands) stands.branches in
+      (record_later databases address (bytes_at (store ++ sealed)) (bytes_at left.chunks) changes.after after rec change.becomes planned_in made.2 changes.stands) stands.branches in
       let there : (n : List ℕ) → is_branch_there (with_change name change found after) n ≡ is_branch_there found n =
-          λ n. ap (λ l. is_some (state_of l n)) put ∙ still_found name change.becomes n found.branches in
-      (after, made.0, record {
-        branches = subst (λ l. Paired (BranchStands address left.chunks after) l (with_branch name change.becomes found.branches)) (sym branches)
-            (subst (λ l. Paired (BranchStands address left.chunks after) (with_record name rec parts.branches) l) (sym put) lines);
-        rise = ap lines_rise branches ∙ lines_still_rise name rec parts.branches ∙ stands.rise;
-        few = subst (λ n. n ≤ most_branches) (sym (ap length branches ∙ length-map parts.branches (line_replacing name rec))) stands.few;
-        places = places ∙ stands.places;
-        placed = ap (λ (p : List ℕ → Bool). list_all p found.places) (λ i n. there n i) ∙ stands.placed;
-        commits = made.1;
-        named = chunk_laws.named_fewer address left.chunks (parts.chunks ++ sealed) (segments.union_lists parts.chunks sealed left.chunks union)
-            (chunk_laws.named_join address parts.chunks sealed stands.named changes.named);
-        single = single;
-      })
+      λ n. ap (λ l. is_some (state_of l n)) put ∙ still_found name change.becomes n found.branches in (
+        after,
+        made.0,
+        record {
+          branches = subst (λ l. Paired (BranchStands address left.chunks after) l (with_branch name change.becomes found.branches)) (sym branches)
+              (subst (λ l. Paired (BranchStands address left.chunks after) (with_record name rec parts.branches) l) (sym put) lines);
+          rise = ap lines_rise branches ∙ lines_still_rise name rec parts.branches ∙ stands.rise;
+          few = subst (λ n. n ≤ most_branches) (sym (ap length branches ∙ length-map parts.branches (line_replacing name rec))) stands.few;
+          places = places ∙ stands.places;
+          placed = ap (λ (p : List ℕ → Bool). list_all p found.places) (λ i n. there n i) ∙ stands.placed;
+          commits = made.1;
+          named = chunk_laws.named_fewer address left.chunks (parts.chunks ++ sealed) (segments.union_lists parts.chunks sealed left.chunks union)
+              (chunk_laws.named_join address parts.chunks sealed stands.named changes.named);
+          single = single;
+        },
+      )
 
 pub states_follow : ChunksFollow → SegmentsFollow → DatabasesStand → SamenessIsEquality → graph.CommitsFollow → StatesFollow
 states_follow chunk_laws segments databases same laws = record {

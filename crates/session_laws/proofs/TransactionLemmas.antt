@@ -1,9 +1,8 @@
 -- Transactions that stand in a draft.
-use Rattle.std.proofs.Common.{◌≡◌, refl, ◌∙◌, sym, ap, subst, ℕ, true, List, [], map, append-nil}
-use Rattle.std.specs.List.{list_all}
+use Rattle.std.proofs.Common.{◌≡◌, ◌∙◌, sym, ap, subst, ℕ, List, [], map, append-nil}
 use Rattle.std.proofs.lemmas.List.Folds.{list_all-map}
 use Rattle.tuple_codec.specs.declared.records.BranchRecord.{BranchRecord}
-use Rattle.schema_model.specs.PlainCommits.{Commits, is_known}
+use Rattle.schema_model.specs.PlainCommits.{is_known}
 use Rattle.chunk_store.specs.Chunks.{Chunk, Chunks, bytes_at}
 use Rattle.chunk_store.specs.Drafts.{DraftParts, Longer, chunks_of}
 use Rattle.chunk_store.specs.Laws.{DraftsFollow}

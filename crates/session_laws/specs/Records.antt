@@ -1,5 +1,5 @@
 -- Branches' records by addresses, and the plain records for which they stand.
-use Rattle.std.specs.Prelude.{◌≡◌, ℕ, true, List, Option}
+use Rattle.std.specs.Prelude.{◌≡◌, ℕ, true, List}
 use Rattle.std.specs.Option.{option_map, option_map_or}
 use Rattle.tuple_codec.specs.declared.records.BranchRecord.{BranchRecord}
 use Rattle.schema_model.specs.PlainCommits.{Commits, is_known}

@@ -2,8 +2,8 @@
 use Rattle.std.specs.Prelude.{◌≡◌, ⊤, ℕ, true, List, map, Option, None, Some}
 use Rattle.std.specs.List.{list_all}
 use Rattle.tuple_codec.specs.declared.records.BranchRecord.{BranchRecord}
-use Rattle.schema_model.specs.PlainCommits.{Commits, is_known}
-use Rattle.chunk_store.specs.Chunks.{AreNamed, Chunk, bytes_at}
+use Rattle.schema_model.specs.PlainCommits.{is_known}
+use Rattle.chunk_store.specs.Chunks.{AreNamed, bytes_at}
 use Rattle.chunk_store.specs.Drafts.{DraftParts, chunks_of}
 use Rattle.chunk_store.specs.Stores.{all_chunks}
 use Rattle.table_root.specs.declared.heads.Head.{Head}
