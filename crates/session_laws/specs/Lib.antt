@@ -1,0 +1,5 @@
+pub mod Records
+pub mod Commits
+pub mod Transactions
+pub mod Changes
+pub mod Laws
