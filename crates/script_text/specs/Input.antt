@@ -19,7 +19,7 @@ abbrev pub most_name_bytes : ℕ
 most_name_bytes = 32
 
 abbrev pub most_sessions : ℕ
-most_sessions = 1
+most_sessions = 64
 
 abbrev pub most_statements : ℕ
 most_statements = 20000

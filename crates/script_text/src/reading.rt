@@ -14,7 +14,7 @@ const MOST_BYTES: usize = 16_777_216;
 
 const MOST_STATEMENT_BYTES: usize = 65_536;
 
-const MOST_SESSIONS: usize = 1;
+const MOST_SESSIONS: usize = 64;
 
 const MOST_STATEMENTS: usize = 20_000;
 

@@ -29,6 +29,19 @@ fn lines(alloc: Global, count: usize, end: &[u8]) -> Result<Vec<u8>, AllocError>
     Ok(bytes)
 }
 
+/// A line each of so many sessions, at most 128, whose names have two letters.
+fn sessions(alloc: Global, count: usize) -> Result<Vec<u8>, AllocError>
+    requires { count ≤ 128 }
+{
+    let mut bytes = Vec::new(alloc);
+    for at in 0..count {
+        let first = b'a' + (at / 16) as u8;
+        let second = b'a' + (at % 16) as u8;
+        bytes.extend_from_slice(&[b'@', first, second, b' ', b'x', b';', b'\n'])?;
+    }
+    Ok(bytes)
+}
+
 /// A line `@a ..;` whose statement has so many bytes.
 fn long_line(alloc: Global, count: usize) -> Result<Vec<u8>, AllocError> {
     let mut bytes = Vec::from_slice(alloc, b"@a ")?;
@@ -85,15 +98,12 @@ fn reports_what_is_too_much(rt: HostRuntime) -> Result<(), Fail> {
     assert_eq!(rt; fault(alloc, &vec![in alloc; b' '; 16_777_216]?), None);
     assert_eq!(rt; fault(alloc, &long_line(alloc, 65_536)?), None);
     assert_eq!(rt; fault(alloc, &long_line(alloc, 65_537)?), Some((1, 4)));
-    assert_eq!(rt; fault(alloc, b"@a x;\n\n@a y;\n@b x;\n@c"), Some((4, 5)));
+    assert_eq!(rt; fault(alloc, &sessions(alloc, 64)?), None);
+    assert_eq!(rt; fault(alloc, &sessions(alloc, 65)?), Some((65, 5)));
     assert_eq!(rt; fault(alloc, &lines(alloc, 20_000, b"")?), None);
     assert_eq!(rt;
         fault(alloc, &lines(alloc, 20_000, b"@a x;")?),
         Some((20_001, 6))
-    );
-    assert_eq!(rt;
-        fault(alloc, &lines(alloc, 20_000, b"@b x;")?),
-        Some((20_001, 5))
     );
     Ok(())
 }
