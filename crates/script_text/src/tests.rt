@@ -29,13 +29,11 @@ fn lines(alloc: Global, count: usize, end: &[u8]) -> Result<Vec<u8>, AllocError>
     Ok(bytes)
 }
 
-/// A line each of so many sessions, at most 128, whose names have two letters.
-fn sessions(alloc: Global, count: usize) -> Result<Vec<u8>, AllocError>
-    requires { count ≤ 128 }
-{
+/// A line each of so many sessions, up to 256, whose names have two letters.
+fn sessions(alloc: Global, count: usize) -> Result<Vec<u8>, AllocError> {
     let mut bytes = Vec::new(alloc);
     for at in 0..count {
-        let first = b'a' + (at / 16) as u8;
+        let first = b'a' + (at / 16 % 16) as u8;
         let second = b'a' + (at % 16) as u8;
         bytes.extend_from_slice(&[b'@', first, second, b' ', b'x', b';', b'\n'])?;
     }
