@@ -2,3 +2,5 @@ pub mod RefusalLemmas
 pub mod FreeLemmas
 pub mod StandLemmas
 pub mod WrittenLemmas
+pub mod ListLemmas
+pub mod RecordLemmas
