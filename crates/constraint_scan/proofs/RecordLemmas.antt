@@ -1,5 +1,5 @@
 -- Tables and databases whose lists of violations are put in place of others.
-use Rattle.std.proofs.Common.{◌≡◌, ◌≤◌, refl, sym, ap, ◌∙◌, subst, ℕ, suc, Bool, true, false, cond, ◌&&◌, nat_le, nat_cmp, List, [], ◌∷◌, ◌++◌, append_assoc, length, map, filter, flat_map, bytes_eq, Option, Some, None, true≢false}
+use Rattle.std.proofs.Common.{◌≡◌, ◌≤◌, refl, sym, ap, ◌∙◌, subst, ℕ, suc, arith, Bool, true, false, cond, ◌&&◌, nat_le, nat_cmp, List, [], ◌∷◌, ◌++◌, append_assoc, length, map, filter, flat_map, bytes_eq, Option, Some, None, true≢false}
 use Rattle.std.specs.Cmp.{IsTotalOrder}
 use Rattle.std.specs.Cmp.Lexicographic.{bytes_decides, slice_cmp}
 use Rattle.std.specs.List.{AllByRecursion, find, list_all}
@@ -7,7 +7,7 @@ use Rattle.std.specs.Option.{option_map, option_map_or}
 use Rattle.std.specs.Ordering.{is_lt, ordering_then}
 use Rattle.std.specs.declared.cmp.Ordering.{Ordering}
 use Rattle.std.specs.declared.cmp.Ordering.TheVariants.{Less, Equal, Greater}
-use Rattle.std.proofs.lemmas.Bool.{and_parts}
+use Rattle.std.proofs.lemmas.Bool.{and_from, and_parts}
 use Rattle.std.proofs.lemmas.Cmp.{nat_cmp_total, nat_list_cmp_total, on_total, then_total}
 use Rattle.std.proofs.lemmas.List.{length-map}
 use Rattle.tuple_codec.specs.Nodes.{Item}
@@ -27,10 +27,12 @@ use Rattle.table_root.specs.Standing.{IsTableAt, IsTableOf, TablesStand, named_t
 use Rattle.table_root.specs.declared.records.NamedTable as entries
 use Rattle.table_root.specs.declared.records.Table.{Table}
 use Rattle.plain_writes.specs.Violations.{Found, is_called, table_in}
-use Rattle.constraint_scan.specs.Recording.{CanRecordEach, IsEntry, MayList, MayListNamed, found_cmp, has_name, is_of, listed_if, listed_item, listed_items, may_stand, may_stand_in, recorded_as, recorded_in, violations_of, with_list}
+use Rattle.constraint_scan.specs.Recording.{CanRecord, CanRecordEach, CanRecordTable, IsEntry, MayBeWritten, MayList, MayListNamed, found_cmp, has_name, is_of, listed_if, listed_item, listed_items, may_stand, may_stand_in, recorded_as, recorded_in, violations_of, with_list}
 use Rattle.constraint_scan.specs.Scanning.{AreThere}
 use Rattle.constraint_scan.specs.Written.{written, written_in}
 use Rattle.constraint_scan.specs.declared.listing.Violation as listing
+use Rattle.constraint_scan.proofs.NameLemmas.{each_found}
+use Rattle.constraint_scan.proofs.StandLemmas.{Parts}
 
 two : {A : Type 0} (b : Bool) → (b ≡ true → A) → (b ≡ false → A) → A
 two true f g = f refl
@@ -289,3 +291,73 @@ pub all_may : (database : PlainDatabase) (list : List listing.Violation) (found 
 all_may database list found [] finds written_ all rise = tt
 all_may database list found (named ∷ tables) finds written_ all rise =
     (may_list database list found named finds.0 written_ all rise, all_may database list found tables finds.1 written_ all rise)
+
+-- ---- the first of the tables, and the others
+
+module _ (address : List ℕ → List ℕ) (chunks : Chunks) (tables rest : List entries.NamedTable) (list : List listing.Violation) (database : PlainDatabase) (found : List Found) (first : entries.NamedTable)
+  (can : CanRecordEach address chunks tables list database found) (parts : Parts address chunks database first rest) where
+  within_parts : (is_named_within_limits parts.named ≡ true) × (list_all is_named_within_limits parts.others ≡ true)
+  within_parts = and_parts (is_named_within_limits parts.named) (list_all is_named_within_limits parts.others) (subst (λ (d : PlainDatabase). list_all is_named_within_limits d ≡ true) parts.both can.limits)
+
+  may_parts : AllByRecursion (MayListNamed list found) (parts.named ∷ parts.others)
+  may_parts = subst (λ (d : PlainDatabase). AllByRecursion (MayListNamed list found) d) parts.both can.may
+
+  pub first_can : CanRecordTable address chunks first.table.0 first.name list (let named = parts.named in named.table) (let named = parts.named in violations_of named.name found)
+  first_can = record {
+    at = parts.at;
+    limits = (and_parts _ _ (and_parts _ _ (and_parts _ _ (and_parts _ _ (and_parts _ _ within_parts.0).1).0).0).0).0;
+    names = can.names;
+    may = let named = parts.named in subst (λ (n : List ℕ). MayList (listed_items n list) named.table.schema (violations_of named.name found)) (sym parts.name) may_parts.0;
+  }
+
+  pub others_can : (new : Chunks) → Extends chunks new → TablesStand → CanRecordEach address new rest list parts.others found
+  others_can new more laws = record {
+    there = there_later address chunks new more laws parts.others rest parts.there;
+    limits = within_parts.1;
+    names = can.names;
+    may = may_parts.1;
+  }
+
+-- what was done, with the first of the tables and with the others
+pub joined : (found : List Found) (done others database : PlainDatabase) (named : NamedTable) → database ≡ named ∷ others
+    → (done ++ recorded_in found named ∷ []) ++ recorded_as found others ≡ done ++ recorded_as found database
+joined found done others database named is = append_assoc done (recorded_in found named ∷ []) (recorded_as found others) ∙ ap (λ (d : PlainDatabase). done ++ recorded_as found d) (sym is)
+
+pub nothing_left : (address : List ℕ → List ℕ) (chunks : Chunks) (tables : List entries.NamedTable) (database : PlainDatabase) → AreThere address chunks database tables → length tables ≡ 0 → database ≡ []
+nothing_left address chunks tables [] there none = refl
+nothing_left address chunks tables (named ∷ database) there none =
+    let some : length tables ≡ suc (length (named_tables address database)) = ap length there.listed in
+    absurd (omega (arith, none, some))
+
+-- ---- a whole database
+
+pub can_each : (address : List ℕ → List ℕ) (chunks : Chunks) (k : List ℕ) (list : List listing.Violation) (database : PlainDatabase) (found : List Found) → CanRecord address chunks k list database found
+    → (tables : List entries.NamedTable) → tables ≡ named_tables address database → CanRecordEach address chunks tables list database found
+can_each address chunks k list database found can tables are =
+    let stands = let kept = can.kept in kept.stands in
+    let recordable = can.recordable in
+    let is_database = stands.is_database in
+    record {
+      there = record { stand = stands.tables; listed = are };
+      limits = let kept = can.kept in (and_parts (nat_le (length database) most_tables) (list_all is_named_within_limits database) kept.within).1;
+      names = subst (λ (l : List listing.Violation). list_all has_name l ≡ true) (sym recordable.written) (names_of database found recordable.stand);
+      may = all_may database list found database (each_found database is_database.rise) recordable.written recordable.stand recordable.rise;
+    }
+
+pub may_write : (address : List ℕ → List ℕ) (old new : Chunks) (k : List ℕ) (list : List listing.Violation) (database : PlainDatabase) (found : List Found) (tables : List entries.NamedTable) → CanRecord address old k list database found
+    → AreThere address new (recorded_as found database) tables → MayBeWritten address new tables (recorded_as found database)
+may_write address old new k list database found tables can there =
+    let each = can_each address old k list database found can (named_tables address database) refl in
+    let stands = let kept = can.kept in kept.stands in
+    let is_database = stands.is_database in
+    record {
+      is_database = record {
+        tables = recorded_tables list found database is_database.tables each.may;
+        names = recorded_names is_name found database ∙ is_database.names;
+        rise = recorded_rise found database ∙ is_database.rise;
+      };
+      within = and_from _ _
+          (ap (λ n. nat_le n most_tables) (length-map database (recorded_in found)) ∙ (let kept = can.kept in (and_parts (nat_le (length database) most_tables) (list_all is_named_within_limits database) kept.within).0))
+          (recorded_within list found database each.limits each.may);
+      there = there;
+    }

@@ -24,7 +24,7 @@ use node_chunker::build;
 use node_format::LeafItem;
 use std::alloc::{AllocError, Global};
 use table_root::{NamedTable, Table, read_database, read_table, write_database, write_table};
-use tuple_codec::{Address, Blob, Digester, Sequence, SqlType, Text, Value, encode_key};
+use tuple_codec::{Address, Blob, Digester, Sequence, SqlType, Text, Value, encode_key, keys_keep_order};
 
 /// A constraint's name as a cell of a key.
 fn name_key(alloc: Global, name: &[u8]) -> Result<Blob, AllocError>
@@ -160,6 +160,7 @@ fn record_table<D: Digester>(
     ensures cause { IfErr result (IsReason D.address (chunks_of draft.new.chunks)) }
 {
     laws_of_growth();
+    keys_keep_order();
     let table = read_table(alloc, draft, address)?;
     let violations = build_list(alloc, draft, name, list)?;
     let recorded = Table {
@@ -186,9 +187,12 @@ fn record_named<D: Digester>(
     ensures grows { Grows is_data draft.old draft.new }
     ensures cause { IfErr result (IsReason D.address (chunks_of draft.new.chunks)) }
 {
-    let name = Text::from_slice(alloc, entry.name.as_slice())?;
-    let table = record_table(alloc, draft, &entry.table, name.as_slice(), list)?;
-    Ok(NamedTable { name, table })
+    let name = entry.name.as_slice();
+    let table = record_table(alloc, draft, &entry.table, name, list)?;
+    Ok(NamedTable {
+        name: Text::from_slice(alloc, name)?,
+        table,
+    })
 }
 
 /// Records the violations of each of these tables, and adds them as they stand then. There are few tables, so the calls don't go deep.
