@@ -1,5 +1,5 @@
 -- The items of violations: their keys have the violations' order, and they are rows of a tree.
-use Rattle.std.proofs.Common.{◌≡◌, ◌≤◌, ◌<◌, ◌^◌, ◌+◌, ◌*◌, ◌==◌, refl, sym, ap, ◌∙◌, subst, arith, ℕ, suc, Bool, true, false, cond, ◌&&◌, nat_le, List, [], ◌∷◌, ◌++◌, Some, length, map, filter, flat_map, bytes_eq, length-append}
+use Rattle.std.proofs.Common.{◌≡◌, ◌≤◌, ◌<◌, ◌^◌, ◌+◌, ◌*◌, ◌==◌, refl, sym, ap, ◌∙◌, subst, arith, ℕ, suc, Bool, true, false, cond, ◌&&◌, nat_le, List, [], ◌∷◌, ◌++◌, Some, length, map, flat_map, length-append}
 use Rattle.std.specs.Cmp.Lexicographic.{slice_cmp}
 use Rattle.std.specs.List.{AllByRecursion, list_all}
 use Rattle.std.specs.Ordering.{is_lt, nat_cmp, ordering_then}
@@ -16,8 +16,7 @@ use Rattle.schema_model.specs.PlainTables.{Violation, body_bytes, is_row_at, is_
 use Rattle.schema_model.specs.Schemas.{is_name, is_schema}
 use Rattle.schema_model.specs.declared.schemas.Schema.{Schema}
 use Rattle.schema_model.proofs.FitLemmas.{key_types_fit}
-use Rattle.constraint_scan.specs.Recording.{MayList, listed_if, listed_item, listed_items, may_stand}
-use Rattle.constraint_scan.specs.declared.listing.Violation as listing
+use Rattle.constraint_scan.specs.Recording.{AreRising, MayList, may_stand}
 
 -- ---- the order of keys
 
@@ -90,20 +89,13 @@ items_are schema (one ∷ found) all =
 
 -- ---- a list of them
 
-if_few : (b : Bool) (item : Item) → length (cond b (item ∷ []) []) ≤ 1
-if_few true item = omega arith
-if_few false item = omega arith
+pub list_rises : KeepsOrder → (schema : Schema) (items : List Item) (found : List Violation) → is_schema schema ≡ true → MayList items schema found → AreRising items
+list_rises keeps schema items found valid may =
+    subst AreRising (sym may.items_are) (record { each = items_are schema found may.stand; rise = items_rise keeps schema found valid may.stand may.rise })
 
-pub listed_few : (name : List ℕ) (list : List listing.Violation) → length (listed_items name list) ≤ length list
-listed_few name [] = omega arith
-listed_few name (one ∷ list) =
-    let more : length (listed_items name list) ≤ length list = listed_few name list in
-    let first : length (listed_if name one) ≤ 1 = if_few (bytes_eq one.table name) (listed_item one) in
-    subst (λ n. n ≤ suc (length list)) (sym (length-append (listed_if name one) (listed_items name list))) (omega (arith, more, first))
-
-pub rows_of_list : KeepsOrder → (schema : Schema) (items : List Item) (found : List Violation) → is_schema schema ≡ true → MayList items schema found → length items < 2 ^ 63 → AreRows items
-rows_of_list keeps schema items found valid may few = subst AreRows (sym may.items_are) (record {
-  each = items_are schema found may.stand;
-  rise = items_rise keeps schema found valid may.stand may.rise;
-  few = subst (λ (l : List Item). length l < 2 ^ 63) may.items_are few;
+pub rows_of_list : (items rows : List Item) (n : ℕ) → AreRising items → rows ≡ items → length rows ≡ n → n < 2 ^ 63 → AreRows rows
+rows_of_list items rows n rising is counted few = subst AreRows (sym is) (record {
+  each = rising.each;
+  rise = rising.rise;
+  few = subst (λ m. m < 2 ^ 63) (sym counted ∙ ap (λ (l : List Item). length l) is) few;
 })

@@ -1,5 +1,5 @@
 -- Tables and databases whose lists of violations are put in place of others.
-use Rattle.std.proofs.Common.{◌≡◌, ◌≤◌, refl, sym, ap, ◌∙◌, subst, ℕ, suc, arith, Bool, true, false, cond, ◌&&◌, nat_le, nat_cmp, List, [], ◌∷◌, ◌++◌, append_assoc, length, map, filter, flat_map, bytes_eq, Option, Some, None, true≢false}
+use Rattle.std.proofs.Common.{◌≡◌, ◌<◌, ◌^◌, refl, sym, ap, ◌∙◌, subst, ℕ, suc, arith, Bool, true, false, cond, ◌&&◌, nat_le, nat_cmp, List, [], ◌∷◌, ◌++◌, append_assoc, length, map, filter, flat_map, bytes_eq, Option, Some, None, true≢false}
 use Rattle.std.specs.Cmp.{IsTotalOrder}
 use Rattle.std.specs.Cmp.Lexicographic.{bytes_decides, slice_cmp}
 use Rattle.std.specs.List.{AllByRecursion, find, list_all}
@@ -7,7 +7,7 @@ use Rattle.std.specs.Option.{option_map, option_map_or}
 use Rattle.std.specs.Ordering.{is_lt, ordering_then}
 use Rattle.std.specs.declared.cmp.Ordering.{Ordering}
 use Rattle.std.specs.declared.cmp.Ordering.TheVariants.{Less, Equal, Greater}
-use Rattle.std.proofs.lemmas.Bool.{and_from, and_parts}
+use Rattle.std.proofs.lemmas.Bool.{and_from, and_parts, leb-true}
 use Rattle.std.proofs.lemmas.Cmp.{nat_cmp_total, nat_list_cmp_total, on_total, then_total}
 use Rattle.std.proofs.lemmas.List.{length-map}
 use Rattle.tuple_codec.specs.Nodes.{Item}
@@ -23,11 +23,12 @@ use Rattle.schema_model.specs.declared.schemas.Schema.{Schema}
 use Rattle.chunk_store.specs.Chunks.{Chunks, Extends}
 use Rattle.chunk_store.specs.Standing.{IsTree}
 use Rattle.table_root.specs.Databases.{has_short_name, names_rise}
-use Rattle.table_root.specs.Standing.{IsTableAt, IsTableOf, TablesStand, named_tables}
+use Rattle.table_root.specs.Standing.{IsTableAt, IsTableOf, TableValuesStand, TablesStand, named_tables}
+use Rattle.table_root.specs.Tables.{IsTableFound}
 use Rattle.table_root.specs.declared.records.NamedTable as entries
 use Rattle.table_root.specs.declared.records.Table.{Table}
 use Rattle.plain_writes.specs.Violations.{Found, is_called, table_in}
-use Rattle.constraint_scan.specs.Recording.{CanRecord, CanRecordEach, CanRecordTable, IsEntry, MayBeWritten, MayList, MayListNamed, found_cmp, has_name, is_of, listed_if, listed_item, listed_items, may_stand, may_stand_in, recorded_as, recorded_in, violations_of, with_list}
+use Rattle.constraint_scan.specs.Recording.{CanRecord, CanRecordEach, CanRecordTable, IsEntry, MayBeWritten, MayList, MayListNamed, MayStand, found_cmp, has_name, is_of, listed_if, listed_item, listed_items, may_stand, may_stand_in, recorded_as, recorded_in, violations_of, with_list}
 use Rattle.constraint_scan.specs.Scanning.{AreThere}
 use Rattle.constraint_scan.specs.Written.{written, written_in}
 use Rattle.constraint_scan.specs.declared.listing.Violation as listing
@@ -85,6 +86,15 @@ relisted address chunks table contents items found k stands may tree =
         violations = record { 0 = sym at.named i };
       };
     }
+
+-- a table that was read, once the tree of its list is built
+pub may_keep : (address : List ℕ → List ℕ) (old new : Chunks) → Extends old new → TableValuesStand → (k name : List ℕ) (list : List listing.Violation) (contents : PlainTable) (found : List Violation) (table : Table) (violations : Address)
+    → CanRecordTable address old k name list contents found → IsTableFound old k table → IsTree address new violations.0 (listed_items name list)
+    → MayStand address new (record { schema = table.schema; rows = table.rows; indexes = table.indexes; conflicts = table.conflicts; violations = violations }) (with_list contents found)
+may_keep address old new more values k name list contents found table violations can read tree = record {
+  stands = relisted address new table contents (listed_items name list) found violations (values.later address old new contents table more (values.read address old k contents table can.at read)) can.may tree;
+  limits = can.limits;
+}
 
 -- ---- the tables of a list
 
@@ -361,3 +371,8 @@ may_write address old new k list database found tables can there =
           (recorded_within list found database each.limits each.may);
       there = there;
     }
+
+pub few_tables : (database : PlainDatabase) → is_database_within_limits database ≡ true → length database < 2 ^ 16
+few_tables database within =
+    let few = leb-true (length database) most_tables (and_parts (nat_le (length database) most_tables) (list_all is_named_within_limits database) within).0 in
+    omega (arith, few)

@@ -6,7 +6,8 @@ use Rattle.std.specs.Ordering.{nat_cmp, ordering_then}
 use Rattle.std.specs.Cmp.Lexicographic.{slice_cmp}
 use Rattle.std.specs.declared.cmp.Ordering.{Ordering}
 use Rattle.tuple_codec.specs.KeyBytes.{key_cell}
-use Rattle.tuple_codec.specs.Nodes.{Item, leaf_item}
+use Rattle.tuple_codec.specs.Nodes.{Item, Rise, leaf_item}
+use Rattle.tuple_codec.specs.Trees.{IsRow}
 use Rattle.tuple_codec.specs.declared.values.Value.TheVariants as cell
 use Rattle.schema_model.specs.Limits.{is_database_within_limits, is_named_within_limits, is_violation_within_limits, is_within_limits}
 use Rattle.schema_model.specs.PlainTables.{IsDatabase, NamedTable, PlainDatabase, PlainTable, Violation, is_violation, rises, violation_cmp, violation_item}
@@ -92,6 +93,11 @@ pub record MayList (items : List Item) (schema : Schema) (found : List Violation
   pub items_are : items ≡ map (violation_item schema) found
   pub stand : list_all (may_stand schema) found ≡ true
   pub rise : rises violation_cmp found ≡ true
+
+-- rows of a tree, of which nothing is said how many there are
+pub record AreRising (items : List Item) : Type 0 where
+  pub each : AllByRecursion IsRow items
+  pub rise : Rise items
 
 -- the address stands for the table, whose violations may be these
 pub record CanRecordTable (address : List ℕ → List ℕ) (chunks : Chunks) (k name : List ℕ) (list : List listing.Violation) (table : PlainTable) (found : List Violation) : Type 0 where

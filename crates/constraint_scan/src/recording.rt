@@ -3,7 +3,6 @@
 ghost use Rattle.std.specs.Prelude.{◌≡◌, ◌++◌, [], ◌∷◌, IfErr, IfOk, List, OnOk, map, true};
 ghost use Rattle.std.specs.List.{list_all};
 ghost use Rattle.tuple_codec.specs.KeyBytes.{key_cell};
-ghost use Rattle.tuple_codec.specs.Trees.{AreRows};
 ghost use Rattle.tuple_codec.specs.declared.values.Value.TheVariants as cell;
 ghost use Rattle.node_format.specs.Views.{leaf_of};
 ghost use Rattle.schema_model.specs.PlainTables as plain;
@@ -15,7 +14,7 @@ ghost use Rattle.chunk_store.specs.Standing.{IsTree};
 ghost use Rattle.table_root.specs.Standing.{IsTableAt};
 ghost use Rattle.plain_writes.specs.Violations.{Found};
 ghost use Rattle.constraint_scan.specs.Scanning.{AreThere, IsKeptAt};
-ghost use Rattle.constraint_scan.specs.Recording.{CanRecord, CanRecordEach, CanRecordTable, IsEntry, MayBeWritten, MayStand, has_name, is_data, listed_if, listed_item, listed_items, recorded_as, with_list};
+ghost use Rattle.constraint_scan.specs.Recording.{AreRising, CanRecord, CanRecordEach, CanRecordTable, IsEntry, MayBeWritten, MayStand, has_name, is_data, listed_if, listed_item, listed_items, recorded_as, with_list};
 
 use crate::laws::laws_of_growth;
 use crate::listing::Violation;
@@ -99,7 +98,7 @@ fn build_list<D: Digester>(
     list: &[Violation],
 ) -> Result<Address, PutFault>
     requires names { list_all has_name list.now ≡ true }
-    requires rows { AreRows (listed_items name.now list.now) }
+    requires rising { AreRising (listed_items name.now list.now) }
     ensures stands { IfOk result (λ root. IsTree D.address (chunks_of draft.new.chunks) root.0 (listed_items name.now list.now)) }
     ensures grows { Grows is_data draft.old draft.new }
     ensures cause { IfErr result (IsReason D.address (chunks_of draft.new.chunks)) }
@@ -210,6 +209,7 @@ fn record_each<D: Digester>(
     ensures grows { Grows is_data draft.old draft.new }
     ensures cause { IfErr result (IsReason D.address (chunks_of draft.new.chunks)) }
 {
+    laws_of_growth();
     if let [first, rest @ ..] = entries {
         made.push(record_named(alloc, draft, first, list)?)?;
         return record_each(alloc, draft, rest, list, made);
