@@ -25,7 +25,8 @@ use Rattle.write_laws.proofs.OrderLemmas.{both_so, in_order_all, left_so, right_
 use Rattle.constraint_scan.specs.Scanning.{bare}
 use Rattle.constraint_scan.specs.Written.{fits, fits_in, written, written_in}
 use Rattle.constraint_scan.proofs.FreeLemmas.{all_flat}
-use Rattle.constraint_scan.proofs.RefusalLemmas.{by_table, bytes_itself, cells_itself, violations_bare}
+use Rattle.constraint_scan.proofs.NameLemmas.{Finds, each_found}
+use Rattle.constraint_scan.proofs.RefusalLemmas.{by_table, cells_itself, violations_bare}
 
 -- ---- a table's violations
 
@@ -66,59 +67,6 @@ module _ (schema : Schema) (is : is_schema schema ≡ true) where
         (all_flat (fits schema) (of_index schema rows) index_fits schema.indexes))
         (all_flat (fits schema) (of_check checks name schema rows) (λ (one : CheckDef). broken_fits 3 one.name (breaks_check (checks name schema one.text)) rows all) schema.checks))
         (all_flat (fits schema) (of_column schema rows) column_fits (enumerate_from 0 schema.columns)))
-
--- ---- each table is found by its name
-
-less_is : (o : Ordering) → is_lt o ≡ true → o ≡ Less
-less_is Less e = refl
-less_is Equal e = absurd (true≢false (sym e))
-less_is Greater e = absurd (true≢false (sym e))
-
-apart : (x y : NamedTable) → is_lt (slice_cmp nat_cmp x.name y.name) ≡ true → is_called y.name x ≡ false
-apart x y less = sym (is_eq-slice_cmp x.name y.name) ∙ ap is_eq (less_is (slice_cmp nat_cmp x.name y.name) less)
-
-less_again : (x y z : NamedTable) → is_lt (slice_cmp nat_cmp x.name y.name) ≡ true → is_lt (slice_cmp nat_cmp y.name z.name) ≡ true → is_lt (slice_cmp nat_cmp x.name z.name) ≡ true
-less_again x y z first second =
-    let total = nat_list_cmp_total in
-    ap is_lt (total.trans x.name y.name z.name (less_is (slice_cmp nat_cmp x.name y.name) first) (less_is (slice_cmp nat_cmp y.name z.name) second))
-
-abbrev Rise : List NamedTable → Type 0
-Rise tables = rises (λ (a b : NamedTable). slice_cmp nat_cmp a.name b.name) tables ≡ true
-
-abbrev Lies : NamedTable → NamedTable → Type 0
-Lies x y = is_called y.name x ≡ false
-
-abbrev Finds : List NamedTable → NamedTable → Type 0
-Finds tables y = table_in tables y.name ≡ Some y.table
-
-without_second : (x y : NamedTable) (tables : List NamedTable) → Rise (x ∷ y ∷ tables) → Rise (x ∷ tables)
-without_second x y [] r = refl
-without_second x y (z ∷ tables) r =
-    let after = right_so (is_lt (slice_cmp nat_cmp x.name y.name)) (rises (λ (a b : NamedTable). slice_cmp nat_cmp a.name b.name) (y ∷ z ∷ tables)) r in
-    both_so (less_again x y z (left_so (is_lt (slice_cmp nat_cmp x.name y.name)) (rises (λ (a b : NamedTable). slice_cmp nat_cmp a.name b.name) (y ∷ z ∷ tables)) r)
-    (left_so (is_lt (slice_cmp nat_cmp y.name z.name)) (rises (λ (a b : NamedTable). slice_cmp nat_cmp a.name b.name) (z ∷ tables)) after))
-    (right_so (is_lt (slice_cmp nat_cmp y.name z.name)) (rises (λ (a b : NamedTable). slice_cmp nat_cmp a.name b.name) (z ∷ tables)) after)
-
-others_apart : (x : NamedTable) (tables : List NamedTable) → Rise (x ∷ tables) → AllByRecursion (Lies x) tables
-others_apart x [] r = tt
-others_apart x (y ∷ tables) r =
-    (apart x y (left_so (is_lt (slice_cmp nat_cmp x.name y.name)) (rises (λ (a b : NamedTable). slice_cmp nat_cmp a.name b.name) (y ∷ tables)) r), others_apart x tables (without_second x y tables r))
-
-found_behind : (x : NamedTable) (database tables : List NamedTable) → AllByRecursion (Lies x) tables → AllByRecursion (Finds database) tables → AllByRecursion (Finds (x ∷ database)) tables
-found_behind x database [] lies finds = tt
-found_behind x database (y ∷ tables) lies finds =
-    (ap (λ b. option_map (λ (one : NamedTable). one.table) (cond b (Some x) (find (is_called y.name) database))) lies.0 ∙ finds.0, found_behind x database tables lies.1 finds.1)
-
-rest_rises : (x : NamedTable) (tables : List NamedTable) → Rise (x ∷ tables) → Rise tables
-rest_rises x [] r = refl
-rest_rises x (y ∷ tables) r = right_so (is_lt (slice_cmp nat_cmp x.name y.name)) (rises (λ (a b : NamedTable). slice_cmp nat_cmp a.name b.name) (y ∷ tables)) r
-
-each_found : (database : List NamedTable) → Rise database → AllByRecursion (Finds database) database
-each_found [] r = tt
-each_found (x ∷ database) r = (
-  ap (λ b. option_map (λ (one : NamedTable). one.table) (cond b (Some x) (find (is_called x.name) database))) (bytes_itself x.name),
-  found_behind x database database (others_apart x database r) (each_found database (rest_rises x database r)),
-)
 
 -- ---- a database's violations
 

@@ -1,3 +1,5 @@
 pub mod Scanning
 pub mod Refusals
 pub mod Written
+pub mod Recording
+pub mod Recorded

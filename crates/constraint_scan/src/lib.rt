@@ -9,8 +9,11 @@ mod judging;
 mod laws;
 mod listing;
 mod reading;
+mod recording;
 
 pub use canonical::CanonicalChecks;
 pub use judging::first_violation;
+pub use laws::law_of_recording;
 pub use listing::{Violation, violations};
 pub use reading::{read_schemas, read_tables};
+pub use recording::record_violations;
