@@ -6,7 +6,7 @@ use sql_procedures::{
 use tuple_codec::Sequence;
 
 /// A database statement: it reads or changes the session's own state, in a transaction.
-#[derive(Debug, Drop)]
+#[derive(Drop)]
 pub enum Work {
     /// SELECT with FROM.
     Ask(Query),
@@ -21,7 +21,7 @@ pub enum Work {
 }
 
 /// What a statement's text asks of a session.
-#[derive(Debug, Drop)]
+#[derive(Drop)]
 pub enum Command {
     /// Refused by its text alone.
     Faulty(Refusal),
