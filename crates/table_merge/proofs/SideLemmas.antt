@@ -40,20 +40,20 @@ module _ (address : List ℕ → List ℕ) (chunks : Chunks) where
       let trees = stands.trees in
       subst (λ (t : Table). AreRowsAt address chunks t.rows.0 t.schema contents.rows) (sym stands.value) (record { fit = is.rows; tree = trees.rows })
 
-  pub side_keyed : (table : Table) (contents : PlainTable) (to : Schema) (rows : List Cells) (read : List KeyedRow) → IsSide address chunks table contents → rows ≡ contents.rows
-      → read ≡ keyed_rows to (map (projected table.schema to) rows) → read ≡ keyed_rows to (rows_on to contents)
-  side_keyed table contents to rows read side same e =
-      e ∙ ap (λ (l : List Cells). keyed_rows to (map (projected table.schema to) l)) same
+  pub side_keyed : (table : Table) (contents : PlainTable) (to : Schema) (rows : List Cells) → IsSide address chunks table contents → rows ≡ contents.rows
+      → keyed_rows to (map (projected table.schema to) rows) ≡ keyed_rows to (rows_on to contents)
+  side_keyed table contents to rows side same =
+      ap (λ (l : List Cells). keyed_rows to (map (projected table.schema to) l)) same
       ∙ ap (λ (from : Schema). keyed_rows to (map (projected from to) contents.rows)) (side_schema table contents side)
 
   pub there : (table : Table) (contents : Option PlainTable) → IsSidePerhaps address chunks (Some table) contents → (one : PlainTable) × IsSide address chunks table one
   there table None h = absurd h
   there table (Some one) h = (one, h)
 
-  pub read_there : (table : Table) (to : Schema) (read : List KeyedRow) → ((one : PlainTable) → IsSide address chunks table one → read ≡ keyed_rows to (rows_on to one))
-      → (contents : Option PlainTable) → IsSidePerhaps address chunks (Some table) contents → read ≡ keyed_rows to (rows_on_or_none to contents)
-  read_there table to read h None side = absurd side
-  read_there table to read h (Some one) side = h one side
+  pub read_there : (P : List Cells → Type 0) (table : Table) (to : Schema) → ((one : PlainTable) → IsSide address chunks table one → P (rows_on to one))
+      → (contents : Option PlainTable) → IsSidePerhaps address chunks (Some table) contents → P (rows_on_or_none to contents)
+  read_there P table to h None side = absurd side
+  read_there P table to h (Some one) side = h one side
 
   pub read_none : (to : Schema) (contents : Option PlainTable) → IsSidePerhaps address chunks None contents → keyed_rows to (rows_on_or_none to contents) ≡ []
   read_none to None side = refl

@@ -19,9 +19,10 @@ use Rattle.plain_merge.specs.KeyByKey.{all_keys, before, gathered, kept, keys_wi
 use Rattle.plain_merge.specs.TableMerge.{Three, answer_at, conflict_at, conflict_if, keys_of, row_after, row_at, sides_at, table_of}
 use Rattle.table_merge.specs.Merging.{is_short_merged}
 use Rattle.table_merge.specs.Rising.{IsAt, RiseFrom}
-use Rattle.table_merge.specs.Walking.{AreKeyed, Decides, are_short, are_short_at, found, is_row_perhaps, keyed, keyed_rows, keys_in, conflicts_of, rows_in, sides_of, three_in}
+use Rattle.table_merge.specs.Walking.{AreKeyed, AreListsOf, Decides, are_short, are_short_at, found, is_row_perhaps, keyed, keyed_rows, keys_in, conflicts_of, rows_in, sides_of, three_in}
 use Rattle.table_merge.specs.declared.deciding.Decided.{Decided}
 use Rattle.table_merge.specs.declared.faults.Stop.{Stop}
+use Rattle.table_merge.specs.declared.faults.Stop.TheVariants as stop
 use Rattle.table_merge.specs.declared.keyed.KeyedRow.{KeyedRow}
 use Rattle.table_merge.proofs.MergeLemmas.{AreRows, AreThree, all_keys_fit, row_after_is, row_is_at}
 use Rattle.table_merge.proofs.UnderwayLemmas.{Underway, begun, stepped_on, stopped}
@@ -114,6 +115,10 @@ pub record Walked (s : Schema) (three : Three) (left : List Cells) (rows conflic
   pub conflicts_are : Underway (conflict_at s three) (conflict_item s) (is_conflict_within_limits s) (keys_of s three) left conflicts
   pub fit : list_all (fits_all (key_types s)) left ≡ true
 
+none_more : (b : Bool) → (b && false) ≡ false
+none_more true = refl
+none_more false = refl
+
 next_is : (keys : List Cells) (at : ℕ) (key : Cells) → at < length keys → key ≡ get_or keys at key → drop at keys ≡ key ∷ drop (at + 1) keys
 next_is keys at key within is =
     let one : suc at ≡ at + 1 = omega arith in
@@ -151,10 +156,6 @@ module _ (s : Schema) (three : Three) (keys : List Cells) (at : ℕ) (key : Cell
         let none = stopped (conflict_at s three) (conflict_item s) (is_conflict_within_limits s) (keys_of s three) key (drop (at + 1) keys) conflicts here.conflicts_are long_conflict in
         ap (λ (b : Bool). list_all (is_short_merged s) (table_of s three).rows && b) none ∙ none_more (list_all (is_short_merged s) (table_of s three).rows)
 
-    none_more : (b : Bool) → (b && false) ≡ false
-    none_more true = refl
-    none_more false = refl
-
 pub walk_begun : (s : Schema) (base ours theirs : List KeyedRow) (bs : AreKeyed s base) (os : AreKeyed s ours) (ts : AreKeyed s theirs) → is_schema s ≡ true → (keys : List Cells) (rows conflicts : List Item)
     → keys ≡ all_keys key_cmp (keys_in base) (keys_in ours) (keys_in theirs) → rows ≡ [] → conflicts ≡ [] → Walked s (three_in base ours theirs) keys rows conflicts
 walk_begun s base ours theirs bs os ts is keys rows conflicts e r c =
@@ -186,7 +187,9 @@ pub record Counting (s : Schema) (three : Three) (left : List Cells) (count : �
   pub sum : count + length (gathered (conflict_at s three) left) ≡ length (table_of s three).conflicts
 
 pub counting : (s : Schema) (three : Three) (keys : List Cells) → keys ≡ keys_of s three → Counting s three keys 0
-counting s three keys e = record { sum = ap (λ (l : List Cells). length (gathered (conflict_at s three) l)) e }
+counting s three keys e =
+    let none : 0 + length (gathered (conflict_at s three) keys) ≡ length (gathered (conflict_at s three) keys) = omega arith in
+    record { sum = none ∙ ap (λ (l : List Cells). length (gathered (conflict_at s three) l)) e }
 
 counted_on : (conflict : Conflict) (answer : Option (Option Cells)) (count more : ℕ) (others : List Conflict) → more ≡ conflicts_of answer
     → (count + more) + length others ≡ count + length (before (conflict_if conflict answer) others)
@@ -203,3 +206,20 @@ count_on s three keys at key count more within is e counting = record {
   sum = counted_on (sides_at s three key) (answer_at s three key) count more (gathered (conflict_at s three) (drop (at + 1) keys)) e
       ∙ ap (λ (l : List Cells). count + length (gathered (conflict_at s three) l)) (sym (next_is keys at key within is)) ∙ counting.sum;
 }
+
+-- ---- where a key's items passed a limit
+
+pub stops : (s : Schema) (three : Three) (row : Option Cells) (conflict : Option Conflict) (cause : Stop) → Decides (Err cause) s row conflict
+    → (are_short_at s row conflict ≡ false → are_short (table_of s three) ≡ false) → AreListsOf (Err cause) (table_of s three)
+stops s three row conflict stop.Memory h long = tt
+stops s three row conflict stop.Limit h long = long h
+
+pub one_at_most : (answer : Option (Option Cells)) → conflicts_of answer ≤ 1
+one_at_most None = omega arith
+one_at_most (Some merged) = omega arith
+
+pub counted_all : (s : Schema) (three : Three) (keys : List Cells) (at count : ℕ) → length keys ≤ at → Counting s three (drop at keys) count → count ≡ length (table_of s three).conflicts
+counted_all s three keys at count past counting =
+    let last = subst (λ (l : List Cells). Counting s three l count) (drop_of_length-le keys past) counting in
+    let none : count ≡ count + 0 = omega arith in
+    none ∙ last.sum

@@ -27,7 +27,6 @@ pub(crate) struct Lists {
 }
 
 /// Merges rows of one schema over all their keys.
-#[tactic(none)]
 pub(crate) fn merge_lists(
     alloc: Global,
     schema: &Schema,
@@ -76,7 +75,6 @@ fn all_keys(
 }
 
 /// At how many keys the rows of one schema are in conflict.
-#[tactic(none)]
 pub(crate) fn count_conflicts_in(
     alloc: Global,
     schema: &Schema,
@@ -92,12 +90,13 @@ pub(crate) fn count_conflicts_in(
     let keys = all_keys(alloc, base, ours, theirs)?;
     let mut count = 0u64;
     for key in &keys {
-        count += conflicts_at(
+        let more = conflicts_at(
             alloc,
             find(base, key),
             find(ours, key),
             find(theirs, key),
         )?;
+        count += more;
     }
     Ok(count)
 }

@@ -12,8 +12,8 @@ use Rattle.table_merge.proofs.merging.keep.Goals as goal
 pub build-requires-after_bounds : goal.build-requires-after_bounds
 build-requires-after_bounds g c κs within = tree_rows c.as_slice.result.now c.args.lists.now.rows.items c.as_slice.ensures.value c.requires.rows (omega (arith, c.as_slice.type_inv.1))
 
-pub build-2-requires-after_bounds : goal.build-2-requires-after_bounds
-build-2-requires-after_bounds g c κs within = tree_rows c.as_slice-2.result.now c.args.lists.now.conflicts.items c.as_slice-2.ensures.value c.requires.conflicts (omega (arith, c.as_slice-2.type_inv.1))
+pub build-requires-2-after_bounds : goal.build-requires-2-after_bounds
+build-requires-2-after_bounds g c κs within = tree_rows c.as_slice-2.result.now c.args.lists.now.conflicts.items c.as_slice-2.ensures.value c.requires.conflicts (omega (arith, c.as_slice-2.type_inv.1))
 
 pub returns-clause-kept : goal.returns-clause-kept
 returns-clause-kept g c =
