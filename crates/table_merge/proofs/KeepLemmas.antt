@@ -17,9 +17,11 @@ use Rattle.node_format.specs.declared.items.LeafItem.{LeafItem}
 use Rattle.table_root.specs.Standing.{IsUnindexedOf}
 use Rattle.table_root.specs.declared.records.Table.{Table}
 use Rattle.table_merge.specs.Merging.{IsMerged, PassesLimit, PlainSides, is_short_merged, keeps_limits, merged_contents}
-use Rattle.table_merge.specs.Steps.{AreTreeRows, IsKept}
-use Rattle.table_merge.specs.Walking.{are_short}
-use Rattle.table_merge.specs.declared.faults.MergeFault.{MergeFault}
+use Rattle.table_merge.specs.Steps.{AreFew, AreListsWithin, AreTreeRows, IsKept}
+use Rattle.table_merge.specs.Walking.{AreListsOf, are_short}
+use Rattle.table_merge.specs.declared.faults.Stop.{Stop}
+use Rattle.table_merge.specs.declared.faults.Stop.TheVariants as stop
+use Rattle.table_merge.specs.declared.walking.Lists.{Lists}
 use Rattle.table_merge.proofs.ItemLemmas.{conflict_items_stand, row_items_stand}
 use Rattle.table_merge.proofs.SideLemmas.{Known, three_of}
 
@@ -76,53 +78,62 @@ module _ (schema : Schema) (contents : PlainSides) (known : Known schema content
   abbrev merged : PlainTable
   merged = table_of schema (three_of schema contents)
 
-  pub rows_can : are_short merged ≡ true → AreTreeRows (row_items merged)
-  rows_can short =
-      let is = known.is_table in
-      row_items_stand schema (three_of schema contents) is.schema known.three
-      (and_parts (list_all (is_short_merged schema) merged.rows) (list_all (is_conflict_within_limits schema) merged.conflicts) short).0
+  short_of : keeps_limits merged ≡ true → are_short merged ≡ true
+  short_of keeps =
+      let one = and_parts (is_within_limits schema && nat_le (length merged.rows) most_rows && list_all (is_short_merged schema) merged.rows) (list_all (is_conflict_within_limits schema) merged.conflicts) keeps in
+      let two = and_parts (is_within_limits schema && nat_le (length merged.rows) most_rows) (list_all (is_short_merged schema) merged.rows) one.0 in
+      and_from _ _ two.1 one.1
 
-  pub conflicts_can : are_short merged ≡ true → AreTreeRows (conflict_items merged)
-  conflicts_can short =
+  pub rows_can : (rows : List LeafItem) → map leaf_of rows ≡ row_items merged → keeps_limits merged ≡ true → AreTreeRows (map leaf_of rows)
+  rows_can rows r keeps =
       let is = known.is_table in
-      conflict_items_stand schema (three_of schema contents) is.schema known.three
-      (and_parts (list_all (is_short_merged schema) merged.rows) (list_all (is_conflict_within_limits schema) merged.conflicts) short).1
+      subst AreTreeRows (sym r) (row_items_stand schema (three_of schema contents) is.schema known.three
+      (and_parts (list_all (is_short_merged schema) merged.rows) (list_all (is_conflict_within_limits schema) merged.conflicts) (short_of keeps)).0)
+
+  pub conflicts_can : (conflicts : List LeafItem) → map leaf_of conflicts ≡ conflict_items merged → keeps_limits merged ≡ true → AreTreeRows (map leaf_of conflicts)
+  conflicts_can conflicts c keeps =
+      let is = known.is_table in
+      subst AreTreeRows (sym c) (conflict_items_stand schema (three_of schema contents) is.schema known.three
+      (and_parts (list_all (is_short_merged schema) merged.rows) (list_all (is_conflict_within_limits schema) merged.conflicts) (short_of keeps)).1)
 
   -- as many rows as items
   rows_many : (rows : List LeafItem) → map leaf_of rows ≡ row_items merged → length rows ≡ length merged.rows
   rows_many rows e = sym (length-map rows leaf_of) ∙ ap length e ∙ length-map merged.rows (row_item schema)
 
-  pub is_merged : (address : List ℕ → List ℕ) (chunks : Chunks) (table : Table) (rows conflicts : List LeafItem) → is_within_limits schema ≡ true
-      → map leaf_of rows ≡ row_items merged → map leaf_of conflicts ≡ conflict_items merged → are_short merged ≡ true → nat_le (length rows) most_rows ≡ true
+  pub is_merged : (address : List ℕ → List ℕ) (chunks : Chunks) (table : Table) (rows conflicts : List LeafItem)
+      → map leaf_of rows ≡ row_items merged → map leaf_of conflicts ≡ conflict_items merged → keeps_limits merged ≡ true
       → IsKept address chunks table schema (map leaf_of rows) (map leaf_of conflicts) → IsMerged address chunks table (merged_contents contents)
-  is_merged address chunks table rows conflicts within r c short few kept = record {
+  is_merged address chunks table rows conflicts r c keeps kept = record {
     contents = merged;
     is = known.is;
     stands = kept_stands address chunks table merged (map leaf_of rows) (map leaf_of conflicts) known.is_table refl r c kept;
-    limits = limits_of (is_within_limits schema) (nat_le (length merged.rows) most_rows) (list_all (is_short_merged schema) merged.rows) (list_all (is_conflict_within_limits schema) merged.conflicts)
-        within (ap (λ (n : ℕ). nat_le n most_rows) (sym (rows_many rows r)) ∙ few) short;
+    limits = keeps;
   }
 
-  pub passes_schema : is_within_limits schema ≡ false → PassesLimit (merged_contents contents)
-  passes_schema e = record {
-    contents = merged;
-    is = known.is;
-    limits = ap (λ (b : Bool). b && nat_le (length merged.rows) most_rows && list_all (is_short_merged schema) merged.rows && list_all (is_conflict_within_limits schema) merged.conflicts) e;
-  }
+  pub passes : keeps_limits merged ≡ false → PassesLimit (merged_contents contents)
+  passes e = record { contents = merged; is = known.is; limits = e }
 
-  pub passes_short : are_short merged ≡ false → PassesLimit (merged_contents contents)
-  passes_short e = record {
-    contents = merged;
-    is = known.is;
-    limits = limits_short (is_within_limits schema) (nat_le (length merged.rows) most_rows) (list_all (is_short_merged schema) merged.rows) (list_all (is_conflict_within_limits schema) merged.conflicts) e;
-  }
+  pub passes_schema : is_within_limits schema ≡ false → keeps_limits merged ≡ false
+  passes_schema e = ap (λ (b : Bool). b && nat_le (length merged.rows) most_rows && list_all (is_short_merged schema) merged.rows && list_all (is_conflict_within_limits schema) merged.conflicts) e
 
-  pub passes_rows : (rows : List LeafItem) → map leaf_of rows ≡ row_items merged → nat_le (length rows) most_rows ≡ false → PassesLimit (merged_contents contents)
-  passes_rows rows r e = record {
-    contents = merged;
-    is = known.is;
-    limits =
-        ap (λ (b : Bool). is_within_limits schema && b && list_all (is_short_merged schema) merged.rows && list_all (is_conflict_within_limits schema) merged.conflicts)
-        (ap (λ (n : ℕ). nat_le n most_rows) (sym (rows_many rows r)) ∙ e)
-        ∙ limits_few (is_within_limits schema) (list_all (is_short_merged schema) merged.rows) (list_all (is_conflict_within_limits schema) merged.conflicts);
-  }
+  passes_rows : (rows : List LeafItem) → map leaf_of rows ≡ row_items merged → nat_le (length rows) most_rows ≡ false → keeps_limits merged ≡ false
+  passes_rows rows r e =
+      ap (λ (b : Bool). is_within_limits schema && b && list_all (is_short_merged schema) merged.rows && list_all (is_conflict_within_limits schema) merged.conflicts)
+      (ap (λ (n : ℕ). nat_le n most_rows) (sym (rows_many rows r)) ∙ e)
+      ∙ limits_few (is_within_limits schema) (list_all (is_short_merged schema) merged.rows) (list_all (is_conflict_within_limits schema) merged.conflicts)
+
+  keeps_all : (rows : List LeafItem) → map leaf_of rows ≡ row_items merged → is_within_limits schema ≡ true → nat_le (length rows) most_rows ≡ true → are_short merged ≡ true → keeps_limits merged ≡ true
+  keeps_all rows r within few short =
+      limits_of (is_within_limits schema) (nat_le (length merged.rows) most_rows) (list_all (is_short_merged schema) merged.rows) (list_all (is_conflict_within_limits schema) merged.conflicts)
+      within (ap (λ (n : ℕ). nat_le n most_rows) (sym (rows_many rows r)) ∙ few) short
+
+  pub lists_few : (lists : Lists) (result : Result Lists Stop) → is_within_limits schema ≡ true → AreListsOf (Ok lists) merged → AreFew result lists → AreListsWithin result merged
+  lists_few lists (Ok same) within are few =
+      (ap (λ (l : Lists). map leaf_of l.rows.items) few.0 ∙ are.0, ap (λ (l : Lists). map leaf_of l.conflicts.items) few.0 ∙ are.1, keeps_all lists.rows.items are.0 within few.1 are.2)
+  lists_few lists (Err stop.Memory) within are few = absurd few
+  lists_few lists (Err stop.Limit) within are few = passes_rows lists.rows.items are.0 few
+
+  pub lists_stop : (cause : Stop) → AreListsOf (Err cause) merged → AreListsWithin (Err cause) merged
+  lists_stop stop.Memory h = tt
+  lists_stop stop.Limit h =
+      limits_short (is_within_limits schema) (nat_le (length merged.rows) most_rows) (list_all (is_short_merged schema) merged.rows) (list_all (is_conflict_within_limits schema) merged.conflicts) h

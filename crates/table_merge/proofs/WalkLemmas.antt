@@ -3,6 +3,7 @@ use Rattle.std.proofs.Common.{◌≡◌, ◌<◌, ◌≤◌, ◌+◌, ◌++◌, 
 use Rattle.std.specs.Prelude.{if◌then◌else◌}
 use Rattle.std.specs.List.{list_all}
 use Rattle.std.specs.Option.{option_map_or}
+use Rattle.std.specs.Result.{IsErr, IsErrAnd}
 use Rattle.std.proofs.Math.ListN.{drop_of_length-le}
 use Rattle.std.proofs.Math.Seq.{drop-cons}
 use Rattle.std.proofs.lemmas.List.{append-nil}
@@ -24,6 +25,7 @@ use Rattle.table_merge.specs.declared.deciding.Decided.{Decided}
 use Rattle.table_merge.specs.declared.faults.Stop.{Stop}
 use Rattle.table_merge.specs.declared.faults.Stop.TheVariants as stop
 use Rattle.table_merge.specs.declared.keyed.KeyedRow.{KeyedRow}
+use Rattle.table_merge.specs.declared.walking.Lists.{Lists}
 use Rattle.table_merge.proofs.MergeLemmas.{AreRows, AreThree, all_keys_fit, row_after_is, row_is_at}
 use Rattle.table_merge.proofs.UnderwayLemmas.{Underway, begun, stepped_on, stopped}
 
@@ -209,7 +211,7 @@ count_on s three keys at key count more within is e counting = record {
 
 -- ---- where a key's items passed a limit
 
-pub stops : (s : Schema) (three : Three) (row : Option Cells) (conflict : Option Conflict) (cause : Stop) → Decides (Err cause) s row conflict
+stops : (s : Schema) (three : Three) (row : Option Cells) (conflict : Option Conflict) (cause : Stop) → Decides (Err cause) s row conflict
     → (are_short_at s row conflict ≡ false → are_short (table_of s three) ≡ false) → AreListsOf (Err cause) (table_of s three)
 stops s three row conflict stop.Memory h long = tt
 stops s three row conflict stop.Limit h long = long h
@@ -223,3 +225,8 @@ counted_all s three keys at count past counting =
     let last = subst (λ (l : List Cells). Counting s three l count) (drop_of_length-le keys past) counting in
     let none : count ≡ count + 0 = omega arith in
     none ∙ last.sum
+
+pub stops_with : (s : Schema) (three : Three) (row : Option Cells) (conflict : Option Conflict) (result : Result Lists Stop) (cause : Stop) → Decides (Err cause) s row conflict
+    → (are_short_at s row conflict ≡ false → are_short (table_of s three) ≡ false) → IsErr result × IsErrAnd result (λ found. found ≡ cause) → AreListsOf result (table_of s three)
+stops_with s three row conflict (Ok lists) cause h long e = absurd e.1
+stops_with s three row conflict (Err found) cause h long e = subst (λ (one : Stop). AreListsOf (Err one) (table_of s three)) (sym e.1) (stops s three row conflict cause h long)

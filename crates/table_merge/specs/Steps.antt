@@ -1,21 +1,26 @@
 -- The steps of a merge in a draft.
-use Rattle.std.specs.Prelude.{◌≡◌, ℕ, List, [], Option, None, Some, Result, Ok, Err, map}
+use Rattle.std.specs.Prelude.{◌≡◌, ℕ, true, false, nat_le, length, List, [], Option, None, Some, Result, Ok, Err, map}
 use Rattle.std.specs.List.{AllByRecursion}
 use Rattle.std.specs.Option.{option_map}
 use Rattle.tuple_codec.specs.Nodes.{Item, Rise}
 use Rattle.tuple_codec.specs.Trees.{IsRow}
-use Rattle.schema_model.specs.PlainTables.{PlainTable}
+use Rattle.schema_model.specs.PlainTables.{PlainTable, conflict_items, row_items}
+use Rattle.schema_model.specs.Limits.{most_rows}
 use Rattle.schema_model.specs.declared.schemas.Schema.{Schema}
+use Rattle.node_format.specs.Views.{leaf_of}
 use Rattle.schema_merge.specs.Merging.{schema3}
 use Rattle.chunk_store.specs.Chunks.{Chunks}
 use Rattle.chunk_store.specs.Standing.{IsTree}
 use Rattle.plain_merge.specs.TableMerge.{rows_on, rows_on_or_none}
 use Rattle.table_root.specs.declared.records.Table.{Table}
-use Rattle.table_merge.specs.Merging.{PlainSides}
+use Rattle.table_merge.specs.Merging.{PlainSides, keeps_limits}
 use Rattle.table_merge.specs.Walking.{keyed_rows}
 use Rattle.table_merge.specs.declared.faults.MergeFault.{MergeFault}
 use Rattle.table_merge.specs.declared.faults.MergeFault.TheVariants as fault
+use Rattle.table_merge.specs.declared.faults.Stop.{Stop}
+use Rattle.table_merge.specs.declared.faults.Stop.TheVariants as stop
 use Rattle.table_merge.specs.declared.sides.Sides.{Sides}
+use Rattle.table_merge.specs.declared.walking.Lists.{Lists}
 
 -- ---- schemas
 
@@ -40,6 +45,21 @@ pub record AreRead (schema : Schema) (contents : PlainSides) (read : Sides) : Ty
   pub base_rows : read.base.items ≡ keyed_rows schema (rows_on_or_none schema contents.base)
   pub our_rows : read.ours.items ≡ keyed_rows schema (rows_on schema contents.ours)
   pub their_rows : read.theirs.items ≡ keyed_rows schema (rows_on schema contents.theirs)
+
+-- ---- limits
+
+-- the same lists, which have no more rows than a table may
+abbrev pub AreFew : Result Lists Stop → Lists → Type 0
+AreFew (Ok few) lists = (few ≡ lists) × (nat_le (length lists.rows.items) most_rows ≡ true)
+AreFew (Err stop.Limit) lists = nat_le (length lists.rows.items) most_rows ≡ false
+AreFew (Err stop.Memory) lists = ⊥
+
+-- the items of a table's rows and conflicts were made, or the table passes a limit
+abbrev pub AreListsWithin : Result Lists Stop → PlainTable → Type 0
+AreListsWithin (Ok lists) table =
+    (map leaf_of lists.rows.items ≡ row_items table) × (map leaf_of lists.conflicts.items ≡ conflict_items table) × (keeps_limits table ≡ true)
+AreListsWithin (Err stop.Memory) table = Unit {0}
+AreListsWithin (Err stop.Limit) table = keeps_limits table ≡ false
 
 -- ---- trees
 

@@ -10,7 +10,7 @@ ghost use Rattle.schema_model.specs.Limits.{is_within_limits};
 ghost use Rattle.schema_model.specs.PlainTables.{PlainTable};
 ghost use Rattle.plain_merge.specs.TableMerge.{table_of, three_on};
 ghost use Rattle.table_merge.specs.Merging.{AreSides, IsFaultOf, IsMergeReason, IsMerged, PlainSides, merged_contents};
-ghost use Rattle.table_merge.specs.Steps.{AnswersSchema, AreTreeRows, IsKept, schema_perhaps, wanted_schema};
+ghost use Rattle.table_merge.specs.Steps.{AnswersSchema, AreFew, AreListsWithin, AreTreeRows, IsKept, schema_perhaps, wanted_schema};
 ghost use Rattle.table_merge.specs.Walking.{AreListsOf};
 
 use crate::faults::{MergeFault, Stop};
@@ -45,17 +45,11 @@ pub fn merge_table<D: Digester>(
     ensures grows { Grows is_node draft.old draft.new }
     ensures cause { IfErr result (IsMergeReason D.address (chunks_of draft.new.chunks)) }
 {
-    law_of_sameness();
     law_of_growth();
-    let schema = merged_schema(alloc, base, ours, theirs)?;
-    if !is_within_limits(&schema) {
-        return Err(MergeFault::Limit);
+    match merged_schema(alloc, base, ours, theirs) {
+        Ok(schema) => merge_on(alloc, draft, base, ours, theirs, schema),
+        Err(fault) => Err(fault),
     }
-    let lists = lists_on(alloc, draft, base, ours, theirs, &schema)?;
-    if lists.rows.len() as u64 > MOST_ROWS {
-        return Err(MergeFault::Limit);
-    }
-    Ok(keep(alloc, draft, schema, &lists)?)
 }
 
 /// At how many keys the rows of tables whose schemas merge are in conflict, whatever limits the merged table passes.
@@ -74,19 +68,11 @@ pub fn count_conflicts<D: Digester>(
     ensures { (contents : PlainSides) → AreSides D.address (chunks_of draft.now.chunks) (option_copied base.entry) ours.now theirs.now contents
         → (table : PlainTable) → merged_contents contents ≡ Ok table → IfOk result (λ count. count ≡ length table.conflicts) }
 {
-    law_of_sameness();
-    // Their schemas merge, so that memory alone may be wanting.
-    let Ok(schema) = merged_schema(alloc, base, ours, theirs) else {
-        return Err(AllocError);
-    };
-    let sides = read_sides(alloc, draft, base, ours, theirs, &schema)?;
-    count_conflicts_in(
-        alloc,
-        &schema,
-        sides.base.as_slice(),
-        sides.ours.as_slice(),
-        sides.theirs.as_slice(),
-    )
+    match merged_schema(alloc, base, ours, theirs) {
+        Ok(schema) => count_on(alloc, draft, base, ours, theirs, &schema),
+        // Their schemas merge, so memory was wanting.
+        Err(_) => Err(AllocError),
+    }
 }
 
 fn merged_schema(
@@ -115,6 +101,93 @@ fn schema_perhaps(table: Option<&Table>) -> Option<&Schema>
     match table {
         Some(table) => Some(&table.schema),
         None => None,
+    }
+}
+
+/// Merges tables on the schema that theirs come to.
+#[tactic(none)]
+fn merge_on<D: Digester>(
+    alloc: Global,
+    draft: &mut Draft<D>,
+    base: Option<&Table>,
+    ours: &Table,
+    theirs: &Table,
+    schema: Schema,
+) -> Result<Table, MergeFault>
+    requires { (contents : PlainSides) × AreSides D.address (chunks_of draft.old.chunks) (option_copied base) ours.now theirs.now contents
+        × (wanted_schema (option_copied base) ours.now theirs.now ≡ Ok schema) }
+    ensures merged { (contents : PlainSides) → AreSides D.address (chunks_of draft.old.chunks) (option_copied base.entry) ours.now theirs.now contents
+        → IfOk result (λ table. IsMerged D.address (chunks_of draft.new.chunks) table (merged_contents contents)) }
+    ensures fault { (contents : PlainSides) → AreSides D.address (chunks_of draft.old.chunks) (option_copied base.entry) ours.now theirs.now contents
+        → IfErr result (IsFaultOf (merged_contents contents)) }
+    ensures grows { Grows is_node draft.old draft.new }
+    ensures cause { IfErr result (IsMergeReason D.address (chunks_of draft.new.chunks)) }
+{
+    law_of_sameness();
+    law_of_growth();
+    let lists = lists_within(alloc, draft, base, ours, theirs, &schema)?;
+    Ok(keep(alloc, draft, schema, &lists)?)
+}
+
+#[tactic(none)]
+fn count_on<D: Digester>(
+    alloc: Global,
+    draft: &Draft<D>,
+    base: Option<&Table>,
+    ours: &Table,
+    theirs: &Table,
+    schema: &Schema,
+) -> Result<u64, AllocError>
+    requires { (contents : PlainSides) × AreSides D.address (chunks_of draft.now.chunks) (option_copied base) ours.now theirs.now contents
+        × (wanted_schema (option_copied base) ours.now theirs.now ≡ Ok schema.now) }
+    ensures { (contents : PlainSides) → AreSides D.address (chunks_of draft.now.chunks) (option_copied base.entry) ours.now theirs.now contents
+        → IfOk result (λ count. count ≡ length (table_of schema.now (three_on schema.now contents.base contents.ours contents.theirs)).conflicts) }
+{
+    law_of_sameness();
+    let sides = read_sides(alloc, draft, base, ours, theirs, schema)?;
+    count_conflicts_in(
+        alloc,
+        schema,
+        sides.base.as_slice(),
+        sides.ours.as_slice(),
+        sides.theirs.as_slice(),
+    )
+}
+
+/// The items of what tables come to on the merged schema, if all of it keeps the limits.
+#[tactic(none)]
+fn lists_within<D: Digester>(
+    alloc: Global,
+    draft: &Draft<D>,
+    base: Option<&Table>,
+    ours: &Table,
+    theirs: &Table,
+    schema: &Schema,
+) -> Result<Lists, Stop>
+    requires { (contents : PlainSides) × AreSides D.address (chunks_of draft.now.chunks) (option_copied base) ours.now theirs.now contents
+        × (wanted_schema (option_copied base) ours.now theirs.now ≡ Ok schema.now) }
+    ensures { (contents : PlainSides) → AreSides D.address (chunks_of draft.now.chunks) (option_copied base.entry) ours.now theirs.now contents
+        → AreListsWithin result (table_of schema.now (three_on schema.now contents.base contents.ours contents.theirs)) }
+{
+    law_of_sameness();
+    if is_within_limits(schema) {
+        match lists_on(alloc, draft, base, ours, theirs, schema) {
+            Ok(lists) => few(lists),
+            Err(stop) => Err(stop),
+        }
+    } else {
+        Err(Stop::Limit)
+    }
+}
+
+/// The lists, if they have no more rows than a table may.
+fn few(lists: Lists) -> Result<Lists, Stop>
+    ensures { AreFew result lists }
+{
+    if lists.rows.len() as u64 <= MOST_ROWS {
+        Ok(lists)
+    } else {
+        Err(Stop::Limit)
     }
 }
 

@@ -1,4 +1,4 @@
-use Rattle.std.proofs.Common.{◌≡◌, ◌∙◌, subst}
+use Rattle.std.proofs.Common.{subst}
 use Rattle.chunk_store.specs.Drafts.{chunks_of}
 use Rattle.plain_merge.specs.TableMerge.{Three, table_of}
 use Rattle.std.specs.Option.{option_copied}

@@ -5,7 +5,7 @@ use Rattle.plain_merge.specs.TableMerge.{conflict_if}
 use Rattle.plain_merge.specs.KeyByKey.{kept}
 use Rattle.tuple_codec.specs.RowRule.{row3}
 use Rattle.table_merge.specs.Walking.{Decides, sides_of, three_in}
-use Rattle.table_merge.proofs.WalkLemmas.{at_key, base_fits, key_fits, merged_fits, ours_fits, theirs_fits, walk_begun, walk_stops, stops, walked_all, walked_on}
+use Rattle.table_merge.proofs.WalkLemmas.{at_key, base_fits, key_fits, merged_fits, ours_fits, theirs_fits, walk_begun, walk_stops, stops_with, walked_all, walked_on}
 use Rattle.table_merge.proofs.walking.merge_lists.Goals as goal
 
 pub loop-key-init : goal.loop-key-init
@@ -55,10 +55,10 @@ returns-in_err-decided c =
     let t = c.args.theirs.now in
     let key = c.key-item.result in
     let d = at_key s b o t c.requires.base c.requires.ours c.requires.theirs
-        (λ x y z. Decides (Err c.in_err-decided.field-0) s (kept y (row3 x y z)) (conflict_if (sides_of key x y z) (row3 x y z))) key
+        (λ x y z. Decides (Err c.in_err-decided.field-0.0) s (kept y (row3 x y z)) (conflict_if (sides_of key x y z) (row3 x y z))) key
         (option_copied c.find.result) (option_copied c.find-in-loop-key.result) (option_copied c.find-in-loop-key-2.result) c.find.ensures c.find-in-loop-key.ensures c.find-in-loop-key-2.ensures c.in_err-decided.ensures in
-    stops s (three_in b o t) _ _ c.in_err-decided.field-0 d
-    (walk_stops s (three_in b o t) c.deref-key-items.result.now c.loop-key.key-index key _ _ c.loop-key-test.true c.key-item.is c.loop-key.invariant)
+    stops_with s (three_in b o t) _ _ c.from_residual-in_err-decided.result c.in_err-decided.field-0.0 d
+    (walk_stops s (three_in b o t) c.deref-key-items.result.now c.loop-key.key-index key _ _ c.loop-key-test.true c.key-item.is c.loop-key.invariant) c.from_residual-in_err-decided.ensures
 
 pub returns : goal.returns
 returns c = walked_all c.args.schema.now (three_in c.args.base.now c.args.ours.now c.args.theirs.now) c.deref-key-items.result.now c.loop-key.key-index _ _ c.loop-key-test.false c.loop-key.invariant
