@@ -29,7 +29,6 @@ use tuple_codec::{Digester, Sequence, Text};
 /// What two tables come to, each having been taken on from a base, or from none. Its indexes are still to be made.
 ///
 /// All rows of the three are read.
-#[tactic(none)]
 pub fn merge_table<D: Digester>(
     alloc: Global,
     draft: &mut Draft<D>,
@@ -55,7 +54,6 @@ pub fn merge_table<D: Digester>(
 /// At how many keys the rows of tables whose schemas merge are in conflict, whatever limits the merged table passes.
 ///
 /// All rows of the three are read.
-#[tactic(none)]
 pub fn count_conflicts<D: Digester>(
     alloc: Global,
     draft: &Draft<D>,
@@ -68,6 +66,7 @@ pub fn count_conflicts<D: Digester>(
     ensures { (contents : PlainSides) → AreSides D.address (chunks_of draft.now.chunks) (option_copied base.entry) ours.now theirs.now contents
         → (table : PlainTable) → merged_contents contents ≡ Ok table → IfOk result (λ count. count ≡ length table.conflicts) }
 {
+    law_of_sameness();
     match merged_schema(alloc, base, ours, theirs) {
         Ok(schema) => count_on(alloc, draft, base, ours, theirs, &schema),
         // Their schemas merge, so memory was wanting.
@@ -105,7 +104,6 @@ fn schema_perhaps(table: Option<&Table>) -> Option<&Schema>
 }
 
 /// Merges tables on the schema that theirs come to.
-#[tactic(none)]
 fn merge_on<D: Digester>(
     alloc: Global,
     draft: &mut Draft<D>,
@@ -129,7 +127,6 @@ fn merge_on<D: Digester>(
     Ok(keep(alloc, draft, schema, &lists)?)
 }
 
-#[tactic(none)]
 fn count_on<D: Digester>(
     alloc: Global,
     draft: &Draft<D>,
@@ -155,7 +152,6 @@ fn count_on<D: Digester>(
 }
 
 /// The items of what tables come to on the merged schema, if all of it keeps the limits.
-#[tactic(none)]
 fn lists_within<D: Digester>(
     alloc: Global,
     draft: &Draft<D>,
