@@ -1,5 +1,5 @@
 -- Why tables weren't merged.
-use Rattle.std.proofs.Common.{◌≡◌, ℕ, false, List, [], Option, Result, Ok, Err, IfErr, sym, subst}
+use Rattle.std.proofs.Common.{◌≡◌, ℕ, List, Option, Result, Ok, Err, IfErr, sym, subst}
 use Rattle.std.specs.Result.{IsErr, IsErrAnd}
 use Rattle.chunk_store.specs.Chunks.{Chunks}
 use Rattle.chunk_store.specs.Clashes.{IsReason}

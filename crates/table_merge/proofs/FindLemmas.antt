@@ -1,17 +1,15 @@
 -- A row found by halving rows whose keys rise.
-use Rattle.std.proofs.Common.{◌≡◌, ◌≤◌, ◌-◌, ℕ, suc, Bool, true, false, List, [], ◌∷◌, ◌++◌, map, length, take, drop, slice_index_or, Option, Some, None, refl, sym, ap, ◌∙◌, subst, arith}
+use Rattle.std.proofs.Common.{◌≡◌, ◌≤◌, ◌-◌, ℕ, suc, List, [], ◌∷◌, ◌++◌, length, take, drop, slice_index_or, Option, Some, None, refl, sym, ap, ◌∙◌, subst, arith}
 use Rattle.std.proofs.Math.Seq.{take-length}
 use Rattle.std.proofs.lemmas.List.{take-append-drop}
 use Rattle.std.specs.Prelude.{if◌then◌else◌}
-use Rattle.std.specs.Ordering.{is_eq, is_lt, ordering_reverse}
-use Rattle.std.specs.declared.cmp.Ordering.{Ordering}
+use Rattle.std.specs.Ordering.{is_eq, ordering_reverse}
 use Rattle.std.specs.declared.cmp.Ordering.TheVariants.{Less, Equal, Greater}
 use Rattle.tuple_codec.specs.Rows.{Cells, key_cmp, same_cells}
-use Rattle.tuple_codec.proofs.Orders.{cells_told, key_cmp_total}
-use Rattle.table_merge.specs.Rising.{RiseFrom, is_above}
+use Rattle.tuple_codec.proofs.Orders.{key_cmp_total}
+use Rattle.table_merge.specs.Rising.{RiseFrom}
 use Rattle.table_merge.specs.Walking.{found, keys_in}
 use Rattle.table_merge.specs.declared.keyed.KeyedRow.{KeyedRow}
-use Rattle.table_merge.proofs.NameLemmas.{some_is}
 use Rattle.table_merge.proofs.RiseLemmas.{cells_equal, less_is, rise_lower}
 
 reversed : (a b : Cells) → key_cmp a b ≡ Less → key_cmp b a ≡ Greater
@@ -95,9 +93,10 @@ module _ (rows left front back : List KeyedRow) (middle : KeyedRow) (key : Cells
   at_middle o = sym (ap (found key) h.parts ∙ found_middle key front h.later middle here o) ∙ e
 
   pub to_later : key_cmp middle.key key ≡ Less → RiseFrom None (keys_in (take (length back - 1) (drop 1 back))) × (found key (take (length back - 1) (drop 1 back)) ≡ found key rows)
-  to_later o =
-      (subst (λ l. RiseFrom None (keys_in l)) (sym h.later_is) (rise_later front h.later middle here),
-      ap (found key) h.later_is ∙ sym (found_later key front h.later middle here o) ∙ sym (ap (found key) h.parts) ∙ e)
+  to_later o = (
+    subst (λ l. RiseFrom None (keys_in l)) (sym h.later_is) (rise_later front h.later middle here),
+    ap (found key) h.later_is ∙ sym (found_later key front h.later middle here o) ∙ sym (ap (found key) h.parts) ∙ e,
+  )
 
   pub to_sooner : key_cmp middle.key key ≡ Greater → RiseFrom None (keys_in front) × (found key front ≡ found key rows)
   to_sooner o =

@@ -1,9 +1,9 @@
 -- The lists of a merged table that keeps the limits are rows of trees.
-use Rattle.std.proofs.Common.{◌≡◌, ◌≤◌, ◌<◌, ◌+◌, ◌++◌, ◌^◌, ℕ, true, Bool, List, [], ◌∷◌, length, map, Option, Some, None, refl, sym, ap, ◌∙◌, subst, length-append, arith, ◌&&◌}
+use Rattle.std.proofs.Common.{◌≡◌, ◌≤◌, ◌++◌, true, Bool, List, [], ◌∷◌, length, map, Option, Some, None, refl, length-append, arith}
 use Rattle.std.specs.List.{list_all, AllByRecursion}
 use Rattle.std.proofs.lemmas.Bool.{and_parts, and_from, leb-true}
 use Rattle.tuple_codec.specs.KeyBytes.{key_bytes}
-use Rattle.tuple_codec.specs.Nodes.{Item, Rise}
+use Rattle.tuple_codec.specs.Nodes.{Item}
 use Rattle.tuple_codec.specs.Rows.{Cells, fits_all}
 use Rattle.tuple_codec.specs.Trees.{IsRow}
 use Rattle.schema_model.specs.Limits.{is_conflict_within_limits, is_short_key, is_short_row, is_short_side}

@@ -1,23 +1,21 @@
 -- Tables that are merged, and what their schemas and rows come to.
-use Rattle.std.proofs.Common.{◌≡◌, ℕ, true, Bool, List, [], map, Option, Some, None, Result, Ok, Err, refl, sym, ap, ◌∙◌, subst, option_map}
+use Rattle.std.proofs.Common.{◌≡◌, ℕ, true, List, [], map, Option, Some, None, Result, Ok, Err, refl, sym, ap, ◌∙◌, subst, option_map}
 use Rattle.tuple_codec.specs.Rows.{Cells}
 use Rattle.chunk_store.specs.Chunks.{Chunks}
 use Rattle.schema_model.specs.Limits.{is_within_limits}
-use Rattle.schema_model.specs.PlainTables.{IsTable, PlainTable, row_items}
+use Rattle.schema_model.specs.PlainTables.{IsTable, PlainTable}
 use Rattle.schema_model.specs.Sameness.{SamenessIsEquality}
 use Rattle.schema_model.specs.Schemas.{is_schema}
 use Rattle.schema_model.specs.declared.schemas.Schema.{Schema}
 use Rattle.schema_merge.specs.Merging.{and_then, schema3}
 use Rattle.schema_merge.specs.Projecting.{projected}
 use Rattle.plain_merge.specs.TableMerge.{Three, rows_on, rows_on_or_none, table3, table_of, three_on}
-use Rattle.table_root.specs.Standing.{IsTableOf, table_of_lists}
 use Rattle.table_root.specs.declared.records.Table.{Table}
 use Rattle.table_rows.specs.Rows.{AreRowsAt}
 use Rattle.table_merge.specs.Laws.{IsTablePerhaps}
 use Rattle.table_merge.specs.Merging.{AreSides, IsSide, IsSidePerhaps, PlainSides, merged_contents}
 use Rattle.table_merge.specs.Steps.{schema_perhaps, wanted_schema}
 use Rattle.table_merge.specs.Walking.{keyed_rows}
-use Rattle.table_merge.specs.declared.keyed.KeyedRow.{KeyedRow}
 use Rattle.table_merge.proofs.MergeLemmas.{AreThree}
 use Rattle.table_merge.proofs.TableLemmas.{merges_are_tables, three_stand}
 

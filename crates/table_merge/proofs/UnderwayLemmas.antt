@@ -1,8 +1,7 @@
 -- What is done of all keys, and what is left.
-use Rattle.std.proofs.Common.{◌≡◌, ◌++◌, ℕ, true, false, Bool, List, [], ◌∷◌, map, Option, Some, None, refl, sym, ap, ◌∙◌, subst, option_map, option_to_list, append_assoc, ◌&&◌}
+use Rattle.std.proofs.Common.{◌≡◌, ◌++◌, true, false, Bool, List, [], ◌∷◌, map, Option, Some, None, refl, sym, ap, ◌∙◌, option_map, option_to_list, append_assoc, ◌&&◌}
 use Rattle.std.specs.List.{list_all}
 use Rattle.std.specs.Option.{option_map_or}
-use Rattle.std.proofs.lemmas.Bool.{and_parts, and_from}
 use Rattle.tuple_codec.specs.Nodes.{Item}
 use Rattle.tuple_codec.specs.Rows.{Cells}
 use Rattle.plain_merge.specs.KeyByKey.{before, gathered}

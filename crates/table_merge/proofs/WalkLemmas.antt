@@ -15,13 +15,11 @@ use Rattle.schema_model.specs.Limits.{is_conflict_within_limits}
 use Rattle.schema_model.specs.PlainTables.{Conflict, conflict_item, is_row, key_types, primary_key, row_item}
 use Rattle.schema_model.specs.Schemas.{is_schema}
 use Rattle.schema_model.specs.declared.schemas.Schema.{Schema}
-use Rattle.node_format.specs.Views.{leaf_of}
 use Rattle.plain_merge.specs.KeyByKey.{all_keys, before, gathered, kept, keys_with}
 use Rattle.plain_merge.specs.TableMerge.{Three, answer_at, conflict_at, conflict_if, keys_of, row_after, row_at, sides_at, table_of}
 use Rattle.table_merge.specs.Merging.{is_short_merged}
 use Rattle.table_merge.specs.Rising.{IsAt, RiseFrom}
-use Rattle.table_merge.specs.Walking.{AreKeyed, AreListsOf, Decides, are_short, are_short_at, found, is_row_perhaps, keyed, keyed_rows, keys_in, conflicts_of, rows_in, sides_of, three_in}
-use Rattle.table_merge.specs.declared.deciding.Decided.{Decided}
+use Rattle.table_merge.specs.Walking.{AreKeyed, AreListsOf, Decides, are_short, are_short_at, found, is_row_perhaps, keyed_rows, keys_in, conflicts_of, rows_in, three_in}
 use Rattle.table_merge.specs.declared.faults.Stop.{Stop}
 use Rattle.table_merge.specs.declared.faults.Stop.TheVariants as stop
 use Rattle.table_merge.specs.declared.keyed.KeyedRow.{KeyedRow}
@@ -154,7 +152,7 @@ module _ (s : Schema) (three : Three) (keys : List Cells) (at : ℕ) (key : Cell
         ap (λ (b : Bool). b && list_all (is_conflict_within_limits s) (table_of s three).conflicts) none
     by true e =
         let long_conflict : option_map_or (is_conflict_within_limits s) (conflict_at s three key) true ≡ false =
-            sym (ap (λ (b : Bool). b && option_map_or (is_conflict_within_limits s) (conflict_at s three key) true) e) ∙ long in
+        sym (ap (λ (b : Bool). b && option_map_or (is_conflict_within_limits s) (conflict_at s three key) true) e) ∙ long in
         let none = stopped (conflict_at s three) (conflict_item s) (is_conflict_within_limits s) (keys_of s three) key (drop (at + 1) keys) conflicts here.conflicts_are long_conflict in
         ap (λ (b : Bool). list_all (is_short_merged s) (table_of s three).rows && b) none ∙ none_more (list_all (is_short_merged s) (table_of s three).rows)
 

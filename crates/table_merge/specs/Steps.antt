@@ -1,5 +1,5 @@
 -- The steps of a merge in a draft.
-use Rattle.std.specs.Prelude.{◌≡◌, ℕ, true, false, nat_le, length, List, [], Option, None, Some, Result, Ok, Err, map}
+use Rattle.std.specs.Prelude.{◌≡◌, ℕ, true, false, nat_le, length, List, [], Option, Result, Ok, Err, map}
 use Rattle.std.specs.List.{AllByRecursion}
 use Rattle.std.specs.Option.{option_map}
 use Rattle.tuple_codec.specs.Nodes.{Item, Rise}

@@ -1,17 +1,14 @@
 -- Rows beside their keys, and what a merge makes of one key.
-use Rattle.std.specs.Prelude.{◌≡◌, ℕ, Bool, true, false, ◌&&◌, if◌then◌else◌, List, [], ◌∷◌, ◌++◌, map, ⊤, Option, None, Some, Result, Ok, Err, is_some}
+use Rattle.std.specs.Prelude.{◌≡◌, ℕ, Bool, true, false, ◌&&◌, if◌then◌else◌, List, [], ◌∷◌, ◌++◌, map, ⊤, Option, None, Some, Result, Ok, Err}
 use Rattle.std.specs.List.{list_all}
 use Rattle.std.specs.Option.{option_map, option_map_or}
-use Rattle.std.specs.Ordering.{is_lt, is_eq}
 use Rattle.tuple_codec.specs.Nodes.{Item}
-use Rattle.tuple_codec.specs.Rows.{Cells, key_cmp, same_cells}
-use Rattle.tuple_codec.specs.RowRule.{row3}
+use Rattle.tuple_codec.specs.Rows.{Cells, same_cells}
 use Rattle.schema_model.specs.Limits.{is_conflict_within_limits, is_short_side}
 use Rattle.schema_model.specs.PlainTables.{Conflict, PlainTable, conflict_item, conflict_items, is_row, side_bytes, primary_key, row_item, row_items}
 use Rattle.schema_model.specs.declared.schemas.Schema.{Schema}
 use Rattle.node_format.specs.Views.{leaf_of}
 use Rattle.node_format.specs.declared.items.LeafItem.{LeafItem}
-use Rattle.plain_merge.specs.KeyByKey.{kept}
 use Rattle.plain_merge.specs.TableMerge.{Three}
 use Rattle.table_merge.specs.Merging.{is_short_merged}
 use Rattle.table_merge.specs.declared.deciding.Decided.{Decided}

@@ -68,11 +68,7 @@ fn kept<'a>(ours: Option<&'a Row>, outcome: &'a RowOutcome) -> Option<&'a Row>
     }
 }
 
-fn item_perhaps(
-    alloc: Global,
-    schema: &Schema,
-    row: Option<&Row>,
-) -> Result<Option<LeafItem>, Stop>
+fn item_perhaps(alloc: Global, schema: &Schema, row: Option<&Row>) -> Result<Option<LeafItem>, Stop>
     requires schema { is_schema schema.now ≡ true }
     requires row { is_row_perhaps schema.now (option_copied row) ≡ true }
     ensures { IsItemPerhaps result (is_short_merged schema.now) (row_item schema.now) (option_copied row.entry) }

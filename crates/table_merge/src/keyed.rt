@@ -51,11 +51,7 @@ pub(crate) fn keys_in(alloc: Global, rows: &[KeyedRow]) -> Result<Vec<Row>, Allo
 }
 
 /// The keys of two rising lists, rising, each once.
-pub(crate) fn keys_with(
-    alloc: Global,
-    keys: &[Row],
-    others: &[Row],
-) -> Result<Vec<Row>, AllocError>
+pub(crate) fn keys_with(alloc: Global, keys: &[Row], others: &[Row]) -> Result<Vec<Row>, AllocError>
     ensures { IfOk result (λ both. both.items ≡ keys_with key_cmp keys.now others.now) }
 {
     let mut both = Vec::new(alloc);

@@ -90,12 +90,7 @@ pub(crate) fn count_conflicts_in(
     let keys = all_keys(alloc, base, ours, theirs)?;
     let mut count = 0u64;
     for key in &keys {
-        let more = conflicts_at(
-            alloc,
-            find(base, key),
-            find(ours, key),
-            find(theirs, key),
-        )?;
+        let more = conflicts_at(alloc, find(base, key), find(ours, key), find(theirs, key))?;
         count += more;
     }
     Ok(count)

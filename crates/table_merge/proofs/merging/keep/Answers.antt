@@ -1,4 +1,4 @@
-use Rattle.std.proofs.Common.{◌≡◌, List, map, refl, subst, arith}
+use Rattle.std.proofs.Common.{List, map, refl, subst, arith}
 use Rattle.node_format.specs.Views.{leaf_of}
 use Rattle.node_format.specs.declared.items.LeafItem.{LeafItem}
 use Rattle.chunk_store.specs.Chunks.{Extends}

@@ -13,13 +13,13 @@ pub returns-in_err-lists-clause-fault : goal.returns-in_err-lists-clause-fault
 returns-in_err-lists-clause-fault g c = λ contents are.
     let k = known g.D.Digester.address (chunks_of c.args.draft.now.chunks) (option_copied c.args.base) c.args.ours.now c.args.theirs.now contents are c.law_of_sameness.ensures c.args.schema c.requires.2 in
     let why = c.in_err-lists.field-0.0 in
-    err_of (IsFaultOf (merged_contents contents)) c.from_residual-in_err-lists.result (fault_of_stop why) c.from_residual-in_err-lists.ensures
+    err_of (IsFaultOf (merged_contents contents)) c.from_residual.result (fault_of_stop why) c.from_residual.ensures
     (stop_fault c.args.schema contents k why (c.in_err-lists.ensures contents are))
 
 pub returns-in_err-lists-clause-cause : goal.returns-in_err-lists-clause-cause
 returns-in_err-lists-clause-cause g c =
     let why = c.in_err-lists.field-0.0 in
-    err_of (IsMergeReason g.D.Digester.address (chunks_of c.args.draft.now.chunks)) c.from_residual-in_err-lists.result (fault_of_stop why) c.from_residual-in_err-lists.ensures
+    err_of (IsMergeReason g.D.Digester.address (chunks_of c.args.draft.now.chunks)) c.from_residual.result (fault_of_stop why) c.from_residual.ensures
     (stop_reason g.D.Digester.address (chunks_of c.args.draft.now.chunks) why)
 
 pub keep-requires-clause-rows : goal.keep-requires-clause-rows

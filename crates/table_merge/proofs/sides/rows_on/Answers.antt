@@ -15,5 +15,5 @@ returns g c = λ contents side.
     let address = g.D.Digester.address in
     let chunks = chunks_of c.args.draft.now.chunks in
     let read = side_keyed address chunks c.args.table.now contents c.args.schema.now c.as_slice.result.now side
-        (c.as_slice.ensures ∙ c.in_ok-rows.ensures contents.rows (side_rows address chunks c.args.table.now contents side)) in
+    (c.as_slice.ensures ∙ c.in_ok-rows.ensures contents.rows (side_rows address chunks c.args.table.now contents side)) in
     subst (λ (l : List KeyedRow). IfOk c.keyed_rows.result (λ rows. rows.items ≡ l)) read c.keyed_rows.ensures

@@ -1,4 +1,4 @@
-use Rattle.std.proofs.Common.{◌≡◌, ◌∙◌, List, Option, IfOk, sym, subst}
+use Rattle.std.proofs.Common.{◌≡◌, ◌∙◌, List, IfOk, sym, subst}
 use Rattle.std.specs.Option.{option_copied}
 use Rattle.tuple_codec.specs.Rows.{Cells}
 use Rattle.chunk_store.specs.Drafts.{chunks_of}

@@ -11,10 +11,11 @@ loop-key-init c =
     let s = c.args.schema.now in
     let b = c.args.base.now in
     let o = c.args.ours.now in
-    let t = c.args.theirs.now in
-    (counting s (three_in b o t) c.deref-key-items.result.now
-        (c.deref-key-items.ensures.value ∙ c.in_ok-keys.ensures ∙ all_keys_are s b o t c.requires.base c.requires.ours c.requires.theirs),
-    omega arith)
+    let t = c.args.theirs.now in (
+      counting s (three_in b o t) c.deref-key-items.result.now
+          (c.deref-key-items.ensures.value ∙ c.in_ok-keys.ensures ∙ all_keys_are s b o t c.requires.base c.requires.ours c.requires.theirs),
+      omega arith,
+    )
 
 pub loop-key-preserved : goal.loop-key-preserved
 loop-key-preserved c =
@@ -24,11 +25,12 @@ loop-key-preserved c =
     let t = c.args.theirs.now in
     let key = c.key-item.result in
     let e = at_key s b o t c.requires.base c.requires.ours c.requires.theirs (λ x y z. c.in_ok-more.more ≡ conflicts_of (row3 x y z)) key
-        (option_copied c.find.result) (option_copied c.find-in-loop-key.result) (option_copied c.find-in-loop-key-2.result)
-        c.find.ensures c.find-in-loop-key.ensures c.find-in-loop-key-2.ensures c.in_ok-more.ensures in
-    let few : c.in_ok-more.more ≤ 1 = subst (λ n. n ≤ 1) (sym e) (one_at_most (answer_at s (three_in b o t) key)) in
-    (count_on s (three_in b o t) c.deref-key-items.result.now c.loop-key.key-index key c.loop-key.count c.in_ok-more.more c.loop-key-test.true c.key-item.is e c.loop-key.invariant.0,
-    omega (arith, few, c.loop-key.invariant.1))
+    (option_copied c.find.result) (option_copied c.find-in-loop-key.result) (option_copied c.find-in-loop-key-2.result)
+    c.find.ensures c.find-in-loop-key.ensures c.find-in-loop-key-2.ensures c.in_ok-more.ensures in
+    let few : c.in_ok-more.more ≤ 1 = subst (λ n. n ≤ 1) (sym e) (one_at_most (answer_at s (three_in b o t) key)) in (
+      count_on s (three_in b o t) c.deref-key-items.result.now c.loop-key.key-index key c.loop-key.count c.in_ok-more.more c.loop-key-test.true c.key-item.is e c.loop-key.invariant.0,
+      omega (arith, few, c.loop-key.invariant.1),
+    )
 
 pub returns : goal.returns
 returns c =

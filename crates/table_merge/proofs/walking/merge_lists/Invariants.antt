@@ -1,4 +1,4 @@
-use Rattle.std.proofs.Common.{◌≡◌, map, drop}
+use Rattle.std.proofs.Common.{map, drop}
 use Rattle.node_format.specs.Views.{leaf_of}
 use Rattle.table_merge.specs.Walking.{three_in}
 use Rattle.table_merge.proofs.WalkLemmas.{Walked}
