@@ -7,3 +7,11 @@ pub mod MergedLemmas
 pub mod RiseLemmas
 pub mod MergeLemmas
 pub mod TableLemmas
+pub mod FindLemmas
+pub mod ItemLemmas
+pub mod UnderwayLemmas
+pub mod WalkLemmas
+pub mod SideLemmas
+pub mod KeepLemmas
+pub mod ReadLemmas
+pub mod FaultLemmas

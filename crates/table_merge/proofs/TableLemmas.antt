@@ -66,14 +66,14 @@ three_stand told base ours theirs merged b o t p q e =
 
 -- ---- what tables come to
 
-abbrev okay : PlainTable → Result PlainTable (List ℕ)
+abbrev pub okay : PlainTable → Result PlainTable (List ℕ)
 okay table = Ok table
 
 table_or : PlainTable → Result PlainTable (List ℕ) → PlainTable
 table_or d (Err part) = d
 table_or d (Ok table) = table
 
-table_is : (a b : PlainTable) → okay a ≡ okay b → a ≡ b
+pub table_is : (a b : PlainTable) → okay a ≡ okay b → a ≡ b
 unfolding table_or
 table_is a b e = ap (table_or a) e
 

@@ -1,2 +1,5 @@
 pub mod Rising
 pub mod Laws
+pub mod Merging
+pub mod Walking
+pub mod Steps

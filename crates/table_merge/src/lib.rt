@@ -1,8 +1,17 @@
-//! Tables that two sides have each taken on from one base, merged key by key: what is merged is a table.
+//! Tables that two sides have each taken on from one base, merged key by key in a draft.
 //!
-//! The crates above use the laws, over the definitions of `plain_merge` and `schema_merge`.
+//! The crates above use the clauses of [`merge_table`], over the definitions of `specs/Merging.antt`, and the laws.
 #![tactic(auto)]
 
+mod deciding;
+mod faults;
+mod keyed;
 mod laws;
+mod limits;
+mod merging;
+mod sides;
+mod walking;
 
+pub use faults::MergeFault;
 pub use laws::{law_of_merged_schemas, law_of_merged_tables};
+pub use merging::{count_conflicts, merge_table};

@@ -1,0 +1,31 @@
+use Rattle.std.proofs.Common.{◌≡◌, length, IfOk, subst}
+use Rattle.chunk_store.specs.Drafts.{chunks_of}
+use Rattle.plain_merge.specs.TableMerge.{Three, table_of}
+use Rattle.std.specs.Option.{option_copied}
+use Rattle.table_merge.proofs.ReadLemmas.{base_keyed, ours_keyed, theirs_keyed, three_is}
+use Rattle.table_merge.proofs.SideLemmas.{known}
+use Rattle.table_merge.proofs.merging.count_on.Goals as goal
+
+pub read_sides-requires-after_bounds : goal.read_sides-requires-after_bounds
+read_sides-requires-after_bounds g c κs within = (c.requires.0, c.requires.1)
+
+pub count_conflicts_in-requires-clause-base : goal.count_conflicts_in-requires-clause-base
+count_conflicts_in-requires-clause-base g c =
+    let k = known g.D.Digester.address (chunks_of c.args.draft.now.chunks) (option_copied c.args.base) c.args.ours.now c.args.theirs.now c.requires.0 c.requires.1 c.law_of_sameness.ensures c.args.schema.now c.requires.2 in
+    base_keyed c.args.schema.now c.requires.0 k c.in_ok-sides.sides (c.in_ok-sides.ensures c.requires.0 c.requires.1) c.as_slice.result.now c.as_slice.ensures.value
+
+pub count_conflicts_in-requires-clause-ours : goal.count_conflicts_in-requires-clause-ours
+count_conflicts_in-requires-clause-ours g c =
+    let k = known g.D.Digester.address (chunks_of c.args.draft.now.chunks) (option_copied c.args.base) c.args.ours.now c.args.theirs.now c.requires.0 c.requires.1 c.law_of_sameness.ensures c.args.schema.now c.requires.2 in
+    ours_keyed c.args.schema.now c.requires.0 k c.in_ok-sides.sides (c.in_ok-sides.ensures c.requires.0 c.requires.1) c.as_slice-2.result.now c.as_slice-2.ensures.value
+
+pub count_conflicts_in-requires-clause-theirs : goal.count_conflicts_in-requires-clause-theirs
+count_conflicts_in-requires-clause-theirs g c =
+    let k = known g.D.Digester.address (chunks_of c.args.draft.now.chunks) (option_copied c.args.base) c.args.ours.now c.args.theirs.now c.requires.0 c.requires.1 c.law_of_sameness.ensures c.args.schema.now c.requires.2 in
+    theirs_keyed c.args.schema.now c.requires.0 k c.in_ok-sides.sides (c.in_ok-sides.ensures c.requires.0 c.requires.1) c.as_slice-3.result.now c.as_slice-3.ensures.value
+
+pub returns : goal.returns
+returns g c = λ contents are.
+    let k = known g.D.Digester.address (chunks_of c.args.draft.now.chunks) (option_copied c.args.base) c.args.ours.now c.args.theirs.now contents are c.law_of_sameness.ensures c.args.schema.now c.requires.2 in
+    let same = three_is c.args.schema.now contents k c.in_ok-sides.sides (c.in_ok-sides.ensures contents are) c.as_slice.result.now c.as_slice-2.result.now c.as_slice-3.result.now c.as_slice.ensures.value c.as_slice-2.ensures.value c.as_slice-3.ensures.value in
+    subst (λ (three : Three). IfOk c.count_conflicts_in.result (λ count. count ≡ length (table_of c.args.schema.now three).conflicts)) same c.count_conflicts_in.ensures
