@@ -1,5 +1,5 @@
 -- Removals leave the other items, and a table without some of its conflicts stands.
-use Rattle.std.proofs.Common.{◌≡◌, ◌≤◌, ◌<◌, ◌^◌, refl, sym, ap, ◌∙◌, subst, arith, ℕ, suc, Bool, true, false, cond, not, ◌&&◌, List, [], ◌∷◌, ◌++◌, Option, None, Some, true≢false, filter, length, map, append_assoc, append-nil}
+use Rattle.std.proofs.Common.{◌≡◌, ◌≤◌, ◌<◌, ◌^◌, refl, sym, ap, ◌∙◌, subst, arith, ℕ, suc, Bool, true, false, cond, not, List, [], ◌∷◌, ◌++◌, Option, None, Some, filter, length, map, append_assoc, append-nil}
 use Rattle.std.specs.Cmp.{IsTotalOrder}
 use Rattle.std.specs.List.{AllByRecursion, list_all}
 use Rattle.std.specs.Ordering.{is_lt, match_ordering}
@@ -8,10 +8,8 @@ use Rattle.std.specs.declared.cmp.Ordering.TheVariants.{Less, Equal, Greater}
 use Rattle.std.proofs.lemmas.Bool.{and_from, and_parts}
 use Rattle.std.proofs.lemmas.Cmp.{nat_list_cmp_total, on_total}
 use Rattle.tuple_codec.specs.Edits.{EditsRiseAfter, edited, edits_at, order, putting}
-use Rattle.tuple_codec.specs.KeyBytes.{key_bytes}
 use Rattle.tuple_codec.specs.Nodes.{Item, RiseAfter}
 use Rattle.tuple_codec.specs.Rows.{key_cmp}
-use Rattle.tuple_codec.specs.Trees.{root}
 use Rattle.tuple_codec.specs.declared.addresses.Address.{Address}
 use Rattle.tuple_codec.specs.declared.edits.Edit.{Edit}
 use Rattle.tuple_codec.proofs.Orders.{key_cmp_total}
@@ -26,7 +24,7 @@ use Rattle.prolly_tree.specs.Lists.{from_key, pair_of}
 use Rattle.table_rows.proofs.ReadingLemmas.{from_first}
 use Rattle.edit_laws.proofs.Orders.{greater, less_is}
 use Rattle.edit_laws.proofs.Rising.{edits_lower}
-use Rattle.conflict_tables.specs.Conflicts.{is_among, is_dropped, removal, removal_if, removal_of, removals, stays, without_conflicts}
+use Rattle.conflict_tables.specs.Conflicts.{is_dropped, removal, removal_if, removal_of, removals, stays, without_conflicts}
 
 two : {A : Type 0} (b : Bool) → (b ≡ true → A) → (b ≡ false → A) → A
 two true f g = f refl

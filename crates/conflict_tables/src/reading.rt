@@ -31,10 +31,7 @@ pub fn conflicts<D: Digester>(
     Ok(list)
 }
 
-fn edits_of(
-    alloc: Global,
-    list: Vec<ConflictEntry>,
-) -> Result<Sequence<Edit>, AllocError>
+fn edits_of(alloc: Global, list: Vec<ConflictEntry>) -> Result<Sequence<Edit>, AllocError>
     ensures { IfOk result (λ edits. edits ≡ map edit_of list.items) }
 {
     let mut edits = Sequence::new(alloc);

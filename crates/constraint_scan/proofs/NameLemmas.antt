@@ -62,4 +62,3 @@ each_found (x ∷ database) r = (
   ap (λ b. option_map (λ (one : NamedTable). one.table) (cond b (Some x) (find (is_called x.name) database))) ((bytes_decides x.name x.name).1 refl),
   found_behind x database database (others_apart x database r) (each_found database (rest_rises x database r)),
 )
-

@@ -305,7 +305,7 @@ all_may database list found (named ∷ tables) finds written_ all rise =
 -- ---- the first of the tables, and the others
 
 module _ (address : List ℕ → List ℕ) (chunks : Chunks) (tables rest : List entries.NamedTable) (list : List listing.Violation) (database : PlainDatabase) (found : List Found) (first : entries.NamedTable)
-  (can : CanRecordEach address chunks tables list database found) (parts : Parts address chunks database first rest) where
+    (can : CanRecordEach address chunks tables list database found) (parts : Parts address chunks database first rest) where
   within_parts : (is_named_within_limits parts.named ≡ true) × (list_all is_named_within_limits parts.others ≡ true)
   within_parts = and_parts (is_named_within_limits parts.named) (list_all is_named_within_limits parts.others) (subst (λ (d : PlainDatabase). list_all is_named_within_limits d ≡ true) parts.both can.limits)
 

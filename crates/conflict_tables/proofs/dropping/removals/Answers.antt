@@ -1,4 +1,4 @@
-use Rattle.std.proofs.Common.{List, [], sym, subst}
+use Rattle.std.proofs.Common.{List, sym, subst}
 use Rattle.prolly_tree.specs.Walks.{scan_rest}
 use Rattle.tuple_codec.specs.declared.edits.Edit.{Edit}
 use Rattle.conflict_tables.proofs.DropLemmas.{IsFinding, begins, next, over}

@@ -1,4 +1,4 @@
-use Rattle.std.proofs.Common.{List, [], ◌∷◌, ◌++◌, ℕ, map, sym, ap, ◌∙◌, subst}
+use Rattle.std.proofs.Common.{List, [], ◌∷◌, ◌++◌, ℕ, sym, ap, ◌∙◌, subst}
 use Rattle.chunk_store.specs.Drafts.{chunks_of}
 use Rattle.chunk_store.specs.Standing.{IsTree}
 use Rattle.prolly_tree.specs.Walks.{scan_rest}
@@ -10,9 +10,11 @@ use Rattle.conflict_tables.proofs.reading.conflicts.Goals as goal
 
 pub scan_from-requires-clause-tree : goal.scan_from-requires-clause-tree
 scan_from-requires-clause-tree g c κs within =
-    let of = c.requires.1 in
-    (conflict_items c.requires.0, subst (λ (k : List ℕ). IsTree g.D.Digester.address (chunks_of c.args.draft.now.chunks) k (conflict_items c.requires.0))
-    (sym (ap (λ (t : Table). t.conflicts.0) of.value)) of.trees.conflicts)
+    let of = c.requires.1 in (
+      conflict_items c.requires.0,
+      subst (λ (k : List ℕ). IsTree g.D.Digester.address (chunks_of c.args.draft.now.chunks) k (conflict_items c.requires.0))
+          (sym (ap (λ (t : Table). t.conflicts.0) of.value)) of.trees.conflicts,
+    )
 
 pub items-init : goal.items-init
 items-init g c = λ contents of.

@@ -1,4 +1,4 @@
-use Rattle.std.proofs.Common.{◌≡◌, ◌∙◌, List, sym, subst}
+use Rattle.std.proofs.Common.{◌≡◌, ◌∙◌, List, subst}
 use Rattle.std.specs.Prelude.{IfOk}
 use Rattle.tuple_codec.specs.declared.edits.Edit.{Edit}
 use Rattle.conflict_tables.proofs.ReadLemmas.{edits_are}
