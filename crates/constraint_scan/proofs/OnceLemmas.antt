@@ -1,5 +1,5 @@
 -- No violation of a table stands twice, so that they rise in order.
-use Rattle.std.proofs.Common.{◌≡◌, refl, sym, ap, ◌∙◌, ℕ, suc, Bool, true, false, cond, not, ◌&&◌, ◌||◌, ◌==◌, true≢false, nat_cmp, nat_lt, List, [], ◌∷◌, ◌++◌, filter, map, bytes_eq, length}
+use Rattle.std.proofs.Common.{◌≡◌, refl, sym, ap, ◌∙◌, ℕ, ◌+◌, Bool, true, false, cond, not, ◌&&◌, ◌||◌, ◌==◌, true≢false, nat_cmp, nat_lt, List, [], ◌∷◌, ◌++◌, filter, map, bytes_eq, length}
 use Rattle.std.specs.Cmp.{IsTotalOrder}
 use Rattle.std.specs.Cmp.Lexicographic.{bytes_decides, slice_cmp}
 use Rattle.std.specs.List.{AllByRecursion, enumerate_from, flat_map, list_all, list_any}
@@ -169,11 +169,11 @@ numbered : (n : ℕ) (columns : List Column) → are_distinct (λ (a b : Column)
 numbered n [] distinct = refl
 numbered n (column ∷ columns) distinct =
     let parts = and_parts (not (list_any (λ (b : Column). bytes_eq column.name b.name) columns)) (are_distinct (λ (a b : Column). bytes_eq a.name b.name) columns) distinct in
-    and_from _ _ (ap not (any_numbered (suc n) columns) ∙ parts.0) (numbered (suc n) columns parts.1)
+    and_from _ _ (ap not (any_numbered (n + 1) columns) ∙ parts.0) (numbered (n + 1) columns parts.1)
   where
     any_numbered : (m : ℕ) (others : List Column) → list_any (λ (b : ℕ × Column). bytes_eq column.name b.1.name) (enumerate_from m others) ≡ list_any (λ (b : Column). bytes_eq column.name b.name) others
     any_numbered m [] = refl
-    any_numbered m (other ∷ others) = ap (λ b. bytes_eq column.name other.name || b) (any_numbered (suc m) others)
+    any_numbered m (other ∷ others) = ap (λ b. bytes_eq column.name other.name || b) (any_numbered (m + 1) others)
 
 module _ (schema : Schema) (is : is_schema schema ≡ true) (rows : List Cells) (keys : rises (keyed_cmp schema) rows ≡ true) (checks : Checks) (database : PlainDatabase) (name : List ℕ) where
   rows_once : repeats (keyed_cmp schema) rows ≡ false

@@ -1,5 +1,5 @@
 -- A database's own violations may be recorded in it, and then each table has all of its own.
-use Rattle.std.proofs.Common.{◌≡◌, refl, sym, ap, ◌∙◌, ℕ, suc, Bool, true, false, cond, not, ◌&&◌, ◌==◌, true≢false, nat_cmp, nat_le, is_lt, length, List, [], ◌∷◌, ◌++◌, filter, map, bytes_eq, Option, Some, None, append-nil}
+use Rattle.std.proofs.Common.{◌≡◌, refl, sym, ap, ◌∙◌, ℕ, ◌+◌, Bool, true, false, cond, not, ◌&&◌, ◌==◌, true≢false, nat_cmp, nat_le, is_lt, length, List, [], ◌∷◌, ◌++◌, filter, map, bytes_eq, Option, Some, None, append-nil}
 use Rattle.std.specs.Cmp.Lexicographic.{bytes_decides, slice_cmp}
 use Rattle.std.specs.List.{AllByRecursion, enumerate_from, find, flat_map, list_all}
 use Rattle.std.specs.Option.{option_map_or}
@@ -45,7 +45,7 @@ both_where p q (x ∷ xs) one other =
 
 numbered_all : (p : Column → Bool) (n : ℕ) (columns : List Column) → list_all p columns ≡ true → list_all (λ (x : ℕ × Column). p x.1) (enumerate_from n columns) ≡ true
 numbered_all p n [] all = refl
-numbered_all p n (column ∷ columns) all = let parts = and_parts (p column) (list_all p columns) all in and_from _ _ parts.0 (numbered_all p (suc n) columns parts.1)
+numbered_all p n (column ∷ columns) all = let parts = and_parts (p column) (list_all p columns) all in and_from _ _ parts.0 (numbered_all p (n + 1) columns parts.1)
 
 abbrev is_short : List ℕ → Bool
 is_short name = is_name name && is_short_name name
