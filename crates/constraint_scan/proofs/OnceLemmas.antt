@@ -2,7 +2,7 @@
 use Rattle.std.proofs.Common.{◌≡◌, refl, sym, ap, ◌∙◌, ℕ, ◌+◌, Bool, true, false, cond, not, ◌&&◌, ◌||◌, ◌==◌, true≢false, nat_cmp, nat_lt, List, [], ◌∷◌, ◌++◌, filter, map, bytes_eq, length}
 use Rattle.std.specs.Cmp.{IsTotalOrder}
 use Rattle.std.specs.Cmp.Lexicographic.{bytes_decides, slice_cmp}
-use Rattle.std.specs.List.{AllByRecursion, enumerate_from, flat_map, list_all, list_any}
+use Rattle.std.specs.List.{enumerate_from, flat_map, list_all, list_any}
 use Rattle.std.specs.Ordering.{is_eq, ordering_then}
 use Rattle.std.specs.declared.cmp.Ordering.{Ordering}
 use Rattle.std.specs.declared.cmp.Ordering.TheVariants.{Less, Equal, Greater}
@@ -18,12 +18,12 @@ use Rattle.schema_model.specs.declared.schemas.ForeignKey.{ForeignKey}
 use Rattle.schema_model.specs.declared.schemas.IndexDef.{IndexDef}
 use Rattle.schema_model.specs.declared.schemas.Schema.{Schema}
 use Rattle.schema_model.specs.PlainTables.{PlainDatabase, Violation, primary_key, rises, violation_cmp}
-use Rattle.schema_model.specs.Schemas.{are_checks, are_columns, are_distinct, are_few, are_foreign, are_indexes, is_check, is_column, is_foreign, is_index, is_key, is_schema}
+use Rattle.schema_model.specs.Schemas.{are_checks, are_columns, are_distinct, are_foreign, are_indexes, is_key, is_schema}
 use Rattle.plain_sql.specs.Lists.{has, repeats}
 use Rattle.plain_writes.specs.Violations.{Checks, breaks_check, breaks_foreign, breaks_not_null, breaks_unique, broken, of_check, of_column, of_foreign, of_index, parent_keys, violation, violations_in}
 use Rattle.plain_writes.specs.Writes.{keyed_cmp}
 use Rattle.plain_writes.proofs.SortLemmas.{risen_once}
-use Rattle.write_laws.proofs.OrderLemmas.{in_order_rises, left_not, neither_so, right_not, two}
+use Rattle.write_laws.proofs.OrderLemmas.{in_order_rises, left_not, neither_so, right_not}
 use Rattle.constraint_scan.proofs.FreeLemmas.{all_flat}
 
 -- ---- violations apart

@@ -1,18 +1,18 @@
 -- A database's own violations may be recorded in it, and then each table has all of its own.
-use Rattle.std.proofs.Common.{◌≡◌, refl, sym, ap, ◌∙◌, ℕ, ◌+◌, Bool, true, false, cond, not, ◌&&◌, ◌==◌, true≢false, nat_cmp, nat_le, is_lt, length, List, [], ◌∷◌, ◌++◌, filter, map, bytes_eq, Option, Some, None, append-nil}
+use Rattle.std.proofs.Common.{◌≡◌, refl, sym, ap, ◌∙◌, ℕ, ◌+◌, Bool, true, false, cond, ◌&&◌, true≢false, nat_cmp, nat_le, is_lt, length, List, [], ◌∷◌, ◌++◌, filter, map, bytes_eq, append-nil}
 use Rattle.std.specs.Cmp.Lexicographic.{bytes_decides, slice_cmp}
-use Rattle.std.specs.List.{AllByRecursion, enumerate_from, find, flat_map, list_all}
+use Rattle.std.specs.List.{AllByRecursion, enumerate_from, flat_map, list_all}
 use Rattle.std.specs.Option.{option_map_or}
-use Rattle.std.specs.Ordering.{is_eq, ordering_then}
+use Rattle.std.specs.Ordering.{ordering_then}
 use Rattle.std.specs.declared.cmp.Ordering.{Ordering}
 use Rattle.std.specs.declared.cmp.Ordering.TheVariants.{Less, Equal, Greater}
 use Rattle.std.proofs.lemmas.Bool.{and_from, and_parts}
 use Rattle.std.proofs.lemmas.Cmp.{nat_list_cmp_total, tied_itself}
 use Rattle.std.proofs.lemmas.List.Folds.{list_all-append, list_all-map}
 use Rattle.tuple_codec.specs.Rows.{Cells}
-use Rattle.schema_model.specs.Limits.{has_short_names, is_database_within_limits, is_named_within_limits, is_row_within_limits, is_short_in, is_short_key, is_short_name, is_short_row, is_table_within_limits, is_violation_within_limits, is_within_limits, most_rows, most_tables}
-use Rattle.schema_model.specs.PlainTables.{IsDatabase, IsTable, NamedTable, PlainDatabase, PlainTable, Violation, is_row, is_row_at, is_violation, primary_key, rises, violation_cmp}
-use Rattle.schema_model.specs.Schemas.{are_checks, are_columns, are_distinct, are_few, are_foreign, are_indexes, is_check, is_column, is_foreign, is_index, is_key, is_name, is_schema}
+use Rattle.schema_model.specs.Limits.{has_short_names, is_named_within_limits, is_row_within_limits, is_short_in, is_short_key, is_short_name, is_short_row, is_table_within_limits, is_violation_within_limits, is_within_limits, most_rows, most_tables}
+use Rattle.schema_model.specs.PlainTables.{IsTable, NamedTable, PlainDatabase, PlainTable, Violation, is_row, primary_key, rises, violation_cmp}
+use Rattle.schema_model.specs.Schemas.{are_checks, are_columns, are_few, are_foreign, are_indexes, is_check, is_column, is_foreign, is_index, is_key, is_name, is_schema}
 use Rattle.schema_model.specs.declared.schemas.CheckDef.{CheckDef}
 use Rattle.schema_model.specs.declared.schemas.Column.{Column}
 use Rattle.schema_model.specs.declared.schemas.ForeignKey.{ForeignKey}
@@ -20,10 +20,10 @@ use Rattle.schema_model.specs.declared.schemas.IndexDef.{IndexDef}
 use Rattle.schema_model.specs.declared.schemas.Schema.{Schema}
 use Rattle.schema_model.proofs.FitLemmas.{primary_key_fits}
 use Rattle.plain_schemas.specs.Statements.{checks}
-use Rattle.plain_writes.specs.Violations.{Checks, Found, breaks_check, breaks_foreign, breaks_not_null, breaks_unique, broken, found_in, is_called, of_check, of_column, of_foreign, of_index, parent_keys, table_in, violation, violations, violations_in}
+use Rattle.plain_writes.specs.Violations.{Checks, Found, breaks_check, breaks_foreign, breaks_not_null, breaks_unique, broken, found_in, of_check, of_column, of_foreign, of_index, parent_keys, violation, violations, violations_in}
 use Rattle.write_laws.proofs.OrderLemmas.{in_order_all, two}
 use Rattle.constraint_scan.specs.Recorded.{AllAreRecorded, with_all}
-use Rattle.constraint_scan.specs.Recording.{found_cmp, is_of, may_stand, may_stand_in, recorded_as, recorded_in, violations_of, with_list}
+use Rattle.constraint_scan.specs.Recording.{found_cmp, is_of, may_stand, may_stand_in, recorded_as, violations_of, with_list}
 use Rattle.constraint_scan.proofs.NameLemmas.{Finds, Lies, Rise, each_found, others_after, others_apart, rest_rises}
 use Rattle.constraint_scan.proofs.OnceLemmas.{table_rises}
 use Rattle.constraint_scan.proofs.RefusalLemmas.{cells_itself}
@@ -261,9 +261,9 @@ module _ (database : PlainDatabase) where
       let lies = others_apart x tables r in
       let rest = flat_map (found_in checks database) tables in (
         of_more x.name (found_in checks database x) rest
-        ∙ ap (λ l. l ++ violations_of x.name rest) (own_by x.name x.name true ((bytes_decides x.name x.name).1 refl) (own x))
-        ∙ ap (λ l. own x ++ l) (none_of x.name tables (turned x tables lies))
-        ∙ append-nil (own x),
+            ∙ ap (λ l. l ++ violations_of x.name rest) (own_by x.name x.name true ((bytes_decides x.name x.name).1 refl) (own x))
+            ∙ ap (λ l. own x ++ l) (none_of x.name tables (turned x tables lies))
+            ∙ append-nil (own x),
         past_first x rest tables lies (each_own tables (rest_rises x tables r)),
       )
 
