@@ -5,3 +5,5 @@ pub mod NameLemmas
 pub mod WrittenLemmas
 pub mod ListLemmas
 pub mod RecordLemmas
+pub mod OnceLemmas
+pub mod OwnLemmas

@@ -1,19 +1,18 @@
 -- The items of violations: their keys have the violations' order, and they are rows of a tree.
-use Rattle.std.proofs.Common.{◌≡◌, ◌≤◌, ◌<◌, ◌^◌, ◌+◌, ◌*◌, ◌==◌, refl, sym, ap, ◌∙◌, subst, arith, ℕ, suc, Bool, true, false, cond, ◌&&◌, nat_le, List, [], ◌∷◌, ◌++◌, Some, length, map, flat_map, length-append}
+use Rattle.std.proofs.Common.{◌≡◌, ◌≤◌, ◌<◌, ◌^◌, ◌+◌, ◌*◌, ◌==◌, refl, sym, ap, ◌∙◌, subst, arith, ℕ, suc, Bool, true, false, cond, nat_le, List, [], ◌∷◌, ◌++◌, Some, length, map, flat_map, length-append}
 use Rattle.std.specs.Cmp.Lexicographic.{slice_cmp}
 use Rattle.std.specs.List.{AllByRecursion, list_all}
 use Rattle.std.specs.Ordering.{is_lt, nat_cmp, ordering_then}
 use Rattle.std.proofs.lemmas.Bool.{and_parts, leb-true}
-use Rattle.std.proofs.lemmas.List.{length-map}
-use Rattle.tuple_codec.specs.KeyBytes.{escape, escaped, key_bytes, key_cell}
+use Rattle.tuple_codec.specs.KeyBytes.{escape, escaped, key_bytes}
 use Rattle.tuple_codec.specs.Nodes.{Item, Rise, RiseAfter}
-use Rattle.tuple_codec.specs.Rows.{fits_all, key_cmp}
+use Rattle.tuple_codec.specs.Rows.{fits_all}
 use Rattle.tuple_codec.specs.Spellings.{KeepsOrder}
 use Rattle.tuple_codec.specs.Trees.{AreRows, IsRow}
 use Rattle.tuple_codec.proofs.TextLemmas.{escaped_order}
 use Rattle.schema_model.specs.Limits.{is_short_key, is_short_name, is_short_row, is_violation_within_limits}
 use Rattle.schema_model.specs.PlainTables.{Violation, body_bytes, is_row_at, is_violation, key_types, rises, violation_cmp, violation_item}
-use Rattle.schema_model.specs.Schemas.{is_name, is_schema}
+use Rattle.schema_model.specs.Schemas.{is_schema}
 use Rattle.schema_model.specs.declared.schemas.Schema.{Schema}
 use Rattle.schema_model.proofs.FitLemmas.{key_types_fit}
 use Rattle.constraint_scan.specs.Recording.{AreRising, MayList, may_stand}

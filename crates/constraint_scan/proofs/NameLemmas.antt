@@ -1,7 +1,7 @@
 -- Each table of a database is found by its name.
 use Rattle.std.proofs.Common.{◌≡◌, refl, sym, ap, ◌∙◌, true, false, cond, true≢false, nat_cmp, is_lt, List, [], ◌∷◌, Some}
 use Rattle.std.specs.Cmp.Lexicographic.{bytes_decides, slice_cmp}
-use Rattle.std.specs.List.{AllByRecursion, find}
+use Rattle.std.specs.List.{AllByRecursion, find, list_all}
 use Rattle.std.specs.Option.{option_map}
 use Rattle.std.specs.Ordering.{is_eq}
 use Rattle.std.specs.declared.cmp.Ordering.{Ordering}
@@ -63,3 +63,8 @@ each_found (x ∷ database) r = (
   found_behind x database database (others_apart x database r) (each_found database (rest_rises x database r)),
 )
 
+-- all tables behind the first have names above its own
+pub others_after : (x : NamedTable) (tables : List NamedTable) → Rise (x ∷ tables) → list_all (λ (y : NamedTable). is_lt (slice_cmp nat_cmp x.name y.name)) tables ≡ true
+others_after x [] r = refl
+others_after x (y ∷ tables) r =
+    and_from _ _ ((and_parts (is_lt (slice_cmp nat_cmp x.name y.name)) (rises (λ (a b : NamedTable). slice_cmp nat_cmp a.name b.name) (y ∷ tables)) r).0) (others_after x tables (without_second x y tables r))

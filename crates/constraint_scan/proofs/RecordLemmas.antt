@@ -1,5 +1,5 @@
 -- Tables and databases whose lists of violations are put in place of others.
-use Rattle.std.proofs.Common.{◌≡◌, ◌<◌, ◌^◌, refl, sym, ap, ◌∙◌, subst, ℕ, suc, arith, Bool, true, false, cond, ◌&&◌, nat_le, nat_cmp, List, [], ◌∷◌, ◌++◌, append_assoc, length, map, filter, flat_map, bytes_eq, Option, Some, None, true≢false}
+use Rattle.std.proofs.Common.{◌≡◌, ◌<◌, ◌^◌, refl, sym, ap, ◌∙◌, subst, ℕ, suc, arith, Bool, true, false, cond, ◌&&◌, nat_le, nat_cmp, List, [], ◌∷◌, ◌++◌, append_assoc, length, map, filter, flat_map, Option, Some, None, true≢false}
 use Rattle.std.specs.Cmp.{IsTotalOrder}
 use Rattle.std.specs.Cmp.Lexicographic.{bytes_decides, slice_cmp}
 use Rattle.std.specs.List.{AllByRecursion, find, list_all}
@@ -11,12 +11,10 @@ use Rattle.std.proofs.lemmas.Bool.{and_from, and_parts, leb-true}
 use Rattle.std.proofs.lemmas.Cmp.{nat_cmp_total, nat_list_cmp_total, on_total, then_total}
 use Rattle.std.proofs.lemmas.List.{length-map}
 use Rattle.tuple_codec.specs.Nodes.{Item}
-use Rattle.tuple_codec.specs.Trees.{root}
 use Rattle.tuple_codec.specs.declared.addresses.Address.{Address}
 use Rattle.tuple_codec.proofs.Orders.{key_cmp_total}
-use Rattle.schema_model.specs.Limits.{is_conflict_within_limits, is_database_within_limits, is_named_within_limits, is_row_within_limits, is_short_name, is_table_within_limits, is_violation_within_limits, is_within_limits, most_rows, most_tables}
-use Rattle.schema_model.specs.PlainTables as plain
-use Rattle.schema_model.specs.PlainTables.{IsTable, NamedTable, PlainDatabase, PlainTable, Violation, is_violation, rises, violation_cmp, violation_item, violation_items}
+use Rattle.schema_model.specs.Limits.{is_database_within_limits, is_named_within_limits, is_short_name, is_table_within_limits, is_violation_within_limits, most_tables}
+use Rattle.schema_model.specs.PlainTables.{IsTable, NamedTable, PlainDatabase, PlainTable, Violation, is_violation, rises, violation_cmp, violation_item}
 use Rattle.schema_model.specs.Schemas.{is_name}
 use Rattle.schema_model.specs.WrittenForms.{table_address}
 use Rattle.schema_model.specs.declared.schemas.Schema.{Schema}
@@ -27,7 +25,7 @@ use Rattle.table_root.specs.Standing.{IsTableAt, IsTableOf, TableValuesStand, Ta
 use Rattle.table_root.specs.Tables.{IsTableFound}
 use Rattle.table_root.specs.declared.records.NamedTable as entries
 use Rattle.table_root.specs.declared.records.Table.{Table}
-use Rattle.plain_writes.specs.Violations.{Found, is_called, table_in}
+use Rattle.plain_writes.specs.Violations.{Found, table_in}
 use Rattle.constraint_scan.specs.Recording.{CanRecord, CanRecordEach, CanRecordTable, IsEntry, MayBeWritten, MayList, MayListNamed, MayStand, found_cmp, has_name, is_of, listed_if, listed_item, listed_items, may_stand, may_stand_in, recorded_as, recorded_in, violations_of, with_list}
 use Rattle.constraint_scan.specs.Scanning.{AreThere}
 use Rattle.constraint_scan.specs.Written.{written, written_in}
@@ -305,7 +303,7 @@ all_may database list found (named ∷ tables) finds written_ all rise =
 -- ---- the first of the tables, and the others
 
 module _ (address : List ℕ → List ℕ) (chunks : Chunks) (tables rest : List entries.NamedTable) (list : List listing.Violation) (database : PlainDatabase) (found : List Found) (first : entries.NamedTable)
-  (can : CanRecordEach address chunks tables list database found) (parts : Parts address chunks database first rest) where
+    (can : CanRecordEach address chunks tables list database found) (parts : Parts address chunks database first rest) where
   within_parts : (is_named_within_limits parts.named ≡ true) × (list_all is_named_within_limits parts.others ≡ true)
   within_parts = and_parts (is_named_within_limits parts.named) (list_all is_named_within_limits parts.others) (subst (λ (d : PlainDatabase). list_all is_named_within_limits d ≡ true) parts.both can.limits)
 

@@ -1,26 +1,20 @@
 -- Rows that violate are rows of the tables of their names; and what is written of them, one by one.
-use Rattle.std.proofs.Common.{◌≡◌, ◌<◌, ◌+◌, refl, sym, ap, ◌∙◌, subst, arith, ℕ, zero, suc, length, drop, get_or, add-one, append_assoc, Bool, true, false, cond, true≢false, nat_cmp, is_lt, List, [], ◌∷◌, ◌++◌, map, filter, Some}
+use Rattle.std.proofs.Common.{◌≡◌, ◌<◌, ◌+◌, refl, sym, ap, ◌∙◌, subst, arith, ℕ, zero, suc, length, drop, get_or, add-one, append_assoc, Bool, true, false, cond, List, [], ◌∷◌, ◌++◌, map, filter}
 use Rattle.std.proofs.Math.Seq.{drop-cons}
-use Rattle.std.specs.Cmp.Lexicographic.{slice_cmp}
-use Rattle.std.specs.List.{AllByRecursion, enumerate_from, find, flat_map, list_all}
-use Rattle.std.specs.Option.{option_map, option_map_or}
-use Rattle.std.specs.Ordering.{is_eq}
-use Rattle.std.specs.declared.cmp.Ordering.{Ordering}
-use Rattle.std.specs.declared.cmp.Ordering.TheVariants.{Less, Equal, Greater}
-use Rattle.std.proofs.lemmas.Cmp.{nat_list_cmp_total}
+use Rattle.std.specs.List.{AllByRecursion, enumerate_from, flat_map, list_all}
+use Rattle.std.specs.Option.{option_map_or}
 use Rattle.std.proofs.lemmas.List.Folds.{list_all-append, list_all-map}
-use Rattle.std.proofs.lemmas.Map.Text.{is_eq-slice_cmp}
 use Rattle.tuple_codec.specs.Rows.{Cells}
 use Rattle.schema_model.specs.declared.schemas.CheckDef.{CheckDef}
 use Rattle.schema_model.specs.declared.schemas.Column.{Column}
 use Rattle.schema_model.specs.declared.schemas.ForeignKey.{ForeignKey}
 use Rattle.schema_model.specs.declared.schemas.IndexDef.{IndexDef}
 use Rattle.schema_model.specs.declared.schemas.Schema.{Schema}
-use Rattle.schema_model.specs.PlainTables.{IsDatabase, IsTable, NamedTable, PlainDatabase, Violation, is_row, primary_key, rises, violation_cmp}
+use Rattle.schema_model.specs.PlainTables.{IsDatabase, IsTable, NamedTable, PlainDatabase, Violation, is_row, primary_key, violation_cmp}
 use Rattle.schema_model.specs.Schemas.{is_schema}
 use Rattle.plain_writes.specs.Seen.{found_seen}
 use Rattle.plain_writes.specs.declared.listing.Found as listing
-use Rattle.plain_writes.specs.Violations.{Checks, Found, breaks_check, breaks_foreign, breaks_not_null, breaks_unique, broken, found_in, is_called, of_check, of_column, of_foreign, of_index, parent_keys, table_in, violation, violations, violations_in}
+use Rattle.plain_writes.specs.Violations.{Checks, Found, breaks_check, breaks_foreign, breaks_not_null, breaks_unique, broken, found_in, of_check, of_column, of_foreign, of_index, parent_keys, violation, violations, violations_in}
 use Rattle.write_laws.proofs.OrderLemmas.{both_so, in_order_all, left_so, right_so}
 use Rattle.constraint_scan.specs.Scanning.{bare}
 use Rattle.constraint_scan.specs.Written.{fits, fits_in, written, written_in}

@@ -1,7 +1,9 @@
-//! The constraints of a database that a draft keeps as trees: the rows that break them, and which refusal a statement has that brings such rows.
+//! The constraints of a database that a draft keeps as trees: the rows that break them, which refusal a statement has that brings such rows,
+//! and the database that has recorded them.
 //!
-//! The crates above use `specs/Scanning.antt`, which databases can be read, and what of a database a constraint looks at; and
-//! `specs/Written.antt`, violations with the bytes of their keys and rows.
+//! The crates above use `specs/Scanning.antt`, which databases can be read, and what of a database a constraint looks at;
+//! `specs/Written.antt`, violations with the bytes of their keys and rows; and `specs/Recording.antt` and `specs/Recorded.antt`, which lists a
+//! database may record, and the database that has.
 #![tactic(auto)]
 
 mod canonical;

@@ -23,7 +23,9 @@ use node_chunker::build;
 use node_format::LeafItem;
 use std::alloc::{AllocError, Global};
 use table_root::{NamedTable, Table, read_database, read_table, write_database, write_table};
-use tuple_codec::{Address, Blob, Digester, Sequence, SqlType, Text, Value, encode_key, keys_keep_order};
+use tuple_codec::{
+    Address, Blob, Digester, Sequence, SqlType, Text, Value, encode_key, keys_keep_order,
+};
 
 /// A constraint's name as a cell of a key.
 fn name_key(alloc: Global, name: &[u8]) -> Result<Blob, AllocError>
@@ -75,11 +77,7 @@ fn push_listed(
 }
 
 /// The items of the violations of the table of this name.
-fn listed_items(
-    alloc: Global,
-    name: &[u8],
-    list: &[Violation],
-) -> Result<Vec<LeafItem>, AllocError>
+fn listed_items(alloc: Global, name: &[u8], list: &[Violation]) -> Result<Vec<LeafItem>, AllocError>
     requires { list_all has_name list.now ≡ true }
     ensures { IfOk result (λ items. map leaf_of items.items ≡ listed_items name.now list.now) }
 {

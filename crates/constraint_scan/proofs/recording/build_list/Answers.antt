@@ -1,4 +1,4 @@
-use Rattle.std.proofs.Common.{List, arith, ap, length, map, sym, subst, ◌∙◌}
+use Rattle.std.proofs.Common.{List, arith, ap, length, map, subst, ◌∙◌}
 use Rattle.std.proofs.lemmas.List.{length-map}
 use Rattle.tuple_codec.specs.Nodes.{Item}
 use Rattle.node_format.specs.Views.{leaf_of}

@@ -1,4 +1,4 @@
-use Rattle.std.proofs.Common.{◌≡◌, ◌∙◌, List, [], sym, subst}
+use Rattle.std.proofs.Common.{◌∙◌, List, [], sym, subst}
 use Rattle.chunk_store.specs.Drafts.{chunks_of}
 use Rattle.table_root.specs.Standing.{named_tables}
 use Rattle.table_root.specs.declared.records.NamedTable.{NamedTable}
