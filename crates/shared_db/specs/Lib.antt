@@ -1,0 +1,4 @@
+pub mod Shared
+pub mod Members
+pub mod Opening
+pub mod Plans

@@ -1,0 +1,62 @@
+use chunk_store::{Clash, Segment};
+use script_text::Reply;
+use std::sync::Arc;
+use table_root::BranchName;
+use tuple_codec::BranchRecord;
+
+/// What a decision makes of a branch's record.
+#[derive(Clone, Copy, Debug, PartialEq, Eq)]
+pub enum Change {
+    Nothing,
+    Record(BranchRecord),
+}
+
+/// How a decision was settled.
+#[derive(Debug, Drop)]
+pub enum Settled {
+    Done,
+    /// The branch's record isn't the one looked at: this one is newer. Nothing has changed.
+    Moved(BranchRecord),
+    /// Two byte strings of one address: the one held, and the one brought. Nothing has changed.
+    Collision(Clash),
+    /// A collision was found and couldn't be held.
+    Memory,
+}
+
+/// A decision as planned: what becomes of the branch's record, what the statement then answers, and the chunks that the record needs.
+#[derive(Debug, Drop)]
+pub struct Plan {
+    pub change: Change,
+    pub reply: Reply,
+    pub sealed: Option<Arc<Segment>>,
+}
+
+/// A step on the list of branches.
+#[derive(Clone, Copy, Debug)]
+pub enum BranchStep {
+    Create(BranchName, Point),
+    Delete(BranchName),
+    Checkout(BranchName),
+    CheckoutNew(BranchName, Point),
+}
+
+/// The commit at which a branch is made: the head of the session's own branch, or the one named, a branch first and then an address.
+#[derive(Clone, Copy, Debug)]
+pub enum Point {
+    Own,
+    Named(BranchName),
+}
+
+/// How a step on the list of branches ended. All but `Done` leave the branches as they were.
+#[derive(Clone, Copy, Debug, PartialEq, Eq)]
+pub enum BranchReply {
+    Done,
+    /// 9004.
+    NoSuch,
+    /// 9005.
+    Exists,
+    /// 9010.
+    Full,
+    /// 9014: a session has it checked out.
+    CheckedOut,
+}
