@@ -17,8 +17,8 @@ use Rattle.plain_sessions.specs.declared.commands.Work.TheVariants.{Ask, Change,
 
 -- a SELECT has sources or not
 abbrev pub select_command : Select → Command
-select_command (select.From query) = Data (Ask query)
-select_command (select.Alone list) = Say list
+select_command (select.From query) = Data (Ask (select.From query))
+select_command (select.Alone list) = Say (select.Alone list)
 
 abbrev pub request_command : Request → Command
 request_command (request.Add tables) = Data (Add tables)

@@ -54,7 +54,7 @@ effect_alone session Begin = None
 effect_alone session CommitAll = if is_changed session then None else Some (over session, done)
 effect_alone session Rollback = Some (over session, done)
 effect_alone session (Switch setting) = set_alone session setting.variable setting.on
-effect_alone session (Say list) = Some (session, said session list)
+effect_alone session (Say one) = Some (session, said session one)
 effect_alone session (Data work) = option_and_then (λ t. if_answered session t (worked session t work)) session.transaction
 effect_alone session (OnBranches request) = None
 effect_alone session (Checkout request) = if is_changed session then Some (session, refused 9006) else None
@@ -222,7 +222,7 @@ moment_of address epoch shared session Begin = begin address shared session
 moment_of address epoch shared session CommitAll = decided address (over session) done shared session
 moment_of address epoch shared session Rollback = None
 moment_of address epoch shared session (Switch setting) = decided address (with_variable setting.variable setting.on (over session)) done shared session
-moment_of address epoch shared session (Say list) = None
+moment_of address epoch shared session (Say one) = None
 moment_of address epoch shared session (Data work) =
     if is_in_transaction session then decided_closing address epoch work shared session else start_of shared session work
 moment_of address epoch shared session (OnBranches request) = Some (on_branches shared session request)

@@ -5,11 +5,13 @@ use Rattle.sql_ast.specs.declared.expressions.Expr.TheOpen.{Expr-F}
 use Rattle.sql_ast.specs.declared.expressions.Expr.TheVariants as expr
 use Rattle.sql_ast.specs.declared.expressions.Literal.TheVariants as literal
 use Rattle.sql_ast.specs.declared.selects.NamedExpr.{NamedExpr}
-use Rattle.sql_ast.specs.declared.selects.Query.{Query}
+use Rattle.sql_ast.specs.declared.selects.Select.{Select}
 use Rattle.sql_ast.specs.declared.selects.Select.TheVariants as select
 use Rattle.sql_ast.specs.declared.statements.Delete.{Delete}
 use Rattle.sql_ast.specs.declared.statements.Write.{Write}
 use Rattle.sql_ast.specs.declared.statements.Write.TheVariants as write
+use Rattle.sql_features.specs.Features.{has}
+use Rattle.sql_features.specs.declared.features.Feature.TheVariants as feature
 use Rattle.sql_procedures.specs.declared.requests.CommitRequest.{CommitRequest}
 use Rattle.schema_model.specs.PlainTables.{PlainDatabase}
 use Rattle.expr_eval.specs.Binding.{Outcome, and_then}
@@ -51,8 +53,8 @@ write_worked own other = changed own (write_effect own.working other)
 -- ---- a database statement
 
 -- a SELECT reads the working tables and the system tables
-abbrev pub asked : Transaction → Query → Outcome Worked
-asked t query = and_then (answer (known t) (select.From query)) (λ answer. Ok (Answers (shown answer) t.own))
+abbrev pub asked : Transaction → Select → Outcome Worked
+asked t one = and_then (answer (known t) one) (λ answer. Ok (Answers (shown answer) t.own))
 
 abbrev pub staged : Outcome BranchState → Outcome Worked
 staged own = and_then own (λ made. Ok (Answers (one_row (status ∷ [])) made))
@@ -65,7 +67,7 @@ resolve_worked own database = and_then database (λ working. Ok (Answers (one_ro
 
 -- what it comes to in this transaction of the session, or its first refusal
 unfoldable pub worked : Session → Transaction → Work → Outcome Worked
-worked session t (Ask query) = asked t query
+worked session t (Ask one) = asked t one
 worked session t (Change write) = write_worked t.own write
 worked session t (Add tables) = staged (add tables t.own)
 worked session t (ResetTo reset) = staged (reset_to (own_root t) reset t.own)
@@ -88,10 +90,14 @@ with_value session node = roll-Expr node
 abbrev pub with_values : Session → Expr → Expr
 with_values session whole = fold-Expr Expr (with_value session) whole
 
--- the item keeps the name that it shows
+-- an item that asks for such a value keeps the name that it shows
 abbrev pub item_with_values : Session → NamedExpr → NamedExpr
 item_with_values session named =
-    record { expr = with_values session named.expr; name = Some (shown_name named.name named.expr) }
+    if has feature.SessionWord named.expr then record { expr = with_values session named.expr; name = Some (shown_name named.name named.expr) } else named
 
-unfoldable pub said : Session → List NamedExpr → Reply
-said session list = shown_or_refused (answer [] (select.Alone (map (item_with_values session) list)))
+abbrev pub select_with_values : Session → Select → Select
+select_with_values session (select.Alone list) = select.Alone (map (item_with_values session) list)
+select_with_values session (select.From query) = select.From query
+
+unfoldable pub said : Session → Select → Reply
+said session one = shown_or_refused (answer [] (select_with_values session one))

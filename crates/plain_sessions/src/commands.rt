@@ -1,15 +1,14 @@
-use sql_ast::{NamedExpr, Query, Refusal, Setting, Write};
+use sql_ast::{Refusal, Select, Setting, Write};
 use sql_procedures::{
     BranchRequest, CheckoutRequest, CommitRequest, MergeRequest, Reset, Resolution, Tables,
     Verification,
 };
-use tuple_codec::Sequence;
 
 /// A database statement: it reads or changes the session's own state, in a transaction.
 #[derive(Drop)]
 pub enum Work {
-    /// SELECT with FROM.
-    Ask(Query),
+    /// A SELECT with sources.
+    Ask(Select),
     /// CREATE, DROP, INSERT, UPDATE, DELETE or ALTER.
     Change(Write),
     Add(Tables),
@@ -29,8 +28,8 @@ pub enum Command {
     CommitAll,
     Rollback,
     Switch(Setting),
-    /// SELECT without FROM.
-    Say(Sequence<NamedExpr>),
+    /// A SELECT without sources.
+    Say(Select),
     Data(Work),
     OnBranches(BranchRequest),
     Checkout(CheckoutRequest),

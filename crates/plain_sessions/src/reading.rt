@@ -57,8 +57,8 @@ fn select_command(select: Select) -> Command
     ensures { result ≡ select_command select }
 {
     match select {
-        Select::From(query) => Command::Data(Work::Ask(query)),
-        Select::Alone(list) => Command::Say(list),
+        Select::From(query) => Command::Data(Work::Ask(Select::From(query))),
+        Select::Alone(list) => Command::Say(Select::Alone(list)),
     }
 }
 

@@ -1,6 +1,6 @@
 ghost use Rattle.sql_select.specs.Sources.{ReadsSuffice};
 
 /// What a SELECT shows is what it shows of the tables that it names alone.
-pub(crate) fn law_of_reading()
+pub fn law_of_reading()
     ensures { ReadsSuffice }
 {}

@@ -12,4 +12,5 @@ mod sources;
 
 pub use answering::answer;
 pub use faults::AskFault;
+pub use laws::law_of_reading;
 pub use sources::{NamedAnswer, Sources};

@@ -1,6 +1,5 @@
 -- What each database statement comes to.
 use Rattle.std.proofs.Common.{◌≡◌, refl, [], ◌∷◌, Option, None, Some, Ok}
-use Rattle.sql_ast.specs.declared.selects.Select.TheVariants as select
 use Rattle.sql_ast.specs.declared.statements.Delete.{Delete}
 use Rattle.sql_ast.specs.declared.statements.Write.{Write}
 use Rattle.sql_ast.specs.declared.statements.Write.TheVariants as write
@@ -48,8 +47,8 @@ module _ (all : AllKeep) (law : MergesAreTables) where
 
   work_kept : (session : Session) (t : Transaction) (work : Work) (w : Worked) → IsKeptTransaction t → IsFitWork work → worked session t work ≡ Ok w → IsKeptWork w
   unfolding worked
-  work_kept session t (Ask query) w kept fit e =
-      let found = then_so (answer (known t) (select.From query)) (λ answer. Ok (Answers (shown answer) t.own)) w e in ok_has IsKeptWork (Answers (shown found.0) t.own) w kept.own found.2
+  work_kept session t (Ask one) w kept fit e =
+      let found = then_so (answer (known t) one) (λ answer. Ok (Answers (shown answer) t.own)) w e in ok_has IsKeptWork (Answers (shown found.0) t.own) w kept.own found.2
   work_kept session t (Change one) w kept fit e = write_kept t.own one w kept.own fit e
   work_kept session t (Add tables) w kept fit e = staged_kept (add tables t.own) w (λ state h. add_kept tables t.own state kept.own h) e
   work_kept session t (ResetTo reset) w kept fit e =
