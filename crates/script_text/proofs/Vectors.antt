@@ -25,8 +25,8 @@ no_parts : map parts_of (codes "@a SELECT 1" ∷ codes "@a\tSELECT 1;" ∷ codes
     ≡ None ∷ None ∷ None ∷ None ∷ None ∷ None ∷ []
 no_parts = refl
 
-second_session : add_statement 2 (record { names = codes "a" ∷ []; lines = []; order = None }) (record { name = codes "b"; statement = codes "x" }) ≡ Err (record { line = 2; rule = 5 })
-second_session = refl
+one_session_more : add_statement 65 (record { names = replicate 64 (codes "a"); lines = []; order = None }) (record { name = codes "b"; statement = codes "x" }) ≡ Err (record { line = 65; rule = 5 })
+one_session_more = refl
 
 three_replies : text (record {
   names = codes "alice" ∷ [];
