@@ -3,7 +3,7 @@
 ghost use Rattle.std.specs.Prelude.{◌≡◌, ◌≢◌, ◌<◌, ◌≤◌, ◌≤ℤ◌, ◌+◌, ◌*◌, ℕ, List, [], pos, length, map, sum, Option, None, Some, IfOk, IfErr};
 ghost use Rattle.std.specs.Arc.{arc_value};
 ghost use Rattle.std.specs.Option.{option_map, option_map_or};
-ghost use Rattle.chunk_store.specs.Chunks.{bytes_at};
+ghost use Rattle.chunk_store.specs.Chunks.{IsSingle, bytes_at};
 ghost use Rattle.chunk_store.specs.Clashes.{Differ, IsClash};
 ghost use Rattle.chunk_store.specs.Stores.{all_chunks};
 ghost use Rattle.plain_sessions.specs.Records.{opening};
@@ -108,6 +108,13 @@ impl SharedDb {
             heads: heads_of(alloc, self.branches.as_slice())?,
             store: self.store.share()?,
         })
+    }
+
+    /// Chunks of one address have the same bytes. For proofs: call it where one needs that; it does nothing.
+    pub fn tell(&self)
+        ensures { IsSingle self.now.parts.chunks }
+    {
+        self.store.tell();
     }
 
     /// The moments so far, in their order.
