@@ -70,10 +70,10 @@ changed_in : (address : List ℕ → List ℕ) (draft : DraftParts) (look : Look
     → not (same_record look.rec own) ≡ is_changed_since t
 changed_in address draft look own t follow stands = ap not (one_test (same_record look.rec own) (is_same_state t.own t.start)
     (λ h. let same = record_by look.rec own h in
-        (follow.told t.own t.start).1 (sym (follow.one address (chunks_of draft) t.commits t.commits look.rec t.start t.own stands.start
-        (subst (λ (rec : BranchRecord). RecordStands address (chunks_of draft) t.commits rec t.own) (sym same) stands.own_stands))))
+    (follow.told t.own t.start).1 (sym (follow.one address (chunks_of draft) t.commits t.commits look.rec t.start t.own stands.start
+    (subst (λ (rec : BranchRecord). RecordStands address (chunks_of draft) t.commits rec t.own) (sym same) stands.own_stands))))
     (λ h. record_told look.rec own (follow.same address (chunks_of draft) t.commits t.commits look.rec own t.start stands.start
-        (subst (λ (state : BranchState). RecordStands address (chunks_of draft) t.commits own state) ((follow.told t.own t.start).0 h) stands.own_stands))))
+    (subst (λ (state : BranchState). RecordStands address (chunks_of draft) t.commits own state) ((follow.told t.own t.start).0 h) stands.own_stands))))
 
 -- a session at this start is in a transaction
 pub changed_as_told : (address : List ℕ → List ℕ) (draft : DraftParts) (start : Option Look) (look : Look) (own : BranchRecord) (t : Option Transaction) → RecordsFollow

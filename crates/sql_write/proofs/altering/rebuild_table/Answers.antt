@@ -1,9 +1,10 @@
 use Rattle.chunk_store.specs.Chunks.{Extends}
 use Rattle.chunk_store.specs.Drafts.{chunks_of}
-use Rattle.chunk_store.specs.Kinds.{is_node}
+use Rattle.chunk_store.specs.Kinds.{is_database, is_either, is_node, is_table}
 use Rattle.index_keep.specs.Keeping.{table_of_rows}
 use Rattle.sql_write.proofs.AlteringLemmas.{listed_later}
 use Rattle.write_laws.proofs.DatabaseLemmas.{limits_so}
+use Rattle.sql_write.specs.Growing.{is_data}
 use Rattle.sql_write.proofs.altering.rebuild_table.Goals as goal
 
 pub put_table-requires-after_bounds : goal.put_table-requires-after_bounds
@@ -37,3 +38,10 @@ returns-clause-stands g c = λ database can.
       stands = c.in_ok-table.ensures.stands;
       limits = (limits_so made can.within).0;
     })
+
+pub returns-clause-grows : goal.returns-clause-grows
+returns-clause-grows g c =
+    let old = c.args.draft.now in
+    let one = c.new_table.new.draft in
+    let growth = c.laws_of_growth.ensures.growth in
+    growth.in_steps is_data old one c.put_table.new.draft (growth.either_left is_node (is_either is_table is_database) old one c.new_table.ensures.grows) c.put_table.ensures.grows

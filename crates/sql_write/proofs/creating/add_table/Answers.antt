@@ -1,7 +1,7 @@
 use Rattle.std.proofs.Common.{List, [], sym, subst}
 use Rattle.chunk_store.specs.Chunks.{Extends}
 use Rattle.chunk_store.specs.Drafts.{chunks_of}
-use Rattle.chunk_store.specs.Kinds.{is_node}
+use Rattle.chunk_store.specs.Kinds.{is_database, is_either, is_node, is_table}
 use Rattle.table_root.specs.declared.records.NamedTable.{NamedTable}
 use Rattle.plain_schemas.specs.Effects.{empty_table, with_table}
 use Rattle.index_keep.specs.Keeping.{table_of_rows}
@@ -57,3 +57,35 @@ returns-clause-stands g c = λ database can.
     (subst (λ (l : List NamedTable). AreListed address (chunks_of two.chunks) l (with_table database c.args.name.now c.args.schema)) (sym c.as_slice.ensures.value)
     (added_listed address (chunks_of old.chunks) (chunks_of two.chunks) more laws.tables c.args.tables.items c.in_ok-made.made.items c.args.name.now c.in_ok-from_slice.field-0 c.args.schema c.in_ok-address.address
     database can at c.in_ok-from_slice.ensures c.in_ok-made.ensures))
+
+pub returns-in_err-address-clause-grows : goal.returns-in_err-address-clause-grows
+returns-in_err-address-clause-grows g c =
+    let old = c.args.draft.now in
+    let one = c.new_table.new.draft in
+    let two = c.keep_table.new.draft in
+    let growth = c.laws_of_growth.ensures.growth in
+    growth.in_steps is_data old one two (growth.either_left is_node (is_either is_table is_database) old one c.new_table.ensures.grows) c.keep_table.ensures.grows
+
+pub returns-in_err-from_slice-clause-grows : goal.returns-in_err-from_slice-clause-grows
+returns-in_err-from_slice-clause-grows g c =
+    let old = c.args.draft.now in
+    let one = c.new_table.new.draft in
+    let two = c.keep_table.new.draft in
+    let growth = c.laws_of_growth.ensures.growth in
+    growth.in_steps is_data old one two (growth.either_left is_node (is_either is_table is_database) old one c.new_table.ensures.grows) c.keep_table.ensures.grows
+
+pub returns-in_err-made-clause-grows : goal.returns-in_err-made-clause-grows
+returns-in_err-made-clause-grows g c =
+    let old = c.args.draft.now in
+    let one = c.new_table.new.draft in
+    let two = c.keep_table.new.draft in
+    let growth = c.laws_of_growth.ensures.growth in
+    growth.in_steps is_data old one two (growth.either_left is_node (is_either is_table is_database) old one c.new_table.ensures.grows) c.keep_table.ensures.grows
+
+pub returns-clause-grows : goal.returns-clause-grows
+returns-clause-grows g c =
+    let old = c.args.draft.now in
+    let one = c.new_table.new.draft in
+    let two = c.keep_table.new.draft in
+    let growth = c.laws_of_growth.ensures.growth in
+    growth.in_steps is_data old two c.put_database.new.draft (growth.in_steps is_data old one two (growth.either_left is_node (is_either is_table is_database) old one c.new_table.ensures.grows) c.keep_table.ensures.grows) c.put_database.ensures.grows

@@ -1,8 +1,9 @@
 use Rattle.chunk_store.specs.Chunks.{Extends}
 use Rattle.chunk_store.specs.Drafts.{chunks_of}
-use Rattle.chunk_store.specs.Kinds.{is_node}
+use Rattle.chunk_store.specs.Kinds.{is_database, is_either, is_node, is_table}
 use Rattle.index_keep.specs.Keeping.{with_rows}
 use Rattle.sql_write.proofs.TableLemmas.{listed_later}
+use Rattle.sql_write.specs.Growing.{is_data}
 use Rattle.sql_write.proofs.putting.put_rows.Goals as goal
 
 pub put_table-requires-after_bounds : goal.put_table-requires-after_bounds
@@ -37,3 +38,10 @@ returns-clause-stands g c = λ database contents rows can.
       stands = c.in_ok-made.ensures.ok contents rows can.edit;
       limits = can.limits;
     })
+
+pub returns-clause-grows : goal.returns-clause-grows
+returns-clause-grows g c =
+    let old = c.args.draft.now in
+    let mid = c.apply_with_indexes.new.draft in
+    let growth = c.laws_of_growth.ensures.growth in
+    growth.in_steps is_data old mid c.put_table.new.draft (growth.either_left is_node (is_either is_table is_database) old mid c.apply_with_indexes.ensures.grows) c.put_table.ensures.grows
