@@ -1,0 +1,12 @@
+mod KeptLemmas
+mod ChoosingLemmas
+mod NameLemmas
+mod MergedLemmas
+mod TableLemmas
+mod MadeLemmas
+mod ChoiceLemmas
+mod RootLemmas
+mod NatLemmas
+mod StateLemmas
+mod CountLemmas
+mod DecideLemmas

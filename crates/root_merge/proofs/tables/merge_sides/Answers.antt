@@ -1,0 +1,48 @@
+use Rattle.std.proofs.Common.{Option, sym, subst}
+use Rattle.schema_model.specs.Limits.{is_table_within_limits}
+use Rattle.chunk_store.specs.Drafts.{chunks_of}
+use Rattle.table_root.specs.declared.records.Table.{Table}
+use Rattle.table_merge.specs.Merging.{AreSides}
+use Rattle.root_merge.specs.Merging.{IsLimitFault, is_data}
+use Rattle.root_merge.proofs.ChoiceLemmas.{fault_limit, made_of}
+use Rattle.root_merge.proofs.TableLemmas.{node_data, same_fault}
+use Rattle.root_merge.proofs.tables.merge_sides.Goals as goal
+
+pub returns-in_err-table-clause-fault : goal.returns-in_err-table-clause-fault
+returns-in_err-table-clause-fault g c = λ contents table can.
+    let sides = c.args.sides.now in
+    let stand = subst (λ (base : Option Table). AreSides g.D.Digester.address (chunks_of c.args.draft.now.chunks) base sides.ours sides.theirs contents) (sym c.as_ref.ensures.value) can.stand in
+    same_fault (IsLimitFault (is_table_within_limits table)) c.from_residual.result c.in_err-table.field-0.0
+    (fault_limit contents table c.in_err-table.field-0.0 can.comes (c.in_err-table.ensures.fault contents stand)) c.from_residual.ensures
+
+pub keep_rows-requires-after_bounds : goal.keep_rows-requires-after_bounds
+keep_rows-requires-after_bounds g c κs within =
+    let address = g.D.Digester.address in
+    let sides = c.args.sides.now in
+    let contents = c.requires.0 in
+    let table = c.requires.1 in
+    let can = c.requires.2 in
+    let stand = subst (λ (base : Option Table). AreSides address (chunks_of c.args.draft.now.chunks) base sides.ours sides.theirs contents) (sym c.as_ref.ensures.value) can.stand in
+    (table, made_of address (chunks_of c.merge_table.new.draft.chunks) c.in_ok-table.table contents table can.comes (c.in_ok-table.ensures.merged contents stand))
+
+pub returns-clause-made : goal.returns-clause-made
+returns-clause-made g c = λ contents table can.
+    let address = g.D.Digester.address in
+    let sides = c.args.sides.now in
+    let stand = subst (λ (base : Option Table). AreSides address (chunks_of c.args.draft.now.chunks) base sides.ours sides.theirs contents) (sym c.as_ref.ensures.value) can.stand in
+    c.keep_rows.ensures.made table (made_of address (chunks_of c.merge_table.new.draft.chunks) c.in_ok-table.table contents table can.comes (c.in_ok-table.ensures.merged contents stand))
+
+pub returns-clause-fault : goal.returns-clause-fault
+returns-clause-fault g c = λ contents table can.
+    let address = g.D.Digester.address in
+    let sides = c.args.sides.now in
+    let stand = subst (λ (base : Option Table). AreSides address (chunks_of c.args.draft.now.chunks) base sides.ours sides.theirs contents) (sym c.as_ref.ensures.value) can.stand in
+    c.keep_rows.ensures.fault table (made_of address (chunks_of c.merge_table.new.draft.chunks) c.in_ok-table.table contents table can.comes (c.in_ok-table.ensures.merged contents stand))
+
+pub returns-clause-grows : goal.returns-clause-grows
+returns-clause-grows g c =
+    let old = c.args.draft.now in
+    let mid = c.merge_table.new.draft in
+    let new = c.keep_rows.new.draft in
+    let laws = c.laws_of_growth.ensures.growth in
+    laws.in_steps is_data old mid new (node_data laws old mid c.merge_table.ensures.grows) c.keep_rows.ensures.grows

@@ -1,0 +1,6 @@
+pub mod Kept
+pub mod Choosing
+pub mod Names
+pub mod Merging
+pub mod States
+pub mod Deciding

@@ -1,0 +1,8 @@
+use tuple_codec::BranchRecord;
+
+/// What becomes of a branch: a record, or the number of the first refusal.
+#[derive(Clone, Copy, Debug, PartialEq, Eq)]
+pub enum Candidate {
+    Record(BranchRecord),
+    Refused(u16),
+}

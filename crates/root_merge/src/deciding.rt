@@ -1,0 +1,316 @@
+//! The commit rule: what becomes of a branch where a transaction ends.
+
+ghost use Rattle.std.specs.Prelude.{◌≡◌, Bool, IfErr, IfOk, List, Result};
+ghost use Rattle.schema_model.specs.PlainTables.{PlainDatabase};
+ghost use Rattle.chunk_store.specs.Clashes.{IsReason};
+ghost use Rattle.chunk_store.specs.Drafts.{Grows, chunks_of};
+ghost use Rattle.plain_merge.specs.RootMerge.{MergedDatabase, SchemaConflict, root3};
+ghost use Rattle.constraint_scan.specs.Scanning.{HasKeptAt, IsKeptAt};
+ghost use Rattle.plain_sessions.specs.CommitRule.{candidate, decide, judged, merged, recorded};
+ghost use Rattle.plain_sessions.specs.Records.{BranchState};
+ghost use Rattle.root_merge.specs.Deciding.{AreBoth, AreStates, IsSide, PassesAt, anew, are_unsettled, refusal, set, settled, together};
+ghost use Rattle.root_merge.specs.Merging.{AreRoots, is_data};
+ghost use Rattle.root_merge.specs.States.{HasState, IsCandidate, StateStands};
+
+use crate::candidates::Candidate;
+use crate::counting::roots_conflict;
+use crate::laws::{laws_of_growth, laws_of_states};
+use crate::merging::merge_roots;
+use crate::settling::{is_in_conflict, is_in_violation, is_unsettled};
+use chunk_store::{Draft, PutFault};
+use constraint_scan::{record_violations, violations};
+use std::alloc::{AllocError, Global};
+use table_merge::MergeFault;
+use tuple_codec::{Address, BranchRecord, Digester};
+
+/// What databases come to where they are merged.
+#[derive(Clone, Copy, Debug, PartialEq, Eq)]
+enum Side {
+    /// The database at an address, without conflicts.
+    Clean(Address),
+    /// Schemas that don't merge, or rows in conflict.
+    Conflict,
+    /// A database without conflicts that passes a limit.
+    Limit,
+}
+
+/// The database at an address with its violations recorded anew.
+fn record_all<D: Digester>(
+    alloc: Global,
+    draft: &mut Draft<D>,
+    database: &Address,
+) -> Result<Address, PutFault>
+    requires { HasKeptAt D.address (chunks_of draft.old.chunks) database.now.0 }
+    ensures stands { (contents : PlainDatabase) → IsKeptAt D.address (chunks_of draft.old.chunks) database.now.0 contents
+        → IfOk result (λ at. IsKeptAt D.address (chunks_of draft.new.chunks) at.0 (recorded contents)) }
+    ensures grows { Grows is_data draft.old draft.new }
+    ensures cause { IfErr result (IsReason D.address (chunks_of draft.new.chunks)) }
+{
+    laws_of_growth();
+    laws_of_states();
+    let list = violations(alloc, draft, database)?;
+    record_violations(alloc, draft, database, list.as_slice())
+}
+
+/// What databases come to whose merge passes a limit.
+fn over_limit<D: Digester>(
+    alloc: Global,
+    draft: &Draft<D>,
+    base: &Address,
+    ours: &Address,
+    theirs: &Address,
+) -> Result<Side, AllocError>
+    requires { (b : PlainDatabase) × (o : PlainDatabase) × (t : PlainDatabase) × PassesAt D.address (chunks_of draft.now.chunks) base.now ours.now theirs.now b o t }
+    ensures { (b o t : PlainDatabase) → PassesAt D.address (chunks_of draft.now.chunks) base.now ours.now theirs.now b o t
+        → IfOk result (λ side. IsSide D.address (chunks_of draft.now.chunks) side (root3 b o t)) }
+{
+    let found = roots_conflict(alloc, draft, base, ours, theirs)?;
+    if found {
+        Ok(Side::Conflict)
+    } else {
+        Ok(Side::Limit)
+    }
+}
+
+/// What the databases at three addresses come to.
+fn merge_side<D: Digester>(
+    alloc: Global,
+    draft: &mut Draft<D>,
+    base: &Address,
+    ours: &Address,
+    theirs: &Address,
+) -> Result<Side, PutFault>
+    requires base { HasKeptAt D.address (chunks_of draft.old.chunks) base.now.0 }
+    requires ours { HasKeptAt D.address (chunks_of draft.old.chunks) ours.now.0 }
+    requires theirs { HasKeptAt D.address (chunks_of draft.old.chunks) theirs.now.0 }
+    ensures side { (b o t : PlainDatabase) → AreRoots D.address (chunks_of draft.old.chunks) base.now ours.now theirs.now b o t
+        → IfOk result (λ side. IsSide D.address (chunks_of draft.new.chunks) side (root3 b o t)) }
+    ensures grows { Grows is_data draft.old draft.new }
+    ensures cause { IfErr result (IsReason D.address (chunks_of draft.new.chunks)) }
+{
+    laws_of_growth();
+    match merge_roots(alloc, draft, base, ours, theirs) {
+        Ok(merged) => {
+            if merged.conflicts == 0 {
+                Ok(Side::Clean(merged.root))
+            } else {
+                Ok(Side::Conflict)
+            }
+        }
+        Err(MergeFault::Schema { .. }) => Ok(Side::Conflict),
+        Err(MergeFault::Limit) => {
+            let side = over_limit(alloc, draft, base, ours, theirs)?;
+            Ok(side)
+        }
+        Err(MergeFault::Memory) => Err(PutFault::Memory),
+        Err(MergeFault::Collision(clash)) => Err(PutFault::Collision(clash)),
+    }
+}
+
+/// The record of merged databases. The working one's violations are recorded anew.
+fn record_merged<D: Digester>(
+    alloc: Global,
+    draft: &mut Draft<D>,
+    head: Address,
+    working: &Address,
+    staged: &Address,
+) -> Result<BranchRecord, PutFault>
+    requires working { HasKeptAt D.address (chunks_of draft.old.chunks) working.now.0 }
+    requires staged { HasKeptAt D.address (chunks_of draft.old.chunks) staged.now.0 }
+    ensures stands { (w s : PlainDatabase) → IsKeptAt D.address (chunks_of draft.old.chunks) working.now.0 w → IsKeptAt D.address (chunks_of draft.old.chunks) staged.now.0 s
+        → IfOk result (λ made. StateStands D.address (chunks_of draft.new.chunks) made (anew head.0 w s)) }
+    ensures grows { Grows is_data draft.old draft.new }
+    ensures cause { IfErr result (IsReason D.address (chunks_of draft.new.chunks)) }
+{
+    laws_of_growth();
+    let working = record_all(alloc, draft, working)?;
+    Ok(BranchRecord {
+        head,
+        working,
+        staged: *staged,
+        merging: None,
+    })
+}
+
+/// What the working and the staged databases come to together.
+fn both<D: Digester>(
+    alloc: Global,
+    draft: &mut Draft<D>,
+    head: Address,
+    working: &Side,
+    staged: &Side,
+) -> Result<Candidate, PutFault>
+    requires { (w : Result MergedDatabase SchemaConflict) × (s : Result MergedDatabase SchemaConflict) × AreBoth D.address (chunks_of draft.old.chunks) working.now staged.now w s }
+    ensures is { (w s : Result MergedDatabase SchemaConflict) (present : BranchState) → AreBoth D.address (chunks_of draft.old.chunks) working.now staged.now w s → head.0 ≡ present.head
+        → IfOk result (λ made. IsCandidate D.address (chunks_of draft.new.chunks) made (together present w s)) }
+    ensures grows { Grows is_data draft.old draft.new }
+    ensures cause { IfErr result (IsReason D.address (chunks_of draft.new.chunks)) }
+{
+    laws_of_growth();
+    match working {
+        Side::Conflict => Ok(Candidate::Refused(1213)),
+        Side::Limit => match staged {
+            Side::Conflict => Ok(Candidate::Refused(1213)),
+            _ => Ok(Candidate::Refused(9010)),
+        },
+        Side::Clean(working) => match staged {
+            Side::Conflict => Ok(Candidate::Refused(1213)),
+            Side::Limit => Ok(Candidate::Refused(9010)),
+            Side::Clean(staged) => {
+                let record = record_merged(alloc, draft, head, working, staged)?;
+                Ok(Candidate::Record(record))
+            }
+        },
+    }
+}
+
+/// Whether one of the three has a merge in progress, conflicts or violations.
+fn any_unsettled<D: Digester>(
+    alloc: Global,
+    draft: &Draft<D>,
+    start: &BranchRecord,
+    present: &BranchRecord,
+    own: &BranchRecord,
+) -> Result<bool, AllocError>
+    requires { (s : BranchState) × (p : BranchState) × (o : BranchState) × AreStates D.address (chunks_of draft.now.chunks) start.now present.now own.now s p o }
+    ensures { (s p o : BranchState) → AreStates D.address (chunks_of draft.now.chunks) start.now present.now own.now s p o
+        → IfOk result (λ found. found ≡ are_unsettled s p o) }
+{
+    let at_present = is_unsettled(alloc, draft, present)?;
+    if at_present {
+        return Ok(true);
+    }
+    let at_start = is_unsettled(alloc, draft, start)?;
+    if at_start {
+        return Ok(true);
+    }
+    is_unsettled(alloc, draft, own)
+}
+
+/// What settled states come to.
+fn merge_settled<D: Digester>(
+    alloc: Global,
+    draft: &mut Draft<D>,
+    start: &BranchRecord,
+    present: &BranchRecord,
+    own: &BranchRecord,
+) -> Result<Candidate, PutFault>
+    requires { (s : BranchState) × (p : BranchState) × (o : BranchState) × AreStates D.address (chunks_of draft.old.chunks) start.now present.now own.now s p o }
+    ensures is { (s p o : BranchState) → AreStates D.address (chunks_of draft.old.chunks) start.now present.now own.now s p o
+        → IfOk result (λ made. IsCandidate D.address (chunks_of draft.new.chunks) made (settled s p o)) }
+    ensures grows { Grows is_data draft.old draft.new }
+    ensures cause { IfErr result (IsReason D.address (chunks_of draft.new.chunks)) }
+{
+    laws_of_growth();
+    let working = merge_side(alloc, draft, &start.working, &present.working, &own.working)?;
+    let staged = merge_side(alloc, draft, &start.staged, &present.staged, &own.staged)?;
+    both(alloc, draft, present.head, &working, &staged)
+}
+
+/// What the states of a branch come to where it has moved.
+fn merge_states<D: Digester>(
+    alloc: Global,
+    draft: &mut Draft<D>,
+    start: &BranchRecord,
+    present: &BranchRecord,
+    own: &BranchRecord,
+) -> Result<Candidate, PutFault>
+    requires { (s : BranchState) × (p : BranchState) × (o : BranchState) × AreStates D.address (chunks_of draft.old.chunks) start.now present.now own.now s p o }
+    ensures is { (s p o : BranchState) → AreStates D.address (chunks_of draft.old.chunks) start.now present.now own.now s p o
+        → IfOk result (λ made. IsCandidate D.address (chunks_of draft.new.chunks) made (merged s p o)) }
+    ensures grows { Grows is_data draft.old draft.new }
+    ensures cause { IfErr result (IsReason D.address (chunks_of draft.new.chunks)) }
+{
+    laws_of_growth();
+    let unsettled = any_unsettled(alloc, draft, start, present, own)?;
+    if unsettled {
+        return Ok(Candidate::Refused(1213));
+    }
+    merge_settled(alloc, draft, start, present, own)
+}
+
+/// What a branch comes to before its conflicts and violations are judged.
+fn proposed<D: Digester>(
+    alloc: Global,
+    draft: &mut Draft<D>,
+    start: &BranchRecord,
+    present: &BranchRecord,
+    own: &BranchRecord,
+) -> Result<Candidate, PutFault>
+    requires { (s : BranchState) × (p : BranchState) × (o : BranchState) × AreStates D.address (chunks_of draft.old.chunks) start.now present.now own.now s p o }
+    ensures is { (s p o : BranchState) → AreStates D.address (chunks_of draft.old.chunks) start.now present.now own.now s p o
+        → IfOk result (λ made. IsCandidate D.address (chunks_of draft.new.chunks) made (candidate s p o)) }
+    ensures grows { Grows is_data draft.old draft.new }
+    ensures cause { IfErr result (IsReason D.address (chunks_of draft.new.chunks)) }
+{
+    laws_of_growth();
+    laws_of_states();
+    if present == start {
+        return Ok(Candidate::Record(*own));
+    }
+    merge_states(alloc, draft, start, present, own)
+}
+
+fn refusal(conflict: bool, violation: bool, allow: bool, force: bool) -> Option<u16>
+    ensures { result ≡ refusal conflict violation allow force }
+{
+    if conflict && !allow && !force {
+        Some(9002)
+    } else if violation && !force {
+        Some(9003)
+    } else {
+        None
+    }
+}
+
+/// Refuses conflicts that aren't allowed, and violations that aren't forced.
+fn judged<D: Digester>(
+    alloc: Global,
+    draft: &Draft<D>,
+    decided: BranchRecord,
+    allow: bool,
+    force: bool,
+) -> Result<Candidate, AllocError>
+    requires { HasState D.address (chunks_of draft.now.chunks) decided }
+    ensures { (state : BranchState) (autocommit : Bool) → StateStands D.address (chunks_of draft.now.chunks) decided state
+        → IfOk result (λ made. IsCandidate D.address (chunks_of draft.now.chunks) made (judged (set autocommit allow force) state)) }
+{
+    let conflict = is_in_conflict(alloc, draft, &decided)?;
+    let violation = is_in_violation(alloc, draft, &decided)?;
+    match refusal(conflict, violation, allow, force) {
+        Some(number) => Ok(Candidate::Refused(number)),
+        None => Ok(Candidate::Record(decided)),
+    }
+}
+
+/// What a branch's record becomes where a transaction ends: `start` is the record on which it began, `present` the branch's as it is now, and `own`
+/// the transaction's. Where the branch hasn't moved it is the transaction's own, and else both are merged.
+///
+/// `allow` lets conflicts be, and `force` conflicts and violations. The refusals are 1213, 9010, 9002 and 9003, the first that applies.
+pub fn candidate<D: Digester>(
+    alloc: Global,
+    draft: &mut Draft<D>,
+    start: &BranchRecord,
+    present: &BranchRecord,
+    own: &BranchRecord,
+    allow: bool,
+    force: bool,
+) -> Result<Candidate, PutFault>
+    requires start { HasState D.address (chunks_of draft.old.chunks) start.now }
+    requires present { HasState D.address (chunks_of draft.old.chunks) present.now }
+    requires own { HasState D.address (chunks_of draft.old.chunks) own.now }
+    ensures is { (s p o : BranchState) (autocommit : Bool) → AreStates D.address (chunks_of draft.old.chunks) start.now present.now own.now s p o
+        → IfOk result (λ made. IsCandidate D.address (chunks_of draft.new.chunks) made (decide s p o (set autocommit allow force))) }
+    ensures grows { Grows is_data draft.old draft.new }
+    ensures cause { IfErr result (IsReason D.address (chunks_of draft.new.chunks)) }
+{
+    laws_of_growth();
+    let proposal = proposed(alloc, draft, start, present, own)?;
+    match proposal {
+        Candidate::Refused(number) => Ok(Candidate::Refused(number)),
+        Candidate::Record(decided) => {
+            let made = judged(alloc, draft, decided, allow, force)?;
+            Ok(made)
+        }
+    }
+}

@@ -1,0 +1,7 @@
+pub mod AloneLemmas
+pub mod CommitLemmas
+pub mod CountLemmas
+pub mod SelectLemmas
+pub mod SessionLemmas
+pub mod ShowLemmas
+pub mod WriteLemmas

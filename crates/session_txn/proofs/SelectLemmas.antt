@@ -1,0 +1,220 @@
+-- A SELECT that names no system table reads the stored ones.
+use Rattle.std.proofs.Common.{◌≡◌, refl, sym, ◌∙◌, ap, subst, arith, nat_le, length, Some, Ok, Err, ℕ, Bool, true, false, ◌||◌, ◌&&◌, cond, nat_eq, List, [], ◌∷◌, ◌++◌, map, filter, bytes_eq, codes}
+use Rattle.std.proofs.lemmas.Bool.Decides.{nat_tests}
+use Rattle.std.proofs.lemmas.List.{append_assoc}
+use Rattle.std.specs.List.{list_all, list_any}
+use Rattle.std.specs.Cmp.Lexicographic.{bytes_decides}
+use Rattle.schema_model.specs.PlainTables.{PlainDatabase}
+use Rattle.sql_ast.specs.declared.selects.FromClause.{FromClause}
+use Rattle.sql_ast.specs.declared.selects.Join.{Join}
+use Rattle.sql_ast.specs.declared.selects.Query.{Query}
+use Rattle.sql_ast.specs.declared.selects.NamedExpr.{NamedExpr}
+use Rattle.sql_ast.specs.declared.selects.Select.{Select}
+use Rattle.sql_ast.specs.declared.selects.Select.TheVariants as select
+use Rattle.sql_features.specs.Features.{has}
+use Rattle.sql_features.specs.declared.features.Feature.TheVariants as feature
+use Rattle.plain_sql.specs.Plans.{answer}
+use Rattle.plain_sql.specs.declared.sources.Known.{Known}
+use Rattle.plain_sql.specs.declared.sources.NamedType.{NamedType}
+use Rattle.plain_sessions.specs.Sessions.{Transaction, with_own, within}
+use Rattle.plain_sessions.specs.SystemTables.{branches, commit_ancestors, conflicts, conflicts_of, constraint_violations, known, log, status, stored, violations_of}
+use Rattle.sql_select.specs.Sources as sources
+use Rattle.sql_select.specs.Sources.{CanRead, IsReadAt, ReadsSuffice, is_read, known_system, known_table, typed}
+use Rattle.sql_select.specs.declared.sources.NamedAnswer.{NamedAnswer}
+use Rattle.tuple_codec.specs.declared.answers.Answer.{Answer}
+use Rattle.chunk_store.specs.Chunks.{Chunks}
+use Rattle.chunk_store.specs.Drafts.{chunks_of}
+use Rattle.constraint_scan.specs.Scanning.{HasKeptAt, IsKeptAt}
+use Rattle.schema_model.specs.Limits.{is_named_within_limits, most_tables}
+use Rattle.expr_eval.specs.Binding.{Outcome, and_then}
+use Rattle.script_text.specs.declared.replies.Reply.{Reply}
+use Rattle.plain_sessions.specs.Merging.{Worked, Answers}
+use Rattle.plain_sessions.specs.Moments.{is_in_transaction}
+use Rattle.plain_sessions.specs.Replies.{refused, shown, shown_or_refused}
+use Rattle.plain_sessions.specs.Sessions as plain
+use Rattle.plain_sessions.specs.Statements.{item_with_values, said, select_with_values, worked}
+use Rattle.plain_sessions.specs.declared.commands.Command.TheVariants as command
+use Rattle.plain_sessions.specs.declared.commands.Work.TheVariants as work
+use Rattle.session_state.specs.Standing.{SessionStands}
+use Rattle.session_state.specs.declared.sessions.Session.{Session}
+use Rattle.session_txn.specs.Answering.{AnswersAlone}
+use Rattle.session_txn.specs.Showing.{IsDue}
+use Rattle.session_txn.specs.Naming.{asks_system, is_system_name, lists_session, reads_system, selects_session}
+use Rattle.session_txn.proofs.AloneLemmas.{answers_due, in_place, worked_ill, worked_well}
+use Rattle.session_txn.proofs.SessionLemmas.{has_one, own_kept}
+
+-- ---- system tables as answers
+
+abbrev as_named : Known → NamedAnswer
+as_named k = record { name = k.name; answer = record { names = map (λ (c : NamedType). c.name) k.columns; kinds = map (λ (c : NamedType). c.kind) k.columns; rows = k.rows } }
+
+typed_back : (columns : List NamedType) → typed (map (λ (c : NamedType). c.name) columns) (map (λ (c : NamedType). c.kind) columns) ≡ columns
+typed_back [] = refl
+typed_back (c ∷ columns) = ap (λ (cs : List NamedType). c ∷ cs) (typed_back columns)
+
+known_back : (k : Known) → known_system (as_named k) ≡ k
+known_back k = ap (λ (cs : List NamedType). let other : Known = record { name = k.name; columns = cs; rows = k.rows } in other) (typed_back k.columns)
+
+all_back : (ks : List Known) → map known_system (map as_named ks) ≡ ks
+all_back [] = refl
+all_back (k ∷ ks) = ap (λ (one : Known). one ∷ map known_system (map as_named ks)) (known_back k) ∙ ap (λ (more : List Known). k ∷ more) (all_back ks)
+
+abbrev systems : Transaction → List Known
+systems t =
+    log t ∷ branches t ∷ status t ∷ commit_ancestors t ∷ conflicts t.own.working ∷ constraint_violations t.own.working ∷ []
+    ++ map conflicts_of t.own.working
+    ++ map violations_of t.own.working
+
+known_as : (t : Transaction) → known t ≡ sources.known t.own.working (map as_named (systems t))
+known_as t =
+    let stores = map stored t.own.working in
+    let first = log t ∷ branches t ∷ status t ∷ commit_ancestors t ∷ conflicts t.own.working ∷ constraint_violations t.own.working ∷ [] in
+    let second = map conflicts_of t.own.working in
+    let third = map violations_of t.own.working in
+    ap (λ (ks : List Known). ks ++ third) (append_assoc stores first second) ∙ append_assoc stores (first ++ second) third
+    ∙ ap (λ (ks : List Known). stores ++ ks) (sym (all_back (systems t)))
+
+-- ---- their names
+
+abbrev are_system : List Known → Bool
+are_system ks = list_all (λ k. is_system_name k.name) ks
+
+both : (a b : Bool) → (a && b) ≡ true → (a ≡ true) × (b ≡ true)
+both true b h = (refl, h)
+both false b h = absurd (cc)
+
+of_both : (a b : Bool) → a ≡ true → b ≡ true → (a && b) ≡ true
+of_both true b h g = g
+of_both false b h g = absurd (cc)
+
+neither : (a b : Bool) → (a || b) ≡ false → (a ≡ false) × (b ≡ false)
+neither true b h = absurd (cc)
+neither false b h = (refl, h)
+
+of_neither : (a b : Bool) → a ≡ false → b ≡ false → (a || b) ≡ false
+of_neither true b h g = absurd (cc)
+of_neither false b h g = g
+
+system_more : (xs ys : List Known) → are_system xs ≡ true → are_system ys ≡ true → are_system (xs ++ ys) ≡ true
+system_more [] ys h g = g
+system_more (x ∷ xs) ys h g = let all = both (is_system_name x.name) (are_system xs) h in of_both (is_system_name x.name) (are_system (xs ++ ys)) all.0 (system_more xs ys all.1 g)
+
+conflicts_are : (database : PlainDatabase) → are_system (map conflicts_of database) ≡ true
+conflicts_are [] = refl
+conflicts_are (named ∷ database) = conflicts_are database
+
+violations_are : (database : PlainDatabase) → are_system (map violations_of database) ≡ true
+violations_are [] = refl
+violations_are (named ∷ database) = violations_are database
+
+systems_are : (t : Transaction) → are_system (systems t) ≡ true
+systems_are t =
+    let first = log t ∷ branches t ∷ status t ∷ commit_ancestors t ∷ conflicts t.own.working ∷ constraint_violations t.own.working ∷ [] in
+    system_more (first ++ map conflicts_of t.own.working) (map violations_of t.own.working)
+    (system_more first (map conflicts_of t.own.working) refl (conflicts_are t.own.working)) (violations_are t.own.working)
+
+-- ---- none of them is read
+
+two : {A : Type 0} (b : Bool) → (b ≡ true → A) → (b ≡ false → A) → A
+two true f g = f refl
+two false f g = g refl
+
+apart : (name table : List ℕ) → is_system_name name ≡ true → is_system_name table ≡ false → bytes_eq name table ≡ false
+apart name table h g = two (bytes_eq name table) (λ same. let is : name ≡ table = (bytes_decides name table).0 same in let called : true ≡ false = sym h ∙ ap is_system_name is ∙ g in absurd (cc)) (λ other. other)
+
+apart_joins : (name : List ℕ) (joins : List Join) → is_system_name name ≡ true → list_any (λ join. is_system_name join.source.table) joins ≡ false
+    → list_any (λ join. bytes_eq name join.source.table) joins ≡ false
+apart_joins name [] h g = refl
+apart_joins name (join ∷ joins) h g =
+    let none = neither (is_system_name join.source.table) (list_any (λ (join : Join). is_system_name join.source.table) joins) g in
+    of_neither (bytes_eq name join.source.table) (list_any (λ (join : Join). bytes_eq name join.source.table) joins) (apart name join.source.table h none.0) (apart_joins name joins h none.1)
+
+unread : (from : FromClause) (name : List ℕ) → reads_system from ≡ false → is_system_name name ≡ true → is_read from name ≡ false
+unread from name h g =
+    let none = neither (is_system_name from.first.table) (list_any (λ (join : Join). is_system_name join.source.table) from.joins) h in
+    of_neither (bytes_eq name from.first.table) (list_any (λ (join : Join). bytes_eq name join.source.table) from.joins) (apart name from.first.table g none.0)
+    (apart_joins name from.joins g none.1)
+
+all_unread : (from : FromClause) (ks : List Known) → reads_system from ≡ false → are_system ks ≡ true → filter (λ (named : NamedAnswer). is_read from named.name) (map as_named ks) ≡ []
+all_unread from [] h g = refl
+all_unread from (k ∷ ks) h g =
+    let all = both (is_system_name k.name) (are_system ks) g in
+    let rest = filter (λ (named : NamedAnswer). is_read from named.name) (map as_named ks) in
+    ap (λ (b : Bool). cond b (as_named k ∷ rest) rest) (unread from k.name h all.0) ∙ all_unread from ks h all.1
+
+-- what it shows of all that it may name it shows of the stored tables
+query_stored : ReadsSuffice → (t : Transaction) (query : Query) → reads_system query.from ≡ false
+    → answer (known t) (select.From query) ≡ answer (sources.known t.own.working []) (select.From query)
+query_stored suffice t query h =
+    let database = t.own.working in
+    ap (λ (ks : List Known). answer ks (select.From query)) (known_as t)
+    ∙ sym (suffice database (map as_named (systems t)) query)
+    ∙ ap (λ (read : List NamedAnswer). answer (map known_table (filter (λ named. is_read query.from named.name) database) ++ map known_system read) (select.From query))
+    (all_unread query.from (systems t) h (systems_are t))
+    ∙ suffice database [] query
+
+answers_stored : ReadsSuffice → (t : Transaction) (one : Select) → asks_system one ≡ false → answer (known t) one ≡ answer (sources.known t.own.working []) one
+answers_stored suffice t (select.From query) h = query_stored suffice t query h
+answers_stored suffice t (select.Alone list) h = refl
+
+-- ---- the reply
+
+pub shows_due : ReadsSuffice → (t : Transaction) (one : Select) (system : List NamedAnswer) (outcome : Outcome Answer) (reply : Reply) → system ≡ [] → asks_system one ≡ false
+    → answer (sources.known t.own.working system) one ≡ outcome → IsDue 1 (shown_or_refused outcome) reply
+    → IsDue 1 (shown_or_refused (answer (known t) one)) reply
+shows_due suffice t one system outcome reply none h is owed =
+    subst (λ (r : Reply). IsDue 1 r reply) (sym (ap shown_or_refused (answers_stored suffice t one h
+    ∙ ap (λ (s : List NamedAnswer). answer (sources.known t.own.working s) one) (sym none) ∙ is))) owed
+
+-- a database that is kept can be read
+pub kept_reads : (address : List ℕ → List ℕ) (chunks : Chunks) (k : List ℕ) (database : PlainDatabase) → IsKeptAt address chunks k database → IsReadAt address chunks k database
+kept_reads address chunks k database kept =
+    let fits : nat_le (length database) most_tables ≡ true = (both (nat_le (length database) most_tables) (list_all is_named_within_limits database) kept.within).0 in
+    record { stands = kept.stands; few = grind (arith, nat_tests) }
+
+pub can_read : (address : List ℕ → List ℕ) (chunks : Chunks) (k : List ℕ) → HasKeptAt address chunks k → CanRead address chunks k
+can_read address chunks k kept = (kept.0, kept_reads address chunks k kept.0 kept.1)
+
+asked_by : {D : Type 0} (address : List ℕ → List ℕ) (session : Session D) (p : plain.Session) (t : Transaction) (one : Select) (reply : Reply) (outcome : Outcome Answer)
+    → p.transaction ≡ Some t → answer (known t) one ≡ outcome → SessionStands address session p → IsDue 1 (shown_or_refused outcome) reply
+    → AnswersAlone address p (command.Data (work.Ask one)) session reply
+unfolding worked
+asked_by address session p t one reply (Ok shown_so) there is stands owed =
+    answers_due address session p (within p (with_own t.own t)) (command.Data (work.Ask one)) (shown shown_so) reply
+    (worked_well p t (work.Ask one) (shown shown_so) t.own there (ap (λ (o : Outcome Answer). and_then {B = Worked} o (λ a. Ok (Answers (shown a) t.own))) is)) owed stands
+    (subst (λ (q : plain.Session). SessionStands address session q) (sym (in_place p t there)) stands)
+asked_by address session p t one reply (Err number) there is stands owed =
+    answers_due address session p p (command.Data (work.Ask one)) (refused number) reply
+    (worked_ill p t (work.Ask one) number there (ap (λ (o : Outcome Answer). and_then {B = Worked} o (λ a. Ok (Answers (shown a) t.own))) is)) owed stands stands
+
+pub asks : {D : Type 0} (address : List ℕ → List ℕ) (session : Session D) (p : plain.Session) (one : Select) (reply : Reply) → is_in_transaction p ≡ true → SessionStands address session p
+    → ((t : Transaction) → IsKeptAt address (chunks_of session.draft.chunks) session.own.working.0 t.own.working → IsDue 1 (shown_or_refused (answer (known t) one)) reply)
+    → AnswersAlone address p (command.Data (work.Ask one)) session reply
+asks address session p one reply inside stands owed =
+    let found = has_one p.transaction inside in
+    asked_by address session p found.0 one reply (answer (known found.0) one) found.1 refl stands (owed found.0 (own_kept address session p found.0 stands found.1))
+
+-- ---- without sources
+
+-- an item without the session's values stays as it is
+items_kept : (p : plain.Session) (list : List NamedExpr) → lists_session list ≡ false → map (item_with_values p) list ≡ list
+items_kept p [] h = refl
+items_kept p (named ∷ list) h =
+    let none = neither (has feature.SessionWord named.expr) (lists_session list) h in
+    let here : item_with_values p named ≡ named = rw (none.0) refl in
+    ap (λ (item : NamedExpr). item ∷ map (item_with_values p) list) here ∙ ap (λ (more : List NamedExpr). named ∷ more) (items_kept p list none.1)
+
+values_kept : (p : plain.Session) (one : Select) → selects_session one ≡ false → select_with_values p one ≡ one
+values_kept p (select.From query) h = refl
+values_kept p (select.Alone list) h = ap select.Alone (items_kept p list h)
+
+-- what it says is what it shows of no tables
+pub says_due : (p : plain.Session) (one : Select) (outcome : Outcome Answer) (reply : Reply) → selects_session one ≡ false → answer [] one ≡ outcome
+    → IsDue 1 (shown_or_refused outcome) reply → IsDue 1 (said p one) reply
+unfolding said
+says_due p one outcome reply h is owed =
+    subst (λ (r : Reply). IsDue 1 r reply) (sym (ap (λ (kept : Select). shown_or_refused (answer [] kept)) (values_kept p one h) ∙ ap shown_or_refused is)) owed
+
+pub says : {D : Type 0} (address : List ℕ → List ℕ) (session : Session D) (p : plain.Session) (one : Select) (reply : Reply)
+    → IsDue 1 (said p one) reply → SessionStands address session p → AnswersAlone address p (command.Say one) session reply
+says address session p one reply owed stands = answers_due address session p p (command.Say one) (said p one) reply refl owed stands stands

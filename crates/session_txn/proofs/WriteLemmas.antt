@@ -1,0 +1,246 @@
+-- Statements that write, in a transaction.
+use Rattle.std.proofs.Common.{◌≡◌, refl, sym, ◌∙◌, ap, subst, inl, inr, ◌⊎◌, ℕ, Bool, true, false, ◌||◌, cond, List, [], ◌∷◌, ◌++◌, length, Option, None, Some, Result, Ok, Err, bytes_eq, if◌then◌else◌, ◌==◌, arith}
+use Rattle.std.proofs.lemmas.Bool.Decides.{nat_tests}
+use Rattle.tuple_codec.specs.declared.addresses.Address.{Address}
+use Rattle.tuple_codec.specs.declared.records.BranchRecord.{BranchRecord}
+use Rattle.chunk_store.specs.Chunks.{Chunk, Chunks, bytes_at}
+use Rattle.chunk_store.specs.Clashes.{IsMet}
+use Rattle.chunk_store.specs.Drafts.{AreOfKind, Drafting, DraftParts, Grows, IsNamed, IsSound, Longer, chunks_of, cut_to}
+use Rattle.chunk_store.specs.Kinds.{is_commit}
+use Rattle.chunk_store.specs.Laws.{ChunksFollow, DraftsFollow, DraftsGrow}
+use Rattle.constraint_scan.specs.Scanning.{IsKeptAt}
+use Rattle.script_text.specs.Collisions.{TellsTruly}
+use Rattle.script_text.specs.declared.replies.Reply.{Reply}
+use Rattle.script_text.specs.declared.replies.Reply.TheVariants.{Refused, Collided}
+use Rattle.schema_model.specs.PlainTables.{PlainDatabase}
+use Rattle.sql_ast.specs.declared.statements.Write.{Write}
+use Rattle.expr_eval.specs.Binding.{Outcome}
+use Rattle.plain_writes.specs.Writes.{Effect}
+use Rattle.plain_schemas.specs.Statements.{write_effect}
+use Rattle.plain_sessions.specs.Statements.{changed, counted_or_done, or_of_rows, worked, write_worked}
+use Rattle.sql_write.specs.Growing.{is_data}
+use Rattle.sql_write.specs.Writing.{IsWritten, Writes}
+use Rattle.sql_write.specs.declared.faults.SqlFault.{SqlFault}
+use Rattle.sql_write.specs.declared.faults.SqlFault.TheVariants as fault
+use Rattle.sql_write.specs.declared.writing.Written.{Written}
+use Rattle.sql_ast.specs.declared.statements.Write.TheVariants as write
+use Rattle.sql_rules.specs.Writes.{is_below}
+use Rattle.script_text.specs.Output.{shortage}
+use Rattle.table_root.specs.declared.heads.Look.{Look}
+use Rattle.plain_sessions.specs.Moments.{is_in_transaction}
+use Rattle.plain_sessions.specs.Records.{BranchState}
+use Rattle.plain_sessions.specs.Replies.{refused}
+use Rattle.plain_sessions.specs.Sessions as plain
+use Rattle.plain_sessions.specs.Sessions.{Said, Transaction, with_own, within}
+use Rattle.plain_sessions.specs.SystemTables.{behind, conflicts_front, delete_by, delete_conflicts, delete_violations, violations_front}
+use Rattle.plain_sessions.specs.declared.commands.Command.TheVariants as command
+use Rattle.plain_sessions.specs.declared.commands.Work.TheVariants as work
+use Rattle.session_laws.specs.Commits.{HasNoCommit}
+use Rattle.session_laws.specs.Laws.{RecordsFollow, TransactionsFollow}
+use Rattle.session_laws.specs.Records.{RecordStands}
+use Rattle.session_laws.specs.Transactions.{StartStands, TransactionStands}
+use Rattle.session_state.specs.Standing.{SessionStands}
+use Rattle.session_state.specs.declared.sessions.Session.{Session}
+use Rattle.session_txn.specs.Answering.{AnswersAlone}
+use Rattle.session_txn.specs.Naming.{writes_system}
+use Rattle.session_txn.specs.Writing.{IsExcused, IsRefusedBy, Turns, written_reply}
+use Rattle.session_txn.proofs.CountLemmas.{reply_told}
+use Rattle.session_txn.proofs.AloneLemmas.{answers_due, answers_so, collides, starves, takes_none, worked_ill, worked_well}
+use Rattle.session_txn.proofs.SessionLemmas.{has_one, own_kept}
+use Rattle.session_txn.proofs.ShowLemmas.{due_truly}
+
+-- ---- the draft
+
+done_by : (address : List ℕ → List ℕ) (old new : Drafting) (before : Address) (tables : PlainDatabase) (w : Write) (written : Written) (outcome : Outcome Effect) (reply : Reply)
+    → write_effect tables w ≡ outcome → Writes address (chunks_of new.chunks) (Ok written) outcome → reply ≡ written_reply w written.rows → Grows is_data old new
+    → Turns address old new before written.root (write_effect tables w) reply
+done_by address old new before tables w written (Ok made) reply is wrote told grows = inl (record {
+  made = made;
+  is = is;
+  reply_is = told ∙ ap (written_reply w) wrote.rows ∙ sym (reply_told tables w made is);
+  stands = wrote.root;
+  grows = grows;
+})
+done_by address old new before tables w written (Err number) reply is wrote told grows = absurd wrote
+
+pub turned : (address : List ℕ → List ℕ) (old new : Drafting) (before : Address) (tables : PlainDatabase) (w : Write) (written : Written) (reply : Reply)
+    → Writes address (chunks_of new.chunks) (Ok written) (write_effect tables w) → reply ≡ written_reply w written.rows → Grows is_data old new
+    → Turns address old new before written.root (write_effect tables w) reply
+turned address old new before tables w written reply wrote told grows = done_by address old new before tables w written (write_effect tables w) reply refl wrote told grows
+
+excused_by : (address : List ℕ → List ℕ) (chunks : Chunks) (f : SqlFault) (effect : Outcome Effect) (reply : Reply) → Writes address chunks (Err f) effect → IsRefusedBy f reply
+    → IsExcused effect reply
+excused_by address chunks (fault.Refused number) effect reply wrote owed = inl (number, wrote, owed)
+excused_by address chunks fault.Memory effect reply wrote owed = inr (inl owed)
+excused_by address chunks (fault.Collision clash) effect reply wrote owed = inr (inr (clash, owed))
+
+pub unturned : (address : List ℕ → List ℕ) (old mid new : Drafting) (before : Address) (mark : ℕ) (f : SqlFault) (effect : Outcome Effect) (reply : Reply) → DraftsFollow
+    → Writes address (chunks_of mid.chunks) (Err f) effect → IsRefusedBy f reply → mark ≡ length old.chunks.own → Longer old.chunks mid.chunks → new.chunks ≡ cut_to mark mid.chunks
+    → Turns address old new before before effect reply
+unturned address old mid new before mark f effect reply follow wrote owed at longer cut = inr (record {
+  chunks = cut ∙ ap (λ (n : ℕ). cut_to n mid.chunks) at ∙ follow.comes_back old.chunks mid.chunks longer;
+  root = refl;
+  excused = excused_by address (chunks_of mid.chunks) f effect reply wrote owed;
+})
+
+-- a collision that is told is one
+pub refuses_truly : (address : List ℕ → List ℕ) (old mid : DraftParts) (f : SqlFault) (effect : Outcome Effect) (reply : Reply) → ChunksFollow → DraftsFollow → IsNamed address old
+    → IsSound address mid → Longer old mid → Writes address (chunks_of mid) (Err f) effect → IsRefusedBy f reply → TellsTruly address reply
+refuses_truly address old mid (fault.Refused number) effect reply chunks drafts named sound longer wrote owed = due_truly address 1 (Refused number) reply owed
+refuses_truly address old mid fault.Memory effect reply chunks drafts named sound longer wrote owed = subst (λ (r : Reply). TellsTruly address r) (sym owed) tt
+refuses_truly address old mid (fault.Collision clash) effect reply chunks drafts named sound longer wrote owed =
+    subst (λ (r : Reply). TellsTruly address r) (sym owed) (record {
+      first = chunks.is_named address (mid.base ++ mid.own) clash.address.0 clash.first (drafts.all_named address mid (drafts.still_named address old mid longer named) sound) wrote.is_held;
+      second = wrote.is_brought;
+      differ = wrote.differ;
+    })
+
+-- ---- the session
+
+two : {A : Type 0} (b : Bool) → (b ≡ true → A) → (b ≡ false → A) → A
+two true f g = f refl
+two false f g = g refl
+
+found_either : (xs ys : List Chunk) (k bytes : List ℕ) → bytes_at (xs ++ ys) k ≡ Some bytes → (bytes_at xs k ≡ Some bytes) ⊎ (bytes_at ys k ≡ Some bytes)
+found_either [] ys k bytes h = inr h
+found_either (c ∷ xs) ys k bytes h = two (bytes_eq c.0 k)
+    (λ t. inl (ap (λ (b : Bool). if b then Some c.1 else bytes_at xs k) t ∙ sym (ap (λ (b : Bool). if b then Some c.1 else bytes_at (xs ++ ys) k) t) ∙ h))
+    (λ t. found_in c xs ys k bytes t (found_either xs ys k bytes (sym (ap (λ (b : Bool). if b then Some c.1 else bytes_at (xs ++ ys) k) t) ∙ h)))
+  where
+    found_in : (c : Chunk) (xs ys : List Chunk) (k bytes : List ℕ) → bytes_eq c.0 k ≡ false → (bytes_at xs k ≡ Some bytes) ⊎ (bytes_at ys k ≡ Some bytes)
+        → (bytes_at (c ∷ xs) k ≡ Some bytes) ⊎ (bytes_at ys k ≡ Some bytes)
+    found_in c xs ys k bytes t (inl there) = inl (ap (λ (b : Bool). if b then Some c.1 else bytes_at xs k) t ∙ there)
+    found_in c xs ys k bytes t (inr there) = inr there
+
+of_data : (ys : List Chunk) (k bytes : List ℕ) → AreOfKind is_data ys → bytes_at ys k ≡ Some bytes → is_data bytes ≡ true
+of_data [] k bytes all h = absurd (cc)
+of_data (c ∷ ys) k bytes all h = two (bytes_eq c.0 k)
+    (λ t. let same : Some c.1 ≡ Some bytes = sym (ap (λ (b : Bool). if b then Some c.1 else bytes_at ys k) t) ∙ h in
+    let is : c.1 ≡ bytes = cc in ap is_data (sym is) ∙ all.0)
+    (λ t. of_data ys k bytes all.1 (sym (ap (λ (b : Bool). if b then Some c.1 else bytes_at ys k) t) ∙ h))
+
+data_apart : (bytes : List ℕ) → is_data bytes ≡ true → is_commit bytes ≡ true → ⊥
+data_apart [] h is = absurd (cc)
+data_apart (byte ∷ bytes) h is =
+    let five : byte ≡ 5 = grind (arith, nat_tests) in
+    let wrong : false ≡ true = ap (λ (n : ℕ). is_data (n ∷ bytes)) (sym five) ∙ h in absurd (cc)
+
+-- data more are no commits
+no_commit_more : (own more : List Chunk) → HasNoCommit own → AreOfKind is_data more → HasNoCommit (own ++ more)
+no_commit_more own more none all k bytes there is = by_place (found_either own more k bytes there)
+  where
+    by_place : (bytes_at own k ≡ Some bytes) ⊎ (bytes_at more k ≡ Some bytes) → ⊥
+    by_place (inl here) = none k bytes here is
+    by_place (inr here) = data_apart bytes (of_data more k bytes all here) is
+
+neither : (a b : Bool) → (a || b) ≡ false → (a ≡ false) × (b ≡ false)
+neither true b h = absurd (cc)
+neither false b h = (refl, h)
+
+by_rows : (own : BranchState) (w : Write) → writes_system w ≡ false → write_worked own w ≡ changed own (write_effect own.working w)
+by_rows own (write.Create create) h = refl
+by_rows own (write.Drop drop) h = refl
+by_rows own (write.Insert insert) h = refl
+by_rows own (write.Update update) h = refl
+by_rows own (write.Alter alter) h = refl
+by_rows own (write.Delete delete) h =
+    let none = neither (is_below conflicts_front delete.table) (is_below violations_front delete.table) h in
+    let conflicts = Some (delete_by (delete_conflicts own delete) own (behind conflicts_front delete.table)) in
+    let violations = Some (delete_by (delete_violations own delete) own (behind violations_front delete.table)) in
+    ap (λ (b : Bool). or_of_rows own delete (if b then conflicts else (if is_below violations_front delete.table then violations else None))) none.0
+    ∙ ap (λ (b : Bool). or_of_rows own delete (if b then violations else None)) none.1
+
+worked_write : (p : plain.Session) (t : Transaction) (w : Write) (outcome : Outcome Effect) → writes_system w ≡ false → write_effect t.own.working w ≡ outcome
+    → worked p t (work.Change w) ≡ changed t.own outcome
+unfolding worked
+worked_write p t w outcome h is = by_rows t.own w h ∙ ap (changed t.own) is
+
+grown_by : (address : List ℕ → List ℕ) (old new : DraftParts) (start : Option Look) (own rec : BranchRecord) (found : Option Transaction) (t : Transaction) (state : BranchState)
+    → TransactionsFollow → found ≡ Some t → Longer old new → StartStands address old start own found
+    → (RecordStands address (chunks_of old) t.commits own t.own → RecordStands address (chunks_of new) t.commits rec state)
+    → StartStands address new start rec (Some (with_own state t))
+grown_by address old new None own rec None t state follow is longer stands made = absurd (cc)
+grown_by address old new None own rec (Some other) t state follow is longer stands made = absurd stands
+grown_by address old new (Some look) own rec None t state follow is longer stands made = absurd stands
+grown_by address old new (Some look) own rec (Some other) t state follow is longer stands made =
+    let same : other ≡ t = cc in
+    let here = subst (λ (u : Transaction). TransactionStands address old look own u) same stands in
+    follow.grown address old new look own rec t state longer here (made here.own_stands)
+
+abbrev at_root : {D : Type 0} → Session D → Address → Drafting → Session D
+at_root session root d = record session { own = record session.own { working = root }; draft = d }
+
+turned_stands : {D : Type 0} (address : List ℕ → List ℕ) (old : Session D) (d : Drafting) (root : Address) (p : plain.Session) (t : Transaction) (database : PlainDatabase)
+    → DraftsFollow → DraftsGrow → RecordsFollow → TransactionsFollow → p.transaction ≡ Some t → SessionStands address old p → IsKeptAt address (chunks_of d.chunks) root.0 database
+    → Grows is_data old.draft d → SessionStands address (at_root old root d) (within p (with_own (record t.own { working = database }) t))
+turned_stands address old d root p t database drafts growth records follow there stands kept grows =
+    let longer = growth.is_longer is_data old.draft d grows in
+    record {
+      name = stands.name;
+      number = stands.number;
+      branch = stands.branch;
+      autocommit = stands.autocommit;
+      allow = stands.allow;
+      force = stands.force;
+      position = stands.position;
+      transaction = grown_by address old.draft.chunks d.chunks old.start old.own (record old.own { working = root }) p.transaction t (record t.own { working = database }) follow there longer
+          stands.transaction
+          (λ own. let later = records.later address (chunks_of old.draft.chunks) (chunks_of d.chunks) t.commits t.commits old.own t.own
+          (drafts.longer_extends old.draft.chunks d.chunks longer) (λ k known. known) own in
+          record { head = later.head; working = kept; staged = later.staged; merging = later.merging; head_known = later.head_known; merging_known = later.merging_known });
+      named = drafts.still_named address old.draft.chunks d.chunks longer stands.named;
+      plain_own = subst (λ (cs : List Chunk). HasNoCommit cs) (sym grows.own) (no_commit_more old.draft.chunks.own grows.more stands.plain_own grows.kinds);
+      committer = stands.committer;
+    }
+
+unturned_stands : {D : Type 0} (address : List ℕ → List ℕ) (old : Session D) (d : Drafting) (root : Address) (p : plain.Session) → SessionStands address old p
+    → d.chunks ≡ old.draft.chunks → root ≡ old.own.working → SessionStands address (at_root old root d) p
+unturned_stands address old d root p stands same back = record {
+  name = stands.name;
+  number = stands.number;
+  branch = stands.branch;
+  autocommit = stands.autocommit;
+  allow = stands.allow;
+  force = stands.force;
+  position = stands.position;
+  transaction = subst (λ (chunks : DraftParts). StartStands address chunks old.start (record old.own { working = root }) p.transaction) (sym same)
+      (subst (λ (k : Address). StartStands address old.draft.chunks old.start (record old.own { working = k }) p.transaction) (sym back) stands.transaction);
+  named = subst (λ (chunks : DraftParts). IsNamed address chunks) (sym same) stands.named;
+  plain_own = subst (λ (chunks : DraftParts). HasNoCommit chunks.own) (sym same) stands.plain_own;
+  committer = stands.committer;
+}
+
+excused : {D : Type 0} (address : List ℕ → List ℕ) (session : Session D) (p : plain.Session) (t : Transaction) (w : Write) (reply : Reply) → writes_system w ≡ false
+    → p.transaction ≡ Some t → SessionStands address session p → IsExcused (write_effect t.own.working w) reply → AnswersAlone address p (command.Data (work.Change w)) session reply
+excused address session p t w reply h there stands (inl refusal) =
+    answers_due address session p p (command.Data (work.Change w)) (refused refusal.0) reply
+    (worked_ill p t (work.Change w) refusal.0 there (worked_write p t w (Err refusal.0) h refusal.1)) refusal.2 stands stands
+excused address session p t w reply h there stands (inr (inl is)) = starves address session p (command.Data (work.Change w)) reply stands is
+excused address session p t w reply h there stands (inr (inr clash)) =
+    collides address session p (command.Data (work.Change w)) clash.0 reply clash.1 (takes_none p t (work.Change w) there) stands
+
+counted_told : (count : Option ℕ) → shortage (counted_or_done count) ≡ None
+counted_told None = refl
+counted_told (Some rows) = refl
+
+changes_in : {D : Type 0} (address : List ℕ → List ℕ) (old : Session D) (d : Drafting) (root : Address) (p : plain.Session) (t : Transaction) (w : Write) (reply : Reply)
+    → DraftsFollow → DraftsGrow → RecordsFollow → TransactionsFollow → writes_system w ≡ false → p.transaction ≡ Some t → SessionStands address old p
+    → Turns address old.draft d old.own.working root (write_effect t.own.working w) reply
+    → AnswersAlone address p (command.Data (work.Change w)) (at_root old root d) reply
+changes_in address old d root p t w reply drafts growth records follow h there stands (inl done) =
+    let state : BranchState = record t.own { working = done.made.database } in
+    answers_so address (at_root old root d) p (within p (with_own state t)) (command.Data (work.Change w)) reply
+    (worked_well p t (work.Change w) (counted_or_done done.made.count) state there (worked_write p t w (Ok done.made) h done.is)
+    ∙ ap (λ (r : Reply). let said : Option Said = Some (within p (with_own state t), r) in said) (sym done.reply_is))
+    (ap shortage done.reply_is ∙ counted_told done.made.count)
+    (turned_stands address old d root p t done.made.database drafts growth records follow there stands done.stands done.grows)
+changes_in address old d root p t w reply drafts growth records follow h there stands (inr undone) =
+    excused address (at_root old root d) p t w reply h there (unturned_stands address old d root p stands undone.chunks undone.root) undone.excused
+
+pub changes : {D : Type 0} (address : List ℕ → List ℕ) (old : Session D) (d : Drafting) (root : Address) (p : plain.Session) (w : Write) (reply : Reply)
+    → DraftsFollow → DraftsGrow → RecordsFollow → TransactionsFollow → writes_system w ≡ false → is_in_transaction p ≡ true → SessionStands address old p
+    → ((tables : PlainDatabase) → IsKeptAt address (chunks_of old.draft.chunks) old.own.working.0 tables → Turns address old.draft d old.own.working root (write_effect tables w) reply)
+    → AnswersAlone address p (command.Data (work.Change w)) (at_root old root d) reply
+changes address old d root p w reply drafts growth records follow h inside stands turns =
+    let found = has_one p.transaction inside in
+    changes_in address old d root p found.0 w reply drafts growth records follow h found.1 stands (turns found.0.own.working (own_kept address old p found.0 stands found.1))

@@ -1,0 +1,11 @@
+use Rattle.session_txn.proofs.SessionLemmas.{has_own}
+use Rattle.session_txn.proofs.WriteLemmas.{changes}
+use Rattle.session_txn.proofs.writing.change.Goals as goal
+
+pub turn-reply-requires-clause-tables : goal.turn-reply-requires-clause-tables
+turn-reply-requires-clause-tables g c κs within = has_own g.D.Digester.address c.args.session.now c.requires.stands.0 c.requires.stands.1 c.requires.stands.2 c.requires.stands.3
+
+pub returns-clause-alone : goal.returns-clause-alone
+returns-clause-alone g c = λ p stands inside.
+    changes g.D.Digester.address c.args.session.now c.turn-reply.new.draft c.turn-reply.new.database p c.args.statement.now c.turn-reply.result
+    c.laws.ensures.drafts c.laws.ensures.growth c.laws.ensures.records c.laws.ensures.transactions c.requires.stored inside stands c.turn-reply.ensures.turns

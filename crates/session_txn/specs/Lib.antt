@@ -1,0 +1,6 @@
+pub mod Answering
+pub mod Committing
+pub mod Naming
+pub mod Planning
+pub mod Showing
+pub mod Writing

@@ -1,0 +1,110 @@
+//! Decisions by the commit rule, planned on a look.
+
+ghost use Rattle.std.specs.Prelude.{◌≡◌, IfErr, IfOk};
+ghost use Rattle.chunk_store.specs.Laws.{ChunksFollow, DraftsFollow, SegmentsFollow};
+ghost use Rattle.script_text.specs.Collisions.{IsFault};
+ghost use Rattle.plain_sessions.specs.Moments.{ruled};
+ghost use Rattle.plain_sessions.specs.Records.{BranchState, Shared};
+ghost use Rattle.plain_sessions.specs.Replies.{done};
+ghost use Rattle.plain_sessions.specs.Sessions as plain;
+ghost use Rattle.session_laws.specs.Laws.{CommitsFollow, RecordsFollow};
+ghost use Rattle.session_txn.specs.Answering.{Decides};
+ghost use Rattle.session_txn.specs.Committing.{IsSealedAs, IsWorkOf};
+ghost use Rattle.shared_db.specs.Plans.{IsRefusedBy, PlanIs};
+
+use chunk_store::{Draft, PutFault, SealFault, law_of_chunks, law_of_drafts, law_of_segments};
+use root_merge::{Candidate, candidate};
+use script_text::Reply;
+use session_laws::{law_of_records, law_of_standing_commits};
+use session_state::Session;
+use shared_db::{Change, Plan};
+use std::alloc::Global;
+use table_root::Look;
+use tuple_codec::{BranchRecord, Digester};
+
+/// What COMMIT decides on the branch as the session looks at it. The session stays as it was: where the branch has moved on before this is
+/// settled, it plans anew.
+pub fn plan_commit<D: Digester>(
+    alloc: Global,
+    session: &Session<D>,
+    look: &Look,
+) -> Result<Plan, PutFault>
+    requires { (p : plain.Session) × (t : plain.Transaction) × (shared : Shared) × (present : BranchState) × Decides D.address session.now look.now p t shared present }
+    ensures planned { (p : plain.Session) (t : plain.Transaction) (shared : Shared) (present : BranchState) → Decides D.address session.now look.now p t shared present
+        → IfOk result (λ plan. PlanIs D.address look.now shared.commits plan (ruled p t present done)) }
+    ensures fault { IfErr result (IsFault D.address) }
+{
+    laws();
+    let Some(start) = &session.start else {
+        return Err(PutFault::Memory);
+    };
+    let mut work = work_of(session, look)?;
+    let made = candidate(
+        alloc,
+        &mut work,
+        &start.rec,
+        &look.rec,
+        &session.own,
+        session.allow,
+        session.force,
+    );
+    work.tell();
+    match made? {
+        Candidate::Refused(number) => Ok(refused(number)),
+        Candidate::Record(rec) => sealed(work, rec),
+    }
+}
+
+/// A draft over the look's store with the session's own chunks, in which to work.
+fn work_of<D: Digester>(session: &Session<D>, look: &Look) -> Result<Draft<D>, PutFault>
+    requires { (p : plain.Session) × (t : plain.Transaction) × (shared : Shared) × (present : BranchState) × Decides D.address session.now look.now p t shared present }
+    ensures work { IfOk result (λ work. IsWorkOf session.now look.now work) }
+    ensures fault { IfErr result (IsFault D.address) }
+{
+    law_of_chunks();
+    look.store.tell();
+    session.draft.tell();
+    let store = look.store.share()?;
+    session.draft.copied(store)
+}
+
+/// A decision for this record, with all that was worked.
+fn sealed<D: Digester>(work: Draft<D>, rec: BranchRecord) -> Result<Plan, PutFault>
+    ensures sealed { IfOk result (λ plan. IsSealedAs work rec plan) }
+    ensures fault { IfErr result (IsFault D.address) }
+{
+    match work.seal() {
+        Ok((segment, _)) => Ok(Plan {
+            change: Change::Record(rec),
+            reply: Reply::Done,
+            sealed: Some(segment),
+        }),
+        Err(SealFault::Memory(_)) => Err(PutFault::Memory),
+    }
+}
+
+/// A decision that changes nothing.
+fn refused(number: u16) -> Plan
+    ensures { IsRefusedBy number result }
+{
+    Plan {
+        change: Change::Nothing,
+        reply: Reply::Refused(number),
+        sealed: None,
+    }
+}
+
+/// What follows of chunks, drafts, records and commits.
+fn laws()
+    ensures chunks { ChunksFollow }
+    ensures drafts { DraftsFollow }
+    ensures segments { SegmentsFollow }
+    ensures records { RecordsFollow }
+    ensures commits { CommitsFollow }
+{
+    law_of_chunks();
+    law_of_drafts();
+    law_of_segments();
+    law_of_records();
+    law_of_standing_commits();
+}

@@ -1,0 +1,16 @@
+//! What a session answers by itself, and what it plans for the state that sessions share.
+#![tactic(auto)]
+
+mod answering;
+mod committing;
+mod naming;
+mod planning;
+mod selecting;
+mod showing;
+mod writing;
+
+pub use answering::{ends_transaction, local};
+pub use committing::plan_commit;
+pub use naming::{asks_session, names_system};
+pub use planning::{finish, plan_begin};
+pub use showing::due;

@@ -1,0 +1,76 @@
+//! SELECT of a transaction's tables, and SELECT without sources.
+
+ghost use Rattle.std.specs.Prelude.{◌≡◌, ℕ, List, false, true};
+ghost use Rattle.chunk_store.specs.Drafts.{chunks_of};
+ghost use Rattle.constraint_scan.specs.Scanning.{HasKeptAt, IsKeptAt};
+ghost use Rattle.plain_sql.specs.Plans.{answer};
+ghost use Rattle.plain_sessions.specs.Replies.{shown_or_refused};
+ghost use Rattle.plain_sessions.specs.SystemTables.{known};
+ghost use Rattle.script_text.specs.Collisions.{TellsTruly};
+ghost use Rattle.plain_sessions.specs.Moments.{is_in_transaction};
+ghost use Rattle.plain_sessions.specs.Sessions as plain;
+ghost use Rattle.plain_sessions.specs.Statements.{said};
+ghost use Rattle.plain_sessions.specs.declared.commands.Command.TheVariants as command;
+ghost use Rattle.plain_sessions.specs.declared.commands.Work.TheVariants as work;
+ghost use Rattle.session_state.specs.Standing.{IsInTransaction, SessionStands};
+ghost use Rattle.session_txn.specs.Answering.{AnswersAlone};
+ghost use Rattle.session_txn.specs.Naming.{asks_system, selects_session};
+ghost use Rattle.session_txn.specs.Showing.{IsDue, is_sound_reply};
+
+use crate::showing::due;
+use chunk_store::Draft;
+use plain_sql::Refused;
+use script_text::Reply;
+use session_state::Session;
+use sql_ast::Select;
+use sql_select::{AskFault, Sources, answer, law_of_reading};
+use std::alloc::Global;
+use tuple_codec::{Address, Digester, Sequence};
+
+/// What a SELECT shows of the transaction's working tables.
+pub(crate) fn ask<D: Digester>(alloc: Global, session: &Session<D>, select: &Select) -> Reply
+    requires stands { IsInTransaction D.address session.now }
+    requires stored { asks_system select.now ≡ false }
+    ensures alone { (p : plain.Session) → SessionStands D.address session.now p → is_in_transaction p ≡ true
+        → AnswersAlone D.address p (command.Data (work.Ask select.now)) session.now result }
+    ensures sound { is_sound_reply result ≡ true }
+    ensures truly { TellsTruly D.address result }
+{
+    show(alloc, &session.draft, &session.own.working, select)
+}
+
+/// What a SELECT shows of the tables at an address.
+#[tactic(auto, using(crate::proofs::SelectLemmas::can_read))]
+fn show<D: Digester>(alloc: Global, draft: &Draft<D>, database: &Address, select: &Select) -> Reply
+    requires kept { HasKeptAt D.address (chunks_of draft.now.chunks) database.now.0 }
+    requires stored { asks_system select.now ≡ false }
+    ensures due { (t : plain.Transaction) → IsKeptAt D.address (chunks_of draft.now.chunks) database.now.0 t.own.working
+        → IsDue 1 (shown_or_refused (answer (known t) select.now)) result }
+    ensures sound { is_sound_reply result ≡ true }
+    ensures truly { TellsTruly D.address result }
+{
+    law_of_reading();
+    let sources = Sources {
+        database: *database,
+        system: Sequence::new(alloc),
+    };
+    match answer(alloc, draft, &sources, select) {
+        Ok(answer) => due(Reply::Rows(answer), 1),
+        Err(AskFault::Refused(number)) => due(Reply::Refused(number), 1),
+        Err(AskFault::Memory) => Reply::Refused(1),
+    }
+}
+
+/// What a SELECT without sources shows that asks for none of the session's values.
+pub(crate) fn say(alloc: Global, select: &Select) -> Reply
+    requires { selects_session select.now ≡ false }
+    ensures due { (p : plain.Session) → IsDue 1 (said p select.now) result }
+    ensures sound { is_sound_reply result ≡ true }
+    ensures truly { (address : List ℕ → List ℕ) → TellsTruly address result }
+{
+    match plain_sql::answer(alloc, &[], select) {
+        Ok(answer) => due(Reply::Rows(answer), 1),
+        Err(Refused::By(number)) => due(Reply::Refused(number), 1),
+        Err(Refused::Memory) => Reply::Refused(1),
+    }
+}

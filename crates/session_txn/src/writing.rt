@@ -1,0 +1,125 @@
+//! Statements that write, in a transaction.
+
+ghost use Rattle.std.specs.Prelude.{◌≡◌, false, true};
+ghost use Rattle.chunk_store.specs.Laws.{ChunksFollow, DraftsFollow, DraftsGrow};
+ghost use Rattle.chunk_store.specs.Drafts.{IsNamed, chunks_of};
+ghost use Rattle.constraint_scan.specs.Scanning.{HasKeptAt, IsKeptAt};
+ghost use Rattle.schema_model.specs.PlainTables.{PlainDatabase};
+ghost use Rattle.plain_schemas.specs.Statements.{write_effect};
+ghost use Rattle.script_text.specs.Collisions.{TellsTruly};
+ghost use Rattle.plain_sessions.specs.Moments.{is_in_transaction};
+ghost use Rattle.plain_sessions.specs.Sessions as plain;
+ghost use Rattle.plain_sessions.specs.declared.commands.Command.TheVariants as command;
+ghost use Rattle.plain_sessions.specs.declared.commands.Work.TheVariants as work;
+ghost use Rattle.table_root.specs.Standing.{DatabasesStand};
+ghost use Rattle.schema_laws.specs.Laws.{IsFit};
+ghost use Rattle.session_laws.specs.Laws.{RecordsFollow, TransactionsFollow};
+ghost use Rattle.session_state.specs.Standing.{IsInTransaction, SessionStands};
+ghost use Rattle.session_txn.specs.Answering.{AnswersAlone};
+ghost use Rattle.session_txn.specs.Naming.{writes_system};
+ghost use Rattle.session_txn.specs.Showing.{is_sound_reply};
+ghost use Rattle.session_txn.specs.Writing.{IsRefusedBy, Turns, written_reply};
+
+use crate::showing::due;
+use chunk_store::{Draft, law_of_chunks, law_of_drafts, law_of_growth};
+use script_text::Reply;
+use session_laws::{law_of_records, law_of_transactions};
+use session_state::Session;
+use sql_ast::Write;
+use sql_write::{SqlFault, write};
+use std::alloc::Global;
+use table_root::law_of_databases;
+use tuple_codec::{Address, Digester};
+
+/// Does a statement on the transaction's working tables. Where it writes nothing, the draft goes back to where it was.
+pub(crate) fn change<D: Digester>(
+    alloc: Global,
+    session: &mut Session<D>,
+    statement: &Write,
+) -> Reply
+    requires stands { IsInTransaction D.address session.old }
+    requires fit { IsFit statement.now }
+    requires stored { writes_system statement.now ≡ false }
+    ensures alone { (p : plain.Session) → SessionStands D.address session.old p → is_in_transaction p ≡ true
+        → AnswersAlone D.address p (command.Data (work.Change statement.now)) session.new result }
+    ensures sound { is_sound_reply result ≡ true }
+    ensures truly { TellsTruly D.address result }
+    ensures base { session.new.draft.chunks.base ≡ session.old.draft.chunks.base }
+{
+    laws();
+    let mut root = session.own.working;
+    let reply = turn(alloc, &mut session.draft, &mut root, statement);
+    session.own.working = root;
+    reply
+}
+
+/// Does a statement on the tables at an address. Where it writes nothing, the draft goes back to where it was.
+fn turn<D: Digester>(
+    alloc: Global,
+    draft: &mut Draft<D>,
+    database: &mut Address,
+    statement: &Write,
+) -> Reply
+    requires named { IsNamed D.address draft.old.chunks }
+    requires tables { HasKeptAt D.address (chunks_of draft.old.chunks) database.old.0 }
+    requires fit { IsFit statement.now }
+    ensures turns { (tables : PlainDatabase) → IsKeptAt D.address (chunks_of draft.old.chunks) database.old.0 tables
+        → Turns D.address draft.old draft.new database.old database.new (write_effect tables statement.now) result }
+    ensures sound { is_sound_reply result ≡ true }
+    ensures truly { TellsTruly D.address result }
+    ensures base { draft.new.chunks.base ≡ draft.old.chunks.base }
+{
+    laws();
+    let mark = draft.mark();
+    let old = *database;
+    let result = write(alloc, draft, &old, statement);
+    draft.tell();
+    match result {
+        Ok(written) => {
+            *database = written.root;
+            written_reply(statement, written.rows)
+        }
+        Err(fault) => {
+            draft.back_to(mark);
+            refuse(fault)
+        }
+    }
+}
+
+/// Why a statement wrote nothing, as a reply.
+fn refuse(fault: SqlFault) -> Reply
+    ensures due { IsRefusedBy fault result }
+    ensures sound { is_sound_reply result ≡ true }
+{
+    match fault {
+        SqlFault::Refused(number) => due(Reply::Refused(number), 1),
+        SqlFault::Memory => Reply::Refused(1),
+        SqlFault::Collision(clash) => Reply::collided(clash),
+    }
+}
+
+fn written_reply(statement: &Write, rows: u64) -> Reply
+    ensures { result ≡ written_reply statement.now rows }
+{
+    match statement {
+        Write::Insert(_) | Write::Update(_) | Write::Delete(_) => Reply::Count(rows),
+        Write::Create(_) | Write::Drop(_) | Write::Alter(_) => Reply::Done,
+    }
+}
+
+/// What holds of drafts and of transactions in them, for proofs. It does nothing.
+fn laws()
+    ensures chunks { ChunksFollow }
+    ensures drafts { DraftsFollow }
+    ensures growth { DraftsGrow }
+    ensures records { RecordsFollow }
+    ensures transactions { TransactionsFollow }
+    ensures databases { DatabasesStand }
+{
+    law_of_chunks();
+    law_of_drafts();
+    law_of_growth();
+    law_of_records();
+    law_of_transactions();
+    law_of_databases();
+}
