@@ -1,0 +1,13 @@
+pub mod AheadLemmas
+pub mod AloneLemmas
+pub mod AnswerLemmas
+pub mod BeginLemmas
+pub mod DecisionLemmas
+pub mod LookLemmas
+pub mod MomentLemmas
+pub mod RuleLemmas
+pub mod ServeLemmas
+pub mod StartLemmas
+pub mod StateLemmas
+pub mod SwitchLemmas
+pub mod WorkLemmas

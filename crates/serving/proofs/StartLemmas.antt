@@ -1,0 +1,304 @@
+-- A database statement outside a transaction, from its start to its answer.
+use Rattle.std.proofs.Common.{◌≡◌, refl, ◌∙◌, sym, ap, subst, ℕ, ℤ, true, false, List, [], ◌∷◌, ◌++◌, Option, Some, None, Ok, Err, is_some}
+use Rattle.std.specs.Prelude.{pos}
+use Rattle.std.proofs.lemmas.Bool.{not-true}
+use Rattle.std.proofs.lemmas.List.{append_assoc}
+use Rattle.std.proofs.lemmas.Option.{same_Some}
+use Rattle.chunk_store.specs.Chunks.{Chunk, Lists}
+use Rattle.chunk_store.specs.Stores.{all_chunks}
+use Rattle.chunk_store.specs.declared.faults.PutFault.{PutFault}
+use Rattle.chunk_store.specs.declared.faults.PutFault.TheVariants.{Memory, Collision}
+use Rattle.expr_eval.specs.Binding.{Outcome}
+use Rattle.script_text.specs.Collisions.{TellsTruly}
+use Rattle.script_text.specs.Output.{Shortage, AtOnce, AfterStart, Clashes, shortage}
+use Rattle.script_text.specs.declared.replies.Reply.{Reply}
+use Rattle.script_text.specs.declared.replies.Reply.TheVariants as print
+use Rattle.table_root.specs.declared.heads.Look.{Look}
+use Rattle.script_text.specs.declared.scripts.Moment.{Moment}
+use Rattle.plain_sessions.specs.Merging.{Worked, Answers, Closes}
+use Rattle.plain_sessions.specs.Moments.{Past, alone_by, decided, if_answered, past, takes_start}
+use Rattle.plain_sessions.specs.Records.{BranchState, Shared}
+use Rattle.plain_sessions.specs.Replies.{is_refusal, refused}
+use Rattle.plain_sessions.specs.Runs.{awaiting}
+use Rattle.plain_sessions.specs.Sessions as plain
+use Rattle.plain_sessions.specs.Sessions.{Between, Said, Transaction, is_changed_since, over, taken, with_own, within}
+use Rattle.plain_sessions.specs.Statements.{worked}
+use Rattle.plain_sessions.specs.declared.commands.Command.{Command}
+use Rattle.plain_sessions.specs.declared.commands.Command.TheVariants as command
+use Rattle.plain_sessions.specs.declared.commands.Work.{Work}
+use Rattle.plain_sessions.specs.declared.commands.Work.TheVariants as work
+use Rattle.run_laws.specs.Turns.{InTwoTurns}
+use Rattle.session_laws.specs.Changes.{Parts}
+use Rattle.session_laws.specs.Laws.{StatesFollow}
+use Rattle.session_laws.specs.Transactions.{IsLookOf}
+use Rattle.session_state.specs.Standing.{SessionStands}
+use Rattle.session_state.specs.declared.sessions.Session.{Session}
+use Rattle.session_txn.specs.Answering.{AnswersAlone, is_local}
+use Rattle.shared_db.specs.Shared.{noted}
+use Rattle.serving.specs.Running.{is_no_call}
+use Rattle.serving.specs.Serving.{IsBefore}
+use Rattle.serving.specs.Starting.{HasStarted, HasWorked, with_reply}
+use Rattle.serving.specs.Steps.{Answered, ComesTo, Decided, after_start, fault_reply, number_at}
+use Rattle.serving.proofs.AnswerLemmas.{comes_places, over_stands, refused_answered, same_number, started_answered, well_started}
+use Rattle.serving.proofs.LookLemmas.{Looks, shows}
+use Rattle.serving.proofs.MomentLemmas.{decided_as, in_two_turns, turn_at, verdict_said}
+use Rattle.serving.proofs.StateLemmas.{stands_noted}
+use Rattle.serving.proofs.WorkLemmas.{Came, Done, Kept, Met, Starved, came, is_decided, is_over, kept_after, stays_open, waits_for_start}
+
+-- a session outside a transaction is the same where one is over
+pub over_same : (p : plain.Session) → p.transaction ≡ None → over p ≡ p
+over_same p none = λ i. record p { transaction = sym none i }
+
+fault_came : (p : plain.Session) (t : Transaction) (asked : Work) (after : plain.Session) (fault : PutFault) → Came p t asked after (fault_reply fault)
+fault_came p t asked after Memory = Starved refl
+fault_came p t asked after (Collision clash) = Met clash refl
+
+fault_refused : (fault : PutFault) → is_refusal (fault_reply fault) ≡ true
+fault_refused Memory = refl
+fault_refused (Collision clash) = refl
+
+-- before the decision the session stands in its transaction
+pub before_decision : {D : Type 0} (address : List ℕ → List ℕ) (session : Session D) (parts now : Parts) (p : plain.Session) (asked : Work) (shared : Shared) (reply : Reply)
+    (has : HasWorked address session parts now p asked shared reply) → IsBefore address session now (within p (with_own has.own has.start)) shared
+before_decision address session parts now p asked shared reply has =
+    subst (λ (q : Parts). IsBefore address session q (within p (with_own has.own has.start)) shared) (sym has.now_is) (record {
+      session_stands = has.stands;
+      before = has.before.before;
+      state_stands = stands_noted address p.number p.statement parts shared has.before.state_stands;
+      placed = has.before.placed;
+      later = has.later;
+    })
+
+module _ {D : Type 0} (address : List ℕ → List ℕ) (epoch : ℤ) (session : Session D) (parts now : Parts) (p : plain.Session) (asked : Work) (shared : Shared) (reply : Reply)
+    (has : HasWorked address session parts now p asked shared reply) where
+  abbrev pub held : Transaction
+  held = with_own has.own has.start
+
+  abbrev kept : Kept address epoch shared p has.start asked (within p held) reply
+  kept = record { own = has.own; is = has.is; after_is = refl; short = has.short }
+
+  done_so : Came p has.start asked (within p held) reply
+  done_so = Done has.own has.is refl has.short
+
+  over_now : SessionStands address (record session { start = None }) p
+  over_now = subst (λ (q : plain.Session). SessionStands address (record session { start = None }) q) (over_same p has.none)
+      (over_stands address session (within p held) has.stands)
+
+  at_now : (ended : Session D) (said : Reply) → Answered address epoch p (command.Data asked) shared parts (noted p.number p.statement parts) ended said
+      → Answered address epoch p (command.Data asked) shared parts now ended said
+  at_now ended said answered = subst (λ (q : Parts). Answered address epoch p (command.Data asked) shared parts q ended said) (sym has.now_is) answered
+
+  pub stays_answered : session.autocommit ≡ false → Answered address epoch p (command.Data asked) shared parts now session reply
+  stays_answered off =
+      at_now session reply (started_answered address epoch has.old session parts p shared has.before (command.Data asked) (within p held) reply
+      (well_started address epoch has.old session parts p shared has.before has.start asked (within p held) reply has.none has.taken_is has.runs done_so has.later (within p held) has.short
+      (stays_open address epoch shared p has.start asked (within p held) reply has.none has.taken_is kept (sym has.stands.autocommit ∙ off)))
+      has.stands (record { number = refl; branch = refl }) has.later)
+
+  pub over_answered : session.autocommit ≡ true → is_changed_since held ≡ false → Answered address epoch p (command.Data asked) shared parts now (record session { start = None }) reply
+  over_answered on unchanged =
+      let ended = record session { start = None } in
+      at_now ended reply (started_answered address epoch has.old ended parts p shared has.before (command.Data asked) p reply
+      (well_started address epoch has.old ended parts p shared has.before has.start asked (within p held) reply has.none has.taken_is has.runs done_so has.later p has.short
+      (is_over address epoch shared p has.start asked (within p held) reply has.none has.taken_is kept (sym has.stands.autocommit ∙ on) unchanged))
+      over_now (record { number = refl; branch = refl }) has.later)
+
+  -- a fault of the decision: all but the start is as if nothing had been asked
+  pub fault_answered : (new : Parts) (fault : PutFault) (said : Reply) → new ≡ now → said ≡ after_start (fault_reply fault)
+      → Answered address epoch p (command.Data asked) shared parts new (record session { start = None }) said
+  fault_answered new fault said same is =
+      let ended = record session { start = None } in
+      subst (λ (q : Parts). Answered address epoch p (command.Data asked) shared parts q ended said) (sym same)
+      (subst (λ (r : Reply). Answered address epoch p (command.Data asked) shared parts now ended r) (sym is)
+      (at_now ended (after_start (fault_reply fault))
+      (refused_answered address epoch has.old ended parts p shared has.before has.start asked (within p held) (fault_reply fault) has.none has.taken_is has.runs
+      (fault_came p has.start asked (within p held) fault) has.later (fault_refused fault) over_now)))
+
+  -- ---- the decision
+
+  ends_so : (verdict : Outcome BranchState) (last : Shared) (decision : Reply) → ComesTo shared p.branch verdict last decision → (q : plain.Session) (next : plain.Session) → next ≡ over q
+      → verdict_said address epoch q next reply verdict ≡ (over q, with_reply reply decision)
+  ends_so (Ok state) last decision comes q next is = λ i. (is i, with_reply reply (sym comes.1 i))
+  ends_so (Err number) last decision comes q next is = λ i. (over q, with_reply reply (sym comes.1 i))
+
+  ends_short : (verdict : Outcome BranchState) (last : Shared) (decision : Reply) → ComesTo shared p.branch verdict last decision → shortage (with_reply reply decision) ≡ None
+  ends_short (Ok state) last decision comes = ap (λ (r : Reply). shortage (with_reply reply r)) comes.1 ∙ has.short
+  ends_short (Err number) last decision comes = ap (λ (r : Reply). shortage (with_reply reply r)) comes.1 ∙ comes.2
+
+  pub decided_answered : (new : Parts) (decision said : Reply) → session.autocommit ≡ true → is_changed_since held ≡ true → Decided address (within p held) held shared now new decision
+      → said ≡ with_reply reply decision → Answered address epoch p (command.Data asked) shared parts new (record session { start = None }) said
+  decided_answered new decision said on changed d is =
+      let at = Between reply in
+      let m : Moment = record { session = p.number; statement = p.statement } in
+      let q = awaiting p held at in
+      let last = d.last in
+      let ended = with_reply reply decision in
+      let short : shortage ended ≡ None = ends_short d.verdict last decision d.comes in
+      let made : decided address (over q) reply shared q ≡ Some (last, Past (over q, ended)) =
+      decided_as address epoch shared last q (over q) held d.present decision reply d.verdict refl d.there d.is d.comes
+      ∙ ap (λ (s : Said). Some (last, Past s)) (ends_so d.verdict last decision d.comes q (over q) refl) in
+      let two : InTwoTurns address epoch None p (command.Data asked) (turn_at p shared shared) (turn_at p shared last) (past p.statement (over q, ended)) =
+      in_two_turns address epoch shared last p (command.Data asked) held at (over q, ended) has.before.before (waits_for_start address epoch shared p has.start asked has.none)
+      (is_decided address epoch shared p has.start asked (within p held) reply has.none has.taken_is kept (sym has.stands.autocommit ∙ on) changed) made in
+      let listed : Lists parts.chunks new.chunks = subst (λ (cs : Parts). Lists cs.chunks new.chunks) has.now_is d.chunks in
+      subst (λ (r : Reply). Answered address epoch p (command.Data asked) shared parts new (record session { start = None }) r) (sym is) (record {
+        said = over p;
+        last = last;
+        turns = turn_at p shared shared ∷ turn_at p shared last ∷ [];
+        is = subst (λ (answer : Option Shortage). InTwoTurns address epoch answer p (command.Data asked) (turn_at p shared shared) (turn_at p shared last) (past p.statement (over p, ended))) (sym short) two;
+        follows = (refl, (refl, refl));
+        session_stands = over_stands address session (within p held) has.stands;
+        still = record { number = refl; branch = refl };
+        state_stands = d.state_stands;
+        places = comes_places shared last p.branch decision d.verdict d.comes;
+        later = λ k bytes there. listed k bytes (has.later k bytes there);
+        grown = listed;
+        moments = d.moments ∙ ap (λ (q : Parts). q.moments ++ m ∷ []) has.now_is ∙ append_assoc parts.moments (m ∷ []) (m ∷ []);
+        numbers = d.numbers ∙ ap (λ (q : Parts). q.numbers) has.now_is;
+      })
+
+-- ---- what the code's steps hand over
+
+pub with_reply_truly : (address : List ℕ → List ℕ) (reply decision : Reply) → TellsTruly address reply → TellsTruly address decision → TellsTruly address (with_reply reply decision)
+with_reply_truly address reply print.Done left right = left
+with_reply_truly address reply (print.Count rows) left right = right
+with_reply_truly address reply (print.Rows answer) left right = right
+with_reply_truly address reply (print.Refused number) left right = right
+with_reply_truly address reply (print.Syntax at) left right = right
+with_reply_truly address reply (print.Collided clash) left right = right
+
+none_there : {A : Type 0} (o : Option A) → is_some o ≡ false → o ≡ None
+none_there None is = refl
+none_there (Some a) is = absurd (cc)
+
+pub outside : (p : plain.Session) (asked : Command) → takes_start p asked ≡ true → p.transaction ≡ None
+outside p (command.Faulty refusal) takes = absurd (cc)
+outside p command.Begin takes = absurd (cc)
+outside p command.CommitAll takes = absurd (cc)
+outside p command.Rollback takes = absurd (cc)
+outside p (command.Switch setting) takes = absurd (cc)
+outside p (command.Say list) takes = absurd (cc)
+outside p (command.Data asked) takes = none_there p.transaction (not-true _ takes)
+outside p (command.OnBranches request) takes = absurd (cc)
+outside p (command.Checkout request) takes = absurd (cc)
+
+pub local_within : (p : plain.Session) (t : Transaction) (asked : Command) → takes_start p asked ≡ true → is_no_call asked ≡ true → is_local (within p t) asked ≡ true
+local_within p t (command.Faulty refusal) takes runs = absurd (cc)
+local_within p t command.Begin takes runs = absurd (cc)
+local_within p t command.CommitAll takes runs = absurd (cc)
+local_within p t command.Rollback takes runs = absurd (cc)
+local_within p t (command.Switch setting) takes runs = absurd (cc)
+local_within p t (command.Say list) takes runs = absurd (cc)
+local_within p t (command.Data (work.Ask query)) takes runs = refl
+local_within p t (command.Data (work.Change statement)) takes runs = refl
+local_within p t (command.Data (work.Add tables)) takes runs = absurd (cc)
+local_within p t (command.Data (work.ResetTo reset)) takes runs = absurd (cc)
+local_within p t (command.Data (work.Commit request)) takes runs = absurd (cc)
+local_within p t (command.Data (work.Merge request)) takes runs = absurd (cc)
+local_within p t (command.Data (work.Resolve request)) takes runs = absurd (cc)
+local_within p t (command.Data (work.Verify way)) takes runs = absurd (cc)
+local_within p t (command.OnBranches request) takes runs = absurd (cc)
+local_within p t (command.Checkout request) takes runs = absurd (cc)
+
+said_over : (p after : plain.Session) (answer reply : Reply) (q : plain.Session) → over q ≡ over p → ◌≡◌ {A = Option Said} (Some (q, answer)) (Some (after, reply)) → over after ≡ over p
+said_over p after answer reply q ends is = sym (ap (λ (said : Said). over said.0) (same_Some _ _ is)) ∙ ends
+
+answered_over : (p after : plain.Session) (t : Transaction) (reply : Reply) (outcome : Outcome Worked) → if_answered (within p t) t outcome ≡ Some (after, reply) → over after ≡ over p
+answered_over p after t reply (Ok (Answers answer own)) is = said_over p after answer reply (within p (with_own own t)) refl is
+answered_over p after t reply (Ok (Closes call)) is = absurd (cc)
+answered_over p after t reply (Err number) is = said_over p after (refused number) reply (within p t) refl is
+
+-- whatever the statement came to in its transaction: where that is dropped, nothing of it is left
+came_over : (p after : plain.Session) (t : Transaction) (asked : Work) (reply : Reply) (answer : Option Shortage) → alone_by answer (within p t) (command.Data asked) ≡ Some (after, reply)
+    → over after ≡ over p
+came_over p after t asked reply None is = answered_over p after t reply (worked (within p t) t asked) is
+came_over p after t asked reply (Some AtOnce) is = said_over p after (refused 1) reply (within p t) refl is
+came_over p after t asked reply (Some AfterStart) is = absurd (cc)
+came_over p after t asked reply (Some (Clashes clash)) is = said_over p after (print.Collided clash) reply (within p t) refl is
+
+module _ {D : Type 0} (address : List ℕ → List ℕ) (started session : Session D) (parts now : Parts) (p : plain.Session) (t : Transaction) (shared : Shared) (reply : Reply)
+    (has : HasStarted address started parts now p t shared) (base : session.draft.chunks.base ≡ started.draft.chunks.base) where
+  later_still : Lists session.draft.chunks.base parts.chunks
+  later_still = subst (λ (cs : List Chunk). Lists cs parts.chunks) (sym base) has.later
+
+  dropped : (epoch : ℤ) (asked : Work) → is_no_call (command.Data asked) ≡ true → AnswersAlone address (within p t) (command.Data asked) session reply → is_refusal reply ≡ true
+      → Answered address epoch p (command.Data asked) shared parts now (record session { start = None }) (after_start reply)
+  dropped epoch asked runs alone refusal =
+      let ended = record session { start = None } in
+      let stands : SessionStands address ended p = subst (λ (q : plain.Session). SessionStands address ended q)
+      (came_over p alone.after t asked reply (shortage reply) alone.is ∙ over_same p has.none) (over_stands address session alone.after alone.stands) in
+      subst (λ (q : Parts). Answered address epoch p (command.Data asked) shared parts q ended (after_start reply)) (sym has.now_is)
+      (refused_answered address epoch has.old ended parts p shared has.before t asked alone.after reply has.none has.taken_is runs
+      (came p t asked alone.after reply runs alone.is) later_still refusal stands)
+
+  -- a refusal drops the transaction
+  pub dropped_answered : (epoch : ℤ) (asked : Command) (said : Reply) → takes_start p asked ≡ true → is_no_call asked ≡ true → AnswersAlone address (within p t) asked session reply
+      → is_refusal reply ≡ true → said ≡ after_start reply → Answered address epoch p asked shared parts now (record session { start = None }) said
+  dropped_answered epoch asked said takes runs alone refusal is =
+      subst (λ (r : Reply). Answered address epoch p asked shared parts now (record session { start = None }) r) (sym is) (by asked takes runs alone) where
+        by : (asked : Command) → takes_start p asked ≡ true → is_no_call asked ≡ true → AnswersAlone address (within p t) asked session reply
+            → Answered address epoch p asked shared parts now (record session { start = None }) (after_start reply)
+        by (command.Faulty refusal) takes runs alone = absurd (cc)
+        by command.Begin takes runs alone = absurd (cc)
+        by command.CommitAll takes runs alone = absurd (cc)
+        by command.Rollback takes runs alone = absurd (cc)
+        by (command.Switch setting) takes runs alone = absurd (cc)
+        by (command.Say list) takes runs alone = absurd (cc)
+        by (command.Data work) takes runs alone = dropped epoch work runs alone refusal
+        by (command.OnBranches request) takes runs alone = absurd (cc)
+        by (command.Checkout request) takes runs alone = absurd (cc)
+
+  -- this work was asked, and it was well
+  abbrev pub HasWorkedAt : Command → Type 0
+  HasWorkedAt asked = (work : Work) × (asked ≡ command.Data work) × HasWorked address session parts now p work shared reply
+
+  pub worked_well : (asked : Command) → takes_start p asked ≡ true → is_no_call asked ≡ true → AnswersAlone address (within p t) asked session reply
+      → is_refusal reply ≡ false → HasWorkedAt asked
+  worked_well (command.Faulty refusal) takes runs alone well = absurd (cc)
+  worked_well command.Begin takes runs alone well = absurd (cc)
+  worked_well command.CommitAll takes runs alone well = absurd (cc)
+  worked_well command.Rollback takes runs alone well = absurd (cc)
+  worked_well (command.Switch setting) takes runs alone well = absurd (cc)
+  worked_well (command.Say list) takes runs alone well = absurd (cc)
+  worked_well (command.Data asked) takes runs alone well =
+      let kept = kept_after address (pos 0) shared p t asked alone.after reply (came p t asked alone.after reply runs alone.is) well in (
+        asked,
+        refl,
+        record {
+          runs = runs;
+          old = has.old;
+          before = has.before;
+          none = has.none;
+          start = t;
+          taken_is = has.taken_is;
+          now_is = has.now_is;
+          own = kept.own;
+          is = kept.is;
+          short = kept.short;
+          stands = subst (λ (q : plain.Session). SessionStands address session q) kept.after_is alone.stands;
+          later = later_still;
+        },
+      )
+  worked_well (command.OnBranches request) takes runs alone well = absurd (cc)
+  worked_well (command.Checkout request) takes runs alone well = absurd (cc)
+
+-- the session took its start at this look
+pub has_started : {D : Type 0} (follow : StatesFollow) (address : List ℕ → List ℕ) (old session : Session D) (parts now : Parts) (look : Look) → Looks old parts look → (number : ℕ)
+    → number ≡ number_at old.position → now ≡ noted old.number number parts → session.draft.chunks.base ≡ all_chunks look.store
+    → ((p : plain.Session) (shared : Shared) → SessionStands address old p → IsLookOf address look shared
+    → (t : Transaction) × (taken shared p ≡ Some t) × SessionStands address session (within p t))
+    → (p : plain.Session) (shared : Shared) → IsBefore address old parts p shared → p.transaction ≡ None → (t : Transaction) × HasStarted address session parts now p t shared
+has_started follow address old session parts now look looks number is same base start p shared before none =
+    let at = start p shared before.session_stands (shows follow address old parts look looks shared before.state_stands) in (
+      at.0,
+      record {
+        old = old;
+        before = before;
+        none = none;
+        taken_is = at.1;
+        now_is = same ∙ ap (λ (n : ℕ). noted n number parts) before.session_stands.number
+            ∙ ap (λ (n : ℕ). noted p.number n parts) (is ∙ same_number old.position p.statement p.place before.session_stands.position);
+        stands = at.2;
+        later = subst (λ (cs : List Chunk). Lists cs parts.chunks) (sym (base ∙ looks.chunks)) (λ k bytes listed. listed);
+      },
+    )

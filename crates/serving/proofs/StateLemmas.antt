@@ -1,0 +1,84 @@
+-- The shared state before a statement, what is looked at, and what other chunks and moments leave of it.
+use Rattle.std.proofs.Common.{◌≡◌, ◌≢◌, refl, ◌∙◌, sym, ap, subst, ℕ, suc, zero, Bool, true, false, ◌&&◌, List, [], ◌∷◌, map, Option, Some, None, option_map, is_some, slice_get, if◌then◌else◌, bytes_eq, find}
+use Rattle.std.specs.List.{list_all}
+use Rattle.std.proofs.lemmas.Option.{same_Some}
+use Rattle.std.proofs.Math.Path.{fun_ext}
+use Rattle.tuple_codec.specs.declared.records.BranchRecord.{BranchRecord}
+use Rattle.schema_model.specs.PlainCommits.{Commits}
+use Rattle.chunk_store.specs.Chunks.{AreNamed, Chunk, Chunks, IsSingle, Lists, bytes_at}
+use Rattle.chunk_store.specs.Stores.{all_chunks}
+use Rattle.script_text.specs.declared.outputs.BranchLine.{BranchLine}
+use Rattle.table_root.specs.declared.heads.Look.{Look}
+use Rattle.plain_sessions.specs.Branching.{is_branch_there}
+use Rattle.plain_sessions.specs.Records.{Branch, BranchState, Shared, is_branch, state_of}
+use Rattle.plain_sessions.specs.Sessions as plain
+use Rattle.session_laws.specs.Changes.{BranchStands, Paired, Parts, StateStands}
+use Rattle.session_laws.specs.Laws.{StatesFollow, head_in}
+use Rattle.session_laws.specs.Transactions.{IsLookOf}
+use Rattle.session_state.specs.declared.sessions.Session.{Session}
+use Rattle.shared_db.specs.Shared.{is_line_of, noted, record_at}
+use Rattle.run_laws.proofs.ListLemmas.{both}
+use Rattle.serving.specs.Serving.{IsBefore}
+
+all_at : {A : Type 0} (p : A → Bool) (xs : List A) (i : ℕ) (x : A) → slice_get xs i ≡ Some x → list_all p xs ≡ true → p x ≡ true
+all_at p [] i x at all = absurd (cc)
+all_at p (y ∷ xs) zero x at all = subst (λ z. p z ≡ true) (same_Some _ _ at) (both (p y) (list_all p xs) all).0
+all_at p (y ∷ xs) (suc i) x at all = all_at p xs i x at (both (p y) (list_all p xs) all).1
+
+pub is_there : {A : Type 0} (o : Option A) → is_some o ≡ true → (a : A) × (o ≡ Some a)
+is_there None h = absurd (cc)
+is_there (Some a) h = (a, refl)
+
+-- ---- lines and the branches for which they stand
+
+module _ (address : List ℕ → List ℕ) (chunks : List Chunk) (commits : Commits) (name : List ℕ) where
+  one_there : (test : Bool) (line : BranchLine) (branch : Branch) (lines : Option BranchLine) (branches : Option Branch)
+      → is_some (option_map (λ (l : BranchLine). l.rec) lines) ≡ is_some (option_map (λ (b : Branch). b.state) branches)
+      → is_some (option_map (λ (l : BranchLine). l.rec) (if test then Some line else lines)) ≡ is_some (option_map (λ (b : Branch). b.state) (if test then Some branch else branches))
+  one_there true line branch lines branches rest = refl
+  one_there false line branch lines branches rest = rest
+
+  same_there : (lines : List BranchLine) (branches : List Branch) → Paired (BranchStands address chunks commits) lines branches
+      → is_some (record_at name lines) ≡ is_some (state_of branches name)
+  same_there [] [] stand = refl
+  same_there [] (b ∷ branches) stand = absurd stand
+  same_there (x ∷ lines) [] stand = absurd stand
+  same_there (x ∷ lines) (b ∷ branches) stand =
+      one_there (bytes_eq x.name name) x b (find (is_line_of name) lines) (find (is_branch name) branches) (same_there lines branches stand.1)
+      ∙ ap (λ (other : List ℕ). is_some (option_map (λ (c : Branch). c.state) (if bytes_eq other name then Some b else find (is_branch name) branches))) stand.0.name
+
+module _ {D : Type 0} (address : List ℕ → List ℕ) (session : Session D) (parts : Parts) (p : plain.Session) (shared : Shared) where
+  -- the session's branch is there
+  pub present_there : IsBefore address session parts p shared → (present : BranchState) × (state_of shared.branches p.branch ≡ Some present)
+  present_there before = is_there _ (all_at (is_branch_there shared) shared.places p.number p.branch before.placed before.state_stands.placed)
+
+  pub record_there : IsBefore address session parts p shared → (rec : BranchRecord) × (record_at session.branch parts.branches ≡ Some rec)
+  record_there before =
+      let there = present_there before in
+      is_there _ (same_there address parts.chunks shared.commits session.branch parts.branches shared.branches before.state_stands.branches
+      ∙ ap (λ (name : List ℕ). is_some (state_of shared.branches name)) before.session_stands.branch ∙ ap (λ (o : Option BranchState). is_some o) there.1)
+
+  pub may_look : IsBefore address session parts p shared → record_at session.branch parts.branches ≢ None
+  may_look before none = let same : Some (record_there before).0 ≡ None = sym (record_there before).1 ∙ none in absurd (cc)
+
+-- a look at these parts shows the state
+pub looks_at : (address : List ℕ → List ℕ) (parts : Parts) (shared : Shared) (look : Look) → StatesFollow → StateStands address parts shared
+    → record_at look.branch parts.branches ≡ Some look.rec → look.heads ≡ map head_in parts.branches → all_chunks look.store ≡ parts.chunks → IsLookOf address look shared
+looks_at address parts shared look follow stands there heads chunks = by (find (is_line_of look.branch) parts.branches) refl there where
+  by : (line : Option BranchLine) → find (is_line_of look.branch) parts.branches ≡ line → option_map (λ (l : BranchLine). l.rec) line ≡ Some look.rec → IsLookOf address look shared
+  by None found is = absurd (cc)
+  by (Some line) found is = follow.looked address parts shared look line stands found (sym (same_Some _ _ is)) heads chunks
+
+-- a moment leaves what stands
+pub stands_noted : (address : List ℕ → List ℕ) (session statement : ℕ) (parts : Parts) (shared : Shared) → StateStands address parts shared
+    → StateStands address (noted session statement parts) shared
+stands_noted address session statement parts shared stands = record {
+  branches = stands.branches;
+  rise = stands.rise;
+  few = stands.few;
+  places = stands.places;
+  placed = stands.placed;
+  commits = stands.commits;
+  named = stands.named;
+  single = stands.single;
+}

@@ -1,0 +1,11 @@
+use Rattle.std.proofs.Common.{arith, ◌∙◌, ap}
+use Rattle.table_root.specs.Heads.{heads_rise}
+use Rattle.serving.specs.Ahead.{with_head}
+use Rattle.serving.proofs.AheadLemmas.{all_mapped, heads_still_rise}
+use Rattle.serving.proofs.ahead.heads_with.Goals as goal
+
+pub from_vec-requires : goal.from_vec-requires
+from_vec-requires c =
+    let heads = c.as_slice-heads.result.now in
+    let all = all_mapped (with_head c.args.branch.now c.args.head) c.loop-seen.new.items heads c.loop-seen.seen-index (omega arith) c.loop-seen.invariant in
+    ap heads_rise all ∙ heads_still_rise c.args.branch.now c.args.head heads ∙ ap heads_rise c.as_slice-heads.ensures.heads ∙ c.as_slice-heads.ensures.rise

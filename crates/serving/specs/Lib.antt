@@ -1,0 +1,5 @@
+pub mod Ahead
+pub mod Running
+pub mod Serving
+pub mod Starting
+pub mod Steps

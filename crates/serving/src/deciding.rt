@@ -1,0 +1,85 @@
+//! The decision on an open transaction, where no other session acts.
+
+ghost use Rattle.std.specs.Prelude.{◌≡◌, ◌<◌, ◌≤◌, true, Some, IfOk, IfErr, OnOk, OnErr};
+ghost use Rattle.std.specs.Arc.{arc_value};
+ghost use Rattle.std.specs.Option.{option_map};
+ghost use Rattle.chunk_store.specs.Chunks.{IsSingle, bytes_at};
+ghost use Rattle.chunk_store.specs.Clashes.{IsCause};
+ghost use Rattle.script_text.specs.Collisions.{IsFault};
+ghost use Rattle.plain_sessions.specs.Records.{Shared};
+ghost use Rattle.plain_sessions.specs.Sessions as plain;
+ghost use Rattle.session_txn.specs.Showing.{is_sound_reply};
+ghost use Rattle.shared_db.specs.Plans.{brought};
+ghost use Rattle.shared_db.specs.Shared.{IsSettled, KeepsRoom, record_at};
+ghost use Rattle.serving.specs.Serving.{IsBefore};
+ghost use Rattle.serving.specs.Steps.{Decided};
+
+use crate::places::number_of;
+use chunk_store::{PutFault, law_of_chunks};
+use script_text::Reply;
+use session_laws::law_of_states;
+use session_state::Session;
+use session_txn::plan_commit;
+use shared_db::{Plan, Settled, SharedDb};
+use std::alloc::Global;
+use table_root::Look;
+use tuple_codec::Digester;
+
+/// Decides on the open transaction at one moment, and tells what a COMMIT answers. The session's transaction is over where it was decided
+/// on, which is left to the caller; a fault leaves all as it was.
+pub(crate) fn decide<D: Digester>(
+    alloc: Global,
+    db: &mut SharedDb,
+    session: &Session<D>,
+) -> Result<Reply, PutFault>
+    requires open { (p : plain.Session) × (t : plain.Transaction) × (shared : Shared) × IsBefore D.address session.now db.old.parts p shared × (p.transaction ≡ Some t) }
+    requires moments { 0 < db.old.moments_room }
+    requires segments { 0 < db.old.segments_room }
+    ensures decided { IfOk result (λ reply. (p : plain.Session) (t : plain.Transaction) (shared : Shared) → IsBefore D.address session.now db.old.parts p shared
+        → p.transaction ≡ Some t → Decided D.address p t shared db.old.parts db.new.parts reply) }
+    ensures sound { IfOk result (λ reply. is_sound_reply reply ≡ true) }
+    ensures fault { IfErr result (IsFault D.address) }
+    ensures same { OnErr result (db.new.parts ≡ db.old.parts) }
+    ensures room { KeepsRoom 1 db.old db.new }
+{
+    law_of_chunks();
+    law_of_states();
+    let look = db.look(alloc, &session.branch)?;
+    let plan = plan_commit(alloc, session, &look)?;
+    let number = number_of(session.position);
+    settle(db, session.number, number, &look, plan)
+}
+
+/// Settles a plan on the very record that was looked at.
+pub(crate) fn settle(
+    db: &mut SharedDb,
+    session: u32,
+    statement: u32,
+    look: &Look,
+    plan: Plan,
+) -> Result<Reply, PutFault>
+    requires moments { 0 < db.old.moments_room }
+    requires segments { 0 < db.old.segments_room }
+    requires there { record_at look.now.branch db.old.parts.branches ≡ Some look.now.rec }
+    ensures reply { IfOk result (λ reply. reply ≡ plan.reply) }
+    ensures settled { OnOk result (IsSettled session statement look.now.branch plan.change (option_map arc_value plan.sealed) db.old.parts db.new.parts) }
+    ensures single { OnOk result (IsSingle db.new.parts.chunks) }
+    ensures fault { IfErr result (IsCause (bytes_at db.old.parts.chunks) (bytes_at (brought plan))) }
+    ensures same { OnErr result (db.new.parts ≡ db.old.parts) }
+    ensures room { KeepsRoom 1 db.old db.new }
+{
+    let Plan {
+        change,
+        reply,
+        sealed,
+    } = plan;
+    match db.settle(session, statement, look, change, sealed) {
+        Settled::Done => {
+            db.tell();
+            Ok(reply)
+        }
+        Settled::Moved(_) => unreachable!(),
+        Settled::Collision(clash) => Err(PutFault::Collision(clash)),
+        Settled::Memory => Err(PutFault::Memory),
+    }
+}

@@ -1,0 +1,15 @@
+//! One statement of a session on the shared database, from what its text asks to its reply.
+#![tactic(auto)]
+
+mod ahead;
+mod answering;
+mod beginning;
+mod deciding;
+mod places;
+mod running;
+mod serving;
+mod starting;
+mod switching;
+
+pub use answering::{pass_over, serve};
+pub use running::runs;

@@ -1,0 +1,30 @@
+//! Which statements are served so far.
+
+ghost use Rattle.std.specs.Prelude.{◌≡◌};
+ghost use Rattle.serving.specs.Running.{is_no_call, runs};
+
+use plain_sessions::{Command, Work};
+use session_txn::{asks_session, names_system};
+
+/// Whether a statement is served. Calls of procedures aren't yet, nor is what names a system table or asks for a value of the session.
+pub fn runs(asked: &Command) -> bool
+    ensures { result ≡ runs asked.now }
+{
+    is_no_call(asked) && !names_system(asked) && !asks_session(asked)
+}
+
+/// A call with arguments that its procedure doesn't take is one, too.
+fn is_no_call(asked: &Command) -> bool
+    ensures { result ≡ is_no_call asked.now }
+{
+    match asked {
+        Command::Faulty(refusal) => refusal.number != 9008,
+        Command::Begin
+        | Command::CommitAll
+        | Command::Rollback
+        | Command::Switch(_)
+        | Command::Say(_) => true,
+        Command::Data(Work::Ask(_) | Work::Change(_)) => true,
+        Command::Data(_) | Command::OnBranches(_) | Command::Checkout(_) => false,
+    }
+}
