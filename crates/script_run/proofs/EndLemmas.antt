@@ -100,7 +100,7 @@ module _ {D : Type 0} (address : List ℕ → List ℕ) (epoch : ℤ) (script : 
   pub replies_are : map (λ (speaker : Speaker D). speaker.replies.items) running.speakers.items ≡ replies_of ended.spoken
   replies_are = said_by running.speakers.items ended.spoken ended.speakers.lists (λ place p replies speaker h g. (ended.speakers.each place p replies speaker h g).said)
 
-  shows : List (List Reply) → List Moment → List BranchLine → RunText
+  abbrev shows : List (List Reply) → List Moment → List BranchLine → RunText
   shows replies order branches = record { names = script.names; replies = replies; order = order; branches = branches }
 
   pub shown_is : (replies : List (List Reply)) (order : List Moment) (branches : List BranchLine)
