@@ -39,8 +39,11 @@ number_is (place.Between number) statement there is = is.0
 pub found_at : {X : Type 0} (xs ys : List X) (i : ℕ) (x : X) → ys ≡ xs → i < length xs → x ≡ slice_index_or ys i x → slice_get xs i ≡ Some x
 found_at xs ys i x same h e = slice_get_read xs (length xs) i x refl h (e ∙ ap (λ (zs : List _). slice_index_or zs i x) same)
 
--- the session of the next line, before it
+-- the next line, and its session before it
 pub record IsNext {D : Type 0} (address : List ℕ → List ℕ) (epoch : ℤ) (script : Script) (at : ℕ) (running : Running D) (line : Line) (speaker : Speaker D) : Type 0 where
+  pub sound : IsSoundScript script
+  pub within : at < length script.lines
+  pub line_there : slice_get script.lines at ≡ Some line
   pub now : IsRunningAt address epoch script at running
   pub p : plain.Session
   pub replies : List Reply
@@ -48,20 +51,25 @@ pub record IsNext {D : Type 0} (address : List ℕ → List ℕ) (epoch : ℤ) (
   pub found : slice_get running.speakers.items line.session ≡ Some speaker
   pub is : IsSpeaker address script.lines running.db.parts now.shared line.session p replies speaker
 
-module _ {D : Type 0} (address : List ℕ → List ℕ) (epoch : ℤ) (script : Script) (at : ℕ) (running : Running D) (line : Line) where
-  pub session_there : IsSoundScript script → slice_get script.lines at ≡ Some line → IsRunningAt address epoch script at running → line.session < length running.speakers.items
-  session_there sound h now =
-      let test : nat_lt line.session (length script.names) ≡ true = all_at (is_line_within script) script.lines at line h sound.sessions in
+module _ {D : Type 0} (address : List ℕ → List ℕ) (epoch : ℤ) (script : Script) (at : ℕ) (running : Running D) (lines : List Line) (line : Line) where
+  -- the line's session is one of those under way
+  pub session_there : IsSoundScript script → at < length script.lines → lines ≡ script.lines → line ≡ slice_index_or lines at line → IsRunningAt address epoch script at running
+      → line.session < length running.speakers.items
+  session_there sound within same e now =
+      let test : nat_lt line.session (length script.names) ≡ true = all_at (is_line_within script) script.lines at line (found_at script.lines lines at line same within e) sound.sessions in
       let below : line.session < length script.names = grind (arith, nat_tests) in
       subst (λ n. line.session < n) (sym (now.speakers.lists ∙ now.run.lists)) below
 
-  pub next_of : (speaker : Speaker D) → IsSoundScript script → slice_get script.lines at ≡ Some line → IsRunningAt address epoch script at running
+  pub next_of : (speaker : Speaker D) → IsSoundScript script → at < length script.lines → lines ≡ script.lines → line ≡ slice_index_or lines at line → IsRunningAt address epoch script at running
       → speaker ≡ slice_index_or running.speakers.items line.session speaker → IsNext address epoch script at running line speaker
-  next_of speaker sound h now e =
-      let below = session_there sound h now in
-      let found = found_at running.speakers.items running.speakers.items line.session speaker refl below e in
+  next_of speaker sound within same e now is_speaker =
+      let below = session_there sound within same e now in
+      let found = found_at running.speakers.items running.speakers.items line.session speaker refl below is_speaker in
       let one = there_at now.spoken line.session (subst (λ n. line.session < n) now.speakers.lists below) in
       record {
+        sound = sound;
+        within = within;
+        line_there = found_at script.lines lines at line same within e;
         now = now;
         p = one.0.0;
         replies = one.0.1;
@@ -70,8 +78,8 @@ module _ {D : Type 0} (address : List ℕ → List ℕ) (epoch : ℤ) (script : 
         is = now.speakers.each line.session one.0.0 one.0.1 speaker one.1 found;
       }
 
-module _ {D : Type 0} (address : List ℕ → List ℕ) (epoch : ℤ) (script : Script) (at : ℕ) (running : Running D) (line : Line) (speaker : Speaker D)
-    (sound : IsSoundScript script) (h : slice_get script.lines at ≡ Some line) (within : at < length script.lines) (next : IsNext address epoch script at running line speaker) where
+module _ {D : Type 0} {address : List ℕ → List ℕ} {epoch : ℤ} {script : Script} {at : ℕ} {running : Running D} {line : Line} {speaker : Speaker D}
+    (next : IsNext address epoch script at running line speaker) where
   said_so_far : length next.replies ≡ count_of line.session (take at script.lines)
   said_so_far = (next.now.run.counted line.session next.p next.replies next.there).0 ∙ commands_counted (narrowed runs) line.session (take at script.lines)
 
@@ -81,23 +89,23 @@ module _ {D : Type 0} (address : List ℕ → List ℕ) (epoch : ℤ) (script : 
       let statement : next.p.statement ≡ length next.replies + 1 = (next.now.run.counted line.session next.p next.replies next.there).1 in
       let said : length next.replies ≡ count_of line.session (take at script.lines) = said_so_far in
       let most : count_of line.session (take at script.lines) ≤ length (take at script.lines) = count_most line.session (take at script.lines) in
-      let few : length script.lines ≤ 20000 = sound.few in
-      omega (arith, length-take at script.lines)
+      let few : length script.lines ≤ 20000 = next.sound.few in
+      omega (arith, next.within, length-take at script.lines)
 
   pub has_room : vec_len speaker.replies < vec_capacity speaker.replies
   has_room =
       let said : length next.replies ≡ count_of line.session (take at script.lines) = said_so_far in
-      let rises : count_of line.session (take at script.lines) < count_of line.session script.lines = count_rises script.lines at line h in
+      let rises : count_of line.session (take at script.lines) < count_of line.session script.lines = count_rises script.lines at line next.line_there in
       let room : count_of line.session script.lines ≤ vec_capacity speaker.replies = next.is.room in
       let all : length speaker.replies.items ≡ length next.replies = ap length next.is.said in
       let len : speaker.replies.len ≡ length speaker.replies.items = speaker.replies.ok.0 in
       omega arith
 
   pub has_moments : 2 ≤ running.db.moments_room
-  has_moments = let room : 2 * length script.lines ≤ running.db.moments_room + 2 * at = next.now.moments_room in omega (arith, within)
+  has_moments = let room : 2 * length script.lines ≤ running.db.moments_room + 2 * at = next.now.moments_room in omega (arith, next.within)
 
   pub has_segments : 2 ≤ running.db.segments_room
-  has_segments = let room : 2 * length script.lines ≤ running.db.segments_room + 2 * at = next.now.segments_room in omega (arith, within)
+  has_segments = let room : 2 * length script.lines ≤ running.db.segments_room + 2 * at = next.now.segments_room in omega (arith, next.within)
 
   -- the line was run
   pub run_further : (after : Running D) (last : Speaker D) → LinesAreRun
@@ -110,7 +118,7 @@ module _ {D : Type 0} (address : List ℕ → List ℕ) (epoch : ℤ) (script : 
     spoken = answered_at line.session (speaks.serves.after, speaks.reply) next.replies next.now.spoken;
     run =
         let ran = laws.next (narrowed runs) address epoch script at running.db.parts.moments next.now.shared speaks.serves.last next.now.spoken line next.p next.replies speaks.serves.turns
-        (speaks.serves.after, speaks.reply) h next.there speaks.serves.is speaks.serves.follows next.now.run in
+        (speaks.serves.after, speaks.reply) next.line_there next.there speaks.serves.is speaks.serves.follows next.now.run in
         let order : running.db.parts.moments ++ moments_of line.session speaks.serves.turns ≡ after.db.parts.moments
         = ap (λ n. running.db.parts.moments ++ moments_of n speaks.serves.turns) (sym next.is.number) ∙ sym speaks.serves.moments in
         subst (λ (o : List Moment). IsRunTo (narrowed runs) address epoch script (at + 1) o speaks.serves.last
