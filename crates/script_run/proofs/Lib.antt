@@ -1,0 +1,6 @@
+pub mod AskLemmas
+pub mod CountLemmas
+pub mod EndLemmas
+pub mod LineLemmas
+pub mod OpenLemmas
+pub mod SpeakerLemmas
