@@ -5,12 +5,6 @@
 #![tactic(auto)]
 
 mod answering;
-mod lines;
-mod opening;
-mod room;
-mod running;
-mod serving;
-mod showing;
 mod status;
 #[cfg(test)]
 mod tests;
