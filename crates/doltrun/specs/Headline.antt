@@ -47,8 +47,9 @@ HasScript None read = Unit {0}
 HasScript (Some input) read = script input ≡ read
 
 -- The text that was written is that of a run which is the plain machine's run of the script, along the order and with
--- the wants of memory and collisions that the text shows; the order is the script's own; each collision is one of two byte
--- strings of that address; and whatever run has this text has the same sessions, printed replies, wants of memory, collisions and order.
+-- the wants of memory and collisions that the text shows, where a command that doesn't run yet is refused by its text alone; the order is the
+-- script's own; each collision is one of two byte strings of that address; and whatever run has this text has the same sessions, printed
+-- replies, wants of memory, collisions and order.
 pub record IsAnswer (address : List ℕ → List ℕ) (read : Result Script BadScript) (written : List ℕ) : Type 0 where
   pub script : Script
   pub run : RunText
