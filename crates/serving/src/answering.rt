@@ -53,6 +53,34 @@ pub fn serve<D: Digester>(
     ensures moments { db.old.moments_room ≤ db.new.moments_room + 2 }
     ensures segments { db.old.segments_room ≤ db.new.segments_room + 2 }
 {
+    match asked {
+        Command::OnBranches(request) => change_branches(alloc, db, session, request),
+        Command::Checkout(request) => check_out(alloc, db, session, request),
+        _ => serve_in_place(alloc, db, session, asked),
+    }
+}
+
+/// Serves a statement that leaves the session on its branch.
+fn serve_in_place<D: Digester>(
+    alloc: Global,
+    db: &mut SharedDb,
+    session: &mut Session<D>,
+    asked: &Command,
+) -> Reply
+    requires before { (p : plain.Session) × (shared : Shared) × IsBefore D.address session.old db.old.parts p shared }
+    requires place { number_at session.old.position + 1 < 2 ^ 32 }
+    requires moments { 2 ≤ db.old.moments_room }
+    requires segments { 2 ≤ db.old.segments_room }
+    requires fit { IsFitCommand asked.now }
+    requires runs { runs asked.now ≡ true }
+    requires in_place { is_in_place asked.now ≡ true }
+    ensures served { (epoch : ℤ) (p : plain.Session) (shared : Shared) → IsBefore D.address session.old db.old.parts p shared
+        → Serves D.address epoch p asked.now shared db.old.parts db.new.parts session.new result }
+    ensures sound { is_sound_reply result ≡ true }
+    ensures truly { TellsTruly D.address result }
+    ensures moments { db.old.moments_room ≤ db.new.moments_room + 2 }
+    ensures segments { db.old.segments_room ≤ db.new.segments_room + 2 }
+{
     let number = number_of(session.position);
     let reply = answer(alloc, db, session, asked);
     go_on(session, number);
