@@ -1,5 +1,5 @@
 -- Which statements are served so far.
-use Rattle.std.specs.Prelude.{Bool, true, false, ◌&&◌, not}
+use Rattle.std.specs.Prelude.{Bool, true, false, ◌&&◌, ◌||◌, not}
 use Rattle.plain_sessions.specs.declared.commands.Command.{Command}
 use Rattle.plain_sessions.specs.declared.commands.Command.TheVariants as command
 use Rattle.plain_sessions.specs.declared.commands.Work.TheVariants as work
@@ -20,5 +20,14 @@ is_no_call (command.OnBranches request) = false
 is_no_call (command.Checkout request) = false
 
 -- and what names no system table
+abbrev pub runs_in_place : Command → Bool
+runs_in_place asked = is_no_call asked && not (names_system asked)
+
+-- DOLT_BRANCH and DOLT_CHECKOUT
+abbrev pub is_step : Command → Bool
+is_step (command.OnBranches request) = true
+is_step (command.Checkout request) = true
+is_step asked = false
+
 abbrev pub runs : Command → Bool
-runs asked = is_no_call asked && not (names_system asked)
+runs asked = is_step asked || runs_in_place asked

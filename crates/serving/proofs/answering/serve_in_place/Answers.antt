@@ -1,5 +1,5 @@
 use Rattle.serving.proofs.ServeLemmas.{served_by}
-use Rattle.serving.proofs.answering.serve.Goals as goal
+use Rattle.serving.proofs.answering.serve_in_place.Goals as goal
 
 -- src/answering.rt
 pub returns-clause-served : goal.returns-clause-served
