@@ -12,8 +12,8 @@ use Rattle.serving.proofs.branching.step_branches.Goals as goal
 pub branch_step-ended-requires-clause-state : goal.branch_step-ended-requires-clause-state
 branch_step-ended-requires-clause-state g c = (g.D.Digester.address, c.requires.before.1, c.requires.before.2.state_stands)
 
-pub branch_step-ended-requires-clause-placed : goal.branch_step-ended-requires-clause-placed
-branch_step-ended-requires-clause-placed g c =
+pub branch_step-ended-requires-clause-session : goal.branch_step-ended-requires-clause-session
+branch_step-ended-requires-clause-session g c =
     may_step g.D.Digester.address c.args.session.now c.args.db.now.parts c.requires.before.0 c.requires.before.1 c.requires.before.2
 
 pub returns-in-Ok-clause-went : goal.returns-in-Ok-clause-went
