@@ -1,4 +1,3 @@
-use Rattle.std.proofs.Common.{◌≡◌, sym, ◌∙◌, ap}
 use Rattle.serving.specs.Running.{runs}
 use Rattle.script_run.proofs.AskLemmas.{as_it_is, refused_there}
 use Rattle.script_run.proofs.asking.asked_by.Goals as goal
