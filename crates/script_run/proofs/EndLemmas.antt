@@ -1,11 +1,10 @@
 -- A run at its end.
-use Rattle.std.proofs.Common.{◌≡◌, refl, sym, ◌∙◌, ap, subst, ℕ, ℤ, suc, zero, ◌<◌, ◌≤◌, ◌^◌, true, ◌&&◌, nat_lt, nat_le, List, [], ◌∷◌, length, map, Option, None, Some, option_map, slice_get, arith}
+use Rattle.std.proofs.Common.{◌≡◌, refl, sym, ◌∙◌, ap, subst, ℕ, ℤ, suc, ◌<◌, ◌≤◌, ◌^◌, true, nat_lt, nat_le, List, [], ◌∷◌, length, map, Option, None, Some, option_map, slice_get, arith}
 use Rattle.std.specs.List.{AllByRecursion, list_all}
 use Rattle.std.proofs.lemmas.List.{length-map}
 use Rattle.std.proofs.lemmas.Option.{slice_get_within}
 use Rattle.std.proofs.lemmas.Bool.Decides.{nat_tests}
 use Rattle.tuple_codec.specs.declared.addresses.Address.{Address}
-use Rattle.tuple_codec.specs.declared.records.BranchRecord.{BranchRecord}
 use Rattle.chunk_store.specs.Chunks.{Chunk}
 use Rattle.schema_model.specs.PlainCommits.{Commits}
 use Rattle.schema_model.specs.WrittenForms.{database_address}
@@ -18,17 +17,16 @@ use Rattle.script_text.specs.declared.scripts.Moment.{Moment}
 use Rattle.script_text.specs.declared.scripts.Script.{Script}
 use Rattle.plain_sessions.specs.Narrowing.{narrowed}
 use Rattle.plain_sessions.specs.Output.{IsPlainRun, as_address, shown_branch}
-use Rattle.plain_sessions.specs.Records.{Branch, BranchState}
+use Rattle.plain_sessions.specs.Records.{Branch}
 use Rattle.plain_sessions.specs.Sessions as plain
 use Rattle.run_laws.specs.Laws.{LinesAreRun, shown_by}
 use Rattle.run_laws.specs.Lines.{Spoken, replies_of}
 use Rattle.run_laws.specs.Orders.{IsTextOrder, is_within}
 use Rattle.run_laws.proofs.ListLemmas.{all_weaker, both, join}
-use Rattle.session_laws.specs.Changes.{BranchStands, Paired, Parts}
-use Rattle.session_laws.specs.Records.{RecordStands}
+use Rattle.session_laws.specs.Changes.{BranchStands, Paired}
 use Rattle.session_txn.specs.Showing.{is_sound_reply}
 use Rattle.serving.specs.Running.{runs}
-use Rattle.script_run.specs.Running.{AreSpeakers, IsRunningAt, IsSpeaker}
+use Rattle.script_run.specs.Running.{IsRunningAt, IsSpeaker}
 use Rattle.script_run.specs.Scripts.{IsSoundScript}
 use Rattle.script_run.specs.declared.running.Running.{Running}
 use Rattle.script_run.specs.declared.running.Speaker.{Speaker}
@@ -110,7 +108,7 @@ module _ {D : Type 0} (address : List ℕ → List ℕ) (epoch : ℤ) (script : 
       ap (λ (rs : List (List Reply)). shows rs order branches) (said ∙ replies_are)
       ∙ ap (λ (o : List Moment). shows (replies_of ended.spoken) o branches) in_order
       ∙ ap (λ (bs : List BranchLine). shows (replies_of ended.spoken) running.db.parts.moments bs)
-          (lines ∙ branches_are address running.db.parts.chunks ended.shared.commits running.db.parts.branches ended.shared.branches ended.stands.branches)
+      (lines ∙ branches_are address running.db.parts.chunks ended.shared.commits running.db.parts.branches ended.shared.branches ended.stands.branches)
 
   pub is_plain : LinesAreRun → IsPlainRun (narrowed runs) address epoch script (shown_by address script running.db.parts.moments ended.shared ended.spoken)
   is_plain laws = laws.plain (narrowed runs) address epoch script running.db.parts.moments ended.shared ended.spoken ended.run

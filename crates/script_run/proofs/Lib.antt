@@ -1,4 +1,3 @@
-pub mod AskLemmas
 pub mod CountLemmas
 pub mod EndLemmas
 pub mod LineLemmas

@@ -1,6 +1,5 @@
 -- One more line of a run under way.
-use Rattle.std.proofs.Common.{◌≡◌, refl, sym, ◌∙◌, ap, subst, ℕ, ℤ, suc, ◌+◌, ◌*◌, ◌<◌, ◌≤◌, ◌^◌, true, nat_lt, List, [], ◌∷◌, ◌++◌, length, take, Some, slice_get, slice_set, vec_capacity, vec_len, arith}
-use Rattle.std.specs.List.{list_all}
+use Rattle.std.proofs.Common.{◌≡◌, refl, sym, ◌∙◌, ap, subst, ℕ, ℤ, ◌+◌, ◌*◌, ◌<◌, ◌≤◌, ◌^◌, true, nat_lt, List, ◌++◌, length, take, Some, slice_get, slice_set, vec_capacity, vec_len, arith}
 use Rattle.std.specs.Prelude.{slice_index_or}
 use Rattle.std.proofs.lemmas.List.{length-take}
 use Rattle.std.proofs.lemmas.Bool.Decides.{nat_tests}
@@ -10,20 +9,16 @@ use Rattle.script_text.specs.declared.scripts.Line.{Line}
 use Rattle.script_text.specs.declared.scripts.Moment.{Moment}
 use Rattle.script_text.specs.declared.scripts.Script.{Script}
 use Rattle.plain_sessions.specs.Narrowing.{narrowed}
-use Rattle.plain_sessions.specs.Records.{Shared}
 use Rattle.plain_sessions.specs.Sessions as plain
 use Rattle.run_laws.specs.Laws.{LinesAreRun}
 use Rattle.run_laws.specs.Lines.{IsRunTo, answered_at}
 use Rattle.run_laws.specs.Orders.{count_of}
 use Rattle.run_laws.specs.Turns.{moments_of}
-use Rattle.session_laws.specs.Changes.{Parts}
 use Rattle.session_state.specs.Standing.{IsAt}
 use Rattle.session_state.specs.declared.sessions.Place.{Place}
 use Rattle.session_state.specs.declared.sessions.Place.TheVariants as place
 use Rattle.serving.specs.Running.{runs}
-use Rattle.serving.specs.Serving.{IsBefore}
 use Rattle.serving.specs.Steps.{number_at}
-use Rattle.shared_db.specs.Shared.{Db}
 use Rattle.script_run.specs.Running.{AreSpeakers, IsRunningAt, IsSpeaker, Speaks}
 use Rattle.script_run.specs.Scripts.{IsSoundScript, is_line_within}
 use Rattle.script_run.specs.declared.running.Running.{Running}
@@ -122,7 +117,7 @@ module _ {D : Type 0} {address : List ℕ → List ℕ} {epoch : ℤ} {script : 
         let order : running.db.parts.moments ++ moments_of line.session speaks.serves.turns ≡ after.db.parts.moments
         = ap (λ n. running.db.parts.moments ++ moments_of n speaks.serves.turns) (sym next.is.number) ∙ sym speaks.serves.moments in
         subst (λ (o : List Moment). IsRunTo (narrowed runs) address epoch script (at + 1) o speaks.serves.last
-            (answered_at line.session (speaks.serves.after, speaks.reply) next.replies next.now.spoken)) order ran;
+        (answered_at line.session (speaks.serves.after, speaks.reply) next.replies next.now.spoken)) order ran;
     stands = speaks.serves.next.state_stands;
     speakers = subst (λ (all : List (Speaker D)). AreSpeakers address script.lines after.db.parts speaks.serves.last
         (answered_at line.session (speaks.serves.after, speaks.reply) next.replies next.now.spoken) all) (sym put)

@@ -1,5 +1,5 @@
 -- A run before its first line.
-use Rattle.std.proofs.Common.{◌≡◌, ◌≢◌, refl, sym, ◌∙◌, ap, subst, ℕ, ℤ, zero, suc, ◌+◌, ◌*◌, ◌<◌, ◌≤◌, ◌==◌, true, false, List, [], ◌∷◌, ◌++◌, codes, length, map, Some, slice_get, vec_capacity, arith}
+use Rattle.std.proofs.Common.{◌≡◌, ◌≢◌, refl, sym, ◌∙◌, ap, subst, ℕ, ℤ, zero, suc, ◌+◌, ◌*◌, ◌<◌, ◌≤◌, ◌==◌, true, false, List, [], ◌∷◌, ◌++◌, codes, length, Some, slice_get, arith}
 use Rattle.std.specs.Prelude.{slice_index_or, sum}
 use Rattle.std.specs.Option.{option_map}
 use Rattle.std.proofs.lemmas.Option.{get_or_from_slice_get, same_Some, slice_get-map, slice_get_within}
@@ -18,7 +18,6 @@ use Rattle.run_laws.specs.Lines.{IsRunTo, new_spoken}
 use Rattle.run_laws.specs.Orders.{count_of}
 use Rattle.run_laws.proofs.ListLemmas.{get_behind, get_front}
 use Rattle.session_laws.specs.Changes.{Parts, StateStands}
-use Rattle.serving.specs.Serving.{IsBefore}
 use Rattle.serving.specs.Running.{runs}
 use Rattle.script_run.specs.Opening.{AreNew, IsNew, counts}
 use Rattle.script_run.specs.Running.{AreSpeakers, IsRunningAt, IsSpeaker}
@@ -66,8 +65,8 @@ module _ {D : Type 0} (address : List ℕ → List ℕ) (names : List (List ℕ)
             let is_count : slice_index_or statements at default ≡ count = get_or_from_slice_get statements at count default (ap (slice_get statements) same ∙ counted) in
             subst (λ (o : Speaker D). IsNew address place other count o) is_one
             (subst (λ n. IsNew address place other n speaker) is_count
-                (subst (λ (o : List ℕ). IsNew address place o (slice_index_or statements at default) speaker) is_other
-                    (subst (λ n. IsNew address n name (slice_index_or statements at default) speaker) same new)))
+            (subst (λ (o : List ℕ). IsNew address place o (slice_index_or statements at default) speaker) is_other
+            (subst (λ n. IsNew address n name (slice_index_or statements at default) speaker) same new)))
         | false ↦ λ test.
             let apart : place ≢ at = grind (arith, nat_tests) in
             let within : place < length (speakers ++ speaker ∷ []) = slice_get_within (speakers ++ speaker ∷ []) place one found in

@@ -15,7 +15,6 @@ use Rattle.run_laws.specs.Orders.{count_of}
 use Rattle.run_laws.proofs.ListLemmas.{all_append, both, get_put, get_put_other, join}
 use Rattle.session_laws.specs.Changes.{Parts}
 use Rattle.session_txn.specs.Showing.{is_sound_reply}
-use Rattle.serving.specs.Serving.{IsBefore, Serves}
 use Rattle.script_run.specs.Running.{AreSpeakers, IsSpeaker, Speaks}
 use Rattle.script_run.specs.declared.running.Speaker.{Speaker}
 
@@ -78,16 +77,16 @@ module _ {D : Type 0} (address : List ℕ → List ℕ) (epoch : ℤ) (lines : L
               let same : place ≡ other = grind (arith, nat_tests) in
               let pair : ◌≡◌ {A = plain.Session × List Reply} (speaks.serves.after, replies ++ speaks.reply ∷ []) (q, said)
               = same_Some _ _ (sym (get_put spoken place (p, replies) (speaks.serves.after, replies ++ speaks.reply ∷ []) there)
-                  ∙ ap (slice_get (answered_at place (speaks.serves.after, speaks.reply) replies spoken)) same ∙ q_there) in
+              ∙ ap (slice_get (answered_at place (speaks.serves.after, speaks.reply) replies spoken)) same ∙ q_there) in
               let is_one : next ≡ one = same_Some _ _ (sym (get_put speakers place speaker next at) ∙ ap (slice_get (slice_set speakers place next)) same ∙ one_at) in
               subst (λ (o : Speaker D). IsSpeaker address lines new speaks.serves.last other q said o) is_one
               (subst (λ (pr : plain.Session × List Reply). IsSpeaker address lines new speaks.serves.last other pr.0 pr.1 next) pair
-                  (subst (λ n. IsSpeaker address lines new speaks.serves.last n speaks.serves.after (replies ++ speaks.reply ∷ []) next) same
-                      (its_own (all.each place p replies speaker there at) speaks kept)))
+              (subst (λ n. IsSpeaker address lines new speaks.serves.last n speaks.serves.after (replies ++ speaks.reply ∷ []) next) same
+              (its_own (all.each place p replies speaker there at) speaks kept)))
           | false ↦ λ test.
               let apart : other ≢ place = grind (arith, nat_tests) in
               another speaks (all.each place p replies speaker there at).number other q said one apart
               (all.each other q said one (sym (get_put_other spoken place other (speaks.serves.after, replies ++ speaks.reply ∷ []) apart) ∙ q_there)
-                  (sym (get_put_other speakers place other next apart) ∙ one_at))
+              (sym (get_put_other speakers place other next apart) ∙ one_at))
         ] refl;
   }

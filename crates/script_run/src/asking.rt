@@ -49,6 +49,7 @@ pub fn serve_text<D: Digester>(
 
 /// What a text asks, where only these commands run. A text that is longer than a statement may be would be answered by want of memory; no
 /// script has one.
+#[tactic(auto, unfolding(plain_sessions::specs::Narrowing::narrowed))]
 fn asked_by(alloc: Global, text: &[u8]) -> Result<Boxed<Command>, AllocError>
     ensures is { IfOk result (λ asked. asked ≡ narrowed runs text.now) }
     ensures fit { IfOk result IsFitCommand }

@@ -20,11 +20,7 @@ use std::alloc::{AllocError, Global};
 use tuple_codec::{Digester, Text};
 
 /// A run before its first line. The room for all replies, moments and segments is taken here, so that no want of memory loses a reply.
-pub fn open<D: Digester>(
-    alloc: Global,
-    script: &Script,
-    epoch: i64,
-) -> Result<Running<D>, PutFault>
+pub fn open<D: Digester>(alloc: Global, script: &Script, epoch: i64) -> Result<Running<D>, PutFault>
     requires sound { IsSoundScript script.now }
     requires epoch { pos 0 ≤ℤ epoch }
     ensures opened { IfOk result (λ running. IsRunningAt D.address epoch script.now 0 running) }

@@ -41,5 +41,5 @@ returns g c = λ epoch before.
     let next = next_of g.D.Digester.address epoch c.args.script.now c.args.at c.args.running.now c.as_slice.result.now c.index-as_slice-at.result c.index_mut-speaker.result.now c.requires.sound c.requires.there c.as_slice.ensures c.index-as_slice-at.is before c.index_mut-speaker.ensures.value in
     run_further next _ c.speak.new.speaker c.law_of_lines.ensures
     (subst (λ (text : List ℕ). Speaks g.D.Digester.address epoch next.p (narrowed runs text) next.now.shared c.args.running.now.db.parts c.speak.new.db.parts c.index_mut-speaker.result.now c.speak.new.speaker)
-        c.as_slice-2.ensures (c.speak.ensures.speaks epoch next.p next.now.shared next.is.before))
+    c.as_slice-2.ensures (c.speak.ensures.speaks epoch next.p next.now.shared next.is.before))
     refl c.speak.ensures.room c.speak.ensures.moments c.speak.ensures.segments

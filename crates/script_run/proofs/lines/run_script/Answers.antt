@@ -1,4 +1,4 @@
-use Rattle.std.proofs.Common.{◌≡◌, ◌∙◌, List, ℤ, sym, subst, w64}
+use Rattle.std.proofs.Common.{◌∙◌, ℤ, sym, subst, w64}
 use Rattle.std.proofs.lemmas.Int.{to_z-of_z}
 use Rattle.script_text.specs.Collisions.{AllTellTruly}
 use Rattle.script_text.specs.Shown.{IsPrintable, IsShown}

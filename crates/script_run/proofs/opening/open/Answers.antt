@@ -21,5 +21,5 @@ returns-clause-opened g c =
     (λ names same. subst (λ (e : ℤ). StateStands g.D.Digester.address c.in_ok-db.db.parts (opening g.D.Digester.address e names)) (to_z-of_z w64 c.args.epoch c.ranges.epoch) (c.in_ok-db.ensures.opening names same))
     c.in_ok-db.ensures.moments c.in_ok-db.ensures.room.0 c.in_ok-db.ensures.room.1
     (subst (λ (names : List (List ℕ)). AreNew g.D.Digester.address names c.as_slice-3.result.now c.in_ok-speakers.speakers.items) c.as_slice-names.ensures
-        (subst (λ (statements : List ℕ). AreNew g.D.Digester.address c.as_slice-names.result.now statements c.in_ok-speakers.speakers.items)
-            (c.as_slice-2.ensures.value ∙ sym c.as_slice-3.ensures.value) c.in_ok-speakers.ensures))
+    (subst (λ (statements : List ℕ). AreNew g.D.Digester.address c.as_slice-names.result.now statements c.in_ok-speakers.speakers.items)
+    (c.as_slice-2.ensures.value ∙ sym c.as_slice-3.ensures.value) c.in_ok-speakers.ensures))
