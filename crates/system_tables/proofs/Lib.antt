@@ -1,2 +1,6 @@
-mod RowLemmas
+mod AncestorLemmas
+mod ChangeLemmas
 mod CommitLemmas
+mod HeadLemmas
+mod RowLemmas
+mod SessionLemmas

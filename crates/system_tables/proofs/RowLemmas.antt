@@ -1,6 +1,7 @@
 -- Rows of one thing after another.
-use Rattle.std.proofs.Common.{◌≡◌, refl, sym, ◌∙◌, ap, ℕ, zero, suc, ◌+◌, ◌<◌, Bool, true, List, [], ◌∷◌, ◌++◌, length, map, drop, get_or, append_assoc, arith}
-use Rattle.std.specs.List.{list_all}
+use Rattle.std.proofs.Common.{◌≡◌, refl, sym, ◌∙◌, ap, ℕ, zero, suc, ◌+◌, ◌<◌, Bool, true, List, [], ◌∷◌, ◌++◌, length, map, drop, get_or, append-nil, append_assoc, arith}
+use Rattle.std.specs.Prelude.{OnOk, Result, Ok, Err}
+use Rattle.std.specs.List.{flat_map, list_all}
 use Rattle.std.proofs.lemmas.Bool.{and_from, and_parts}
 use Rattle.std.proofs.lemmas.List.{drop_more}
 use Rattle.chunk_store.specs.Chunks.{Chunks}
@@ -37,3 +38,11 @@ three row a b c x y z first second third =
     third
     ∙ ap (λ (l : Cells). l ++ z ∷ []) (second ∙ ap (λ (l : Cells). l ++ y ∷ []) first ∙ append_assoc row (x ∷ []) (y ∷ []))
     ∙ append_assoc row (x ∷ y ∷ []) (z ∷ [])
+
+pub on_ok_same : {T E : Type 0} (result : Result T E) (rows a b : List Cells) → a ≡ b → OnOk result (rows ≡ a) → OnOk result (rows ≡ b)
+on_ok_same (Ok x) rows a b same is = is ∙ same
+on_ok_same (Err e) rows a b same is = is
+
+-- the rows of parents, by each
+pub flat_more : {A : Type 0} (f : A → List Cells) (x : A) (xs : List A) → flat_map f (x ∷ xs) ≡ flat_map f (x ∷ []) ++ flat_map f xs
+flat_more f x xs = ap (λ (l : List Cells). l ++ flat_map f xs) (sym (append-nil (f x)))

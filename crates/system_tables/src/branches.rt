@@ -6,6 +6,7 @@ ghost use Rattle.plain_sessions.specs.Sessions.{Transaction};
 ghost use Rattle.plain_sessions.specs.SystemTables as plain;
 ghost use Rattle.schema_model.specs.PlainCommits.{Commits};
 ghost use Rattle.tuple_codec.specs.declared.values.Value.TheVariants as cell;
+ghost use Rattle.system_tables.specs.Known.{with_rows};
 ghost use Rattle.system_tables.specs.Rows.{AreHeadsOf, AreKnown, AreSomeHeads, AreSomeKnown, branch_rows, heads_of};
 
 use crate::cells::{hash, number_column, text_column};
@@ -26,6 +27,16 @@ fn branch_columns(alloc: Global) -> Result<Sequence<NamedType>, AllocError>
     columns.push(number_column(alloc, b"latest_commit_date")?)?;
     columns.push(text_column(alloc, b"latest_commit_message")?)?;
     Ok(columns)
+}
+
+fn branches_of(alloc: Global, rows: Sequence<Row>) -> Result<Known, AllocError>
+    ensures { (t : Transaction) → IfOk result (λ known. known ≡ with_rows (plain.branches t) rows) }
+{
+    Ok(Known {
+        name: Text::from_slice(alloc, b"dolt_branches")?,
+        columns: branch_columns(alloc)?,
+        rows,
+    })
 }
 
 fn branch_name(alloc: Global, head: &Head) -> Result<Value, AllocError>
@@ -79,9 +90,5 @@ pub(crate) fn branches<D: Digester>(
     ensures { (t : Transaction) → AreHeadsOf D.address (chunks_of draft.now.chunks) heads.now t → IfOk result (λ known. known ≡ plain.branches t) }
 {
     let rows = branch_rows(alloc, draft, heads)?;
-    Ok(Known {
-        name: Text::from_slice(alloc, b"dolt_branches")?,
-        columns: branch_columns(alloc)?,
-        rows,
-    })
+    branches_of(alloc, rows)
 }

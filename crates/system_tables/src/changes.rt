@@ -2,12 +2,15 @@
 
 ghost use Rattle.std.specs.Prelude.{◌≡◌, ◌++◌, ◌∷◌, [], IfOk, OnOk, Some};
 ghost use Rattle.chunk_store.specs.Drafts.{chunks_of};
-ghost use Rattle.constraint_scan.specs.Scanning.{IsKeptAt};
+ghost use Rattle.constraint_scan.specs.Scanning.{HasKeptAt, IsKeptAt};
 ghost use Rattle.plain_merge.specs.KeyByKey.{all_keys};
 ghost use Rattle.plain_sessions.specs.Sessions.{Transaction, own_root};
 ghost use Rattle.plain_sessions.specs.SystemTables as plain;
 ghost use Rattle.plain_sessions.specs.SystemTables.{row_if};
+ghost use Rattle.schema_model.specs.PlainTables.{PlainDatabase};
+ghost use Rattle.table_root.specs.Standing.{named_tables};
 ghost use Rattle.tuple_codec.specs.Edits.{order};
+ghost use Rattle.system_tables.specs.Known.{with_rows};
 ghost use Rattle.system_tables.specs.Changes.{AreSomeStates, AreStates, IsRootOf, IsSomeRoot, address_in, all_changed_rows, change_at, changed_row, changed_rows, names_in};
 
 use crate::cells::{text_column, truth_column};
@@ -28,6 +31,16 @@ fn status_columns(alloc: Global) -> Result<Sequence<NamedType>, AllocError>
     columns.push(truth_column(alloc, b"staged")?)?;
     columns.push(text_column(alloc, b"status")?)?;
     Ok(columns)
+}
+
+fn status_of(alloc: Global, rows: Sequence<Row>) -> Result<Known, AllocError>
+    ensures { (t : Transaction) → IfOk result (λ known. known ≡ with_rows (plain.status t) rows) }
+{
+    Ok(Known {
+        name: Text::from_slice(alloc, b"dolt_status")?,
+        columns: status_columns(alloc)?,
+        rows,
+    })
 }
 
 /// The address of the table of a name. There are few tables, so the calls don't go deep.
@@ -161,11 +174,22 @@ pub(crate) fn status<D: Digester>(
         → IfOk result (λ known. known ≡ plain.status t) }
 {
     let rows = status_rows(alloc, draft, head, staged, working)?;
-    Ok(Known {
-        name: Text::from_slice(alloc, b"dolt_status")?,
-        columns: status_columns(alloc)?,
-        rows,
-    })
+    status_of(alloc, rows)
+}
+
+/// The tables of the database at an address.
+fn tables_of<D: Digester>(
+    alloc: Global,
+    draft: &Draft<D>,
+    database: &Address,
+) -> Result<Vec<NamedTable>, AllocError>
+    requires { HasKeptAt D.address (chunks_of draft.now.chunks) database.now.0 }
+    ensures { (contents : PlainDatabase) → IsKeptAt D.address (chunks_of draft.now.chunks) database.now.0 contents
+        → IfOk result (λ tables. tables.items ≡ named_tables D.address contents) }
+{
+    law_of_databases();
+    let tables = read_database(alloc, draft, database)?;
+    Ok(tables)
 }
 
 fn status_rows<D: Digester>(
@@ -179,13 +203,17 @@ fn status_rows<D: Digester>(
     ensures { (t : Transaction) → AreStates D.address (chunks_of draft.now.chunks) head.now.0 staged.now.0 working.now.0 t
         → IfOk result (λ rows. rows ≡ (plain.status t).rows) }
 {
-    law_of_databases();
     law_of_tables();
     law_of_sameness();
-    let head = read_database(alloc, draft, head)?;
-    let staged = read_database(alloc, draft, staged)?;
-    let working = read_database(alloc, draft, working)?;
-    rows_between(alloc, head.as_slice(), staged.as_slice(), working.as_slice())
+    let head = tables_of(alloc, draft, head)?;
+    let staged = tables_of(alloc, draft, staged)?;
+    let working = tables_of(alloc, draft, working)?;
+    rows_between(
+        alloc,
+        head.as_slice(),
+        staged.as_slice(),
+        working.as_slice(),
+    )
 }
 
 fn rows_between(

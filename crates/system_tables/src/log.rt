@@ -4,6 +4,7 @@ ghost use Rattle.std.specs.Prelude.{◌≡◌, IfOk};
 ghost use Rattle.chunk_store.specs.Drafts.{chunks_of};
 ghost use Rattle.plain_sessions.specs.Sessions.{Transaction};
 ghost use Rattle.plain_sessions.specs.SystemTables as plain;
+ghost use Rattle.system_tables.specs.Known.{with_rows};
 ghost use Rattle.system_tables.specs.Rows.{IsAtHead, IsSomeHead};
 
 use crate::cells::{number_column, text_column};
@@ -13,7 +14,7 @@ use commit_graph::ancestors;
 use plain_sql::{Known, NamedType};
 use schema_model::law_of_ancestors;
 use std::alloc::{AllocError, Global};
-use tuple_codec::{Address, Digester, Sequence, Text};
+use tuple_codec::{Address, Digester, Row, Sequence, Text};
 
 fn log_columns(alloc: Global) -> Result<Sequence<NamedType>, AllocError>
     ensures { (t : Transaction) → IfOk result (λ columns. columns ≡ (plain.log t).columns) }
@@ -24,6 +25,16 @@ fn log_columns(alloc: Global) -> Result<Sequence<NamedType>, AllocError>
     columns.push(number_column(alloc, b"date")?)?;
     columns.push(text_column(alloc, b"message")?)?;
     Ok(columns)
+}
+
+fn log_of(alloc: Global, rows: Sequence<Row>) -> Result<Known, AllocError>
+    ensures { (t : Transaction) → IfOk result (λ known. known ≡ with_rows (plain.log t) rows) }
+{
+    Ok(Known {
+        name: Text::from_slice(alloc, b"dolt_log")?,
+        columns: log_columns(alloc)?,
+        rows,
+    })
 }
 
 /// The commits from the head back, height falling, and then by address.
@@ -38,9 +49,5 @@ pub(crate) fn log<D: Digester>(
     law_of_ancestors();
     let commits = ancestors(alloc, draft, head)?;
     let rows = commit_rows(alloc, draft, commits.as_slice())?;
-    Ok(Known {
-        name: Text::from_slice(alloc, b"dolt_log")?,
-        columns: log_columns(alloc)?,
-        rows,
-    })
+    log_of(alloc, rows)
 }

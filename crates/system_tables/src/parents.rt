@@ -7,6 +7,7 @@ ghost use Rattle.plain_sessions.specs.Sessions.{Transaction};
 ghost use Rattle.plain_sessions.specs.SystemTables as plain;
 ghost use Rattle.plain_sessions.specs.SystemTables.{parent_row};
 ghost use Rattle.schema_model.specs.PlainCommits.{Commits};
+ghost use Rattle.system_tables.specs.Known.{with_rows};
 ghost use Rattle.system_tables.specs.Rows.{AreKnown, AreSomeKnown, IsAtHead, IsSomeHead, all_parent_rows, bytes_of};
 
 use crate::cells::{hash, number_column, text_column};
@@ -25,6 +26,16 @@ fn parent_columns(alloc: Global) -> Result<Sequence<NamedType>, AllocError>
     columns.push(text_column(alloc, b"parent_hash")?)?;
     columns.push(number_column(alloc, b"parent_index")?)?;
     Ok(columns)
+}
+
+fn ancestors_of(alloc: Global, rows: Sequence<Row>) -> Result<Known, AllocError>
+    ensures { (t : Transaction) → IfOk result (λ known. known ≡ with_rows (plain.commit_ancestors t) rows) }
+{
+    Ok(Known {
+        name: Text::from_slice(alloc, b"dolt_commit_ancestors")?,
+        columns: parent_columns(alloc)?,
+        rows,
+    })
 }
 
 fn parent_row(
@@ -106,9 +117,5 @@ pub(crate) fn commit_ancestors<D: Digester>(
     law_of_ancestors();
     let commits = ancestors(alloc, draft, head)?;
     let rows = parent_rows(alloc, draft, commits.as_slice())?;
-    Ok(Known {
-        name: Text::from_slice(alloc, b"dolt_commit_ancestors")?,
-        columns: parent_columns(alloc)?,
-        rows,
-    })
+    ancestors_of(alloc, rows)
 }
