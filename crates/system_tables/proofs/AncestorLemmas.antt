@@ -1,11 +1,10 @@
 -- Ancestors are known, and a table of commits shows what stands at the head.
-use Rattle.std.proofs.Common.{◌≡◌, refl, sym, ◌∙◌, ap, subst, ℕ, zero, suc, Bool, true, false, ◌||◌, List, [], ◌∷◌, map, bytes_eq}
+use Rattle.std.proofs.Common.{◌≡◌, refl, sym, ◌∙◌, ap, ℕ, zero, suc, Bool, true, false, ◌||◌, List, [], ◌∷◌, bytes_eq}
 use Rattle.std.specs.List.{list_all, list_any}
 use Rattle.std.specs.Cmp.Lexicographic.{bytes_decides}
 use Rattle.std.proofs.lemmas.Bool.{and_from}
 use Rattle.chunk_store.specs.Chunks.{Chunks}
 use Rattle.plain_sessions.specs.Sessions.{Transaction}
-use Rattle.plain_sessions.specs.SystemTables as plain
 use Rattle.schema_model.specs.PlainCommits.{AncestorsFollow, Commits, IsAncestor, IsAncestorBy, ancestors, has_address, is_known}
 use Rattle.tuple_codec.specs.Rows.{Cells}
 use Rattle.tuple_codec.specs.declared.addresses.Address.{Address}

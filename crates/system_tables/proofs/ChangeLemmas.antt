@@ -1,5 +1,5 @@
 -- A table differs exactly where its address does.
-use Rattle.std.proofs.Common.{◌≡◌, ◌≤◌, ◌<◌, ◌^◌, refl, sym, ap, ◌∙◌, subst, arith, ℕ, true, false, Bool, nat_le, List, [], ◌∷◌, ◌++◌, length, map, codes, bytes_eq, Option, Some, None}
+use Rattle.std.proofs.Common.{◌≡◌, ◌≤◌, ◌<◌, ◌^◌, refl, sym, ap, ◌∙◌, arith, ℕ, true, false, Bool, nat_le, List, [], ◌∷◌, ◌++◌, length, codes, bytes_eq, Option, Some, None}
 use Rattle.std.specs.Prelude.{if◌then◌else◌}
 use Rattle.std.specs.List.{AllByRecursion, find, flat_map, list_all}
 use Rattle.std.specs.Option.{option_map}
@@ -28,7 +28,7 @@ use Rattle.system_tables.specs.Changes.{AreStates, address_in, all_changed_rows,
 
 few_kept : (database : PlainDatabase) → is_database_within_limits database ≡ true → length database < 2 ^ 16
 few_kept database within =
-    let few = leb-true (length database) most_tables (and_parts (nat_le (length database) most_tables) (list_all is_named_within_limits database) within).0 in omega (arith, few)
+    let few : length database ≤ 256 = leb-true (length database) most_tables (and_parts (nat_le (length database) most_tables) (list_all is_named_within_limits database) within).0 in omega (arith, few)
 
 module _ (address : List ℕ → List ℕ) (chunks : Chunks) where
   -- ---- databases that are read
@@ -52,12 +52,13 @@ module _ (address : List ℕ → List ℕ) (chunks : Chunks) where
 
   found_perhaps : (name : List ℕ) (database : PlainDatabase) → AreTables database → StandsPerhaps (address_in name (named_tables address database)) (table_in database name)
   found_perhaps name [] stand = tt
-  found_perhaps name (named ∷ database) stand = by (bytes_eq named.name name)
+  found_perhaps name (named ∷ database) stand = by (bytes_eq named.name name) (found_perhaps name database stand.1)
     where
-      by : (b : Bool) → StandsPerhaps (if b then Some (record { 0 = table_address address named.table }) else address_in name (named_tables address database))
+      by : (b : Bool) → StandsPerhaps (address_in name (named_tables address database)) (table_in database name)
+          → StandsPerhaps (if b then Some (record { 0 = table_address address named.table }) else address_in name (named_tables address database))
           (option_map (λ (other : contents.NamedTable). other.table) (if b then Some named else find (is_called name) database))
-      by true = stand.0
-      by false = found_perhaps name database stand.1
+      by true rest = stand.0
+      by false rest = rest
 
   -- two tests that tell the same
   same_truth : (a b : Bool) → (a ≡ true → b ≡ true) → (b ≡ true → a ≡ true) → a ≡ b
