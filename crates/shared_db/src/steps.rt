@@ -20,6 +20,7 @@ ghost use Rattle.shared_db.specs.Members.{line_of, lines_of, numbers_of, places_
 ghost use Rattle.shared_db.specs.Stepping.{commit_at, is_used, line_cmp, making, place_before, removing, without_line};
 ghost use Rattle.shared_db.specs.declared.changes.BranchReply.TheVariants as reply;
 ghost use Rattle.table_root.specs.Names.{is_branch_name};
+ghost use Rattle.tuple_codec.specs.AddressTexts.{IsAddress};
 
 use crate::branches::{Branch, Member, record_of};
 use crate::changes::BranchReply;
@@ -50,12 +51,18 @@ fn commit_named(store: &Store, name: &BranchName) -> Option<Address>
         → option_map (λ k. k.0) result ≡ commit_named commits name.now }
 {
     let address = Address::read(name.bytes())?;
+    know_bytes(address);
     if is_commit(store, &address) {
         Some(address)
     } else {
         None
     }
 }
+
+/// An address has twenty bytes. It does nothing.
+fn know_bytes(_address: Address)
+    ensures { IsAddress _address.0 }
+{}
 
 /// The record of a branch at the commit, on which nothing has changed.
 pub fn clean_at(store: &Store, commit: Address) -> BranchRecord
@@ -130,7 +137,7 @@ fn place_of(branches: &[Branch], name: &BranchName) -> usize
 fn comes_before(name: &BranchName, other: &BranchName) -> bool
     ensures { result ≡ is_lt (slice_cmp nat_cmp name.now other.now) }
 {
-    name.bytes() < other.bytes()
+    name.bytes().cmp(other.bytes()).is_lt()
 }
 
 /// Removes the branch of this name, unless there is none or a session is on it.
@@ -159,7 +166,7 @@ fn is_used(members: &[Member], name: &BranchName) -> bool
     ensures { result ≡ is_used name.now (places_of members.now) }
 {
     for member in members {
-        if member.branch == *name {
+        if *name == member.branch {
             return true;
         }
     }

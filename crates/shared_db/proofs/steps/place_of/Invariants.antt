@@ -1,4 +1,4 @@
-use Rattle.std.proofs.Common.{◌≡◌, ◌+◌, ◌×◌, drop}
+use Rattle.std.proofs.Common.{◌≡◌, ◌+◌, drop}
 use Rattle.shared_db.specs.Members.{lines_of}
 use Rattle.shared_db.specs.Stepping.{place_before}
 use Rattle.shared_db.proofs.steps.place_of.Given as goal
