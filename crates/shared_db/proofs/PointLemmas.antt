@@ -1,22 +1,27 @@
 -- Points: the commit that a name tells, and the record of a branch made at it.
-use Rattle.std.proofs.Common.{◌≡◌, refl, sym, ap, ◌∙◌, subst, ℕ, zero, suc, ◌+◌, ◌*◌, ◌/◌, ◌%◌, ◌^◌, ◌<◌, ◌≤◌, Bool, true, false, cond, ◌&&◌, true≢false, List, [], ◌∷◌, ◌++◌, length, map, find, is_some, Option, Some, None, option_map, arith}
+use Rattle.std.proofs.Common.{◌≡◌, ◌≢◌, refl, sym, ap, ◌∙◌, subst, ℕ, zero, suc, ◌+◌, ◌*◌, ◌/◌, ◌%◌, ◌^◌, ◌<◌, ◌≤◌, Bool, true, false, cond, ◌&&◌, true≢false, List, [], ◌∷◌, ◌++◌, length, map, find, is_some, Option, Some, None, option_map, arith}
 use Rattle.std.specs.Prelude.{bytes_eq, slice_index}
 use Rattle.std.specs.Cmp.Lexicographic.{bytes_decides}
+use Rattle.std.proofs.lemmas.Option.{same_Some}
 use Rattle.tuple_codec.specs.AddressTexts.{IsAddress, ReadsAddress, address_bytes, address_text, five_bytes, number_of_eight}
 use Rattle.tuple_codec.specs.declared.addresses.Address.{Address}
 use Rattle.tuple_codec.proofs.AddressLemmas.{one_text, one_address, text_length}
 use Rattle.schema_model.specs.PlainCommits.{Commits, PlainCommit, commit_parts, is_known}
 use Rattle.schema_model.specs.WrittenForms.{CommitParts}
-use Rattle.chunk_store.specs.Chunks.{Chunks}
+use Rattle.chunk_store.specs.Chunks.{Chunk, Chunks}
 use Rattle.chunk_store.specs.Kinds.{is_commit}
 use Rattle.commit_graph.specs.Commits.{IsCommitFound, HasCommit, is_commit_found}
 use Rattle.constraint_scan.specs.Scanning.{IsKeptAt}
 use Rattle.table_root.specs.Standing.{IsDatabaseAt}
 use Rattle.plain_writes.proofs.InsertionLemmas.{two, clash, left_so, right_so}
-use Rattle.plain_sessions.specs.Branching.{commit_named}
-use Rattle.plain_sessions.specs.Records.{clean_at, database_in, root_of}
+use Rattle.plain_sessions.specs.Branching.{commit_named, heads_in, or_commit, resolved}
+use Rattle.plain_sessions.specs.Records.{Branch, clean_at, database_in, root_of}
+use Rattle.plain_sessions.specs.Sessions.{Head, Session, new_session}
+use Rattle.script_text.specs.declared.outputs.BranchLine.{BranchLine}
+use Rattle.session_laws.specs.Changes.{BranchStands, Paired}
 use Rattle.session_laws.specs.Commits.{CommitsAreThere}
 use Rattle.session_laws.specs.Records.{RecordStands}
+use Rattle.shared_db.specs.Stepping.{IsCleanAt}
 use Rattle.tuple_codec.specs.declared.records.BranchRecord.{BranchRecord}
 
 -- ---- the bytes of a text
@@ -129,3 +134,42 @@ module _ (address : List ℕ → List ℕ) (chunks : Chunks) (commits : Commits)
       → ((commit : CommitParts) → IsCommitFound chunks rec.head.0 commit → rec.working.0 ≡ commit.root)
       → RecordStands address chunks commits rec (clean_at rec.head.0 (root_of commits rec.head.0))
   clean_stands rec t staged merging root = clean_by rec.head.0 (commits rec.head.0) refl t rec refl staged merging root
+
+-- ---- points of a state
+
+module _ (address : List ℕ → List ℕ) (chunks : List Chunk) (commits : Commits) where
+  known_name : (name k : List ℕ) → commit_named commits name ≡ Some k → is_known commits k ≡ true
+  known_name name k e = two (bytes_eq (address_text (address_bytes name)) name && is_known commits (address_bytes name))
+      (λ t. ap (is_known commits) (same_Some k (address_bytes name) (sym e ∙ ap (λ b. cond b (Some (address_bytes name)) None) t))
+      ∙ right_so (bytes_eq (address_text (address_bytes name)) name) (is_known commits (address_bytes name)) t)
+      (λ t. let bad : ◌≡◌ {A = Option (List ℕ)} None (Some k) = sym (ap (λ b. cond b (Some (address_bytes name)) None) t) ∙ e in absurd (cc))
+
+  -- the commit that a name tells is known
+  pub known_told : (name k : List ℕ) (lines : List BranchLine) (branches : List Branch) → Paired (BranchStands address chunks commits) lines branches
+      → resolved (heads_in branches) commits name ≡ Some k → is_known commits k ≡ true
+  known_told name k [] [] stand e = known_name name k e
+  known_told name k [] (b ∷ branches) stand e = absurd stand
+  known_told name k (x ∷ lines) [] stand e = absurd stand
+  known_told name k (x ∷ lines) (b ∷ branches) stand e = by (bytes_eq b.name name) (known_told name k lines branches stand.1) e where
+    by : (t : Bool) → (resolved (heads_in branches) commits name ≡ Some k → is_known commits k ≡ true)
+        → or_commit commits name (cond t (Some (record { name = b.name; commit = b.state.head })) (find (λ (head : Head). bytes_eq head.name name) (heads_in branches))) ≡ Some k
+        → is_known commits k ≡ true
+    by true rest here = ap (is_known commits) (same_Some k b.state.head (sym here)) ∙ stand.0.stands.head_known
+    by false rest here = rest here
+
+pub some_there : (o : Option (List ℕ)) → o ≢ None → (x : List ℕ) × (o ≡ Some x)
+some_there None there = absurd (there refl)
+some_there (Some x) there = (x, refl)
+
+-- a session of this number on this branch
+abbrev pub someone : ℕ → List ℕ → Session
+someone number name = record (new_session number []) { branch = name }
+
+pub clean_none : (address : List ℕ → List ℕ) (chunks : Chunks) (commits : Commits) (point : Option (List ℕ)) (result : Option BranchRecord) → None ≡ point → result ≡ None
+    → IsCleanAt address chunks commits point result
+clean_none address chunks commits point result e none =
+    subst (λ r. IsCleanAt address chunks commits point r) (sym none) (subst (λ o. IsCleanAt address chunks commits o None) e tt)
+
+pub clean_some : (address : List ℕ → List ℕ) (chunks : Chunks) (commits : Commits) (k : List ℕ) (point : Option (List ℕ)) (rec : BranchRecord) → Some k ≡ point
+    → RecordStands address chunks commits rec (clean_at k (root_of commits k)) → IsCleanAt address chunks commits point (Some rec)
+clean_some address chunks commits k point rec e stands = subst (λ o. IsCleanAt address chunks commits o (Some rec)) e stands

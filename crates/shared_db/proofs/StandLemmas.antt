@@ -254,6 +254,9 @@ module _ (address : List ℕ → List ℕ) (old : Parts) (shared : Shared) (stan
             single = stands.single;
           }) branches places chunks
 
+    abbrev late : Outcome Shared
+    late = unless (nat_le most_branches (length shared.branches)) 9010 (Ok (made name k))
+
     make_ends : (answer : BranchReply) (after : Parts) → answer ≡ making name old.branches → (answer ≡ reply.Done → after.branches ≡ placed line_cmp old.branches line)
         → after.places ≡ old.places → after.chunks ≡ old.chunks → Ends address (made_at shared name k) answer after
     make_ends answer after is done places chunks = two (is_some (record_at name old.branches))
@@ -267,9 +270,6 @@ module _ (address : List ℕ → List ℕ) (old : Parts) (shared : Shared) (stan
         (λ f.
         let well : answer ≡ reply.Done = is ∙ ap (λ b. cond b reply.Exists (cond (nat_le most_branches (length old.branches)) reply.Full reply.Done)) e ∙ ap (λ b. cond b reply.Full reply.Done) f in
         subst (λ b. Ends address (unless b 9010 (Ok (made name k))) answer after) (sym f) (well, made_stands e f after (done well) places chunks)))))
-      where
-        abbrev late : Outcome Shared
-        late = unless (nat_le most_branches (length shared.branches)) 9010 (Ok (made name k))
 
   pub made_at_point : (name : List ℕ) (point : Option (List ℕ)) (rec : BranchRecord) (answer : BranchReply) (after : Parts) → is_branch_name name ≡ true
       → IsCleanAt address (bytes_at old.chunks) shared.commits point (Some rec) → answer ≡ making name old.branches
@@ -285,44 +285,41 @@ module _ (address : List ℕ → List ℕ) (old : Parts) (shared : Shared) (stan
 
   -- ---- removed
 
-  module _ (name : List ℕ) (free : list_any (bytes_eq name) old.places ≡ false) where
-    abbrev removed : Shared
-    removed = record shared { branches = without_branch name shared.branches }
+  abbrev removed : List ℕ → Shared
+  removed name = record shared { branches = without_branch name shared.branches }
 
-    others_there : (n : List ℕ) → bytes_eq name n ≡ false → is_branch_there shared n ≡ true → is_branch_there removed n ≡ true
+  module _ (name : List ℕ) (free : list_any (bytes_eq name) old.places ≡ false) where
+    others_there : (n : List ℕ) → bytes_eq name n ≡ false → is_branch_there shared n ≡ true → is_branch_there (removed name) n ≡ true
     others_there n apart there = there_is (without_branch name shared.branches) n ∙ still_any name n shared.branches apart (sym (there_is shared.branches n) ∙ there)
 
-    removed_stands : (after : Parts) → after.branches ≡ without_line name old.branches → after.places ≡ old.places → after.chunks ≡ old.chunks → StateStands address after removed
+    removed_stands : (after : Parts) → after.branches ≡ without_line name old.branches → after.places ≡ old.places → after.chunks ≡ old.chunks → StateStands address after (removed name)
     removed_stands after branches places chunks =
-        restated address (record old { branches = without_line name old.branches }) after removed (record {
+        restated address (record old { branches = without_line name old.branches }) after (removed name) (record {
           branches = left_out_of_both address old.chunks shared.commits name old.branches shared.branches stands.branches;
           rise = fewer_rise line_cmp line_total (λ line. not (is_line_of name line)) old.branches stands.rise;
           few = (let fewer = fewer_few (λ line. not (is_line_of name line)) old.branches in omega (arith, fewer, stands.few));
           places = stands.places;
-          placed = all_others name (is_branch_there shared) (is_branch_there removed) shared.places others_there (sym (ap (list_any (bytes_eq name)) stands.places) ∙ free) stands.placed;
+          placed = all_others name (is_branch_there shared) (is_branch_there (removed name)) shared.places others_there (sym (ap (list_any (bytes_eq name)) stands.places) ∙ free) stands.placed;
           commits = stands.commits;
           named = stands.named;
           single = stands.single;
         }) branches places chunks
 
+  abbrev if_free : List ℕ → Outcome Shared
+  if_free name = unless (is_checked_out shared name) 9014 (Ok (removed name))
+
   pub remove_ends : (name : List ℕ) (answer : BranchReply) (after : Parts) → answer ≡ removing name old.branches old.places → (answer ≡ reply.Done → after.branches ≡ without_line name old.branches)
       → after.places ≡ old.places → after.chunks ≡ old.chunks → Ends address (delete_branch shared name) answer after
   remove_ends name answer after is done places chunks = two (is_some (record_at name old.branches))
-      (λ e. subst (λ b. Ends address (unless (not b) 9004 late) answer after) (sym (sym (there_same name) ∙ e))
-      (subst (λ l. Ends address (unless (list_any (bytes_eq name) l) 9014 (Ok gone)) answer after) stands.places
+      (λ e. subst (λ b. Ends address (unless (not b) 9004 (if_free name)) answer after) (sym (sym (there_same name) ∙ e))
+      (subst (λ l. Ends address (unless (list_any (bytes_eq name) l) 9014 (Ok (removed name))) answer after) stands.places
       (two (list_any (bytes_eq name) old.places)
-      (λ f. subst (λ b. Ends address (unless b 9014 (Ok gone)) answer after) (sym f) (ap number_of (found e ∙ ap (λ b. cond b reply.CheckedOut reply.Done) f)))
+      (λ f. subst (λ b. Ends address (unless b 9014 (Ok (removed name))) answer after) (sym f) (ap number_of (found e ∙ ap (λ b. cond b reply.CheckedOut reply.Done) f)))
       (λ f. let well : answer ≡ reply.Done = found e ∙ ap (λ b. cond b reply.CheckedOut reply.Done) f in
-      subst (λ b. Ends address (unless b 9014 (Ok gone)) answer after) (sym f) (well, removed_stands name f after (done well) places chunks)))))
-      (λ e. subst (λ b. Ends address (unless (not b) 9004 late) answer after) (sym (sym (there_same name) ∙ e))
+      subst (λ b. Ends address (unless b 9014 (Ok (removed name))) answer after) (sym f) (well, removed_stands name f after (done well) places chunks)))))
+      (λ e. subst (λ b. Ends address (unless (not b) 9004 (if_free name)) answer after) (sym (sym (there_same name) ∙ e))
       (ap number_of (is ∙ ap (λ b. cond (not b) reply.NoSuch (cond (list_any (bytes_eq name) old.places) reply.CheckedOut reply.Done)) e)))
     where
-      abbrev gone : Shared
-      gone = record shared { branches = without_branch name shared.branches }
-
-      abbrev late : Outcome Shared
-      late = unless (is_checked_out shared name) 9014 (Ok gone)
-
       found : is_some (record_at name old.branches) ≡ true → answer ≡ cond (list_any (bytes_eq name) old.places) reply.CheckedOut reply.Done
       found e = is ∙ ap (λ b. cond (not b) reply.NoSuch (cond (list_any (bytes_eq name) old.places) reply.CheckedOut reply.Done)) e
 
@@ -353,6 +350,11 @@ module _ (address : List ℕ → List ℕ) (old : Parts) (shared : Shared) (stan
         (λ e. subst (λ b. Ends address (unless (not b) 9004 (Ok (checked_out session name shared))) answer after) (sym (sym (there_same name) ∙ e))
         (ap number_of (is ∙ ap (λ b. cond b reply.Done reply.NoSuch) e)))
 
+pub ends_restated : (address : List ℕ → List ℕ) (outcome : Outcome Shared) (answer : BranchReply) (old new : Parts) → Ends address outcome answer old → new.branches ≡ old.branches → new.places ≡ old.places
+    → new.chunks ≡ old.chunks → Ends address outcome answer new
+ends_restated address (Ok left) answer old new ends branches places chunks = (ends.0, restated address old new left ends.1 branches places chunks)
+ends_restated address (Err number) answer old new ends branches places chunks = ends
+
 -- what follows a branch made
 pub then_moved : (address : List ℕ → List ℕ) (number : ℕ) (session : Session) → session.number ≡ number → (name : List ℕ) (outcome : Outcome Shared) (answer : BranchReply) (middle after : Parts)
     → Ends address outcome answer middle → (answer ≡ reply.Done → is_some (record_at name middle.branches) ≡ true) → after.branches ≡ middle.branches
@@ -366,3 +368,33 @@ pub there_when_put : (name : List ℕ) (rec : BranchRecord) (lines after : List 
 there_when_put name rec lines after is =
     line_there_is after name ∙ ap (list_any (is_line_of name)) is ∙ placed_any line_cmp (is_line_of name) (record { name = name; rec = rec }) lines
     ∙ ap (λ b. b || list_any (is_line_of name) lines) ((bytes_decides name name).1 refl)
+
+-- ---- lists after a step, done or not
+
+pub either_list : (P : List BranchLine → Type 0) (answer : BranchReply) (new kept after : List BranchLine) → (answer ≡ reply.Done → after ≡ new) → (answer ≢ reply.Done → after ≡ kept)
+    → (answer ≡ reply.Done → P new) → P kept → P after
+either_list P reply.Done new kept after done same well rest = subst P (sym (done refl)) (well refl)
+either_list P reply.NoSuch new kept after done same well rest = subst P (sym (same (λ e. absurd (cc)))) rest
+either_list P reply.Exists new kept after done same well rest = subst P (sym (same (λ e. absurd (cc)))) rest
+either_list P reply.Full new kept after done same well rest = subst P (sym (same (λ e. absurd (cc)))) rest
+either_list P reply.CheckedOut new kept after done same well rest = subst P (sym (same (λ e. absurd (cc)))) rest
+
+abbrev Rises : List BranchLine → Type 0
+Rises lines = lines_rise lines ≡ true
+
+pub fewer_lines_rise : (name : List ℕ) (lines after : List BranchLine) (answer : BranchReply) → (answer ≡ reply.Done → after ≡ without_line name lines) → (answer ≢ reply.Done → after ≡ lines)
+    → lines_rise lines ≡ true → lines_rise after ≡ true
+fewer_lines_rise name lines after answer done same rise =
+    either_list Rises answer (without_line name lines) lines after done same (λ e. fewer_rise line_cmp line_total (λ line. not (is_line_of name line)) lines rise) rise
+
+new_when_made : (name : List ℕ) (lines : List BranchLine) → making name lines ≡ reply.Done → is_some (record_at name lines) ≡ false
+new_when_made name lines e = two (is_some (record_at name lines))
+    (λ t. let bad : ◌≡◌ {A = BranchReply} reply.Exists reply.Done = sym (ap (λ b. cond b reply.Exists (cond (nat_le most_branches (length lines)) reply.Full reply.Done)) t) ∙ e in absurd (cc))
+    (λ t. t)
+
+pub more_lines_rise : (name : List ℕ) (rec : BranchRecord) (lines after : List BranchLine) (answer : BranchReply) → answer ≡ making name lines
+    → (answer ≡ reply.Done → after ≡ placed line_cmp lines (record { name = name; rec = rec })) → (answer ≢ reply.Done → after ≡ lines) → lines_rise lines ≡ true → lines_rise after ≡ true
+more_lines_rise name rec lines after answer is done same rise =
+    let line : BranchLine = record { name = name; rec = rec } in
+    either_list Rises answer (placed line_cmp lines line) lines after done same
+    (λ e. placed_rises line_cmp line_total line lines rise (none_tied line lines (sym (line_there_is lines name) ∙ new_when_made name lines (sym is ∙ e)))) rise

@@ -55,7 +55,12 @@ moved_place [] at name statements = refl
 moved_place (x ∷ members) zero name statements = refl
 moved_place (x ∷ members) (suc at) name statements = ap (λ l. x.branch ∷ l) (moved_place members at name statements)
 
-pub kept_number : (members : List Member) (at : ℕ) (name : List ℕ) (d : Member) → numbers_of (set members at (record { branch = name; statements = (get_or members at d).statements })) ≡ numbers_of members
+kept_number : (members : List Member) (at : ℕ) (name : List ℕ) (d : Member) → numbers_of (set members at (record { branch = name; statements = (get_or members at d).statements })) ≡ numbers_of members
 kept_number [] at name d = refl
 kept_number (x ∷ members) zero name d = refl
 kept_number (x ∷ members) (suc at) name d = ap (λ l. x.statements ∷ l) (kept_number members at name d)
+
+pub number_kept : (members : List Member) (at : ℕ) (name : List ℕ) (member : Member) → member ≡ get_or members at member
+    → numbers_of (set members at (record { branch = name; statements = member.statements })) ≡ numbers_of members
+number_kept members at name member e =
+    ap (λ (m : Member). numbers_of (set members at (record { branch = name; statements = m.statements }))) e ∙ kept_number members at name member

@@ -1,6 +1,6 @@
 //! The shared database and its calls.
 
-ghost use Rattle.std.specs.Prelude.{◌≡◌, ◌≢◌, ◌<◌, ◌≤◌, ◌≤ℤ◌, ◌+◌, ◌*◌, ℕ, List, [], pos, length, map, set, slice_get, sum, Option, None, Some, IfOk, IfErr};
+ghost use Rattle.std.specs.Prelude.{◌≡◌, ◌≢◌, ◌<◌, ◌≤◌, ◌≤ℤ◌, ◌+◌, ◌*◌, ℕ, List, [], true, pos, is_some, length, map, set, slice_get, sum, Option, None, Some, IfOk, IfErr};
 ghost use Rattle.std.specs.Arc.{arc_value};
 ghost use Rattle.std.specs.Option.{option_map, option_map_or};
 ghost use Rattle.chunk_store.specs.Chunks.{IsSingle, bytes_at};
@@ -25,7 +25,7 @@ use crate::branches::{
 use crate::changes::{BranchReply, BranchStep, Change, Point, Settled};
 use crate::opening::{Opened, all_moments, open_store};
 use crate::segments::append_sealed;
-use crate::steps::{clean_at, commit_at, make_branch, move_to, place_in, remove_branch};
+use crate::steps::{clean_at, commit_at, is_there, make_branch, move_to, place_in, remove_branch};
 use chunk_store::{PutFault, Segment, Store};
 use script_text::{BranchLine, Moment};
 use session_laws::law_of_states;
@@ -220,6 +220,7 @@ impl SharedDb {
         requires session { slice_get self.old.parts.places session ≢ None }
         requires state { HasState self.old.parts }
         ensures plain { IsPlainStep session (λ shared p. create_branch shared p (new_asked name.now point.now)) result self.old.parts self.new.parts }
+        ensures there { result ≡ answer.Done → is_some (record_at name.now self.new.parts.branches) ≡ true }
         ensures places { self.new.parts.places ≡ self.old.parts.places }
         ensures same { result ≢ answer.Done → self.new.parts ≡ self.old.parts }
         ensures rest { KeepsRest self.old self.new }
@@ -279,10 +280,10 @@ impl SharedDb {
         ensures same { result ≢ answer.Done → self.new.parts ≡ self.old.parts }
         ensures rest { KeepsRest self.old self.new }
     {
-        if record_of(self.branches.as_slice(), name).is_none() {
+        if !is_there(self.branches.as_slice(), name) {
             return BranchReply::NoSuch;
         }
-        move_to(self.members.as_mut_slice(), session, name);
+        move_to(&mut self.members, session, name);
         BranchReply::Done
     }
 
@@ -297,7 +298,7 @@ impl SharedDb {
     {
         let reply = self.create(session, name, point);
         if reply == BranchReply::Done {
-            move_to(self.members.as_mut_slice(), session, name);
+            move_to(&mut self.members, session, name);
         }
         reply
     }

@@ -17,6 +17,7 @@ ghost use Rattle.schema_model.specs.PlainCommits.{Commits, is_known};
 ghost use Rattle.session_laws.specs.Commits.{CommitsAreThere};
 ghost use Rattle.session_laws.specs.Records.{RecordStands};
 ghost use Rattle.shared_db.specs.Members.{line_of, lines_of, numbers_of, places_of};
+ghost use Rattle.shared_db.specs.Shared.{record_at};
 ghost use Rattle.shared_db.specs.Stepping.{commit_at, is_used, line_cmp, making, place_before, removing, without_line};
 ghost use Rattle.shared_db.specs.declared.changes.BranchReply.TheVariants as reply;
 ghost use Rattle.table_root.specs.Names.{is_branch_name};
@@ -81,6 +82,13 @@ pub fn clean_at(store: &Store, commit: Address) -> BranchRecord
 
 // ---- branches
 
+/// Whether there is a branch of this name.
+pub fn is_there(branches: &[Branch], name: &BranchName) -> bool
+    ensures { result ≡ is_some (record_at name.now (lines_of branches.now)) }
+{
+    record_of(branches, name).is_some()
+}
+
 /// Makes a branch, unless there is one of its name or there are too many.
 pub fn make_branch(branches: &mut Vec<Branch>, name: &BranchName, rec: BranchRecord) -> BranchReply
     requires { most_branches ≤ vec_capacity branches.old }
@@ -91,7 +99,7 @@ pub fn make_branch(branches: &mut Vec<Branch>, name: &BranchName, rec: BranchRec
     ensures form { is_branch_name name.now ≡ true }
 {
     know_form(name);
-    if record_of(branches.as_slice(), name).is_some() {
+    if is_there(branches.as_slice(), name) {
         return BranchReply::Exists;
     }
     if branches.len() >= MOST {
@@ -151,7 +159,7 @@ pub fn remove_branch(
     ensures same { result ≢ reply.Done → lines_of branches.new.items ≡ lines_of branches.old.items }
     ensures capacity { vec_capacity branches.new ≡ vec_capacity branches.old }
 {
-    if record_of(branches.as_slice(), name).is_none() {
+    if !is_there(branches.as_slice(), name) {
         return BranchReply::NoSuch;
     }
     if is_used(members, name) {
@@ -191,10 +199,10 @@ pub fn place_in(members: &[Member], session: u32) -> BranchName
 }
 
 /// Sets the session on a branch.
-pub fn move_to(members: &mut [Member], session: u32, name: &BranchName)
-    requires { slice_get (places_of members.old) session ≢ None }
-    ensures places { places_of members.new ≡ set (places_of members.old) session name.now }
-    ensures numbers { numbers_of members.new ≡ numbers_of members.old }
+pub fn move_to(members: &mut Vec<Member>, session: u32, name: &BranchName)
+    requires { slice_get (places_of members.old.items) session ≢ None }
+    ensures places { places_of members.new.items ≡ set (places_of members.old.items) session name.now }
+    ensures numbers { numbers_of members.new.items ≡ numbers_of members.old.items }
 {
     let at = session as usize;
     members[at] = Member {
