@@ -153,3 +153,10 @@ IsCleanAt address chunks commits (Some k) (Some rec) = RecordStands address chun
 IsCleanAt address chunks commits None None = Unit {0}
 IsCleanAt address chunks commits (Some k) None = ⊥
 IsCleanAt address chunks commits None (Some rec) = ⊥
+
+-- ---- what follows
+
+-- the step for a request is the plain machine's on that request
+pub record StepsFollow : Type 0 where
+  pub branches : (shared : Shared) (p : Session) (request : BranchRequest) → plain_step shared p (step_of_branch request) ≡ branch_step shared p request
+  pub checkouts : (shared : Shared) (p : Session) (request : CheckoutRequest) → plain_step shared p (step_of_checkout request) ≡ checkout_step shared p request

@@ -4,10 +4,12 @@
 
 mod branches;
 mod changes;
+mod laws;
 mod opening;
 mod segments;
 mod shared;
 mod steps;
 
 pub use changes::{BranchReply, BranchStep, Change, Plan, Point, Settled};
+pub use laws::law_of_steps;
 pub use shared::SharedDb;

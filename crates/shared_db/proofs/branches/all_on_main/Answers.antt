@@ -1,4 +1,4 @@
-use Rattle.std.proofs.Common.{arith, ◌≡◌, ◌∙◌, ap, map}
+use Rattle.std.proofs.Common.{arith, ◌∙◌, ap}
 use Rattle.shared_db.specs.Members.{numbers_of, on_main, places_of}
 use Rattle.shared_db.proofs.LineLemmas.{all_done, numbers_are, places_are}
 use Rattle.shared_db.proofs.branches.all_on_main.Goals as goal

@@ -1,6 +1,5 @@
-use Rattle.std.proofs.Common.{◌≡◌, ◌++◌, map, take, drop, codes}
-use Rattle.shared_db.specs.Members.{branch_head, line_of, lines_of, on_main, with_rec}
-use Rattle.shared_db.specs.Shared.{record_at}
+use Rattle.std.proofs.Common.{◌≡◌, ◌++◌, map, drop}
+use Rattle.shared_db.specs.Members.{on_main}
 use Rattle.shared_db.proofs.branches.all_on_main.Given as goal
 
 abbrev pub invariant-loop-number : goal.invariant-loop-number

@@ -1,4 +1,4 @@
-use Rattle.std.proofs.Common.{arith, ◌≡◌, ◌∙◌, ap, map}
+use Rattle.std.proofs.Common.{arith, ◌∙◌, ap}
 use Rattle.table_root.specs.Heads.{heads_rise}
 use Rattle.shared_db.specs.Members.{branch_head, lines_of}
 use Rattle.shared_db.proofs.LineLemmas.{all_done, heads_are, heads_rise_so}

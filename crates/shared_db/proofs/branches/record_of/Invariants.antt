@@ -1,5 +1,5 @@
-use Rattle.std.proofs.Common.{◌≡◌, ◌++◌, map, take, drop, codes}
-use Rattle.shared_db.specs.Members.{branch_head, line_of, lines_of, on_main, with_rec}
+use Rattle.std.proofs.Common.{◌≡◌, drop}
+use Rattle.shared_db.specs.Members.{lines_of}
 use Rattle.shared_db.specs.Shared.{record_at}
 use Rattle.shared_db.proofs.branches.record_of.Given as goal
 

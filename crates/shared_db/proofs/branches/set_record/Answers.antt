@@ -1,4 +1,4 @@
-use Rattle.std.proofs.Common.{arith, ◌≡◌, ◌∙◌, ap, sym, slice_set}
+use Rattle.std.proofs.Common.{arith, ◌∙◌, ap, sym, slice_set}
 use Rattle.std.proofs.lemmas.List.Edits.{map_over_more}
 use Rattle.shared_db.specs.Members.{lines_of, with_rec}
 use Rattle.shared_db.proofs.LineLemmas.{all_written, changed_are}

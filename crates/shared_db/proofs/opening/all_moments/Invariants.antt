@@ -1,4 +1,4 @@
-use Rattle.std.proofs.Common.{◌≡◌, ◌+◌, ◌*◌, take, drop, sum}
+use Rattle.std.proofs.Common.{◌≡◌, ◌+◌, ◌*◌, drop, sum}
 use Rattle.shared_db.proofs.opening.all_moments.Given as goal
 
 abbrev pub invariant-loop-number : goal.invariant-loop-number

@@ -1,4 +1,4 @@
-use Rattle.std.proofs.Common.{◌≡◌, refl, None}
+use Rattle.std.proofs.Common.{refl, None}
 use Rattle.chunk_store.specs.Chunks.{bytes_at}
 use Rattle.chunk_store.specs.Stores.{all_chunks}
 use Rattle.shared_db.proofs.PointLemmas.{clean_stands}

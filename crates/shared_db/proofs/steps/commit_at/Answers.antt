@@ -1,4 +1,4 @@
-use Rattle.std.proofs.Common.{◌≡◌, sym, ap, ◌∙◌}
+use Rattle.std.proofs.Common.{sym, ap, ◌∙◌}
 use Rattle.shared_db.specs.Stepping.{head_or_named}
 use Rattle.shared_db.proofs.steps.commit_at.Goals as goal
 

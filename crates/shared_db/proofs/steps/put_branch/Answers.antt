@@ -1,4 +1,4 @@
-use Rattle.std.proofs.Common.{◌≡◌, ◌∙◌, ap, cond, arith}
+use Rattle.std.proofs.Common.{◌∙◌, ap, cond, arith}
 use Rattle.std.specs.List.{insert}
 use Rattle.std.proofs.lemmas.List.{length-map}
 use Rattle.shared_db.specs.Members.{line_of, lines_of}

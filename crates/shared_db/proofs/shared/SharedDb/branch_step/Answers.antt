@@ -1,4 +1,4 @@
-use Rattle.std.proofs.Common.{◌≡◌, ap}
+use Rattle.std.proofs.Common.{ap}
 use Rattle.session_laws.specs.Changes.{Parts}
 use Rattle.shared_db.specs.Stepping.{plain_step}
 use Rattle.shared_db.proofs.StandLemmas.{ends_restated}

@@ -1,4 +1,4 @@
-use Rattle.std.proofs.Common.{rules, ◌≡◌, ◌≢◌, ◌∙◌, ap, refl, sym, subst, is_some, true}
+use Rattle.std.proofs.Common.{rules, ◌≡◌, ◌∙◌, ap, refl, sym, subst, is_some}
 use Rattle.plain_sessions.specs.Branching.{create_branch}
 use Rattle.shared_db.specs.Shared.{Db, record_at}
 use Rattle.shared_db.specs.Stepping.{Ends, new_asked}

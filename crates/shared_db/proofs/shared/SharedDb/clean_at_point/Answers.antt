@@ -1,14 +1,12 @@
-use Rattle.std.proofs.Common.{◌≡◌, ◌∙◌, ap, refl, sym, subst, ℕ, List, Option, Some, None, option_map, slice_get, unwrap_or, []}
+use Rattle.std.proofs.Common.{◌∙◌, ap, refl, sym, subst, Option, option_map, slice_get, unwrap_or, []}
 use Rattle.tuple_codec.specs.declared.addresses.Address.{Address}
-use Rattle.chunk_store.specs.Chunks.{Chunk, bytes_at}
+use Rattle.chunk_store.specs.Chunks.{bytes_at}
 use Rattle.chunk_store.specs.Stores.{all_chunks}
 use Rattle.session_laws.specs.Changes.{StateStands}
 use Rattle.session_laws.specs.Records.{RecordStands}
-use Rattle.plain_sessions.specs.Branching.{point_in}
-use Rattle.plain_sessions.specs.Records.{Shared, clean_at, root_of}
-use Rattle.plain_sessions.specs.Sessions.{Session}
+use Rattle.plain_sessions.specs.Records.{clean_at, root_of}
 use Rattle.shared_db.specs.Shared.{Db}
-use Rattle.shared_db.specs.Stepping.{IsPlaced, new_asked, point_asked}
+use Rattle.shared_db.specs.Stepping.{point_asked}
 use Rattle.shared_db.proofs.PointLemmas.{clean_none, clean_some, has_commit, known_told, some_there, someone}
 use Rattle.shared_db.proofs.shared.SharedDb.clean_at_point.Goals as goal
 

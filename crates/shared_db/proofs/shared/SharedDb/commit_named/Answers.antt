@@ -1,4 +1,4 @@
-use Rattle.std.proofs.Common.{◌≡◌, ◌∙◌, ap, sym, subst}
+use Rattle.std.proofs.Common.{◌∙◌, ap, sym, subst}
 use Rattle.session_laws.specs.Changes.{StateStands}
 use Rattle.shared_db.specs.Members.{lines_of}
 use Rattle.shared_db.specs.Shared.{Db}

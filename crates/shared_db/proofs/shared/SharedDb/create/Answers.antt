@@ -1,6 +1,5 @@
-use Rattle.std.proofs.Common.{arith, ◌≡◌, ◌≤◌, ◌∙◌, ap, refl, sym, subst, Option, Some, None}
+use Rattle.std.proofs.Common.{arith, refl, sym, subst, Option, Some}
 use Rattle.tuple_codec.specs.declared.records.BranchRecord.{BranchRecord}
-use Rattle.schema_model.specs.Limits.{most_branches}
 use Rattle.chunk_store.specs.Chunks.{bytes_at}
 use Rattle.plain_sessions.specs.Branching.{point_in}
 use Rattle.session_laws.specs.Changes.{StateStands}

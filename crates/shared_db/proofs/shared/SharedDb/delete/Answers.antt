@@ -1,4 +1,4 @@
-use Rattle.std.proofs.Common.{◌≡◌, ◌≤◌, ◌∙◌, ap, refl, sym, subst}
+use Rattle.std.proofs.Common.{◌≤◌, ◌∙◌, ap, refl, sym, subst}
 use Rattle.schema_model.specs.Limits.{most_branches}
 use Rattle.session_laws.specs.Changes.{StateStands}
 use Rattle.shared_db.specs.Members.{lines_of, places_of}
