@@ -13,8 +13,7 @@ use Rattle.sql_procedures.specs.declared.requests.BranchRequest.{BranchRequest}
 use Rattle.sql_procedures.specs.declared.requests.BranchRequest.TheVariants as branch
 use Rattle.sql_procedures.specs.declared.requests.CheckoutRequest.{CheckoutRequest}
 use Rattle.sql_procedures.specs.declared.requests.CheckoutRequest.TheVariants as checkout
-use Rattle.sql_procedures.specs.declared.requests.NewBranch.{NewBranch}
-use Rattle.plain_sessions.specs.Branching.{branch_step, checkout_name, checkout_step, moved_to, status, switched_to}
+use Rattle.plain_sessions.specs.Branching.{checkout_name, moved_to, status, switched_to}
 use Rattle.plain_sessions.specs.Moments.{Past, alone_by, moment_of, past, stepped}
 use Rattle.plain_sessions.specs.Records.{Shared}
 use Rattle.plain_sessions.specs.Replies.{one_row, refused}
@@ -29,7 +28,7 @@ use Rattle.session_state.specs.Standing.{SessionStands}
 use Rattle.session_state.specs.declared.sessions.Place.TheVariants as place
 use Rattle.session_state.specs.declared.sessions.Session.{Session}
 use Rattle.session_txn.specs.Showing.{is_sound_reply}
-use Rattle.shared_db.specs.Stepping.{Ends, IsPlaced, IsPlainStep, IsStepped, new_asked, number_of, places_after, plain_step, point_asked, point_of, step_of_branch, step_of_checkout}
+use Rattle.shared_db.specs.Stepping.{Ends, IsPlaced, IsPlainStep, IsStepped, StepsFollow, number_of, places_after, plain_step, step_of_branch, step_of_checkout}
 use Rattle.shared_db.specs.declared.changes.BranchReply.{BranchReply}
 use Rattle.shared_db.specs.declared.changes.BranchReply.TheVariants as ended
 use Rattle.shared_db.specs.declared.changes.BranchStep.{BranchStep}
@@ -40,23 +39,6 @@ use Rattle.serving.proofs.AloneLemmas.{alone_before}
 use Rattle.serving.proofs.AnswerLemmas.{same_number}
 use Rattle.serving.proofs.MomentLemmas.{in_one_turn, turn_at}
 use Rattle.serving.proofs.StateLemmas.{stands_noted}
-
--- ---- the request for which a step stands
-
-same_point : (point : Option (List ℕ)) → point_asked (point_of point) ≡ point
-same_point None = refl
-same_point (Some name) = refl
-
-same_new : (made : NewBranch) → new_asked made.name (point_of made.point) ≡ made
-same_new made = ap (λ (point : Option (List ℕ)). record { name = made.name; point = point }) (same_point made.point)
-
-pub step_asked : (shared : Shared) (p : plain.Session) (request : BranchRequest) → plain_step shared p (step_of_branch request) ≡ branch_step shared p request
-step_asked shared p (branch.Create made) = ap (λ (m : NewBranch). branch_step shared p (branch.Create m)) (same_new made)
-step_asked shared p (branch.Delete name) = refl
-
-pub checkout_asked : (shared : Shared) (p : plain.Session) (request : CheckoutRequest) → plain_step shared p (step_of_checkout request) ≡ checkout_step shared p request
-checkout_asked shared p (checkout.Existing name) = refl
-checkout_asked shared p (checkout.New made) = ap (λ (m : NewBranch). checkout_step shared p (checkout.New m)) (same_new made)
 
 -- ---- what is answered
 
@@ -220,7 +202,7 @@ same_places : (number : ℕ) (request : BranchRequest) (places : List (List ℕ)
 same_places number (branch.Create made) places = refl
 same_places number (branch.Delete name) places = refl
 
-module _ {D : Type 0} (address : List ℕ → List ℕ) (session : Session D) (parts new : Parts) (number : ℕ) (taken : BranchStep) (answer : BranchReply) (row : Answer)
+module _ {D : Type 0} (follow : StepsFollow) (address : List ℕ → List ℕ) (session : Session D) (parts new : Parts) (number : ℕ) (taken : BranchStep) (answer : BranchReply) (row : Answer)
     (request : BranchRequest) (is : taken ≡ step_of_branch request) (row_is : Rows row ≡ one_row (status ∷ [])) (counted : number ≡ number_at session.position)
     (steps : IsStepped session.number number taken answer parts new)
     (plainly : IsPlainStep session.number (λ (shared : Shared) (p : plain.Session). plain_step shared p taken) answer parts new) where
@@ -238,7 +220,7 @@ module _ {D : Type 0} (address : List ℕ → List ℕ) (session : Session D) (p
         others = λ at other. ap (λ (all : List (List ℕ)). slice_get all at) places;
       } in
       went_by address epoch session session parts new number taken answer row counted steps plainly p shared before (command.OnBranches request) p (one_row (status ∷ [])) follows refl
-      (ap (λ (o : Outcome Shared). Some (stepped shared p (p, one_row (status ∷ [])) o)) (sym (step_asked shared p request) ∙ ap (plain_step shared p) (sym is)))
+      (ap (λ (o : Outcome Shared). Some (stepped shared p (p, one_row (status ∷ [])) o)) (sym (follow.branches shared p request) ∙ ap (plain_step shared p) (sym is)))
 
 -- ---- DOLT_CHECKOUT
 
@@ -262,7 +244,7 @@ set_places : (number : ℕ) (request : CheckoutRequest) (places : List (List ℕ
 set_places number (checkout.Existing name) places = refl
 set_places number (checkout.New made) places = refl
 
-module _ {D : Type 0} (address : List ℕ → List ℕ) (old session : Session D) (parts new : Parts) (number : ℕ) (taken : BranchStep) (answer : BranchReply) (row : Answer)
+module _ {D : Type 0} (follow : StepsFollow) (address : List ℕ → List ℕ) (old session : Session D) (parts new : Parts) (number : ℕ) (taken : BranchStep) (answer : BranchReply) (row : Answer)
     (request : CheckoutRequest) (is : taken ≡ step_of_checkout request) (row_is : Rows row ≡ switched_to (checkout_name request)) (counted : number ≡ number_at old.position)
     (steps : IsStepped old.number number taken answer parts new)
     (plainly : IsPlainStep old.number (λ (shared : Shared) (p : plain.Session). plain_step shared p taken) answer parts new)
@@ -287,7 +269,7 @@ module _ {D : Type 0} (address : List ℕ → List ℕ) (old session : Session D
       } in
       went_by address epoch old session parts new number taken answer row counted steps plainly p shared before (command.Checkout request) (moved_to name p) (switched_to name) follows
       (ap (λ (test : Bool). if test then Some (p, refused 9006) else None) unchanged)
-      (ap (λ (o : Outcome Shared). Some (stepped shared p (moved_to name p, switched_to name) o)) (sym (checkout_asked shared p request) ∙ ap (plain_step shared p) (sym is)))
+      (ap (λ (o : Outcome Shared). Some (stepped shared p (moved_to name p, switched_to name) o)) (sym (follow.checkouts shared p request) ∙ ap (plain_step shared p) (sym is)))
 
 -- ---- to the next statement
 

@@ -20,7 +20,7 @@ use crate::places::{go_on, number_of};
 use crate::rows::{status_row, switched_row};
 use script_text::Reply;
 use session_state::Session;
-use shared_db::{BranchReply, BranchStep, Point, SharedDb};
+use shared_db::{BranchReply, BranchStep, Point, SharedDb, law_of_steps};
 use sql_procedures::{BranchRequest, CheckoutRequest, NewBranch};
 use std::alloc::Global;
 use table_root::BranchName;
@@ -65,6 +65,7 @@ fn step_branches<D: Digester>(
     ensures truly { TellsTruly D.address result }
     ensures room { KeepsRoom 0 db.old db.new }
 {
+    law_of_steps();
     let step = step_of_branch(request);
     match status_row(alloc) {
         Ok(row) => {
@@ -119,6 +120,7 @@ fn go_to<D: Digester>(
     if session.is_changed() {
         return Reply::Refused(9006);
     }
+    law_of_steps();
     let branch = checkout_name(request);
     match switched_row(alloc, branch.bytes()) {
         Ok(row) => {

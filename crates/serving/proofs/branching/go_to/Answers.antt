@@ -27,7 +27,7 @@ pub returns-in-Ok-clause-went : goal.returns-in-Ok-clause-went
 returns-in-Ok-clause-went g c = λ epoch p shared before.
     subst (λ (reply : Reply). Went g.D.Digester.address epoch p (command.Checkout c.args.request.now) shared c.args.db.now.parts c.branch_step-ended.new.self.parts c.arrive.new.session reply)
     (sym c.step_reply.ensures)
-    (checkout_went g.D.Digester.address c.args.session.now c.arrive.new.session c.args.db.now.parts c.branch_step-ended.new.self.parts c.number_of-number.result c.step_of_checkout-step.result
+    (checkout_went c.law_of_steps.ensures g.D.Digester.address c.args.session.now c.arrive.new.session c.args.db.now.parts c.branch_step-ended.new.self.parts c.number_of-number.result c.step_of_checkout-step.result
     c.branch_step-ended.result c.in-Ok.row c.args.request.now c.step_of_checkout-step.ensures
     (c.in-Ok.ensures ∙ ap switched_to (c.bytes.ensures.bytes ∙ c.checkout_name-branch.ensures)) c.number_of-number.ensures c.branch_step-ended.ensures.stepped c.branch_step-ended.ensures.plain
     (λ so. c.arrive.ensures.done so ∙ ap (λ name. record c.args.session.now { branch = name; start = None }) c.checkout_name-branch.ensures) c.arrive.ensures.same

@@ -1,4 +1,4 @@
-use Rattle.std.proofs.Common.{◌≡◌, ◌∙◌, Bool, Option, ℕ, List, ap, sym, true}
+use Rattle.std.proofs.Common.{◌∙◌, Option, ℕ, List, ap, sym, true}
 use Rattle.std.specs.Option.{option_map_or}
 use Rattle.std.proofs.lemmas.Bool.{and_parts}
 use Rattle.sql_procedures.specs.Arguments.{is_point}

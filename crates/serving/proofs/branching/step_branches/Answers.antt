@@ -20,7 +20,7 @@ pub returns-in-Ok-clause-went : goal.returns-in-Ok-clause-went
 returns-in-Ok-clause-went g c = λ epoch p shared before.
     subst (λ (reply : Reply). Went g.D.Digester.address epoch p (command.OnBranches c.args.request.now) shared c.args.db.now.parts c.branch_step-ended.new.self.parts c.args.session.now reply)
     (sym c.step_reply.ensures)
-    (branches_went g.D.Digester.address c.args.session.now c.args.db.now.parts c.branch_step-ended.new.self.parts c.number_of-number.result c.step_of_branch-step.result c.branch_step-ended.result
+    (branches_went c.law_of_steps.ensures g.D.Digester.address c.args.session.now c.args.db.now.parts c.branch_step-ended.new.self.parts c.number_of-number.result c.step_of_branch-step.result c.branch_step-ended.result
     c.in-Ok.row c.args.request.now c.step_of_branch-step.ensures c.in-Ok.ensures c.number_of-number.ensures c.branch_step-ended.ensures.stepped c.branch_step-ended.ensures.plain epoch p shared before)
 
 pub returns-in-Ok-clause-sound : goal.returns-in-Ok-clause-sound
