@@ -8,8 +8,7 @@ use Rattle.system_tables.proofs.branches.branch_rows.Goals as goal
 pub push_branch-requires-after_bounds : goal.push_branch-requires-after_bounds
 push_branch-requires-after_bounds g c κs within =
     let one = c.head-item.result in
-    let commits = c.requires.0 in
-    (
+    let commits = c.requires.0 in (
       commits,
       subst (λ (head : Head). AreKnown g.D.Digester.address (chunks_of c.args.draft.now.chunks) commits (head.head.0 ∷ [])) (sym c.head-item.is)
           (one_of (λ (head : Head). head.head.0) g.D.Digester.address (chunks_of c.args.draft.now.chunks) commits c.args.heads.now c.loop-head.head-index one c.loop-head-test.true c.requires.1),

@@ -1,4 +1,4 @@
-use Rattle.std.proofs.Common.{sym, subst, List, ◌∙◌}
+use Rattle.std.proofs.Common.{sym, subst, List}
 use Rattle.chunk_store.specs.Drafts.{chunks_of}
 use Rattle.table_root.specs.declared.heads.Head.{Head}
 use Rattle.system_tables.specs.Rows.{AreHeadsOf}
