@@ -1,0 +1,6 @@
+mod TablesLemmas
+mod OpenLemmas
+mod TakingLemmas
+mod StageLemmas
+mod RootLemmas
+mod LocalLemmas
