@@ -4,3 +4,4 @@ mod TakingLemmas
 mod StageLemmas
 mod RootLemmas
 mod LocalLemmas
+mod ClosingLemmas

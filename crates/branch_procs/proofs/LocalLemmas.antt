@@ -2,6 +2,7 @@
 use Rattle.std.proofs.Common.{◌≡◌, refl, sym, ◌∙◌, ap, subst, inl, inr, ◌⊎◌, ℕ, Bool, true, false, ◌&&◌, not, List, [], ◌∷◌, ◌++◌, length, nat_lt, Option, None, Some, Result, Ok, Err, cond, arith}
 use Rattle.std.specs.Option.{option_map_or}
 use Rattle.std.proofs.lemmas.Bool.Decides.{nat_tests}
+use Rattle.tuple_codec.specs.declared.addresses.Address.{Address}
 use Rattle.tuple_codec.specs.declared.records.BranchRecord.{BranchRecord}
 use Rattle.chunk_store.specs.Chunks.{Chunk, Chunks, Listed, bytes_at}
 use Rattle.chunk_store.specs.Clashes.{IsReason}
@@ -11,6 +12,7 @@ use Rattle.chunk_store.specs.Laws.{ChunksFollow, DraftsFollow, DraftsGrow}
 use Rattle.chunk_store.specs.declared.faults.PutFault.{PutFault}
 use Rattle.chunk_store.specs.declared.faults.PutFault.TheVariants.{Memory, Collision}
 use Rattle.chunk_store.proofs.ChunkLemmas.{at_join, either_some}
+use Rattle.constraint_scan.specs.Scanning.{IsKeptAt}
 use Rattle.expr_eval.specs.Binding.{Outcome, and_then}
 use Rattle.schema_model.specs.Limits.{most_tables}
 use Rattle.schema_model.specs.PlainCommits.{Commits, is_known}
@@ -49,7 +51,8 @@ use Rattle.session_txn.specs.Showing.{IsDue, is_sound_reply}
 use Rattle.session_txn.proofs.AloneLemmas.{answers_due, answers_so, collides, starves, takes_none, worked_ill, worked_well}
 use Rattle.session_txn.proofs.SessionLemmas.{has_one}
 use Rattle.session_txn.proofs.ShowLemmas.{due_truly}
-use Rattle.branch_procs.specs.Calls.{IsExcused, IsTold, OwnStands, Stages, staged_by, stages, status_reply}
+use Rattle.branch_procs.specs.Calls.{IsExcused, IsTold, OwnStands, Settles, Stages, staged_by, stages, status_reply}
+use Rattle.branch_procs.specs.Staging.{StandsOn}
 use Rattle.branch_procs.proofs.StageLemmas.{ok_same, past_unless}
 
 -- ---- what the state names
@@ -105,6 +108,21 @@ record_in address chunks commits rec state stands known = record {
 pub state_in : (address : List ℕ → List ℕ) (chunks : Chunks) (commits : Commits) (rec : BranchRecord) (state : BranchState) → RecordStands address chunks commits rec state
     → StateStands address chunks rec state
 state_in address chunks commits rec state stands = record { head = stands.head; working = stands.working; staged = stands.staged; merging = stands.merging }
+
+-- ---- the head
+
+pub head_known_at : (address : List ℕ → List ℕ) (draft : DraftParts) (own : BranchRecord) (commits : Commits) (state : BranchState) → OwnStands address draft own commits state
+    → is_known commits own.head.0 ≡ true
+head_known_at address draft own commits state at = let stands = at.stands in ap (is_known commits) stands.head ∙ stands.head_known
+
+pub on_head : (address : List ℕ → List ℕ) (draft : DraftParts) (own : BranchRecord) (commits : Commits) (state : BranchState) → OwnStands address draft own commits state → (root : Address)
+    → IsKeptAt address (chunks_of draft) root.0 (root_of commits own.head.0) → StandsOn address (chunks_of draft) own root state (root_of commits state.head)
+on_head address draft own commits state at root kept =
+    let stands = at.stands in
+    record {
+      stands = state_in address (chunks_of draft) commits own state stands;
+      root_stands = subst (λ (k : List ℕ). IsKeptAt address (chunks_of draft) root.0 (root_of commits k)) stands.head kept;
+    }
 
 -- ---- the draft
 
@@ -172,6 +190,17 @@ fails_truly address old mid (Collision clash) reply chunks drafts growth named s
       second = reason.is_brought;
       differ = reason.differ;
     })
+
+pub settled_so : (address : List ℕ → List ℕ) (old mid new : Drafting) (before after : BranchRecord) (mark : ℕ) (m : Candidate) (wanted : Outcome BranchState) (reply : Reply) → DraftsFollow → DraftsGrow
+    → mark ≡ length old.chunks.own → Grows is_database old mid → IsCandidate address (chunks_of mid.chunks) m wanted → Settles mark mid new before after m reply
+    → Stages address old new before after wanted reply
+settled_so address old mid new before after mark (made.Record rec) wanted reply drafts growth at grows stood s =
+    done_so address old new before after (made.Record rec) wanted reply (ap made.Record (sym s.1))
+    (subst (λ (d : Drafting). IsCandidate address (chunks_of d.chunks) (made.Record rec) wanted) (sym s.0) stood)
+    (subst (λ (d : Drafting). Grows is_database old d) (sym s.0) grows) s.2
+settled_so address old mid new before after mark (made.Refused number) wanted reply drafts growth at grows stood s =
+    subst (λ (r : BranchRecord). Stages address old new before r wanted reply) (sym s.1)
+    (refused_so address old mid new before mark (made.Refused number) number wanted reply drafts growth at grows s.0 refl stood s.2)
 
 pub status_sound : (reply : Reply) → reply ≡ status_reply → is_sound_reply reply ≡ true
 status_sound reply is = ap is_sound_reply is ∙ refl
@@ -297,3 +326,8 @@ answers address old d own p asked reply chunks drafts growth follow h inside sta
     let found = has_one p.transaction inside in
     let t = found.0 in
     answers_in address old d own p t asked reply chunks drafts growth follow h found.1 stands (done t.commits t.own (own_in address old p t stands found.1))
+
+pub settled_truly : (address : List ℕ → List ℕ) (mid new : Drafting) (before after : BranchRecord) (mark : ℕ) (m : Candidate) (reply : Reply) → Settles mark mid new before after m reply
+    → TellsTruly address reply
+settled_truly address mid new before after mark (made.Record rec) reply s = status_truly address reply s.2
+settled_truly address mid new before after mark (made.Refused number) reply s = due_truly address 1 (Refused number) reply s.2

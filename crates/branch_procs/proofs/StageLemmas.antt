@@ -1,6 +1,7 @@
 -- What is staged, and by what a call is refused.
 use Rattle.std.proofs.Common.{◌≡◌, ◌≤◌, refl, sym, ap, ◌∙◌, subst, ℕ, Bool, true, false, ◌||◌, not, nat_lt, is_some, List, [], ◌∷◌, length, Option, None, Some, Result, Ok, Err, if◌then◌else◌, arith}
 use Rattle.std.specs.Option.{option_map, option_map_or, option_or}
+use Rattle.std.proofs.lemmas.Bool.{ltb-false}
 use Rattle.std.proofs.lemmas.Bool.Decides.{nat_tests}
 use Rattle.tuple_codec.specs.declared.addresses.Address.{Address}
 use Rattle.tuple_codec.specs.declared.records.BranchRecord.{BranchRecord}
@@ -23,7 +24,8 @@ use Rattle.sql_procedures.specs.declared.requests.Reset.TheVariants as reset
 use Rattle.sql_procedures.specs.declared.requests.Tables.TheVariants as tables
 use Rattle.sql_write.specs.Putting.{address_in}
 use Rattle.write_laws.proofs.OrderLemmas.{two}
-use Rattle.branch_procs.specs.Listing.{AreFewTables}
+use Rattle.sql_write.proofs.TableLemmas.{count_names}
+use Rattle.branch_procs.specs.Listing.{AreFewTables, AreTables}
 use Rattle.branch_procs.specs.Staging.{AreBoth, CanStage, absence, first_absence, refusal_of, reset_absence}
 use Rattle.branch_procs.specs.Taking.{taking_all as chunk_taking_all}
 use Rattle.branch_procs.proofs.TakingLemmas.{at, found_named, taken_are}
@@ -181,6 +183,18 @@ module _ (address : List ℕ → List ℕ) (chunks : Chunks) where
 
   -- ---- the databases of a state
 
+  pub counted : (tables : List NamedTable) (database : PlainDatabase) → AreTables address chunks tables database → length tables ≡ length database
+  counted tables database are = ap (λ (l : List NamedTable). length l) are.listed ∙ count_names address database
+
+  pub few_tables : (tables : List NamedTable) (database : PlainDatabase) (many : Bool) → AreTables address chunks tables database → many ≡ nat_lt most_tables (length tables) → many ≡ false
+      → AreFewTables address chunks tables database
+  few_tables tables database many are told fails =
+      record { tables_are = are; few = ltb-false most_tables (length database) (ap (nat_lt most_tables) (sym (counted tables database are)) ∙ sym told ∙ fails) }
+
+  pub many_refused : (tables : List NamedTable) (state : BranchState) (database : PlainDatabase) (many : Bool) → AreTables address chunks tables database → many ≡ nat_lt most_tables (length tables)
+      → many ≡ true → IsCandidate address chunks (made.Refused 9010) (staged_as state database)
+  many_refused tables state database many are told holds = too_many state database (ap (nat_lt most_tables) (sym (counted tables database are)) ∙ sym told ∙ holds)
+
   pub all_there : (tables shown : List NamedTable) (database : PlainDatabase) → shown ≡ tables → AreFewTables address chunks tables database → AreThere address chunks database shown
   all_there tables shown database is few = let are = few.tables_are in record { stand = are.stand; listed = is ∙ are.listed }
 
@@ -208,3 +222,23 @@ module _ (address : List ℕ → List ℕ) (chunks : Chunks) where
       → CanStage address chunks own shown state (taking_all from state.staged names)
   can_stage ones others taken shown own state from names stands few more is seen =
       record { stands = stands; tables_are = taken_are address chunks ones others shown from state.staged names few more (seen ∙ is) }
+
+-- the record with another staged database, whose tables are few enough
+pub staged_so : (address : List ℕ → List ℕ) (old new : Chunks) → Extends old new → DatabasesStand → (own : BranchRecord) (staged : Address) (rec : BranchRecord) (state : BranchState) (database : PlainDatabase)
+    → StateStands address old own state → IsKeptAt address new staged.0 database → rec ≡ record own { staged = staged } → length database ≤ 256
+    → IsCandidate address new (made.Record rec) (staged_as state database)
+staged_so address old new more laws own staged rec state database stands kept is few =
+    few_enough address new rec state database (not_more (length database) few)
+    (subst (λ (r : BranchRecord). StateStands address new r (record state { staged = database })) (sym is) (staged_stands address old new more laws own staged state database stands kept))
+
+-- the head's database staged, and the whole state set back
+pub root_staged : (address : List ℕ → List ℕ) (chunks : Chunks) (own rec : BranchRecord) (root : Address) (state : BranchState) (database : PlainDatabase) → StateStands address chunks own state
+    → IsKeptAt address chunks root.0 database → rec ≡ record own { staged = root } → StateStands address chunks rec (record state { staged = database })
+root_staged address chunks own rec root state database stands kept is =
+    subst (λ (r : BranchRecord). StateStands address chunks r (record state { staged = database })) (sym is)
+    (record { head = stands.head; working = stands.working; staged = kept; merging = stands.merging })
+
+pub set_back : (address : List ℕ → List ℕ) (chunks : Chunks) (own rec : BranchRecord) (root : Address) (state : BranchState) (database : PlainDatabase) → StateStands address chunks own state
+    → IsKeptAt address chunks root.0 database → rec ≡ (record { head = own.head; working = root; staged = root; merging = None }) → StateStands address chunks rec (clean_at state.head database)
+set_back address chunks own rec root state database stands kept is =
+    subst (λ (r : BranchRecord). StateStands address chunks r (clean_at state.head database)) (sym is) (record { head = stands.head; working = kept; staged = kept; merging = refl })

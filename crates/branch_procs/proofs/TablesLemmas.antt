@@ -1,5 +1,5 @@
 -- Lists of the tables of databases that keep the limits on data.
-use Rattle.std.proofs.Common.{◌≡◌, ◌≤◌, refl, ℕ, true, ◌&&◌, nat_le, List, [], ◌∷◌, length}
+use Rattle.std.proofs.Common.{◌≡◌, ◌≤◌, refl, sym, subst, ℕ, true, ◌&&◌, nat_le, List, [], ◌∷◌, length}
 use Rattle.std.specs.List.{list_all}
 use Rattle.std.proofs.lemmas.Bool.{le-leb}
 use Rattle.schema_model.specs.Limits.{is_database_within_limits, is_named_within_limits, most_tables}
@@ -38,3 +38,7 @@ tables_later address old new more laws tables database are = record {
   stand = stand_later address old new more laws database are.stand;
   listed = are.listed;
 }
+
+pub few_as : (address : List ℕ → List ℕ) (chunks : Chunks) (tables shown : List NamedTable) (database : PlainDatabase) → shown ≡ tables → AreFewTables address chunks tables database
+    → AreFewTables address chunks shown database
+few_as address chunks tables shown database is few = subst (λ (l : List NamedTable). AreFewTables address chunks l database) (sym is) few

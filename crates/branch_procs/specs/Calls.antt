@@ -2,7 +2,7 @@
 use Rattle.std.specs.Prelude.{◌≡◌, ◌⊎◌, ℕ, Bool, true, false, List, [], ◌∷◌, Ok, Err}
 use Rattle.tuple_codec.specs.declared.records.BranchRecord.{BranchRecord}
 use Rattle.chunk_store.specs.Chunks.{bytes_at}
-use Rattle.chunk_store.specs.Drafts.{Drafting, DraftParts, Grows, chunks_of}
+use Rattle.chunk_store.specs.Drafts.{Drafting, DraftParts, Grows, chunks_of, cut_to}
 use Rattle.chunk_store.specs.Kinds.{is_database}
 use Rattle.chunk_store.specs.declared.faults.Clash.{Clash}
 use Rattle.chunk_store.specs.declared.faults.PutFault.{PutFault}
@@ -18,6 +18,8 @@ use Rattle.plain_sessions.specs.Replies.{one_row}
 use Rattle.plain_sessions.specs.declared.commands.Work.{Work}
 use Rattle.plain_sessions.specs.declared.commands.Work.TheVariants.{Add, ResetTo}
 use Rattle.root_merge.specs.States.{StateStands}
+use Rattle.root_merge.specs.declared.candidates.Candidate.{Candidate}
+use Rattle.root_merge.specs.declared.candidates.Candidate.TheVariants as candidate
 use Rattle.session_laws.specs.Commits.{CommitsAreThere}
 use Rattle.session_laws.specs.Records.{RecordStands}
 use Rattle.session_txn.specs.Showing.{IsDue}
@@ -68,3 +70,8 @@ Stages address old new before after wanted reply = IsDone address old new after 
 abbrev pub IsTold : PutFault → Reply → Type 0
 IsTold Memory reply = reply ≡ Refused 1
 IsTold (Collision clash) reply = reply ≡ Collided clash
+
+-- the record was taken on, and the call is answered; or it was refused, and the draft is at its mark again
+abbrev pub Settles : ℕ → Drafting → Drafting → BranchRecord → BranchRecord → Candidate → Reply → Type 0
+Settles mark old new before after (candidate.Record rec) reply = (new ≡ old) × (after ≡ rec) × (reply ≡ status_reply)
+Settles mark old new before after (candidate.Refused number) reply = (new.chunks ≡ cut_to mark old.chunks) × (after ≡ before) × IsDue 1 (Refused number) reply

@@ -1,6 +1,6 @@
 //! What DOLT_COMMIT stages first, and whether it has its decision.
 
-ghost use Rattle.std.specs.Prelude.{◌≡◌, IfErr, IfOk, Some};
+ghost use Rattle.std.specs.Prelude.{◌≡◌, IfErr, IfOk, Some, is_some};
 ghost use Rattle.schema_model.specs.PlainTables.{PlainDatabase};
 ghost use Rattle.chunk_store.specs.Drafts.{chunks_of};
 ghost use Rattle.chunk_store.specs.declared.faults.PutFault.TheVariants.{Memory};
@@ -85,6 +85,12 @@ fn is_same(one: &NamedTable, other: &NamedTable) -> bool
     one.name.as_slice() == other.name.as_slice() && one.table == other.table
 }
 
+fn is_merging(own: &BranchRecord) -> bool
+    ensures { result ≡ is_some own.now.merging }
+{
+    own.merging.is_some()
+}
+
 /// Whether a commit of these tables says something that the head doesn't.
 fn says_something<D: Digester>(
     alloc: Global,
@@ -99,10 +105,12 @@ fn says_something<D: Digester>(
 {
     laws_of_growth();
     law_of_sameness();
-    if own.merging.is_some() {
+    let merging = is_merging(own);
+    if merging {
         return Ok(true);
     }
-    if request.allow_empty {
+    let allowed = request.allow_empty;
+    if allowed {
         return Ok(true);
     }
     let staged = first_staged(alloc, draft, own, root, request.staging)?;

@@ -15,14 +15,13 @@ ghost use Rattle.root_merge.specs.States.{IsCandidate};
 ghost use Rattle.session_laws.specs.Laws.{RecordsFollow, TransactionsFollow};
 ghost use Rattle.session_state.specs.Standing.{IsInTransaction, SessionStands};
 ghost use Rattle.session_txn.specs.Answering.{AnswersAlone};
-ghost use Rattle.session_txn.specs.Showing.{IsDue, is_sound_reply};
-ghost use Rattle.script_text.specs.declared.replies.Reply.TheVariants.{Refused};
-ghost use Rattle.branch_procs.specs.Calls.{IsTold, OwnStands, Stages, staged_by, stages, status_reply};
+ghost use Rattle.session_txn.specs.Showing.{is_sound_reply};
+ghost use Rattle.branch_procs.specs.Calls.{IsTold, OwnStands, Settles, Stages, staged_by, stages, status_reply};
 
 use crate::replying::status_reply;
 use crate::roots::head_root;
 use crate::staging::{add, reset_to};
-use chunk_store::{Draft, PutFault, law_of_chunks, law_of_drafts, law_of_growth};
+use chunk_store::{Draft, DraftMark, PutFault, law_of_chunks, law_of_drafts, law_of_growth};
 use plain_sessions::Work;
 use root_merge::Candidate;
 use script_text::Reply;
@@ -94,17 +93,35 @@ fn stage<D: Digester>(
     let made = made(alloc, draft, own, asked);
     draft.tell();
     match made {
-        Ok(Candidate::Record(record)) => {
-            *own = record;
-            reply
-        }
-        Ok(Candidate::Refused(number)) => {
-            draft.back_to(mark);
-            due(Reply::Refused(number), 1)
-        }
+        Ok(candidate) => settle(draft, mark, own, candidate, reply),
         Err(fault) => {
             draft.back_to(mark);
             told(fault)
+        }
+    }
+}
+
+/// Takes the record on, or goes back to the mark where there is none.
+fn settle<D: Digester>(
+    draft: &mut Draft<D>,
+    mark: DraftMark,
+    own: &mut BranchRecord,
+    made: Candidate,
+    reply: Reply,
+) -> Reply
+    requires { reply ≡ status_reply }
+    ensures settles { Settles mark.own draft.old draft.new own.old own.new made result }
+    ensures sound { is_sound_reply result ≡ true }
+    ensures base { draft.new.chunks.base ≡ draft.old.chunks.base }
+{
+    match made {
+        Candidate::Record(rec) => {
+            *own = rec;
+            reply
+        }
+        Candidate::Refused(number) => {
+            draft.back_to(mark);
+            due(Reply::Refused(number), 1)
         }
     }
 }

@@ -1,6 +1,7 @@
 //! Tables staged, and set back to the head's: which record the session's own becomes.
 
-ghost use Rattle.std.specs.Prelude.{◌≡◌, IfErr, IfOk, None};
+ghost use Rattle.std.specs.Prelude.{◌≡◌, IfErr, IfOk, None, Some, if◌then◌else◌, length, nat_lt};
+ghost use Rattle.schema_model.specs.Limits.{most_tables};
 ghost use Rattle.schema_model.specs.PlainTables.{PlainDatabase};
 ghost use Rattle.chunk_store.specs.Clashes.{IsReason};
 ghost use Rattle.chunk_store.specs.Drafts.{Grows, chunks_of};
@@ -19,6 +20,7 @@ use crate::opening::{any_is_open, is_open_table};
 use crate::taking::take_all;
 use chunk_store::{Draft, PutFault};
 use root_merge::Candidate;
+use schema_model::limits::MOST_TABLES;
 use sql_procedures::{Reset, Tables};
 use std::alloc::{AllocError, Global};
 use table_root::NamedTable;
@@ -36,6 +38,13 @@ fn with_staged(own: &BranchRecord, staged: Address) -> BranchRecord
     }
 }
 
+/// Whether a database can't have so many.
+fn are_too_many(tables: &[NamedTable]) -> bool
+    ensures { result ≡ nat_lt most_tables (length tables.now) }
+{
+    tables.len() > MOST_TABLES
+}
+
 /// The record with these tables staged, where they aren't too many.
 fn stage_tables<D: Digester>(
     alloc: Global,
@@ -50,7 +59,8 @@ fn stage_tables<D: Digester>(
     ensures cause { IfErr result (IsReason D.address (chunks_of draft.new.chunks)) }
 {
     laws_of_growth();
-    if tables.len() > 256 {
+    let many = are_too_many(tables);
+    if many {
         return Ok(Candidate::Refused(9010));
     }
     let staged = put_database(alloc, draft, tables)?;
@@ -72,10 +82,17 @@ fn may_stage<D: Digester>(
     match table_in(working, name) {
         Some(table) => {
             let open = is_open_table(alloc, draft, &table)?;
-            Ok(if open { Some(9011) } else { None })
+            Ok(openness(open))
         }
         None => Ok(absence(staged, name)),
     }
+}
+
+/// Why a table with conflicts or violations can't be staged.
+fn openness(open: bool) -> Option<u16>
+    ensures { result ≡ (if open then Some 9011 else None) }
+{
+    if open { Some(9011) } else { None }
 }
 
 /// Why a table that only this list may have can't be taken.
@@ -167,11 +184,13 @@ fn add_named<D: Digester>(
     let working = read_tables(alloc, draft, &own.working)?;
     let staged = read_tables(alloc, draft, &own.staged)?;
     let refusal = add_refusal(alloc, draft, working.as_slice(), staged.as_slice(), names)?;
-    if let Some(number) = refusal {
-        return Ok(Candidate::Refused(number));
+    match refusal {
+        Some(number) => Ok(Candidate::Refused(number)),
+        None => {
+            let made = take_all(alloc, working.as_slice(), staged, names)?;
+            stage_tables(alloc, draft, own, made.as_slice())
+        }
     }
-    let made = take_all(alloc, working.as_slice(), staged, names)?;
-    stage_tables(alloc, draft, own, made.as_slice())
 }
 
 /// What DOLT_ADD makes of the session's own record.
@@ -215,11 +234,34 @@ fn reset_named<D: Digester>(
     let head = read_tables(alloc, draft, root)?;
     let staged = read_tables(alloc, draft, &own.staged)?;
     let refusal = reset_refusal(head.as_slice(), staged.as_slice(), names);
-    if let Some(number) = refusal {
-        return Ok(Candidate::Refused(number));
+    match refusal {
+        Some(number) => Ok(Candidate::Refused(number)),
+        None => {
+            let made = take_all(alloc, head.as_slice(), staged, names)?;
+            stage_tables(alloc, draft, own, made.as_slice())
+        }
     }
-    let made = take_all(alloc, head.as_slice(), staged, names)?;
-    stage_tables(alloc, draft, own, made.as_slice())
+}
+
+/// The head's tables staged, all or those of some names.
+fn reset_tables<D: Digester>(
+    alloc: Global,
+    draft: &mut Draft<D>,
+    own: &BranchRecord,
+    root: &Address,
+    tables: &Tables,
+) -> Result<Candidate, PutFault>
+    requires { (state : BranchState) × (database : PlainDatabase) × StandsOn D.address (chunks_of draft.old.chunks) own.now root.now state database }
+    ensures is { (state : BranchState) (database : PlainDatabase) → StandsOn D.address (chunks_of draft.old.chunks) own.now root.now state database
+        → IfOk result (λ made. IsCandidate D.address (chunks_of draft.new.chunks) made (reset_to database (reset.Tables tables.now) state)) }
+    ensures grows { Grows is_database draft.old draft.new }
+    ensures cause { IfErr result (IsReason D.address (chunks_of draft.new.chunks)) }
+{
+    laws_of_growth();
+    match tables {
+        Tables::All => Ok(Candidate::Record(with_staged(own, *root))),
+        Tables::Named(names) => reset_named(alloc, draft, own, root, names.as_slice()),
+    }
 }
 
 /// What DOLT_RESET makes of the session's own record, by the address of its head's database.
@@ -239,10 +281,7 @@ pub(crate) fn reset_to<D: Digester>(
     laws_of_growth();
     match reset {
         Reset::Hard => Ok(Candidate::Record(clean_at(own, *root))),
-        Reset::Tables(Tables::All) => Ok(Candidate::Record(with_staged(own, *root))),
-        Reset::Tables(Tables::Named(names)) => {
-            reset_named(alloc, draft, own, root, names.as_slice())
-        }
+        Reset::Tables(tables) => reset_tables(alloc, draft, own, root, tables),
     }
 }
 
