@@ -39,7 +39,7 @@ use Rattle.plain_sessions.specs.declared.commands.Work.{Work}
 use Rattle.plain_sessions.specs.declared.commands.Work.TheVariants.{Ask, Change, Add, ResetTo, Commit, Merge, Resolve, Verify}
 use Rattle.root_merge.specs.States.{IsCandidate, StateStands}
 use Rattle.root_merge.specs.declared.candidates.Candidate.{Candidate}
-use Rattle.root_merge.specs.declared.candidates.Candidate.TheVariants as made
+use Rattle.root_merge.specs.declared.candidates.Candidate.TheVariants as cand
 use Rattle.session_laws.specs.Commits.{HasNoCommit}
 use Rattle.session_laws.specs.Laws.{TransactionsFollow}
 use Rattle.session_laws.specs.Records.{RecordStands}
@@ -147,10 +147,10 @@ no_commit_more laws own more none all k bytes there is =
 
 -- ---- the call on the own record
 
-pub done_so : (address : List ℕ → List ℕ) (old new : Drafting) (before after : BranchRecord) (m : Candidate) (wanted : Outcome BranchState) (reply : Reply) → m ≡ made.Record after
+pub done_so : (address : List ℕ → List ℕ) (old new : Drafting) (before after : BranchRecord) (m : Candidate) (wanted : Outcome BranchState) (reply : Reply) → m ≡ cand.Record after
     → IsCandidate address (chunks_of new.chunks) m wanted → Grows is_database old new → reply ≡ status_reply → Stages address old new before after wanted reply
 done_so address old new before after m wanted reply is stood grows told = by wanted (subst (λ (c : Candidate). IsCandidate address (chunks_of new.chunks) c wanted) is stood) where
-  by : (wanted : Outcome BranchState) → IsCandidate address (chunks_of new.chunks) (made.Record after) wanted → Stages address old new before after wanted reply
+  by : (wanted : Outcome BranchState) → IsCandidate address (chunks_of new.chunks) (cand.Record after) wanted → Stages address old new before after wanted reply
   by (Ok state) stood = inl (record { made = state; is = refl; reply_is = told; stands = stood; grows = grows })
   by (Err number) stood = absurd stood
 
@@ -163,12 +163,12 @@ undone address old mid new before mark wanted reply drafts growth at grows cut e
 })
 
 pub refused_so : (address : List ℕ → List ℕ) (old mid new : Drafting) (before : BranchRecord) (mark : ℕ) (m : Candidate) (number : ℕ) (wanted : Outcome BranchState) (reply : Reply) → DraftsFollow → DraftsGrow
-    → mark ≡ length old.chunks.own → Grows is_database old mid → new.chunks ≡ cut_to mark mid.chunks → m ≡ made.Refused number → IsCandidate address (chunks_of mid.chunks) m wanted
+    → mark ≡ length old.chunks.own → Grows is_database old mid → new.chunks ≡ cut_to mark mid.chunks → m ≡ cand.Refused number → IsCandidate address (chunks_of mid.chunks) m wanted
     → IsDue 1 (Refused number) reply → Stages address old new before before wanted reply
 refused_so address old mid new before mark m number wanted reply drafts growth at grows cut is stood owed =
     undone address old mid new before mark wanted reply drafts growth at grows cut (by wanted (subst (λ (c : Candidate). IsCandidate address (chunks_of mid.chunks) c wanted) is stood))
   where
-    by : (wanted : Outcome BranchState) → IsCandidate address (chunks_of mid.chunks) (made.Refused number) wanted → IsExcused wanted reply
+    by : (wanted : Outcome BranchState) → IsCandidate address (chunks_of mid.chunks) (cand.Refused number) wanted → IsExcused wanted reply
     by (Ok state) stood = absurd stood
     by (Err other) same = inl (number, ap (λ (n : ℕ). let o : Outcome BranchState = Err n in o) (sym same), owed)
 
@@ -194,13 +194,13 @@ fails_truly address old mid (Collision clash) reply chunks drafts growth named s
 pub settled_so : (address : List ℕ → List ℕ) (old mid new : Drafting) (before after : BranchRecord) (mark : ℕ) (m : Candidate) (wanted : Outcome BranchState) (reply : Reply) → DraftsFollow → DraftsGrow
     → mark ≡ length old.chunks.own → Grows is_database old mid → IsCandidate address (chunks_of mid.chunks) m wanted → Settles mark mid new before after m reply
     → Stages address old new before after wanted reply
-settled_so address old mid new before after mark (made.Record rec) wanted reply drafts growth at grows stood s =
-    done_so address old new before after (made.Record rec) wanted reply (ap made.Record (sym s.1))
-    (subst (λ (d : Drafting). IsCandidate address (chunks_of d.chunks) (made.Record rec) wanted) (sym s.0) stood)
+settled_so address old mid new before after mark (cand.Record rec) wanted reply drafts growth at grows stood s =
+    done_so address old new before after (cand.Record rec) wanted reply (ap cand.Record (sym s.1))
+    (subst (λ (d : Drafting). IsCandidate address (chunks_of d.chunks) (cand.Record rec) wanted) (sym s.0) stood)
     (subst (λ (d : Drafting). Grows is_database old d) (sym s.0) grows) s.2
-settled_so address old mid new before after mark (made.Refused number) wanted reply drafts growth at grows stood s =
+settled_so address old mid new before after mark (cand.Refused number) wanted reply drafts growth at grows stood s =
     subst (λ (r : BranchRecord). Stages address old new before r wanted reply) (sym s.1)
-    (refused_so address old mid new before mark (made.Refused number) number wanted reply drafts growth at grows s.0 refl stood s.2)
+    (refused_so address old mid new before mark (cand.Refused number) number wanted reply drafts growth at grows s.0 refl stood s.2)
 
 pub status_sound : (reply : Reply) → reply ≡ status_reply → is_sound_reply reply ≡ true
 status_sound reply is = ap is_sound_reply is ∙ refl
@@ -329,5 +329,5 @@ answers address old d own p asked reply chunks drafts growth follow h inside sta
 
 pub settled_truly : (address : List ℕ → List ℕ) (mid new : Drafting) (before after : BranchRecord) (mark : ℕ) (m : Candidate) (reply : Reply) → Settles mark mid new before after m reply
     → TellsTruly address reply
-settled_truly address mid new before after mark (made.Record rec) reply s = status_truly address reply s.2
-settled_truly address mid new before after mark (made.Refused number) reply s = due_truly address 1 (Refused number) reply s.2
+settled_truly address mid new before after mark (cand.Record rec) reply s = status_truly address reply s.2
+settled_truly address mid new before after mark (cand.Refused number) reply s = due_truly address 1 (Refused number) reply s.2

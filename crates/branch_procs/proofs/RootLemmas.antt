@@ -4,6 +4,7 @@ use Rattle.std.specs.Prelude.{is_some}
 use Rattle.std.proofs.lemmas.Option.{same_Some}
 use Rattle.tuple_codec.specs.declared.addresses.Address.{Address}
 use Rattle.schema_model.specs.PlainCommits.{Commits, PlainCommit, commit_parts, is_known}
+use Rattle.schema_model.specs.PlainTables.{PlainDatabase}
 use Rattle.schema_model.specs.WrittenForms.{CommitParts, commit_bytes, database_address}
 use Rattle.chunk_store.specs.Chunks.{Chunks, Extends, bytes_at}
 use Rattle.chunk_store.specs.Drafts.{DraftParts, chunks_of}
@@ -48,7 +49,7 @@ module _ (address : List ℕ → List ℕ) (chunks : ChunksFollow) (law : Commit
       let same = spelling (parts_of read) (commit_parts address commit) at.is_commit other.is_commit bytes in
       let root : read.root.0 ≡ database_address address commit.database = ap (λ (parts : CommitParts). parts.root) same in
       let database : root_of commits k ≡ commit.database = ap database_in one.1 in
-      subst (λ database. IsKeptAt address (chunks_of d) read.root.0 database) (sym database)
+      subst (λ (other : PlainDatabase). IsKeptAt address (chunks_of d) read.root.0 other) (sym database)
       (subst (λ (root : List ℕ). IsKeptAt address (chunks_of d) root commit.database) (sym root)
       (record {
         stands = databases.later address (bytes_at d.base) (chunks_of d) (database_address address commit.database) commit.database more here.database;

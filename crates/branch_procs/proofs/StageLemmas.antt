@@ -47,7 +47,7 @@ some_same : (a b : ℕ) → ◌≡◌ {A = Option ℕ} (Some a) (Some b) → a �
 some_same a b e = cc
 
 -- a list is refused by the first of it
-pub each_told : {A B : Type 0} (o : Outcome A) (rest : Outcome (List A)) → option_or (refusal_of o) (refusal_of rest) ≡ refusal_of (and_then o (λ y. and_then {B = List A} rest (λ ys. Ok (y ∷ ys))))
+pub each_told : {A : Type 0} (o : Outcome A) (rest : Outcome (List A)) → option_or (refusal_of o) (refusal_of rest) ≡ refusal_of (and_then o (λ y. and_then {B = List A} rest (λ ys. Ok (y ∷ ys))))
 each_told (Ok y) (Ok ys) = refl
 each_told (Ok y) (Err number) = refl
 each_told (Err number) rest = refl
@@ -121,7 +121,7 @@ absences_told : (address : List ℕ → List ℕ) (root : PlainDatabase) (state 
     → first_absence (named_tables address root) (named_tables address state.staged) names ≡ refusal_of (each (may_reset root state) names)
 absences_told address root state [] = refl
 absences_told address root state (name ∷ names) =
-    (λ i. option_or (reset_told address root state name i) (absences_told address root state names i)) ∙ each_told {B = ℕ} (may_reset root state name) (each (may_reset root state) names)
+    (λ i. option_or (reset_told address root state name i) (absences_told address root state names i)) ∙ each_told (may_reset root state name) (each (may_reset root state) names)
 
 pub resets_told : (address : List ℕ → List ℕ) (root : PlainDatabase) (state : BranchState) (head staged : List NamedTable) (names : List (List ℕ)) → head ≡ named_tables address root
     → staged ≡ named_tables address state.staged → first_absence head staged names ≡ refusal_of (each (may_reset root state) names)
@@ -145,7 +145,7 @@ staged_stands address old new more laws own staged state database stands kept = 
 -- ---- what it comes to
 
 not_more : (n : ℕ) → n ≤ 256 → nat_lt most_tables n ≡ false
-not_more n few = grind (arith, nat_tests)
+not_more n few = let least : nat_lt 256 n ≡ false = grind (arith, nat_tests) in least
 
 module _ (address : List ℕ → List ℕ) (chunks : Chunks) where
   pub too_many : (state : BranchState) (database : PlainDatabase) → nat_lt most_tables (length database) ≡ true → IsCandidate address chunks (made.Refused 9010) (staged_as state database)
@@ -216,6 +216,13 @@ module _ (address : List ℕ → List ℕ) (chunks : Chunks) where
         ones_are = record { is_database = a.is_database; within = a.within; stand = a.stand; listed = first ∙ a.listed };
         others_are = record { is_database = b.is_database; within = b.within; stand = b.stand; listed = second ∙ b.listed };
       }
+
+  pub resets_listed : (ones others : List NamedTable) (root : PlainDatabase) (state : BranchState) (head staged : List NamedTable) (names : List (List ℕ)) → head ≡ ones → staged ≡ others
+      → AreFewTables address chunks ones root → AreFewTables address chunks others state.staged → first_absence head staged names ≡ refusal_of (each (may_reset root state) names)
+  resets_listed ones others root state head staged names first second few more =
+      let a = few.tables_are in
+      let b = more.tables_are in
+      resets_told address root state head staged names (first ∙ a.listed) (second ∙ b.listed)
 
   pub can_stage : (ones others taken shown : List NamedTable) (own : BranchRecord) (state : BranchState) (from : PlainDatabase) (names : List (List ℕ)) → StateStands address chunks own state
       → AreFewTables address chunks ones from → AreFewTables address chunks others state.staged → taken ≡ chunk_taking_all ones others names → shown ≡ taken

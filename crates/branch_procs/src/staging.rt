@@ -89,10 +89,10 @@ fn may_stage<D: Digester>(
 }
 
 /// Why a table with conflicts or violations can't be staged.
-fn openness(open: bool) -> Option<u16>
-    ensures { result ≡ (if open then Some 9011 else None) }
+fn openness(found: bool) -> Option<u16>
+    ensures { result ≡ (if found then Some 9011 else None) }
 {
-    if open { Some(9011) } else { None }
+    if found { Some(9011) } else { None }
 }
 
 /// Why a table that only this list may have can't be taken.

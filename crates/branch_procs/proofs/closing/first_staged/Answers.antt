@@ -9,8 +9,8 @@ use Rattle.branch_procs.proofs.closing.first_staged.Goals as goal
 pub read_tables-requires-after_bounds : goal.read_tables-requires-after_bounds
 read_tables-requires-after_bounds g c κs within = let (state, database, on) = c.requires in let stands = on.stands in (state.staged, stands.staged)
 
-pub read_tables-in-All-requires-after_bounds : goal.read_tables-in-All-requires-after_bounds
-read_tables-in-All-requires-after_bounds g c κs within = let (state, database, on) = c.requires in let stands = on.stands in (state.working, stands.working)
+pub read_tables-requires-in-All-after_bounds : goal.read_tables-requires-in-All-after_bounds
+read_tables-requires-in-All-after_bounds g c κs within = let (state, database, on) = c.requires in let stands = on.stands in (state.working, stands.working)
 
 pub returns-in-AsIs : goal.returns-in-AsIs
 returns-in-AsIs g c = λ state database on.

@@ -12,14 +12,14 @@ use Rattle.branch_procs.proofs.closing.known_staged.Goals as goal
 pub read_tables-requires-after_bounds : goal.read_tables-requires-after_bounds
 read_tables-requires-after_bounds g c κs within = let (state, database, on) = c.requires in let stands = on.stands in (state.working, stands.working)
 
-pub read_tables-2-requires-after_bounds : goal.read_tables-2-requires-after_bounds
-read_tables-2-requires-after_bounds g c κs within = let (state, database, on) = c.requires in let stands = on.stands in (state.staged, stands.staged)
+pub read_tables-requires-2-after_bounds : goal.read_tables-requires-2-after_bounds
+read_tables-requires-2-after_bounds g c κs within = let (state, database, on) = c.requires in let stands = on.stands in (state.staged, stands.staged)
 
-pub read_tables-3-requires-after_bounds : goal.read_tables-3-requires-after_bounds
-read_tables-3-requires-after_bounds g c κs within = let (state, database, on) = c.requires in let stands = on.stands in (state.staged, stands.staged)
+pub read_tables-requires-3-after_bounds : goal.read_tables-requires-3-after_bounds
+read_tables-requires-3-after_bounds g c κs within = let (state, database, on) = c.requires in let stands = on.stands in (state.staged, stands.staged)
 
-pub read_tables-4-requires-after_bounds : goal.read_tables-4-requires-after_bounds
-read_tables-4-requires-after_bounds g c κs within = let (state, database, on) = c.requires in (database, on.root_stands)
+pub read_tables-requires-4-after_bounds : goal.read_tables-requires-4-after_bounds
+read_tables-requires-4-after_bounds g c κs within = let (state, database, on) = c.requires in (database, on.root_stands)
 
 pub returns : goal.returns
 returns g c = λ state database on.

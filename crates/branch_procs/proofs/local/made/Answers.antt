@@ -31,8 +31,8 @@ returns-in-Add-clause-is g c = λ commits state own.
     subst (λ (w : Work). IfOk c.add.result (λ made. IsCandidate address (chunks_of c.add.new.draft.chunks) made (staged_by (root_of commits state.head) w state))) (sym c.in-Add.is)
     (c.add.ensures.is state (state_in address (chunks_of c.args.draft.now.chunks) commits c.args.own.now state own.stands))
 
-pub returns-in-ResetTo-clause-is : goal.returns-in-ResetTo-clause-is
-returns-in-ResetTo-clause-is g c = λ commits state own.
+pub returns-in_ok-root-in-ResetTo-clause-is : goal.returns-in-ResetTo-clause-is
+returns-in_ok-root-in-ResetTo-clause-is g c = λ commits state own.
     let address = g.D.Digester.address in
     subst (λ (w : Work). IfOk c.reset_to.result (λ made. IsCandidate address (chunks_of c.reset_to.new.draft.chunks) made (staged_by (root_of commits state.head) w state))) (sym c.in-ResetTo.is)
     (c.reset_to.ensures.is state (root_of commits state.head)

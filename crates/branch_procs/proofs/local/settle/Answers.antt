@@ -1,4 +1,4 @@
-use Rattle.std.proofs.Common.{◌≡◌, ◌×◌, refl, sym, ap, subst}
+use Rattle.std.proofs.Common.{◌≡◌, refl, sym, ap, subst}
 use Rattle.chunk_store.specs.Drafts.{DraftParts}
 use Rattle.root_merge.specs.declared.candidates.Candidate.{Candidate}
 use Rattle.branch_procs.specs.Calls.{Settles}

@@ -14,8 +14,8 @@ is_open_table-requires-after_bounds g c κs within =
     (sym (ap (λ (l : List NamedTable). address_in l c.args.name.now) are.listed) ∙ sym c.table_in.ensures ∙ c.in-Some.is) in
     (found.0, found.2)
 
-pub returns-in-Some : goal.returns-in-Some
-returns-in-Some g c = λ state both.
+pub returns-in_ok-open-in-Some : goal.returns-in_ok-open-in-Some
+returns-in_ok-open-in-Some g c = λ state both.
     let are = both.ones_are in
     let found = found_at g.D.Digester.address (chunks_of c.args.draft.now.chunks) c.args.name.now c.in-Some.table state.working are.stand
     (sym (ap (λ (l : List NamedTable). address_in l c.args.name.now) are.listed) ∙ sym c.table_in.ensures ∙ c.in-Some.is) in
