@@ -24,7 +24,6 @@
 @ada SELECT FROM customer;
 @ada SELECT 9223372036854775808;
 @ada CREATE TABLE keyless (id INT);
-@ada BEGIN;
 @ada CALL DOLT_COMMIT('-m', 'later');
 # refused after a start
 @ada CREATE TABLE item (id INT PRIMARY KEY);

@@ -1,16 +1,4 @@
-pub mod AloneLemmas
 pub mod AnswerLemmas
-pub mod CountLemmas
-pub mod EndLemmas
-pub mod FaultLemmas
-pub mod FitLemmas
-pub mod KeptLemmas
-pub mod LineLemmas
 pub mod ListLemmas
-pub mod OpeningLemmas
-pub mod RunLemmas
-pub mod RunningLemmas
 pub mod ScriptLemmas
-pub mod ServingLemmas
 pub mod TopLemmas
-pub mod TruthLemmas

@@ -12,7 +12,7 @@ use Rattle.script_text.specs.Input.{Parts, add_line, add_statement, and_then, ba
 use Rattle.script_text.specs.Shown.{is_shown_name}
 use Rattle.script_text.specs.declared.scripts.Line.{Line}
 use Rattle.script_text.specs.declared.scripts.Script.{Script}
-use Rattle.doltrun.specs.Alone.{IsSoundScript, is_line_within}
+use Rattle.script_run.specs.Scripts.{IsSoundScript, is_line_within}
 use Rattle.doltrun.proofs.ListLemmas.{both, join, all_weaker, all_append}
 
 name_bytes : (bytes : List ℕ) → list_all is_name_byte (take_while is_name_byte bytes) ≡ true

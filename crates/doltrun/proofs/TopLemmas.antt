@@ -1,5 +1,5 @@
 -- From the bytes that were read to the whole input.
-use Rattle.std.proofs.Common.{◌≡◌, ◌≢◌, inl, inr, refl, sym, ◌∙◌, ap, subst, ℕ, ◌<◌, ◌≤◌, true, false, nat_lt, List, [], ◌++◌, length, Option, Some, None, Result, Ok, Err, arith}
+use Rattle.std.proofs.Common.{◌≡◌, ◌≢◌, inl, inr, refl, sym, ◌∙◌, ap, subst, ℕ, ◌<◌, ◌≤◌, Bool, true, false, nat_lt, List, [], ◌++◌, length, Option, Some, None, Result, Ok, Err, arith, if◌then◌else◌}
 use Rattle.std.specs.Io.KnownBytes.{Appends, Consumes, IsAtEnd}
 use Rattle.std.proofs.lemmas.List.{append-nil, length-append}
 use Rattle.std.proofs.lemmas.Bool.Decides.{nat_tests}
@@ -10,7 +10,9 @@ use Rattle.doltrun.specs.Headline.{HasScript, WritesAnswer, fault_line, is_form}
 use Rattle.doltrun.specs.Stops.{Answer, Answers, AnswersAll, AnswersPart, Collides, Collision, FallsShort, Fault, Faults, IsToWrite, IsTold, IsWanted, StopsThere, WritesCollision, WritesFault}
 use Rattle.doltrun.specs.declared.status.Status.{Status}
 use Rattle.doltrun.specs.declared.status.Status.TheVariants as status
-use Rattle.doltrun.proofs.AloneLemmas.{if_true}
+
+if_true : {X : Type 0} (b : Bool) (x y : X) → b ≡ true → (if b then x else y) ≡ x
+if_true b x y h = rw h refl
 
 -- the bytes that were read, of those that a source had left: all of them, or more than a script may have
 pub record IsRead (told left : Option (List ℕ)) (bytes : List ℕ) : Type 0 where

@@ -4,16 +4,17 @@ use Rattle.std.specs.Str.{bytes_eq}
 use Rattle.std.specs.Fmt.{decimal}
 use Rattle.std.specs.Io.KnownBytes.{Appends, IsAtEnd}
 use Rattle.chunk_store.specs.declared.faults.Clash.{Clash}
-use Rattle.schema_model.specs.WrittenForms.{commit_bytes, database_bytes}
-use Rattle.script_text.specs.Collisions.{AllTellTruly, IsCollision}
+use Rattle.script_text.specs.Collisions.{AllTellTruly}
 use Rattle.script_text.specs.Input.{script, most_bytes}
 use Rattle.script_text.specs.Output.{clash_text, newline, text}
 use Rattle.script_text.specs.Shown.{IsSameShown, IsShown}
 use Rattle.script_text.specs.declared.faults.BadScript.{BadScript}
 use Rattle.script_text.specs.declared.outputs.RunText.{RunText}
 use Rattle.script_text.specs.declared.scripts.Script.{Script}
-use Rattle.plain_model.specs.Machine.{IsPlainRun, IsTextOrder}
-use Rattle.plain_model.specs.MainBranch.{first_commit}
+use Rattle.plain_sessions.specs.Narrowing.{narrowed}
+use Rattle.plain_sessions.specs.Output.{IsPlainRun}
+use Rattle.run_laws.specs.Orders.{IsTextOrder}
+use Rattle.serving.specs.Running as running
 
 -- the bytes of the words
 abbrev pub spelled : {A : Type 0} → List (String A) → List (List ℕ)
@@ -36,12 +37,6 @@ fault_line bad = codes "script line " ++ decimal bad.line ++ codes " rule " ++ d
 abbrev pub collision_line : Clash → List ℕ
 collision_line clash = codes "collision" ++ clash_text clash ++ newline
 
--- the two chunks that a database is opened with, the empty database and the first commit, have one address
-pub record IsOpeningClash (address : List ℕ → List ℕ) (clash : Clash) : Type 0 where
-  pub collision : IsCollision address clash
-  pub database : clash.first ≡ database_bytes address []
-  pub commit : clash.second ≡ commit_bytes (first_commit address (pos 0))
-
 -- no more bytes than these are taken from a source: one above the longest script's
 abbrev pub most_taken : ℕ
 most_taken = most_bytes + 1
@@ -52,13 +47,14 @@ HasScript None read = Unit {0}
 HasScript (Some input) read = script input ≡ read
 
 -- The text that was written is that of a run which is the plain machine's run of the script, along the order and with
--- the wants of memory and collisions that the text shows; the order is the script's own; each collision is one of two byte
--- strings of that address; and whatever run has this text has the same sessions, printed replies, wants of memory, collisions and order.
+-- the wants of memory and collisions that the text shows, where a command that doesn't run yet is refused by its text alone; the order is the
+-- script's own; each collision is one of two byte strings of that address; and whatever run has this text has the same sessions, printed
+-- replies, wants of memory, collisions and order.
 pub record IsAnswer (address : List ℕ → List ℕ) (read : Result Script BadScript) (written : List ℕ) : Type 0 where
   pub script : Script
   pub run : RunText
   pub reads : read ≡ Ok script
-  pub runs : IsPlainRun address (pos 0) script run
+  pub runs : IsPlainRun (narrowed running.runs) address (pos 0) script run
   pub truly : AllTellTruly address run.replies
   pub ordered : IsTextOrder script run.order
   pub shown : IsShown run

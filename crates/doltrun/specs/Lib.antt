@@ -1,9 +1,5 @@
-pub mod Alone
 pub mod Answers
 pub mod Endings
 pub mod Headline
-pub mod Opening
-pub mod Running
-pub mod Serving
 pub mod Statuses
 pub mod Stops

@@ -1,12 +1,13 @@
 -- What the program writes where it doesn't answer.
-use Rattle.std.specs.Prelude.{◌≡◌, ◌⊎◌, ℕ, ◌<◌, true, false, List, length, Option, Some, None, Result, Ok, Err}
+use Rattle.std.specs.Prelude.{◌≡◌, ◌⊎◌, ℕ, pos, ◌<◌, true, false, List, length, Option, Some, None, Result, Ok, Err}
 use Rattle.std.specs.Io.KnownBytes.{Appends}
 use Rattle.script_text.specs.Input.{script}
 use Rattle.script_text.specs.declared.faults.BadScript.{BadScript}
 use Rattle.chunk_store.specs.declared.faults.Clash.{Clash}
 use Rattle.script_text.specs.declared.scripts.Script.{Script}
 use Rattle.wire_io.specs.Moves.{AppendsFront}
-use Rattle.doltrun.specs.Headline.{HasScript, IsAnswer, IsOpeningClash, collision_line, fault_line, is_form, usage_line}
+use Rattle.shared_db.specs.Opening.{IsOpeningClash}
+use Rattle.doltrun.specs.Headline.{HasScript, IsAnswer, collision_line, fault_line, is_form, usage_line}
 use Rattle.doltrun.specs.declared.answering.NoAnswer.{NoAnswer}
 use Rattle.doltrun.specs.declared.answering.NoAnswer.TheVariants as fault
 use Rattle.doltrun.specs.declared.status.Status.{Status}
@@ -23,14 +24,14 @@ pub record WritesCollision (address : List ℕ → List ℕ) (told old new : Opt
   pub script : Script
   pub reads : HasScript told (Ok script)
   pub clash : Clash
-  pub opens : IsOpeningClash address clash
+  pub opens : IsOpeningClash address (pos 0) clash
   pub writes : Appends old new (collision_line clash)
 
 -- a text that is written whole where the sink doesn't fail
 pub data IsToWrite (address : List ℕ → List ℕ) (words : List (List ℕ)) (told : Option (List ℕ)) (written : List ℕ) : Type 0 where
   Answers : (read : Result Script BadScript) → is_form words ≡ true → HasScript told read → IsAnswer address read written → IsToWrite address words told written
   Faults : (bad : BadScript) → is_form words ≡ true → HasScript told (Err bad) → written ≡ fault_line bad → IsToWrite address words told written
-  Collides : (script : Script) (clash : Clash) → is_form words ≡ true → HasScript told (Ok script) → IsOpeningClash address clash → written ≡ collision_line clash → IsToWrite address words told written
+  Collides : (script : Script) (clash : Clash) → is_form words ≡ true → HasScript told (Ok script) → IsOpeningClash address (pos 0) clash → written ≡ collision_line clash → IsToWrite address words told written
   Uses : is_form words ≡ false → written ≡ usage_line → IsToWrite address words told written
 
 -- a part of such a text was appended, and the sink promised no room for the whole of it
@@ -45,7 +46,7 @@ abbrev pub Comes : (List ℕ → List ℕ) → List ℕ → Result (List ℕ) No
 Comes address bytes (Ok written) = IsAnswer address (script bytes) written
 Comes address bytes (Err fault.Memory) = Unit {0}
 Comes address bytes (Err (fault.Bad bad)) = script bytes ≡ Err bad
-Comes address bytes (Err (fault.Collision clash)) = ((read : Script) × (script bytes ≡ Ok read)) × IsOpeningClash address clash
+Comes address bytes (Err (fault.Collision clash)) = ((read : Script) × (script bytes ≡ Ok read)) × IsOpeningClash address (pos 0) clash
 
 -- the told input has a line that breaks a rule
 abbrev pub IsTold : Option (List ℕ) → BadScript → Type 0
@@ -66,7 +67,7 @@ pub record AnswersAll (address : List ℕ → List ℕ) (bytes : List ℕ) (old 
 pub data IsWanted (address : List ℕ → List ℕ) (bytes written : List ℕ) : Type 0 where
   Answer : IsAnswer address (script bytes) written → IsWanted address bytes written
   Fault : (bad : BadScript) → script bytes ≡ Err bad → written ≡ fault_line bad → IsWanted address bytes written
-  Collision : (read : Script) (clash : Clash) → script bytes ≡ Ok read → IsOpeningClash address clash → written ≡ collision_line clash → IsWanted address bytes written
+  Collision : (read : Script) (clash : Clash) → script bytes ≡ Ok read → IsOpeningClash address (pos 0) clash → written ≡ collision_line clash → IsWanted address bytes written
 
 -- a part was appended of it
 pub record AnswersPart (address : List ℕ → List ℕ) (bytes : List ℕ) (old new : Option (List ℕ)) (room : ℕ) : Type 0 where

@@ -2,8 +2,8 @@ ghost use Rattle.std.specs.Prelude.{◌≡◌, IfOk, string_bytes};
 ghost use Rattle.doltrun.specs.Headline.{collision_line, fault_line};
 ghost use Rattle.doltrun.specs.Stops.{Comes};
 
-use crate::lines::run_script;
 use chunk_store::{Clash, PutFault};
+use script_run::run_script;
 use script_text::{BadScript, ScriptFault, one_reading, print_output, push_clash, read_script};
 use std::alloc::{AllocError, Global};
 use tuple_codec::{Blob, Digester};
@@ -67,7 +67,7 @@ pub fn answer<D: Digester, P: Pacer>(
     ensures { Comes D.address bytes.now result }
 {
     let script = read_script(alloc, bytes, false)?;
-    let run = run_script::<D, P>(alloc, pacer, script)?;
+    let run = run_script::<D, P>(alloc, pacer, script, 0)?;
     one_reading();
     Ok(print_output(alloc, &run)?)
 }

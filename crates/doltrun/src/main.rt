@@ -1,16 +1,10 @@
 //! The program `doltrun`: it reads a script of SQL statements from standard input, runs them one after another, and writes what
-//! each answered, the order of the moments at which they met the database, and the addresses that its branch has at the end.
+//! each answered, the order of the moments at which they met the database, and the addresses that each branch has at the end.
 //!
 //! What it promises stands on `run`, which takes any source and sink. `main` gives it the standard streams.
 #![tactic(auto)]
 
 mod answering;
-mod lines;
-mod opening;
-mod room;
-mod running;
-mod serving;
-mod showing;
 mod status;
 #[cfg(test)]
 mod tests;

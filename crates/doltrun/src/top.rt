@@ -15,8 +15,8 @@ use wire_io::{Pacer, ReadStop, Sink, Source, read_up_to};
 /// One byte above the longest script.
 const MOST_TAKEN: usize = 16_777_217;
 
-/// Reads a script from `input`, runs its statements one after another in the text's order, and writes to `output` what each
-/// answered, the order of the moments, and the branch that they leave. `words` are the command line without the program's
+/// Reads a script from `input`, runs its statements one after another in the text's order, each by its session, and writes to
+/// `output` what each answered, the order of the moments, and the branches that they leave. `words` are the command line without the program's
 /// name.
 ///
 /// The text is built whole before its first byte is written.

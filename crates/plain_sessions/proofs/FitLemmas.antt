@@ -8,30 +8,20 @@ use Rattle.sql_ast.specs.declared.statements.Statement.TheVariants as statement
 use Rattle.sql_parse.specs.Parsing.{parsed}
 use Rattle.sql_procedures.specs.Arguments.{procedure_of, request_of}
 use Rattle.sql_procedures.specs.declared.requests.Request.{Request}
-use Rattle.sql_procedures.specs.declared.requests.Request.TheVariants as request
 use Rattle.tuple_codec.specs.Texts.{is_utf8}
 use Rattle.sound_laws.specs.Laws.{ParsesSound}
 use Rattle.plain_sessions.specs.declared.commands.Command.{Command}
-use Rattle.plain_sessions.specs.Commands.{command, command_or_fault, request_command, requested, select_command, statement_command}
+use Rattle.plain_sessions.specs.Commands.{command, command_or_fault, requested, select_command, statement_command}
 use Rattle.plain_sessions.specs.Fitness.{IsFitCommand}
+use Rattle.plain_sessions.proofs.RequestLemmas.{Fits, Held, called_fits}
 
 select_fits : (s : Select) → IsFitCommand (select_command s)
 select_fits (select.From query) = tt
 select_fits (select.Alone list) = tt
 
-request_fits : (r : Request) → IsFitCommand (request_command r)
-request_fits (request.Add x) = tt
-request_fits (request.Reset x) = tt
-request_fits (request.Commit x) = tt
-request_fits (request.Branch x) = tt
-request_fits (request.Checkout x) = tt
-request_fits (request.Merge x) = tt
-request_fits (request.ConflictsResolve x) = tt
-request_fits (request.VerifyConstraints x) = tt
-
-requested_fits : (r : Option Request) → IsFitCommand (requested r)
-requested_fits (Some r) = request_fits r
-requested_fits None = tt
+requested_fits : (r : Option Request) → Held Fits r → IsFitCommand (requested r)
+requested_fits (Some r) fits = fits
+requested_fits None fits = tt
 
 statement_fits : ParsesSound → (text : List ℕ) → is_utf8 text ≡ true → (s : Statement) → parsed text ≡ Ok s → IsFitCommand (statement_command s)
 statement_fits law text utf8 (statement.Select s) is = select_fits s
@@ -41,7 +31,8 @@ statement_fits law text utf8 statement.Start is = tt
 statement_fits law text utf8 statement.Commit is = tt
 statement_fits law text utf8 statement.Rollback is = tt
 statement_fits law text utf8 (statement.Set x) is = tt
-statement_fits law text utf8 (statement.Call x) is = requested_fits (option_and_then (λ procedure. request_of procedure x.arguments) (procedure_of x.name))
+statement_fits law text utf8 (statement.Call x) is =
+    requested_fits (option_and_then (λ procedure. request_of procedure x.arguments) (procedure_of x.name)) (called_fits (procedure_of x.name) x.arguments)
 
 pub command_fits : ParsesSound → (text : List ℕ) → is_utf8 text ≡ true → IsFitCommand (command text)
 unfolding command

@@ -1,2 +1,3 @@
 mod Vectors
 mod FitLemmas
+mod RequestLemmas

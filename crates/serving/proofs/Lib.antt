@@ -2,9 +2,11 @@ pub mod AheadLemmas
 pub mod AloneLemmas
 pub mod AnswerLemmas
 pub mod BeginLemmas
+pub mod BranchLemmas
 pub mod DecisionLemmas
 pub mod LookLemmas
 pub mod MomentLemmas
+pub mod PointLemmas
 pub mod RuleLemmas
 pub mod ServeLemmas
 pub mod StartLemmas

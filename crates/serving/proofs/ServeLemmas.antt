@@ -16,18 +16,16 @@ use Rattle.session_laws.specs.Changes.{Parts}
 use Rattle.session_state.specs.declared.sessions.Place.TheVariants as place
 use Rattle.session_state.specs.declared.sessions.Session.{Session}
 use Rattle.session_txn.specs.Answering.{is_local}
-use Rattle.session_txn.specs.Naming.{asks_session, names_system}
+use Rattle.session_txn.specs.Naming.{names_system}
 use Rattle.sql_ast.specs.declared.statements.Setting.{Setting}
-use Rattle.serving.specs.Running.{is_no_call, runs}
+use Rattle.serving.specs.Running.{is_no_call, runs_in_place}
 use Rattle.serving.specs.Serving.{IsBefore, Serves}
 use Rattle.serving.specs.Steps.{Answered, number_at}
 use Rattle.serving.proofs.AloneLemmas.{alone_before}
 use Rattle.serving.proofs.AnswerLemmas.{serves}
 
-pub is_stored : (asked : Command) → runs asked ≡ true → names_system asked ≡ false
-is_stored asked is =
-    let rest = (and_parts (is_no_call asked) (not (names_system asked) && not (asks_session asked)) is).1 in
-    not-true (names_system asked) (and_parts (not (names_system asked)) (not (asks_session asked)) rest).0
+pub is_stored : (asked : Command) → runs_in_place asked ≡ true → names_system asked ≡ false
+is_stored asked is = not-true (names_system asked) (and_parts (is_no_call asked) (not (names_system asked)) is).1
 
 -- what has changed is open
 open_of : (p : plain.Session) → is_changed p ≡ true → (t : Transaction) × (p.transaction ≡ Some t)

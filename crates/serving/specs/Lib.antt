@@ -1,4 +1,5 @@
 pub mod Ahead
+pub mod Branching
 pub mod Running
 pub mod Serving
 pub mod Starting

@@ -15,11 +15,12 @@ ghost use Rattle.session_state.specs.Standing.{SessionStands};
 ghost use Rattle.session_txn.specs.Answering.{is_local};
 ghost use Rattle.session_txn.specs.Showing.{is_sound_reply};
 ghost use Rattle.shared_db.specs.Shared.{KeepsRoom};
-ghost use Rattle.serving.specs.Running.{runs};
+ghost use Rattle.serving.specs.Running.{runs, runs_in_place};
 ghost use Rattle.serving.specs.Serving.{IsBefore, Serves};
 ghost use Rattle.serving.specs.Steps.{Answered, number_at};
 
 use crate::beginning::begin_changed;
+use crate::branching::{change_branches, check_out};
 use crate::places::{go_on, number_of};
 use crate::serving::{alone, begin_unchanged, commit_changed};
 use crate::starting::started;
@@ -46,6 +47,33 @@ pub fn serve<D: Digester>(
     requires segments { 2 ≤ db.old.segments_room }
     requires fit { IsFitCommand asked.now }
     requires runs { runs asked.now ≡ true }
+    ensures served { (epoch : ℤ) (p : plain.Session) (shared : Shared) → IsBefore D.address session.old db.old.parts p shared
+        → Serves D.address epoch p asked.now shared db.old.parts db.new.parts session.new result }
+    ensures sound { is_sound_reply result ≡ true }
+    ensures truly { TellsTruly D.address result }
+    ensures moments { db.old.moments_room ≤ db.new.moments_room + 2 }
+    ensures segments { db.old.segments_room ≤ db.new.segments_room + 2 }
+{
+    match asked {
+        Command::OnBranches(request) => change_branches(alloc, db, session, request),
+        Command::Checkout(request) => check_out(alloc, db, session, request),
+        _ => serve_in_place(alloc, db, session, asked),
+    }
+}
+
+/// Serves a statement that leaves the session on its branch.
+fn serve_in_place<D: Digester>(
+    alloc: Global,
+    db: &mut SharedDb,
+    session: &mut Session<D>,
+    asked: &Command,
+) -> Reply
+    requires before { (p : plain.Session) × (shared : Shared) × IsBefore D.address session.old db.old.parts p shared }
+    requires place { number_at session.old.position + 1 < 2 ^ 32 }
+    requires moments { 2 ≤ db.old.moments_room }
+    requires segments { 2 ≤ db.old.segments_room }
+    requires fit { IsFitCommand asked.now }
+    requires runs { runs_in_place asked.now ≡ true }
     ensures served { (epoch : ℤ) (p : plain.Session) (shared : Shared) → IsBefore D.address session.old db.old.parts p shared
         → Serves D.address epoch p asked.now shared db.old.parts db.new.parts session.new result }
     ensures sound { is_sound_reply result ≡ true }
@@ -83,7 +111,7 @@ fn answer<D: Digester>(
     requires moments { 2 ≤ db.old.moments_room }
     requires segments { 2 ≤ db.old.segments_room }
     requires fit { IsFitCommand asked.now }
-    requires runs { runs asked.now ≡ true }
+    requires runs { runs_in_place asked.now ≡ true }
     ensures answered { (epoch : ℤ) (p : plain.Session) (shared : Shared) → IsBefore D.address session.old db.old.parts p shared
         → Answered D.address epoch p asked.now shared db.old.parts db.new.parts session.new result }
     ensures sound { is_sound_reply result ≡ true }
@@ -142,7 +170,7 @@ fn at_moments<D: Digester>(
     requires moments { 2 ≤ db.old.moments_room }
     requires segments { 2 ≤ db.old.segments_room }
     requires fit { IsFitCommand asked.now }
-    requires runs { runs asked.now ≡ true }
+    requires runs { runs_in_place asked.now ≡ true }
     ensures answered { (epoch : ℤ) (p : plain.Session) (shared : Shared) → IsBefore D.address session.old db.old.parts p shared → is_local p asked.now ≡ false
         → Answered D.address epoch p asked.now shared db.old.parts db.new.parts session.new result }
     ensures sound { is_sound_reply result ≡ true }

@@ -4,8 +4,10 @@
 mod ahead;
 mod answering;
 mod beginning;
+mod branching;
 mod deciding;
 mod places;
+mod rows;
 mod running;
 mod serving;
 mod starting;

@@ -1,25 +1,47 @@
 //! Which statements are served so far.
 
 ghost use Rattle.std.specs.Prelude.{◌≡◌};
-ghost use Rattle.serving.specs.Running.{is_no_call, runs};
+ghost use Rattle.serving.specs.Running.{is_no_call, is_step, runs, runs_in_place};
 
 use plain_sessions::{Command, Work};
-use session_txn::{asks_session, names_system};
+use session_txn::names_system;
 
-/// Whether a statement is served. Calls of procedures aren't yet, nor is what names a system table or asks for a value of the session.
+/// Whether a statement is served. Of the procedures only DOLT_BRANCH and DOLT_CHECKOUT are yet, and nothing that names a system table.
 pub fn runs(asked: &Command) -> bool
     ensures { result ≡ runs asked.now }
 {
-    is_no_call(asked) && !names_system(asked) && !asks_session(asked)
+    is_step(asked) || runs_in_place(asked)
 }
 
-/// A call with arguments that its procedure doesn't take is one, too.
+/// Whether a statement is a step on the list of branches.
+fn is_step(asked: &Command) -> bool
+    ensures { result ≡ is_step asked.now }
+{
+    match asked {
+        Command::OnBranches(_) | Command::Checkout(_) => true,
+        Command::Faulty(_)
+        | Command::Begin
+        | Command::CommitAll
+        | Command::Rollback
+        | Command::Switch(_)
+        | Command::Say(_)
+        | Command::Data(_) => false,
+    }
+}
+
+fn runs_in_place(asked: &Command) -> bool
+    ensures { result ≡ runs_in_place asked.now }
+{
+    is_no_call(asked) && !names_system(asked)
+}
+
+/// A call with arguments that its procedure doesn't take isn't one: it is answered by its text alone.
 fn is_no_call(asked: &Command) -> bool
     ensures { result ≡ is_no_call asked.now }
 {
     match asked {
-        Command::Faulty(refusal) => refusal.number != 9008,
-        Command::Begin
+        Command::Faulty(_)
+        | Command::Begin
         | Command::CommitAll
         | Command::Rollback
         | Command::Switch(_)

@@ -8,7 +8,7 @@ ghost use Rattle.plain_sessions.specs.Sessions as plain;
 ghost use Rattle.plain_sessions.specs.Sessions.{is_changed};
 ghost use Rattle.plain_sessions.specs.declared.commands.Command.TheVariants as command;
 ghost use Rattle.session_txn.specs.Answering.{is_local};
-ghost use Rattle.session_txn.specs.Naming.{asks_session, names_system};
+ghost use Rattle.session_txn.specs.Naming.{names_system};
 ghost use Rattle.session_txn.specs.Showing.{is_sound_reply};
 ghost use Rattle.shared_db.specs.Shared.{KeepsRoom};
 ghost use Rattle.serving.specs.Running.{is_no_call};
@@ -48,7 +48,6 @@ pub(crate) fn alone<D: Digester>(
     requires before { (p : plain.Session) × (shared : Shared) × IsBefore D.address session.old db.now.parts p shared × (is_local p asked.now ≡ true) }
     requires fit { IsFitCommand asked.now }
     requires stored { names_system asked.now ≡ false }
-    requires plain { asks_session asked.now ≡ false }
     requires call { is_no_call asked.now ≡ true }
     ensures answered { (epoch : ℤ) (p : plain.Session) (shared : Shared) → IsBefore D.address session.old db.now.parts p shared → is_local p asked.now ≡ true
         → Answered D.address epoch p asked.now shared db.now.parts db.now.parts session.new result }

@@ -4,4 +4,5 @@ pub mod CountLemmas
 pub mod SelectLemmas
 pub mod SessionLemmas
 pub mod ShowLemmas
+pub mod ValueLemmas
 pub mod WriteLemmas

@@ -8,11 +8,8 @@ use Rattle.schema_model.specs.PlainTables.{PlainDatabase}
 use Rattle.sql_ast.specs.declared.selects.FromClause.{FromClause}
 use Rattle.sql_ast.specs.declared.selects.Join.{Join}
 use Rattle.sql_ast.specs.declared.selects.Query.{Query}
-use Rattle.sql_ast.specs.declared.selects.NamedExpr.{NamedExpr}
 use Rattle.sql_ast.specs.declared.selects.Select.{Select}
 use Rattle.sql_ast.specs.declared.selects.Select.TheVariants as select
-use Rattle.sql_features.specs.Features.{has}
-use Rattle.sql_features.specs.declared.features.Feature.TheVariants as feature
 use Rattle.plain_sql.specs.Plans.{answer}
 use Rattle.plain_sql.specs.declared.sources.Known.{Known}
 use Rattle.plain_sql.specs.declared.sources.NamedType.{NamedType}
@@ -32,14 +29,14 @@ use Rattle.plain_sessions.specs.Merging.{Worked, Answers}
 use Rattle.plain_sessions.specs.Moments.{is_in_transaction}
 use Rattle.plain_sessions.specs.Replies.{refused, shown, shown_or_refused}
 use Rattle.plain_sessions.specs.Sessions as plain
-use Rattle.plain_sessions.specs.Statements.{item_with_values, said, select_with_values, worked}
+use Rattle.plain_sessions.specs.Statements.{said, select_with_values, worked}
 use Rattle.plain_sessions.specs.declared.commands.Command.TheVariants as command
 use Rattle.plain_sessions.specs.declared.commands.Work.TheVariants as work
 use Rattle.session_state.specs.Standing.{SessionStands}
 use Rattle.session_state.specs.declared.sessions.Session.{Session}
 use Rattle.session_txn.specs.Answering.{AnswersAlone}
 use Rattle.session_txn.specs.Showing.{IsDue}
-use Rattle.session_txn.specs.Naming.{asks_system, is_system_name, lists_session, reads_system, selects_session}
+use Rattle.session_txn.specs.Naming.{asks_system, is_system_name, reads_system}
 use Rattle.session_txn.proofs.AloneLemmas.{answers_due, in_place, worked_ill, worked_well}
 use Rattle.session_txn.proofs.SessionLemmas.{has_one, own_kept}
 
@@ -196,24 +193,16 @@ asks address session p one reply inside stands owed =
 
 -- ---- without sources
 
--- an item without the session's values stays as it is
-items_kept : (p : plain.Session) (list : List NamedExpr) → lists_session list ≡ false → map (item_with_values p) list ≡ list
-items_kept p [] h = refl
-items_kept p (named ∷ list) h =
-    let none = neither (has feature.SessionWord named.expr) (lists_session list) h in
-    let here : item_with_values p named ≡ named = rw (none.0) refl in
-    ap (λ (item : NamedExpr). item ∷ map (item_with_values p) list) here ∙ ap (λ (more : List NamedExpr). named ∷ more) (items_kept p list none.1)
+-- what it shows of no tables
+pub shows_alone : (one : Select) (outcome : Outcome Answer) (reply : Reply) → answer [] one ≡ outcome
+    → IsDue 1 (shown_or_refused outcome) reply → IsDue 1 (shown_or_refused (answer [] one)) reply
+shows_alone one outcome reply is owed = subst (λ (o : Outcome Answer). IsDue 1 (shown_or_refused o) reply) (sym is) owed
 
-values_kept : (p : plain.Session) (one : Select) → selects_session one ≡ false → select_with_values p one ≡ one
-values_kept p (select.From query) h = refl
-values_kept p (select.Alone list) h = ap select.Alone (items_kept p list h)
-
--- what it says is what it shows of no tables
-pub says_due : (p : plain.Session) (one : Select) (outcome : Outcome Answer) (reply : Reply) → selects_session one ≡ false → answer [] one ≡ outcome
-    → IsDue 1 (shown_or_refused outcome) reply → IsDue 1 (said p one) reply
+-- what it says is what it shows of no tables with the session's values in their places
+pub says_due : (p : plain.Session) (one filled : Select) (reply : Reply) → filled ≡ select_with_values p one
+    → IsDue 1 (shown_or_refused (answer [] filled)) reply → IsDue 1 (said p one) reply
 unfolding said
-says_due p one outcome reply h is owed =
-    subst (λ (r : Reply). IsDue 1 r reply) (sym (ap (λ (kept : Select). shown_or_refused (answer [] kept)) (values_kept p one h) ∙ ap shown_or_refused is)) owed
+says_due p one filled reply is owed = subst (λ (s : Select). IsDue 1 (shown_or_refused (answer [] s)) reply) is owed
 
 pub says : {D : Type 0} (address : List ℕ → List ℕ) (session : Session D) (p : plain.Session) (one : Select) (reply : Reply)
     → IsDue 1 (said p one) reply → SessionStands address session p → AnswersAlone address p (command.Say one) session reply

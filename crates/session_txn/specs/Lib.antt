@@ -3,4 +3,5 @@ pub mod Committing
 pub mod Naming
 pub mod Planning
 pub mod Showing
+pub mod Values
 pub mod Writing

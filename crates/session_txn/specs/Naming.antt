@@ -1,14 +1,11 @@
--- Statements that name system tables, or ask for what only the session knows.
+-- Statements that name system tables.
 use Rattle.std.specs.Prelude.{ℕ, Bool, true, false, ◌||◌, nat_eq, List, codes}
 use Rattle.std.specs.List.{list_any, starts_with}
 use Rattle.sql_ast.specs.declared.selects.FromClause.{FromClause}
-use Rattle.sql_ast.specs.declared.selects.NamedExpr.{NamedExpr}
 use Rattle.sql_ast.specs.declared.selects.Select.{Select}
 use Rattle.sql_ast.specs.declared.selects.Select.TheVariants as select
 use Rattle.sql_ast.specs.declared.statements.Write.{Write}
 use Rattle.sql_ast.specs.declared.statements.Write.TheVariants as write
-use Rattle.sql_features.specs.Features.{has}
-use Rattle.sql_features.specs.declared.features.Feature.TheVariants as feature
 use Rattle.sql_rules.specs.Writes.{is_list_of_entries}
 use Rattle.plain_sessions.specs.declared.commands.Command.{Command}
 use Rattle.plain_sessions.specs.declared.commands.Command.TheVariants as command
@@ -34,16 +31,3 @@ abbrev pub names_system : Command → Bool
 names_system (command.Data (work.Ask one)) = asks_system one
 names_system (command.Data (work.Change statement)) = writes_system statement
 names_system other = false
-
--- a variable, or the branch's name
-abbrev pub lists_session : List NamedExpr → Bool
-lists_session list = list_any (λ named. has feature.SessionWord named.expr) list
-
-abbrev pub selects_session : Select → Bool
-selects_session (select.From query) = false
-selects_session (select.Alone list) = lists_session list
-
--- a SELECT without sources that asks for a value of the session
-abbrev pub asks_session : Command → Bool
-asks_session (command.Say one) = selects_session one
-asks_session other = false

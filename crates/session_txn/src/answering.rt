@@ -11,7 +11,7 @@ ghost use Rattle.plain_sessions.specs.Sessions.{over, with_variable};
 ghost use Rattle.plain_sessions.specs.declared.commands.Command.TheVariants as command;
 ghost use Rattle.session_state.specs.Standing.{SessionStands};
 ghost use Rattle.session_txn.specs.Answering.{AnswersAlone, is_local};
-ghost use Rattle.session_txn.specs.Naming.{asks_session, names_system};
+ghost use Rattle.session_txn.specs.Naming.{names_system};
 ghost use Rattle.session_txn.specs.Showing.{IsDue, is_sound_reply};
 
 use crate::selecting::{ask, say};
@@ -30,7 +30,6 @@ pub fn local<D: Digester>(alloc: Global, session: &mut Session<D>, asked: &Comma
     requires stands { (p : plain.Session) × SessionStands D.address session.old p × (is_local p asked.now ≡ true) }
     requires fit { IsFitCommand asked.now }
     requires stored { names_system asked.now ≡ false }
-    requires plain { asks_session asked.now ≡ false }
     ensures alone { (p : plain.Session) → SessionStands D.address session.old p → is_local p asked.now ≡ true
         → AnswersAlone D.address p asked.now session.new result }
     ensures sound { is_sound_reply result ≡ true }
@@ -42,7 +41,7 @@ pub fn local<D: Digester>(alloc: Global, session: &mut Session<D>, asked: &Comma
         Command::CommitAll | Command::Rollback => end(session),
         Command::Switch(setting) => switch(session, setting),
         Command::Data(work) => do_work(alloc, session, work),
-        Command::Say(select) => say(alloc, select),
+        Command::Say(select) => say(alloc, session, select),
         Command::Begin | Command::OnBranches(_) | Command::Checkout(_) => Reply::Refused(1),
     }
 }

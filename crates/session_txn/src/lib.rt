@@ -7,10 +7,11 @@ mod naming;
 mod planning;
 mod selecting;
 mod showing;
+mod values;
 mod writing;
 
 pub use answering::{ends_transaction, local};
 pub use committing::plan_commit;
-pub use naming::{asks_session, names_system};
+pub use naming::names_system;
 pub use planning::{finish, plan_begin};
 pub use showing::due;

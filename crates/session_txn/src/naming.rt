@@ -1,13 +1,12 @@
-//! Statements that name system tables, or ask for what only the session knows.
+//! Statements that name system tables.
 
 ghost use Rattle.std.specs.Prelude.{◌≡◌};
 ghost use Rattle.std.specs.List.{list_any};
 ghost use Rattle.sql_rules.specs.Writes.{is_below, is_list_of_entries};
-ghost use Rattle.session_txn.specs.Naming.{asks_session, asks_system, is_system_name, lists_session, names_system, reads_system, selects_session, writes_system};
+ghost use Rattle.session_txn.specs.Naming.{asks_system, is_system_name, names_system, reads_system, writes_system};
 
 use plain_sessions::{Command, Work};
-use sql_ast::{FromClause, NamedExpr, Select, Write};
-use sql_features::{Feature, has_feature};
+use sql_ast::{FromClause, Select, Write};
 
 /// Whether a statement reads or writes system tables.
 pub fn names_system(asked: &Command) -> bool
@@ -71,30 +70,4 @@ fn is_system_name(name: &[u8]) -> bool
     ensures { result ≡ is_system_name name.now }
 {
     name.starts_with(b"dolt_")
-}
-
-/// Whether a SELECT without sources asks for a variable or for the branch's name.
-pub fn asks_session(asked: &Command) -> bool
-    ensures { result ≡ asks_session asked.now }
-{
-    match asked {
-        Command::Say(select) => selects_session(select),
-        _ => false,
-    }
-}
-
-fn selects_session(select: &Select) -> bool
-    ensures { result ≡ selects_session select.now }
-{
-    match select {
-        Select::From(_) => false,
-        Select::Alone(list) => lists_session(list.as_slice()),
-    }
-}
-
-fn lists_session(list: &[NamedExpr]) -> bool
-    ensures { result ≡ lists_session list.now }
-{
-    list.iter()
-        .any(|named| has_feature(&named.expr, Feature::SessionWord))
 }

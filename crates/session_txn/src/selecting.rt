@@ -1,6 +1,6 @@
 //! SELECT of a transaction's tables, and SELECT without sources.
 
-ghost use Rattle.std.specs.Prelude.{◌≡◌, ℕ, List, false, true};
+ghost use Rattle.std.specs.Prelude.{◌≡◌, ℕ, List, [], false, true, IfOk};
 ghost use Rattle.chunk_store.specs.Drafts.{chunks_of};
 ghost use Rattle.constraint_scan.specs.Scanning.{HasKeptAt, IsKeptAt};
 ghost use Rattle.plain_sql.specs.Plans.{answer};
@@ -9,23 +9,25 @@ ghost use Rattle.plain_sessions.specs.SystemTables.{known};
 ghost use Rattle.script_text.specs.Collisions.{TellsTruly};
 ghost use Rattle.plain_sessions.specs.Moments.{is_in_transaction};
 ghost use Rattle.plain_sessions.specs.Sessions as plain;
-ghost use Rattle.plain_sessions.specs.Statements.{said};
+ghost use Rattle.plain_sessions.specs.Statements.{said, select_with_values};
 ghost use Rattle.plain_sessions.specs.declared.commands.Command.TheVariants as command;
 ghost use Rattle.plain_sessions.specs.declared.commands.Work.TheVariants as work;
+ghost use Rattle.sql_ast.specs.declared.selects.Select.TheVariants as select;
 ghost use Rattle.session_state.specs.Standing.{IsInTransaction, SessionStands};
 ghost use Rattle.session_txn.specs.Answering.{AnswersAlone};
-ghost use Rattle.session_txn.specs.Naming.{asks_system, selects_session};
+ghost use Rattle.session_txn.specs.Naming.{asks_system};
 ghost use Rattle.session_txn.specs.Showing.{IsDue, is_sound_reply};
 
 use crate::showing::due;
+use crate::values::{select_with_values, values_of};
 use chunk_store::Draft;
 use plain_sql::Refused;
 use script_text::Reply;
 use session_state::Session;
-use sql_ast::Select;
+use sql_ast::{NamedExpr, Select};
 use sql_select::{AskFault, Sources, answer, law_of_reading};
-use std::alloc::Global;
-use tuple_codec::{Address, Digester, Sequence};
+use std::alloc::{AllocError, Global};
+use tuple_codec::{Address, Boxed, Digester, Sequence};
 
 /// What a SELECT shows of the transaction's working tables.
 pub(crate) fn ask<D: Digester>(alloc: Global, session: &Session<D>, select: &Select) -> Reply
@@ -61,10 +63,36 @@ fn show<D: Digester>(alloc: Global, draft: &Draft<D>, database: &Address, select
     }
 }
 
-/// What a SELECT without sources shows that asks for none of the session's values.
-pub(crate) fn say(alloc: Global, select: &Select) -> Reply
-    requires { selects_session select.now ≡ false }
-    ensures due { (p : plain.Session) → IsDue 1 (said p select.now) result }
+/// What a SELECT without sources shows, with the session's values in their places.
+pub(crate) fn say<D: Digester>(alloc: Global, session: &Session<D>, select: &Select) -> Reply
+    ensures due { (p : plain.Session) → SessionStands D.address session.now p → IsDue 1 (said p select.now) result }
+    ensures sound { is_sound_reply result ≡ true }
+    ensures truly { (address : List ℕ → List ℕ) → TellsTruly address result }
+{
+    match select {
+        Select::From(_) => show_alone(alloc, select),
+        Select::Alone(list) => match with_values_of(alloc, session, list.as_slice()) {
+            Ok(select) => show_alone(alloc, select.get()),
+            Err(_) => Reply::Refused(1),
+        },
+    }
+}
+
+/// A SELECT of these items, with the session's values in their places.
+fn with_values_of<D: Digester>(
+    alloc: Global,
+    session: &Session<D>,
+    list: &[NamedExpr],
+) -> Result<Boxed<Select>, AllocError>
+    ensures { IfOk result (λ made. (p : plain.Session) → SessionStands D.address session.now p → made ≡ select_with_values p (select.Alone list.now)) }
+{
+    let values = values_of(alloc, session)?;
+    select_with_values(alloc, &values, list)
+}
+
+/// What a SELECT shows that asks for none of the session's values.
+fn show_alone(alloc: Global, select: &Select) -> Reply
+    ensures due { IsDue 1 (shown_or_refused (answer [] select.now)) result }
     ensures sound { is_sound_reply result ≡ true }
     ensures truly { (address : List ℕ → List ℕ) → TellsTruly address result }
 {

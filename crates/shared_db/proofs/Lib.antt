@@ -1,2 +1,6 @@
 mod LineLemmas
 mod OpeningLemmas
+mod PointLemmas
+mod RiseLemmas
+mod StandLemmas
+mod StepLemmas

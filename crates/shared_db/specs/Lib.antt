@@ -2,3 +2,4 @@ pub mod Shared
 pub mod Members
 pub mod Opening
 pub mod Plans
+pub mod Stepping

@@ -7,6 +7,7 @@ mod changes;
 mod opening;
 mod segments;
 mod shared;
+mod steps;
 
 pub use changes::{BranchReply, BranchStep, Change, Plan, Point, Settled};
 pub use shared::SharedDb;

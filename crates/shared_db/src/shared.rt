@@ -1,25 +1,31 @@
 //! The shared database and its calls.
 
-ghost use Rattle.std.specs.Prelude.{◌≡◌, ◌≢◌, ◌<◌, ◌≤◌, ◌≤ℤ◌, ◌+◌, ◌*◌, ℕ, List, [], pos, length, map, sum, Option, None, Some, IfOk, IfErr};
+ghost use Rattle.std.specs.Prelude.{◌≡◌, ◌≢◌, ◌<◌, ◌≤◌, ◌≤ℤ◌, ◌+◌, ◌*◌, ℕ, List, [], true, pos, is_some, length, map, set, slice_get, sum, Option, None, Some, IfOk, IfErr};
 ghost use Rattle.std.specs.Arc.{arc_value};
 ghost use Rattle.std.specs.Option.{option_map, option_map_or};
 ghost use Rattle.chunk_store.specs.Chunks.{IsSingle, bytes_at};
 ghost use Rattle.chunk_store.specs.Clashes.{Differ, IsClash};
 ghost use Rattle.chunk_store.specs.Stores.{all_chunks};
-ghost use Rattle.plain_sessions.specs.Records.{opening};
+ghost use Rattle.plain_sessions.specs.Branching.{checkout_step, create_branch, delete_branch, heads_in, point_in, resolved};
+ghost use Rattle.plain_sessions.specs.Records.{Shared, opening};
+ghost use Rattle.plain_sessions.specs.Sessions.{Session};
 ghost use Rattle.schema_model.specs.Limits.{most_branches};
 ghost use Rattle.session_laws.specs.Changes.{StateStands, lines_rise};
 ghost use Rattle.session_laws.specs.Laws.{head_in};
 ghost use Rattle.shared_db.specs.Opening.{IsOpeningFault};
 ghost use Rattle.shared_db.specs.Shared.{IfCollided, IfMoved, IsSettled, KeepsRoom, noted, record_at};
+ghost use Rattle.shared_db.specs.Stepping.{HasState, IsCleanAt, IsPlaced, IsPlainStep, IsStepped, KeepsRest, new_asked, places_after, plain_step};
+ghost use Rattle.shared_db.specs.declared.changes.BranchReply.TheVariants as answer;
 ghost use Rattle.shared_db.specs.declared.changes.Settled.TheVariants as settled;
+ghost use Rattle.sql_procedures.specs.declared.requests.CheckoutRequest.TheVariants as checkout;
 
 use crate::branches::{
     Branch, Member, all_on_main, branch_lines, change_record, heads_of, main_alone, record_of,
 };
-use crate::changes::{Change, Settled};
+use crate::changes::{BranchReply, BranchStep, Change, Point, Settled};
 use crate::opening::{Opened, all_moments, open_store};
 use crate::segments::append_sealed;
+use crate::steps::{clean_at, commit_at, is_there, make_branch, move_to, place_in, remove_branch};
 use chunk_store::{PutFault, Segment, Store};
 use script_text::{BranchLine, Moment};
 use session_laws::law_of_states;
@@ -27,7 +33,7 @@ use std::alloc::{AllocError, Global};
 use std::marker::Model;
 use std::sync::Arc;
 use table_root::{BranchName, Look};
-use tuple_codec::{Digester, Sequence};
+use tuple_codec::{Address, BranchRecord, Digester, Sequence};
 
 /// The shared state as values; the chunks in which it stands are the store's. A contract sees its parts, and for how many
 /// moments, branches and segments more it has room.
@@ -176,6 +182,125 @@ impl SharedDb {
         change_record(&mut self.branches, &look.branch, change);
         self.note(session, statement);
         Settled::Done
+    }
+
+    /// Makes a step on the list of branches, and its moment, whether the step was done or not. It takes no memory.
+    pub fn branch_step(&mut self, session: u32, statement: u32, step: &BranchStep) -> BranchReply
+        requires moments { 0 < self.old.moments_room }
+        requires session { slice_get self.old.parts.places session ≢ None }
+        requires state { HasState self.old.parts }
+        ensures plain { IsPlainStep session (λ shared p. plain_step shared p step.now) result self.old.parts self.new.parts }
+        ensures stepped { IsStepped session statement step.now result self.old.parts self.new.parts }
+        ensures room { KeepsRoom 0 self.old self.new }
+    {
+        let reply = self.step(session, step);
+        self.note(session, statement);
+        reply
+    }
+
+    /// The step alone.
+    fn step(&mut self, session: u32, step: &BranchStep) -> BranchReply
+        requires session { slice_get self.old.parts.places session ≢ None }
+        requires state { HasState self.old.parts }
+        ensures plain { IsPlainStep session (λ shared p. plain_step shared p step.now) result self.old.parts self.new.parts }
+        ensures places { result ≡ answer.Done → self.new.parts.places ≡ places_after session step.now self.old.parts.places }
+        ensures same { result ≢ answer.Done → self.new.parts ≡ self.old.parts }
+        ensures rest { KeepsRest self.old self.new }
+    {
+        match step {
+            BranchStep::Create(name, point) => self.create(session, name, point),
+            BranchStep::Delete(name) => self.delete(name),
+            BranchStep::Checkout(name) => self.check_out(session, name),
+            BranchStep::CheckoutNew(name, point) => self.check_out_new(session, name, point),
+        }
+    }
+
+    /// Makes a branch at the point.
+    fn create(&mut self, session: u32, name: &BranchName, point: &Point) -> BranchReply
+        requires session { slice_get self.old.parts.places session ≢ None }
+        requires state { HasState self.old.parts }
+        ensures plain { IsPlainStep session (λ shared p. create_branch shared p (new_asked name.now point.now)) result self.old.parts self.new.parts }
+        ensures there { result ≡ answer.Done → is_some (record_at name.now self.new.parts.branches) ≡ true }
+        ensures places { self.new.parts.places ≡ self.old.parts.places }
+        ensures same { result ≢ answer.Done → self.new.parts ≡ self.old.parts }
+        ensures rest { KeepsRest self.old self.new }
+    {
+        match self.clean_at_point(session, point) {
+            Some(rec) => make_branch(&mut self.branches, name, rec),
+            None => BranchReply::NoSuch,
+        }
+    }
+
+    /// The record of a branch made at the point, where there is such a point.
+    fn clean_at_point(&self, session: u32, point: &Point) -> Option<BranchRecord>
+        requires session { slice_get self.now.parts.places session ≢ None }
+        requires state { HasState self.now.parts }
+        ensures { (address : List ℕ → List ℕ) (shared : Shared) (p : Session) (name : List ℕ) → StateStands address self.now.parts shared → IsPlaced session p shared
+            → IsCleanAt address (bytes_at self.now.parts.chunks) shared.commits (point_in shared p (new_asked name point.now)) result }
+    {
+        let commit = self.commit_at_point(session, point)?;
+        Some(clean_at(&self.store, commit))
+    }
+
+    /// The commit of the point, where there is one.
+    fn commit_at_point(&self, session: u32, point: &Point) -> Option<Address>
+        requires { slice_get self.now.parts.places session ≢ None }
+        ensures { (address : List ℕ → List ℕ) (shared : Shared) (p : Session) (name : List ℕ) → StateStands address self.now.parts shared → IsPlaced session p shared
+            → option_map (λ k. k.0) result ≡ point_in shared p (new_asked name point.now) }
+    {
+        match point {
+            Point::Own => self.commit_named(&place_in(self.members.as_slice(), session)),
+            Point::Named(name) => self.commit_named(name),
+        }
+    }
+
+    /// The commit that the name tells.
+    fn commit_named(&self, name: &BranchName) -> Option<Address>
+        ensures { (address : List ℕ → List ℕ) (shared : Shared) → StateStands address self.now.parts shared
+            → option_map (λ k. k.0) result ≡ resolved (heads_in shared.branches) shared.commits name.now }
+    {
+        commit_at(self.branches.as_slice(), &self.store, name)
+    }
+
+    /// Removes a branch.
+    fn delete(&mut self, name: &BranchName) -> BranchReply
+        ensures plain { (session : ℕ) → IsPlainStep session (λ shared p. delete_branch shared name.now) result self.old.parts self.new.parts }
+        ensures places { self.new.parts.places ≡ self.old.parts.places }
+        ensures same { result ≢ answer.Done → self.new.parts ≡ self.old.parts }
+        ensures rest { KeepsRest self.old self.new }
+    {
+        remove_branch(&mut self.branches, self.members.as_slice(), name)
+    }
+
+    /// Sets the session on a branch that is there.
+    fn check_out(&mut self, session: u32, name: &BranchName) -> BranchReply
+        requires session { slice_get self.old.parts.places session ≢ None }
+        ensures plain { IsPlainStep session (λ shared p. checkout_step shared p (checkout.Existing name.now)) result self.old.parts self.new.parts }
+        ensures places { result ≡ answer.Done → self.new.parts.places ≡ set self.old.parts.places session name.now }
+        ensures same { result ≢ answer.Done → self.new.parts ≡ self.old.parts }
+        ensures rest { KeepsRest self.old self.new }
+    {
+        if !is_there(self.branches.as_slice(), name) {
+            return BranchReply::NoSuch;
+        }
+        move_to(&mut self.members, session, name);
+        BranchReply::Done
+    }
+
+    /// Makes a branch and sets the session on it.
+    fn check_out_new(&mut self, session: u32, name: &BranchName, point: &Point) -> BranchReply
+        requires session { slice_get self.old.parts.places session ≢ None }
+        requires state { HasState self.old.parts }
+        ensures plain { IsPlainStep session (λ shared p. checkout_step shared p (checkout.New (new_asked name.now point.now))) result self.old.parts self.new.parts }
+        ensures places { result ≡ answer.Done → self.new.parts.places ≡ set self.old.parts.places session name.now }
+        ensures same { result ≢ answer.Done → self.new.parts ≡ self.old.parts }
+        ensures rest { KeepsRest self.old self.new }
+    {
+        let reply = self.create(session, name, point);
+        if reply == BranchReply::Done {
+            move_to(&mut self.members, session, name);
+        }
+        reply
     }
 
     /// Adds a moment to the order, in room that is there.

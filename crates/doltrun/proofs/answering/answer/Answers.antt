@@ -3,8 +3,8 @@ use Rattle.doltrun.proofs.AnswerLemmas.{alone_by, comes_put, comes_script}
 use Rattle.doltrun.proofs.ScriptLemmas.{script_sound}
 use Rattle.doltrun.proofs.answering.answer.Goals as goal
 
-pub run_script-requires-after_bounds : goal.run_script-requires-after_bounds
-run_script-requires-after_bounds g c κs within = script_sound c.args.bytes.now c.in_ok-script.script c.in_ok-script.ensures
+pub run_script-requires-clause-sound : goal.run_script-requires-clause-sound
+run_script-requires-clause-sound g c = λ κs within. script_sound c.args.bytes.now c.in_ok-script.script c.in_ok-script.ensures
 
 pub returns-in_err-script : goal.returns-in_err-script
 returns-in_err-script g c =

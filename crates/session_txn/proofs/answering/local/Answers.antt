@@ -6,7 +6,7 @@ use Rattle.plain_sessions.specs.Replies.{refused_by}
 use Rattle.plain_sessions.specs.declared.commands.Command.{Command}
 use Rattle.plain_sessions.specs.declared.commands.Command.TheVariants as command
 use Rattle.session_txn.specs.Answering.{AnswersAlone, is_local}
-use Rattle.session_txn.specs.Naming.{asks_session, names_system}
+use Rattle.session_txn.specs.Naming.{names_system}
 use Rattle.session_txn.proofs.AloneLemmas.{answers_due}
 use Rattle.session_txn.proofs.SelectLemmas.{says}
 use Rattle.session_txn.proofs.SessionLemmas.{ends}
@@ -41,13 +41,10 @@ returns-in-Data-clause-alone g c = λ p stands local.
     subst (λ (a : Command). AnswersAlone g.D.Digester.address p a c.do_work.new.session c.do_work.result) (sym c.in-Data.is)
     (c.do_work.ensures.alone p stands (ap (is_local p) (sym c.in-Data.is) ∙ local))
 
-pub say-requires : goal.say-requires
-say-requires g c = ap asks_session (sym c.in-Say.is) ∙ c.requires.plain
-
 pub returns-in-Say-clause-alone : goal.returns-in-Say-clause-alone
 returns-in-Say-clause-alone g c = λ p stands local.
     subst (λ (a : Command). AnswersAlone g.D.Digester.address p a c.args.session.now c.say.result) (sym c.in-Say.is)
-    (says g.D.Digester.address c.args.session.now p c.in-Say.select c.say.result (c.say.ensures.due p) stands)
+    (says g.D.Digester.address c.args.session.now p c.in-Say.select c.say.result (c.say.ensures.due p stands) stands)
 
 pub returns-in-Say-clause-truly : goal.returns-in-Say-clause-truly
 returns-in-Say-clause-truly g c = c.say.ensures.truly g.D.Digester.address

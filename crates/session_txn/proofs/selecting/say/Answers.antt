@@ -1,18 +1,14 @@
-use Rattle.std.proofs.Common.{Err, Ok, [], subst}
-use Rattle.plain_sql.specs.Gives.{Gives}
-use Rattle.plain_sql.specs.Plans.{answer}
-use Rattle.plain_sql.specs.declared.faults.Refused as faults
-use Rattle.script_text.specs.declared.replies.Reply.TheVariants.{Refused}
-use Rattle.tuple_codec.specs.declared.answers.Answer.{Answer}
-use Rattle.session_txn.specs.Showing.{IsDue}
+use Rattle.std.proofs.Common.{◌∙◌, ap, sym}
+use Rattle.sql_ast.specs.declared.selects.Select.TheVariants as select
+use Rattle.plain_sessions.specs.Statements.{select_with_values}
 use Rattle.session_txn.proofs.SelectLemmas.{says_due}
 use Rattle.session_txn.proofs.selecting.say.Goals as goal
 
-pub returns-in-Ok-clause-due : goal.returns-in-Ok-clause-due
-returns-in-Ok-clause-due c = λ p. says_due p c.args.select.now (Ok c.in-Ok.answer) c.due.result c.requires c.in-Ok.ensures c.due.ensures.due
+pub returns-in-From-clause-due : goal.returns-in-From-clause-due
+returns-in-From-clause-due g c = λ p stands.
+    says_due p c.args.select.now c.args.select.now c.show_alone.result (c.in-From.is ∙ sym (ap (select_with_values p) c.in-From.is)) c.show_alone.ensures.due
 
-pub returns-in-Err-By-clause-due : goal.returns-in-Err-By-clause-due
-returns-in-Err-By-clause-due c = λ p.
-    says_due p c.args.select.now (Err c.in-Err-By.number) c.due-in-Err-By.result c.requires
-    (subst (λ (f : faults.Refused). Gives {A = Answer} (Err f) (answer [] c.args.select.now)) c.in-Err-By.field-0-is c.in-Err-By.ensures)
-    (subst (λ n. IsDue 1 (Refused n) c.due-in-Err-By.result) c.in-Err-By.number-is c.due-in-Err-By.ensures.due)
+pub returns-in-Ok-clause-due : goal.returns-in-Ok-clause-due
+returns-in-Ok-clause-due g c = λ p stands.
+    says_due p c.args.select.now c.get.result.now c.show_alone-in-Ok.result
+    (c.get.ensures ∙ c.in-Ok.ensures p stands ∙ ap (select_with_values p) (ap select.Alone c.as_slice.ensures ∙ sym c.in-Alone.is)) c.show_alone-in-Ok.ensures.due

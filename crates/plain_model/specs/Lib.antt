@@ -1,4 +1,0 @@
-pub mod Language
-pub mod Effects
-pub mod Machine
-pub mod MainBranch

@@ -1,0 +1,5 @@
+pub mod CountLemmas
+pub mod EndLemmas
+pub mod LineLemmas
+pub mod OpenLemmas
+pub mod SpeakerLemmas

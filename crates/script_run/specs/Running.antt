@@ -1,0 +1,53 @@
+-- A run under way.
+use Rattle.std.specs.Prelude.{◌≡◌, ℕ, ℤ, ◌+◌, ◌*◌, ◌≤◌, true, List, [], ◌∷◌, ◌++◌, length, Some, slice_get, vec_capacity}
+use Rattle.std.specs.List.{AllByRecursion, list_all}
+use Rattle.script_text.specs.Collisions.{TellsTruly}
+use Rattle.script_text.specs.declared.replies.Reply.{Reply}
+use Rattle.script_text.specs.declared.scripts.Line.{Line}
+use Rattle.script_text.specs.declared.scripts.Script.{Script}
+use Rattle.plain_sessions.specs.Narrowing.{narrowed}
+use Rattle.plain_sessions.specs.Records.{Shared}
+use Rattle.plain_sessions.specs.Sessions as plain
+use Rattle.plain_sessions.specs.declared.commands.Command.{Command}
+use Rattle.run_laws.specs.Lines.{IsRunTo, Spoken}
+use Rattle.run_laws.specs.Orders.{count_of}
+use Rattle.session_laws.specs.Changes.{Parts, StateStands}
+use Rattle.session_txn.specs.Showing.{is_sound_reply}
+use Rattle.serving.specs.Running.{runs}
+use Rattle.serving.specs.Serving.{IsBefore, Serves}
+use Rattle.script_run.specs.declared.running.Running.{Running}
+use Rattle.script_run.specs.declared.running.Speaker.{Speaker}
+
+-- a session's next statement was served, and its reply was kept
+pub record Speaks {D : Type 0} (address : List ℕ → List ℕ) (epoch : ℤ) (p : plain.Session) (asked : Command) (shared : Shared) (old new : Parts) (before after : Speaker D) : Type 0 where
+  pub reply : Reply
+  pub serves : Serves address epoch p asked shared old new after.session reply
+  pub said : after.replies.items ≡ before.replies.items ++ reply ∷ []
+  pub sound : is_sound_reply reply ≡ true
+  pub truly : TellsTruly address reply
+
+-- the session at this place stands before a statement, has given these replies, and has room for those to all of its lines
+pub record IsSpeaker {D : Type 0} (address : List ℕ → List ℕ) (lines : List Line) (parts : Parts) (shared : Shared) (place : ℕ) (p : plain.Session) (replies : List Reply) (speaker : Speaker D) : Type 0 where
+  pub before : IsBefore address speaker.session parts p shared
+  pub number : p.number ≡ place
+  pub said : speaker.replies.items ≡ replies
+  pub sound : list_all is_sound_reply replies ≡ true
+  pub truly : AllByRecursion (TellsTruly address) replies
+  pub room : count_of place lines ≤ vec_capacity speaker.replies
+
+-- those of a run
+pub record AreSpeakers {D : Type 0} (address : List ℕ → List ℕ) (lines : List Line) (parts : Parts) (shared : Shared) (spoken : Spoken) (speakers : List (Speaker D)) : Type 0 where
+  pub lists : length speakers ≡ length spoken
+  pub each : (place : ℕ) (p : plain.Session) (replies : List Reply) (speaker : Speaker D) → slice_get spoken place ≡ Some (p, replies) → slice_get speakers place ≡ Some speaker
+      → IsSpeaker address lines parts shared place p replies speaker
+
+-- the first lines of the script were run: the shared database and the sessions stand for those that the machine has come to along the
+-- moments so far, and there is room for the moments and segments of the other lines
+pub record IsRunningAt {D : Type 0} (address : List ℕ → List ℕ) (epoch : ℤ) (script : Script) (count : ℕ) (running : Running D) : Type 0 where
+  pub shared : Shared
+  pub spoken : Spoken
+  pub run : IsRunTo (narrowed runs) address epoch script count running.db.parts.moments shared spoken
+  pub stands : StateStands address running.db.parts shared
+  pub speakers : AreSpeakers address script.lines running.db.parts shared spoken running.speakers.items
+  pub moments_room : 2 * length script.lines ≤ running.db.moments_room + 2 * count
+  pub segments_room : 2 * length script.lines ≤ running.db.segments_room + 2 * count

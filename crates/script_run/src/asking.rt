@@ -1,0 +1,77 @@
+//! A statement by its text.
+
+ghost use Rattle.std.specs.Prelude.{◌≡◌, ◌<◌, ◌≤◌, ◌+◌, ◌^◌, ℤ, true, IfOk};
+ghost use Rattle.script_text.specs.Collisions.{TellsTruly};
+ghost use Rattle.plain_sessions.specs.Fitness.{IsFitCommand};
+ghost use Rattle.plain_sessions.specs.Narrowing.{narrowed, not_yet};
+ghost use Rattle.plain_sessions.specs.Records.{Shared};
+ghost use Rattle.plain_sessions.specs.Sessions as plain;
+ghost use Rattle.session_txn.specs.Showing.{is_sound_reply};
+ghost use Rattle.serving.specs.Running.{runs};
+ghost use Rattle.serving.specs.Serving.{IsBefore, Serves};
+ghost use Rattle.serving.specs.Steps.{number_at};
+
+use plain_sessions::{Command, read_command};
+use script_text::Reply;
+use serving::{pass_over, runs, serve};
+use session_state::Session;
+use shared_db::SharedDb;
+use sql_ast::Refusal;
+use std::alloc::{AllocError, Global};
+use tuple_codec::{Boxed, Digester};
+
+/// No line of a script has a longer statement.
+const MOST_BYTES: usize = 65_536;
+
+/// Serves a statement by its text. One that can't be read for want of memory is passed over.
+pub fn serve_text<D: Digester>(
+    alloc: Global,
+    db: &mut SharedDb,
+    session: &mut Session<D>,
+    text: &[u8],
+) -> Reply
+    requires before { (p : plain.Session) × (shared : Shared) × IsBefore D.address session.old db.old.parts p shared }
+    requires place { number_at session.old.position + 1 < 2 ^ 32 }
+    requires moments { 2 ≤ db.old.moments_room }
+    requires segments { 2 ≤ db.old.segments_room }
+    ensures served { (epoch : ℤ) (p : plain.Session) (shared : Shared) → IsBefore D.address session.old db.old.parts p shared
+        → Serves D.address epoch p (narrowed runs text.now) shared db.old.parts db.new.parts session.new result }
+    ensures sound { is_sound_reply result ≡ true }
+    ensures truly { TellsTruly D.address result }
+    ensures moments { db.old.moments_room ≤ db.new.moments_room + 2 }
+    ensures segments { db.old.segments_room ≤ db.new.segments_room + 2 }
+{
+    match asked_by(alloc, text) {
+        Ok(asked) => serve(alloc, db, session, asked.get()),
+        Err(_) => pass_over(session),
+    }
+}
+
+/// What a text asks, where only these commands run. A text that is longer than a statement may be would be answered by want of memory; no
+/// script has one.
+#[tactic(auto, unfolding(plain_sessions::specs::Narrowing::narrowed))]
+fn asked_by(alloc: Global, text: &[u8]) -> Result<Boxed<Command>, AllocError>
+    ensures is { IfOk result (λ asked. asked ≡ narrowed runs text.now) }
+    ensures fit { IfOk result IsFitCommand }
+    ensures runs { IfOk result (λ asked. runs asked ≡ true) }
+{
+    if text.len() > MOST_BYTES {
+        return Err(AllocError);
+    }
+    let asked = read_command(alloc, text)?;
+    if runs(asked.get()) {
+        Ok(asked)
+    } else {
+        Boxed::new(alloc, not_yet())
+    }
+}
+
+/// A command that doesn't run is refused by its text alone.
+fn not_yet() -> Command
+    ensures { result ≡ not_yet }
+{
+    Command::Faulty(Refusal {
+        number: 9013,
+        at: 0,
+    })
+}

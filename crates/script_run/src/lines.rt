@@ -1,0 +1,146 @@
+//! The run of a script, line by line.
+
+ghost use Rattle.std.specs.Prelude.{◌≡◌, ◌+◌, ◌<◌, ◌≤◌, ◌^◌, ◌≤ℤ◌, ℤ, pos, map, length, vec_len, vec_capacity, IfOk, IfErr};
+ghost use Rattle.script_text.specs.Collisions.{AllTellTruly};
+ghost use Rattle.script_text.specs.Shown.{IsPrintable, IsShown};
+ghost use Rattle.plain_sessions.specs.Narrowing.{narrowed};
+ghost use Rattle.plain_sessions.specs.Output.{IsPlainRun};
+ghost use Rattle.plain_sessions.specs.Records.{Shared};
+ghost use Rattle.plain_sessions.specs.Sessions as plain;
+ghost use Rattle.run_laws.specs.Orders.{IsTextOrder};
+ghost use Rattle.serving.specs.Running.{runs};
+ghost use Rattle.serving.specs.Serving.{IsBefore};
+ghost use Rattle.serving.specs.Steps.{number_at};
+ghost use Rattle.shared_db.specs.Opening.{IsOpeningFault};
+ghost use Rattle.script_run.specs.Running.{IsRunningAt, Speaks};
+ghost use Rattle.script_run.specs.Scripts.{IsSoundScript};
+
+use crate::asking::serve_text;
+use crate::opening::open;
+use crate::running::{Running, Speaker};
+use chunk_store::PutFault;
+use run_laws::law_of_lines;
+use script_text::{Reply, RunText, Script};
+use session_state::Place;
+use shared_db::SharedDb;
+use std::alloc::{AllocError, Global};
+use tuple_codec::{Digester, Sequence};
+use wire_io::Pacer;
+
+/// Runs a script's statements one after another in the text's order, each by its session. A command that `runs` doesn't take is refused by
+/// its text alone. The dates of commits are the epoch.
+pub fn run_script<D: Digester, P: Pacer>(
+    alloc: Global,
+    pacer: &P,
+    script: Script,
+    epoch: i64,
+) -> Result<RunText, PutFault>
+    requires sound { IsSoundScript script }
+    requires epoch { pos 0 ≤ℤ epoch }
+    ensures plain { IfOk result (λ run. IsPlainRun (narrowed runs) D.address epoch script run) }
+    ensures truly { IfOk result (λ run. AllTellTruly D.address run.replies) }
+    ensures order { IfOk result (λ run. IsTextOrder script run.order) }
+    ensures printable { IfOk result (λ run. IsPrintable run) }
+    ensures shown { IfOk result (λ run. IsShown run) }
+    ensures fault { IfErr result (IsOpeningFault D.address epoch) }
+{
+    law_of_lines();
+    let mut running = open::<D>(alloc, &script, epoch)?;
+    run_lines(alloc, pacer, &script, &mut running);
+    let order = Vec::from_slice(alloc, running.db.moments())?;
+    let branches = running.db.branch_lines(alloc)?;
+    let replies = replies_of(alloc, running.speakers)?;
+    Ok(RunText {
+        names: script.names,
+        replies,
+        order: Sequence::from_vec(order),
+        branches,
+    })
+}
+
+fn run_lines<D: Digester, P: Pacer>(
+    alloc: Global,
+    pacer: &P,
+    script: &Script,
+    running: &mut Running<D>,
+)
+    requires sound { IsSoundScript script.now }
+    requires opened { (epoch : ℤ) × IsRunningAt D.address epoch script.now 0 running.old }
+    ensures { (epoch : ℤ) → IsRunningAt D.address epoch script.now 0 running.old → IsRunningAt D.address epoch script.now (length script.now.lines) running.new }
+{
+    for at in 0..script.lines.as_slice().len() {
+        run_line(alloc, pacer, script, at, running);
+    }
+}
+
+/// Runs the line at this place, counted from 0.
+fn run_line<D: Digester, P: Pacer>(
+    alloc: Global,
+    pacer: &P,
+    script: &Script,
+    at: usize,
+    running: &mut Running<D>,
+)
+    requires sound { IsSoundScript script.now }
+    requires there { at < length script.now.lines }
+    requires before { (epoch : ℤ) × IsRunningAt D.address epoch script.now at running.old }
+    ensures { (epoch : ℤ) → IsRunningAt D.address epoch script.now at running.old → IsRunningAt D.address epoch script.now (at + 1) running.new }
+{
+    law_of_lines();
+    let line = &script.lines.as_slice()[at];
+    let speaker = &mut running.speakers[line.session as usize];
+    speak(
+        alloc,
+        pacer,
+        &mut running.db,
+        speaker,
+        line.statement.as_slice(),
+    );
+}
+
+/// A session's next statement by its text, in room for its reply.
+fn speak<D: Digester, P: Pacer>(
+    alloc: Global,
+    pacer: &P,
+    db: &mut SharedDb,
+    speaker: &mut Speaker<D>,
+    text: &[u8],
+)
+    requires before { (p : plain.Session) × (shared : Shared) × IsBefore D.address speaker.old.session db.old.parts p shared }
+    requires place { number_at speaker.old.session.position + 1 < 2 ^ 32 }
+    requires moments { 2 ≤ db.old.moments_room }
+    requires segments { 2 ≤ db.old.segments_room }
+    requires room { vec_len speaker.old.replies < vec_capacity speaker.old.replies }
+    ensures speaks { (epoch : ℤ) (p : plain.Session) (shared : Shared) → IsBefore D.address speaker.old.session db.old.parts p shared
+        → Speaks D.address epoch p (narrowed runs text.now) shared db.old.parts db.new.parts speaker.old speaker.new }
+    ensures moments { db.old.moments_room ≤ db.new.moments_room + 2 }
+    ensures segments { db.old.segments_room ≤ db.new.segments_room + 2 }
+    ensures room { vec_capacity speaker.new.replies ≡ vec_capacity speaker.old.replies }
+{
+    let statement = number_of(speaker.session.position);
+    pacer.before(speaker.session.number, statement);
+    let reply = serve_text(alloc, db, &mut speaker.session, text);
+    speaker.replies.push_reserved(reply);
+}
+
+fn number_of(place: Place) -> u32
+    ensures { result ≡ number_at place }
+{
+    match place {
+        Place::Before(number) | Place::Between(number) => number,
+    }
+}
+
+/// What each session answered.
+fn replies_of<D: Digester>(
+    alloc: Global,
+    speakers: Vec<Speaker<D>>,
+) -> Result<Sequence<Sequence<Reply>>, AllocError>
+    ensures { IfOk result (λ lists. lists ≡ map (λ speaker. speaker.replies.items) speakers.items) }
+{
+    let mut lists = Sequence::new(alloc);
+    for speaker in speakers {
+        lists.push(Sequence::from_vec(speaker.replies))?;
+    }
+    Ok(lists)
+}

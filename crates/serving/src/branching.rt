@@ -1,0 +1,221 @@
+//! Steps on the list of branches, each at one moment: DOLT_BRANCH and DOLT_CHECKOUT.
+
+ghost use Rattle.std.specs.Prelude.{◌≡◌, ◌≢◌, ◌<◌, ◌+◌, ◌^◌, ℤ, true, None};
+ghost use Rattle.script_text.specs.Collisions.{TellsTruly};
+ghost use Rattle.plain_sessions.specs.Branching.{checkout_name};
+ghost use Rattle.plain_sessions.specs.Fitness.{is_fit_branch, is_fit_checkout, is_fit_new};
+ghost use Rattle.plain_sessions.specs.Records.{Shared};
+ghost use Rattle.plain_sessions.specs.Sessions as plain;
+ghost use Rattle.plain_sessions.specs.declared.commands.Command.TheVariants as command;
+ghost use Rattle.sql_procedures.specs.Arguments.{is_point};
+ghost use Rattle.session_txn.specs.Showing.{is_sound_reply};
+ghost use Rattle.shared_db.specs.Shared.{KeepsRoom};
+ghost use Rattle.shared_db.specs.Stepping.{point_of, step_of_branch, step_of_checkout};
+ghost use Rattle.shared_db.specs.declared.changes.BranchReply.TheVariants as reply;
+ghost use Rattle.serving.specs.Branching.{Went, step_reply};
+ghost use Rattle.serving.specs.Serving.{IsBefore, Serves};
+ghost use Rattle.serving.specs.Steps.{number_at};
+
+use crate::places::{go_on, number_of};
+use crate::rows::{status_row, switched_row};
+use script_text::Reply;
+use session_state::Session;
+use shared_db::{BranchReply, BranchStep, Point, SharedDb};
+use sql_procedures::{BranchRequest, CheckoutRequest, NewBranch};
+use std::alloc::Global;
+use table_root::BranchName;
+use tuple_codec::{Answer, Digester, Text};
+
+/// DOLT_BRANCH; the session goes on to its next statement.
+pub(crate) fn change_branches<D: Digester>(
+    alloc: Global,
+    db: &mut SharedDb,
+    session: &mut Session<D>,
+    request: &BranchRequest,
+) -> Reply
+    requires before { (p : plain.Session) × (shared : Shared) × IsBefore D.address session.old db.old.parts p shared }
+    requires place { number_at session.old.position + 1 < 2 ^ 32 }
+    requires fit { is_fit_branch request.now ≡ true }
+    requires moments { 0 < db.old.moments_room }
+    ensures served { (epoch : ℤ) (p : plain.Session) (shared : Shared) → IsBefore D.address session.old db.old.parts p shared
+        → Serves D.address epoch p (command.OnBranches request.now) shared db.old.parts db.new.parts session.new result }
+    ensures sound { is_sound_reply result ≡ true }
+    ensures truly { TellsTruly D.address result }
+    ensures room { KeepsRoom 0 db.old db.new }
+{
+    let number = number_of(session.position);
+    let reply = step_branches(alloc, db, session, request);
+    go_on(session, number);
+    reply
+}
+
+/// The answer to DOLT_BRANCH, before the session goes on.
+fn step_branches<D: Digester>(
+    alloc: Global,
+    db: &mut SharedDb,
+    session: &Session<D>,
+    request: &BranchRequest,
+) -> Reply
+    requires before { (p : plain.Session) × (shared : Shared) × IsBefore D.address session.now db.old.parts p shared }
+    requires fit { is_fit_branch request.now ≡ true }
+    requires moments { 0 < db.old.moments_room }
+    ensures went { (epoch : ℤ) (p : plain.Session) (shared : Shared) → IsBefore D.address session.now db.old.parts p shared
+        → Went D.address epoch p (command.OnBranches request.now) shared db.old.parts db.new.parts session.now result }
+    ensures sound { is_sound_reply result ≡ true }
+    ensures truly { TellsTruly D.address result }
+    ensures room { KeepsRoom 0 db.old db.new }
+{
+    let step = step_of_branch(request);
+    match status_row(alloc) {
+        Ok(row) => {
+            let number = number_of(session.position);
+            let ended = db.branch_step(session.number, number, &step);
+            step_reply(row, ended)
+        }
+        Err(_) => Reply::Refused(1),
+    }
+}
+
+/// DOLT_CHECKOUT; the session goes on to its next statement, on the branch that it is on then.
+pub(crate) fn check_out<D: Digester>(
+    alloc: Global,
+    db: &mut SharedDb,
+    session: &mut Session<D>,
+    request: &CheckoutRequest,
+) -> Reply
+    requires before { (p : plain.Session) × (shared : Shared) × IsBefore D.address session.old db.old.parts p shared }
+    requires place { number_at session.old.position + 1 < 2 ^ 32 }
+    requires fit { is_fit_checkout request.now ≡ true }
+    requires moments { 0 < db.old.moments_room }
+    ensures served { (epoch : ℤ) (p : plain.Session) (shared : Shared) → IsBefore D.address session.old db.old.parts p shared
+        → Serves D.address epoch p (command.Checkout request.now) shared db.old.parts db.new.parts session.new result }
+    ensures sound { is_sound_reply result ≡ true }
+    ensures truly { TellsTruly D.address result }
+    ensures room { KeepsRoom 0 db.old db.new }
+{
+    let number = number_of(session.position);
+    let reply = go_to(alloc, db, session, request);
+    go_on(session, number);
+    reply
+}
+
+/// The checkout's answer, before the session goes on. A transaction with changes keeps the session where it is; another one is over.
+fn go_to<D: Digester>(
+    alloc: Global,
+    db: &mut SharedDb,
+    session: &mut Session<D>,
+    request: &CheckoutRequest,
+) -> Reply
+    requires before { (p : plain.Session) × (shared : Shared) × IsBefore D.address session.old db.old.parts p shared }
+    requires fit { is_fit_checkout request.now ≡ true }
+    requires moments { 0 < db.old.moments_room }
+    ensures went { (epoch : ℤ) (p : plain.Session) (shared : Shared) → IsBefore D.address session.old db.old.parts p shared
+        → Went D.address epoch p (command.Checkout request.now) shared db.old.parts db.new.parts session.new result }
+    ensures position { session.new.position ≡ session.old.position }
+    ensures sound { is_sound_reply result ≡ true }
+    ensures truly { TellsTruly D.address result }
+    ensures room { KeepsRoom 0 db.old db.new }
+{
+    if session.is_changed() {
+        return Reply::Refused(9006);
+    }
+    let branch = checkout_name(request);
+    match switched_row(alloc, branch.bytes()) {
+        Ok(row) => {
+            let step = step_of_checkout(request);
+            let number = number_of(session.position);
+            let ended = db.branch_step(session.number, number, &step);
+            arrive(session, branch, ended);
+            step_reply(row, ended)
+        }
+        Err(_) => Reply::Refused(1),
+    }
+}
+
+/// Where the step was done the session is on that branch, outside any transaction.
+fn arrive<D: Digester>(session: &mut Session<D>, branch: BranchName, ended: BranchReply)
+    ensures done { ended ≡ reply.Done → session.new ≡ record session.old { branch = branch; start = None } }
+    ensures same { ended ≢ reply.Done → session.new ≡ session.old }
+    ensures draft { session.new.draft ≡ session.old.draft }
+    ensures position { session.new.position ≡ session.old.position }
+{
+    if ended == BranchReply::Done {
+        session.branch = branch;
+        session.start = None;
+    }
+}
+
+/// What a step that ended so is answered.
+fn step_reply(row: Answer, ended: BranchReply) -> Reply
+    ensures { result ≡ step_reply row ended }
+{
+    match ended {
+        BranchReply::Done => Reply::Rows(row),
+        BranchReply::NoSuch => Reply::Refused(9004),
+        BranchReply::Exists => Reply::Refused(9005),
+        BranchReply::Full => Reply::Refused(9010),
+        BranchReply::CheckedOut => Reply::Refused(9014),
+    }
+}
+
+// ---- requests as steps
+
+fn step_of_branch(request: &BranchRequest) -> BranchStep
+    requires { is_fit_branch request.now ≡ true }
+    ensures { result ≡ step_of_branch request.now }
+{
+    match request {
+        BranchRequest::Create(made) => BranchStep::Create(new_name(made), new_point(made)),
+        BranchRequest::Delete(name) => BranchStep::Delete(name_in(name)),
+    }
+}
+
+fn step_of_checkout(request: &CheckoutRequest) -> BranchStep
+    requires { is_fit_checkout request.now ≡ true }
+    ensures { result ≡ step_of_checkout request.now }
+{
+    match request {
+        CheckoutRequest::Existing(name) => BranchStep::Checkout(name_in(name)),
+        CheckoutRequest::New(made) => BranchStep::CheckoutNew(new_name(made), new_point(made)),
+    }
+}
+
+/// The branch on which the session is to be.
+fn checkout_name(request: &CheckoutRequest) -> BranchName
+    requires { is_fit_checkout request.now ≡ true }
+    ensures { result ≡ checkout_name request.now }
+{
+    match request {
+        CheckoutRequest::Existing(name) => name_in(name),
+        CheckoutRequest::New(made) => new_name(made),
+    }
+}
+
+fn new_name(made: &NewBranch) -> BranchName
+    requires { is_fit_new made.now ≡ true }
+    ensures { result ≡ made.now.name }
+{
+    name_in(&made.name)
+}
+
+/// The point at which a branch is to be made.
+fn new_point(made: &NewBranch) -> Point
+    requires { is_fit_new made.now ≡ true }
+    ensures { result ≡ point_of made.now.point }
+{
+    match &made.point {
+        Some(name) => Point::Named(name_in(name)),
+        None => Point::Own,
+    }
+}
+
+/// A name that was judged with its call.
+fn name_in(text: &Text) -> BranchName
+    requires { is_point text.now ≡ true }
+    ensures { result ≡ text.now }
+{
+    match BranchName::read(text.as_slice()) {
+        Some(name) => name,
+        None => unreachable!(),
+    }
+}

@@ -1,0 +1,6 @@
+mod AncestorLemmas
+mod ChangeLemmas
+mod CommitLemmas
+mod HeadLemmas
+mod RowLemmas
+mod SessionLemmas

@@ -1,0 +1,13 @@
+//! What a SELECT finds in the system tables, for a session in a transaction.
+#![tactic(auto)]
+
+mod branches;
+mod cells;
+mod changes;
+mod commits;
+mod log;
+mod names;
+mod parents;
+mod tables;
+
+pub use tables::{shown_ancestors, shown_branches, shown_log, shown_status};

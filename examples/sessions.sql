@@ -1,0 +1,22 @@
+# Two sessions, each in a transaction of its own. Bob and Cy change different cells of one row, and both changes stand after their COMMITs;
+# then both change the same cell, and the second COMMIT is refused by 1213: its changes are dropped, and Cy tries again.
+@ada CREATE TABLE stock (id BIGINT PRIMARY KEY, name VARCHAR(20), amount INT, place VARCHAR(10));
+@ada INSERT INTO stock VALUES (1, 'apple', 5, 'left'), (2, 'pear', 7, 'right');
+@bob BEGIN;
+@cy BEGIN;
+@bob UPDATE stock SET amount = 6 WHERE id = 1;
+@cy UPDATE stock SET place = 'back' WHERE id = 1;
+@cy SELECT * FROM stock;
+@bob COMMIT;
+@cy SELECT * FROM stock;
+@cy COMMIT;
+@ada SELECT * FROM stock;
+@bob BEGIN;
+@cy BEGIN;
+@bob UPDATE stock SET amount = 8 WHERE id = 2;
+@cy UPDATE stock SET amount = 9 WHERE id = 2;
+@bob COMMIT;
+@cy COMMIT;
+@cy SELECT amount FROM stock WHERE id = 2;
+@cy UPDATE stock SET amount = 9 WHERE id = 2;
+@ada SELECT * FROM stock;
