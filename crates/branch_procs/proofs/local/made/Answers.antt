@@ -31,7 +31,7 @@ returns-in-Add-clause-is g c = λ commits state own.
     subst (λ (w : Work). IfOk c.add.result (λ made. IsCandidate address (chunks_of c.add.new.draft.chunks) made (staged_by (root_of commits state.head) w state))) (sym c.in-Add.is)
     (c.add.ensures.is state (state_in address (chunks_of c.args.draft.now.chunks) commits c.args.own.now state own.stands))
 
-pub returns-in_ok-root-in-ResetTo-clause-is : goal.returns-in-ResetTo-clause-is
+pub returns-in_ok-root-in-ResetTo-clause-is : goal.returns-in_ok-root-in-ResetTo-clause-is
 returns-in_ok-root-in-ResetTo-clause-is g c = λ commits state own.
     let address = g.D.Digester.address in
     subst (λ (w : Work). IfOk c.reset_to.result (λ made. IsCandidate address (chunks_of c.reset_to.new.draft.chunks) made (staged_by (root_of commits state.head) w state))) (sym c.in-ResetTo.is)

@@ -7,8 +7,8 @@ use Rattle.sql_procedures.specs.declared.requests.Tables.{Tables}
 use Rattle.sql_procedures.specs.declared.requests.Tables.TheVariants as tables
 use Rattle.branch_procs.proofs.staging.add.Goals as goal
 
-pub returns-in-All-clause-is : goal.returns-in-All-clause-is
-returns-in-All-clause-is g c = λ state stands.
+pub returns-in_ok-made-in-All-clause-is : goal.returns-in_ok-made-in-All-clause-is
+returns-in_ok-made-in-All-clause-is g c = λ state stands.
     subst (λ (which : Tables). IsCandidate g.D.Digester.address (chunks_of c.args.draft.now.chunks) c.in_ok-made-in-All.made (add which state)) (sym c.in-All.is)
     (c.in_ok-made-in-All.ensures state stands)
 
