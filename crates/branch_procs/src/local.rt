@@ -48,12 +48,7 @@ pub fn branch_local<D: Digester>(alloc: Global, session: &mut Session<D>, asked:
 }
 
 /// Does the call, which is answered by this reply.
-fn staged<D: Digester>(
-    alloc: Global,
-    session: &mut Session<D>,
-    asked: &Work,
-    reply: Reply,
-) -> Reply
+fn staged<D: Digester>(alloc: Global, session: &mut Session<D>, asked: &Work, reply: Reply) -> Reply
     requires stands { IsInTransaction D.address session.old }
     requires stages { stages asked.now ≡ true }
     requires reply { reply ≡ status_reply }

@@ -1,4 +1,4 @@
-use Rattle.std.proofs.Common.{◌≡◌, sym, subst, Ok}
+use Rattle.std.proofs.Common.{sym, subst}
 use Rattle.expr_eval.specs.Binding.{Outcome}
 use Rattle.plain_sessions.specs.Branching.{to_commit}
 use Rattle.plain_sessions.specs.Merging.{Worked}

@@ -1,4 +1,3 @@
-use Rattle.std.proofs.Common.{◌≡◌}
 use Rattle.chunk_store.specs.Drafts.{chunks_of}
 use Rattle.branch_procs.proofs.ClosingLemmas.{decided, nothing_said, open_refuses}
 use Rattle.branch_procs.proofs.StageLemmas.{all_there}

@@ -1,4 +1,4 @@
-use Rattle.std.proofs.Common.{◌≡◌, ◌∙◌, sym}
+use Rattle.std.proofs.Common.{◌∙◌, sym}
 use Rattle.chunk_store.specs.Drafts.{chunks_of}
 use Rattle.plain_sessions.specs.Branching.{staged_first}
 use Rattle.branch_procs.proofs.ClosingLemmas.{same_told, says_allowed, says_merging, says_told}

@@ -1,7 +1,6 @@
-use Rattle.std.proofs.Common.{◌≡◌, ◌∙◌, sym, ap, subst, true, List, ℕ}
+use Rattle.std.proofs.Common.{sym, subst}
 use Rattle.std.specs.Prelude.{IfOk}
 use Rattle.chunk_store.specs.Drafts.{chunks_of}
-use Rattle.schema_model.specs.PlainCommits.{is_known}
 use Rattle.plain_sessions.specs.Records.{root_of}
 use Rattle.plain_sessions.specs.declared.commands.Work.{Work}
 use Rattle.root_merge.specs.States.{IsCandidate}
@@ -21,9 +20,12 @@ head_root-requires-after_bounds g c κs within =
 
 pub reset_to-requires-after_bounds : goal.reset_to-requires-after_bounds
 reset_to-requires-after_bounds g c κs within =
-    let (commits, state, own) = c.requires.stands in
-    (state, root_of commits state.head, on_head g.D.Digester.address c.args.draft.now.chunks c.args.own.now commits state own c.in_ok-root-in-ResetTo.root
-    (c.in_ok-root-in-ResetTo.ensures commits own.all_there (head_known_at g.D.Digester.address c.args.draft.now.chunks c.args.own.now commits state own)))
+    let (commits, state, own) = c.requires.stands in (
+      state,
+      root_of commits state.head,
+      on_head g.D.Digester.address c.args.draft.now.chunks c.args.own.now commits state own c.in_ok-root-in-ResetTo.root
+          (c.in_ok-root-in-ResetTo.ensures commits own.all_there (head_known_at g.D.Digester.address c.args.draft.now.chunks c.args.own.now commits state own)),
+    )
 
 pub returns-in-Add-clause-is : goal.returns-in-Add-clause-is
 returns-in-Add-clause-is g c = λ commits state own.

@@ -1,6 +1,5 @@
 use Rattle.std.proofs.Common.{◌≡◌, sym, ap}
 use Rattle.std.proofs.lemmas.Result.{IfOk-weaker}
-use Rattle.schema_model.specs.PlainTables as plain
 use Rattle.chunk_store.specs.Drafts.{chunks_of}
 use Rattle.constraint_scan.proofs.StandLemmas.{parts_of}
 use Rattle.plain_sessions.specs.Branching.{is_open}

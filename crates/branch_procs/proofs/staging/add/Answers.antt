@@ -1,4 +1,4 @@
-use Rattle.std.proofs.Common.{◌≡◌, sym, subst, List, ℕ}
+use Rattle.std.proofs.Common.{sym, subst, List, ℕ}
 use Rattle.std.specs.Prelude.{IfOk}
 use Rattle.chunk_store.specs.Drafts.{chunks_of}
 use Rattle.plain_sessions.specs.Branching.{add}

@@ -1,6 +1,4 @@
-use Rattle.std.proofs.Common.{◌≡◌, ◌∙◌, sym, ap, subst, List}
 use Rattle.chunk_store.specs.Drafts.{chunks_of}
-use Rattle.table_root.specs.declared.records.NamedTable.{NamedTable}
 use Rattle.branch_procs.proofs.StageLemmas.{added_all, all_there, few_enough, few_of, open_refused, stand_as}
 use Rattle.branch_procs.proofs.staging.add_all.Goals as goal
 

@@ -1,4 +1,4 @@
-use Rattle.std.proofs.Common.{◌≡◌, ◌∷◌, drop}
+use Rattle.std.proofs.Common.{◌≡◌, drop}
 use Rattle.chunk_store.specs.Drafts.{chunks_of}
 use Rattle.plain_sql.specs.Lists.{each}
 use Rattle.plain_sessions.specs.Branching.{may_stage}
