@@ -1,8 +1,7 @@
 -- What a commit stages first, and why it has no decision.
-use Rattle.std.proofs.Common.{◌≡◌, refl, sym, ap, ◌∙◌, subst, ℕ, Bool, true, false, ◌&&◌, ◌||◌, not, nat_le, is_some, List, [], ◌∷◌, ◌++◌, fold, length, map, Option, None, Some, Result, Ok, Err, bytes_eq}
+use Rattle.std.proofs.Common.{◌≡◌, refl, sym, ap, ◌∙◌, subst, ℕ, Bool, true, false, ◌&&◌, ◌||◌, not, is_some, List, [], ◌∷◌, ◌++◌, fold, length, map, Option, None, Some, Ok, Err, bytes_eq}
 use Rattle.std.specs.Cmp.Lexicographic.{bytes_decides}
 use Rattle.std.specs.List.{AllByRecursion}
-use Rattle.std.specs.Option.{option_map}
 use Rattle.std.proofs.lemmas.Bool.{leb-true}
 use Rattle.tuple_codec.specs.Rows.{AreTold}
 use Rattle.tuple_codec.specs.declared.addresses.Address.{Address}
@@ -10,7 +9,7 @@ use Rattle.tuple_codec.specs.declared.records.BranchRecord.{BranchRecord}
 use Rattle.schema_model.specs.Limits.{most_tables}
 use Rattle.schema_model.specs.PlainTables as plain
 use Rattle.schema_model.specs.PlainTables.{PlainDatabase, PlainTable}
-use Rattle.schema_model.specs.Sameness.{SamenessIsEquality, is_same_database, is_same_table}
+use Rattle.schema_model.specs.Sameness.{is_same_database, is_same_table}
 use Rattle.schema_model.specs.WrittenForms.{table_address}
 use Rattle.chunk_store.specs.Chunks.{Chunks}
 use Rattle.expr_eval.specs.Binding.{Outcome, and_then}
@@ -18,10 +17,9 @@ use Rattle.table_root.specs.Standing.{IsTableAt, TablesStand, named_tables}
 use Rattle.table_root.specs.declared.records.NamedTable.{NamedTable}
 use Rattle.plain_sql.specs.Lists.{unless}
 use Rattle.sql_procedures.specs.declared.requests.CommitRequest.{CommitRequest}
-use Rattle.sql_procedures.specs.declared.requests.Staging.TheVariants as staging
 use Rattle.plain_sessions.specs.Branching as plain_branching
 use Rattle.plain_sessions.specs.Branching.{is_open, names_in, says_something, staged_first, to_commit}
-use Rattle.plain_sessions.specs.Merging.{Worked, Closes, Committing}
+use Rattle.plain_sessions.specs.Merging.{Closes, Committing}
 use Rattle.plain_sessions.specs.Records.{BranchState}
 use Rattle.plain_sessions.specs.Sessions as plain_sessions
 use Rattle.plain_sessions.specs.Statements.{commit_worked, worked}
@@ -31,7 +29,7 @@ use Rattle.write_laws.proofs.OrderLemmas.{clash, two}
 use Rattle.state_laws.proofs.PutLemmas.{taking_few}
 use Rattle.branch_procs.specs.Closing.{IsVerdict}
 use Rattle.branch_procs.specs.Listing.{AreFewTables}
-use Rattle.branch_procs.specs.Staging.{are_same, is_same, refusal_of}
+use Rattle.branch_procs.specs.Staging.{are_same, refusal_of}
 use Rattle.branch_procs.specs.Taking.{taking, taking_all}
 use Rattle.branch_procs.proofs.TablesLemmas.{few_so}
 use Rattle.branch_procs.proofs.TakingLemmas.{kept_of, taken_are}

@@ -1,5 +1,5 @@
 -- A session after a call that stages tables or sets them back.
-use Rattle.std.proofs.Common.{◌≡◌, refl, sym, ◌∙◌, ap, subst, inl, inr, ◌⊎◌, ℕ, Bool, true, false, ◌&&◌, not, List, [], ◌∷◌, ◌++◌, length, nat_lt, Option, None, Some, Result, Ok, Err, cond, arith}
+use Rattle.std.proofs.Common.{◌≡◌, refl, sym, ◌∙◌, ap, subst, inl, inr, ℕ, Bool, true, false, List, [], ◌∷◌, ◌++◌, length, nat_lt, Option, None, Some, Ok, Err, arith}
 use Rattle.std.specs.Option.{option_map_or}
 use Rattle.std.proofs.lemmas.Bool.Decides.{nat_tests}
 use Rattle.tuple_codec.specs.declared.addresses.Address.{Address}
@@ -20,9 +20,9 @@ use Rattle.schema_model.specs.PlainTables.{PlainDatabase}
 use Rattle.script_text.specs.Collisions.{TellsTruly}
 use Rattle.script_text.specs.Output.{shortage}
 use Rattle.script_text.specs.declared.replies.Reply.{Reply}
-use Rattle.script_text.specs.declared.replies.Reply.TheVariants.{Refused, Collided}
+use Rattle.script_text.specs.declared.replies.Reply.TheVariants.{Refused}
 use Rattle.table_root.specs.declared.heads.Look.{Look}
-use Rattle.plain_sql.specs.Lists.{each, unless}
+use Rattle.plain_sql.specs.Lists.{each}
 use Rattle.sql_procedures.specs.declared.requests.Reset.{Reset}
 use Rattle.sql_procedures.specs.declared.requests.Reset.TheVariants as reset
 use Rattle.sql_procedures.specs.declared.requests.Tables.{Tables}

@@ -2,11 +2,10 @@
 use Rattle.std.proofs.Common.{◌≡◌, refl, sym, ap, ◌∙◌, subst, ℕ, true, List, Option, None, Some}
 use Rattle.std.specs.Prelude.{is_some}
 use Rattle.std.proofs.lemmas.Option.{same_Some}
-use Rattle.tuple_codec.specs.declared.addresses.Address.{Address}
 use Rattle.schema_model.specs.PlainCommits.{Commits, PlainCommit, commit_parts, is_known}
 use Rattle.schema_model.specs.PlainTables.{PlainDatabase}
 use Rattle.schema_model.specs.WrittenForms.{CommitParts, commit_bytes, database_address}
-use Rattle.chunk_store.specs.Chunks.{Chunks, Extends, bytes_at}
+use Rattle.chunk_store.specs.Chunks.{Extends, bytes_at}
 use Rattle.chunk_store.specs.Drafts.{DraftParts, chunks_of}
 use Rattle.chunk_store.specs.Laws.{ChunksFollow}
 use Rattle.commit_graph.specs.Commits.{HasCommit, HasOneSpelling, IsCommitFound, parts_of}

@@ -1,5 +1,5 @@
 -- What is staged, and by what a call is refused.
-use Rattle.std.proofs.Common.{◌≡◌, ◌≤◌, refl, sym, ap, ◌∙◌, subst, ℕ, Bool, true, false, ◌||◌, not, nat_lt, is_some, List, [], ◌∷◌, length, Option, None, Some, Result, Ok, Err, if◌then◌else◌, arith}
+use Rattle.std.proofs.Common.{◌≡◌, ◌≤◌, refl, sym, ap, ◌∙◌, subst, ℕ, Bool, true, false, ◌||◌, not, nat_lt, is_some, List, [], ◌∷◌, length, Option, None, Some, Ok, Err, if◌then◌else◌, arith}
 use Rattle.std.specs.Option.{option_map, option_map_or, option_or}
 use Rattle.std.proofs.lemmas.Bool.{ltb-false}
 use Rattle.std.proofs.lemmas.Bool.Decides.{nat_tests}
@@ -7,7 +7,6 @@ use Rattle.tuple_codec.specs.declared.addresses.Address.{Address}
 use Rattle.tuple_codec.specs.declared.records.BranchRecord.{BranchRecord}
 use Rattle.schema_model.specs.Limits.{most_tables}
 use Rattle.schema_model.specs.PlainTables.{PlainDatabase, PlainTable}
-use Rattle.schema_model.specs.WrittenForms.{table_address}
 use Rattle.chunk_store.specs.Chunks.{Chunks, Extends}
 use Rattle.constraint_scan.specs.Scanning.{AreThere, IsKeptAt}
 use Rattle.expr_eval.specs.Binding.{Outcome, and_then}
@@ -23,7 +22,6 @@ use Rattle.root_merge.specs.declared.candidates.Candidate.TheVariants as made
 use Rattle.sql_procedures.specs.declared.requests.Reset.TheVariants as reset
 use Rattle.sql_procedures.specs.declared.requests.Tables.TheVariants as tables
 use Rattle.sql_write.specs.Putting.{address_in}
-use Rattle.write_laws.proofs.OrderLemmas.{two}
 use Rattle.sql_write.proofs.TableLemmas.{count_names}
 use Rattle.branch_procs.specs.Listing.{AreFewTables, AreTables}
 use Rattle.branch_procs.specs.Staging.{AreBoth, CanStage, absence, first_absence, refusal_of, reset_absence}
@@ -217,12 +215,12 @@ module _ (address : List ℕ → List ℕ) (chunks : Chunks) where
         others_are = record { is_database = b.is_database; within = b.within; stand = b.stand; listed = second ∙ b.listed };
       }
 
-  pub resets_listed : (ones others : List NamedTable) (root : PlainDatabase) (state : BranchState) (head staged : List NamedTable) (names : List (List ℕ)) → head ≡ ones → staged ≡ others
-      → AreFewTables address chunks ones root → AreFewTables address chunks others state.staged → first_absence head staged names ≡ refusal_of (each (may_reset root state) names)
-  resets_listed ones others root state head staged names first second few more =
+  pub resets_listed : (ones others : List NamedTable) (root : PlainDatabase) (state : BranchState) (head staged : List NamedTable) (names : List (List ℕ)) (found : Option ℕ) → found ≡ first_absence head staged names
+      → head ≡ ones → staged ≡ others → AreFewTables address chunks ones root → AreFewTables address chunks others state.staged → found ≡ refusal_of (each (may_reset root state) names)
+  resets_listed ones others root state head staged names found told first second few more =
       let a = few.tables_are in
       let b = more.tables_are in
-      resets_told address root state head staged names (first ∙ a.listed) (second ∙ b.listed)
+      told ∙ resets_told address root state head staged names (first ∙ a.listed) (second ∙ b.listed)
 
   pub can_stage : (ones others taken shown : List NamedTable) (own : BranchRecord) (state : BranchState) (from : PlainDatabase) (names : List (List ℕ)) → StateStands address chunks own state
       → AreFewTables address chunks ones from → AreFewTables address chunks others state.staged → taken ≡ chunk_taking_all ones others names → shown ≡ taken

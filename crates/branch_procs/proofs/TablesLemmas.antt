@@ -1,5 +1,5 @@
 -- Lists of the tables of databases that keep the limits on data.
-use Rattle.std.proofs.Common.{◌≡◌, ◌≤◌, refl, sym, subst, ℕ, true, ◌&&◌, nat_le, List, [], ◌∷◌, length}
+use Rattle.std.proofs.Common.{◌≡◌, ◌≤◌, sym, subst, ℕ, true, nat_le, List, length}
 use Rattle.std.specs.List.{list_all}
 use Rattle.std.proofs.lemmas.Bool.{le-leb}
 use Rattle.schema_model.specs.Limits.{is_database_within_limits, is_named_within_limits, most_tables}

@@ -1,7 +1,6 @@
 -- Tables taken from one database into another: by databases, and by lists of their tables.
-use Rattle.std.proofs.Common.{◌≡◌, refl, sym, ap, ◌∙◌, subst, ℕ, Bool, true, false, cond, not, nat_cmp, is_lt, is_eq, List, [], ◌∷◌, fold, filter, Option, None, Some, bytes_eq, if◌then◌else◌}
-use Rattle.std.specs.Cmp.Lexicographic.{slice_cmp}
-use Rattle.std.specs.List.{AllByRecursion, find, list_all, list_any}
+use Rattle.std.proofs.Common.{◌≡◌, refl, sym, ap, ◌∙◌, subst, ℕ, Bool, true, false, cond, not, is_lt, is_eq, List, [], ◌∷◌, fold, filter, Option, None, Some, bytes_eq, if◌then◌else◌}
+use Rattle.std.specs.List.{AllByRecursion, find, list_all}
 use Rattle.std.specs.Option.{option_map}
 use Rattle.std.specs.Ordering.{ordering_reverse}
 use Rattle.std.specs.declared.cmp.Ordering.{Ordering}
@@ -17,17 +16,15 @@ use Rattle.schema_model.specs.WrittenForms.{table_address}
 use Rattle.chunk_store.specs.Chunks.{Chunks}
 use Rattle.table_root.specs.Standing.{IsTableAt, named_tables}
 use Rattle.table_root.specs.declared.records.NamedTable.{NamedTable}
-use Rattle.plain_sql.specs.Lists.{has, in_order, placed}
+use Rattle.plain_sql.specs.Lists.{has, placed}
 use Rattle.plain_writes.specs.Violations.{is_called, table_in}
 use Rattle.plain_schemas.specs.Effects.{placed_in}
 use Rattle.plain_sessions.specs.Branching as plain_branching
 use Rattle.plain_sessions.specs.Branching.{put_table, table_cmp, without_table}
 use Rattle.schema_laws.proofs.ListLemmas.{filter_keep}
-use Rattle.sql_write.specs.Listing.{without}
 use Rattle.sql_write.specs.Listing as listing
 use Rattle.sql_write.specs.Putting.{address_in}
 use Rattle.sql_write.proofs.ListingLemmas.{all_without, named_placed, named_without}
-use Rattle.write_laws.specs.Laws.{IsKept}
 use Rattle.write_laws.proofs.OrderLemmas.{both_so, clash, either_way, left_not, placed_past, placed_stop, right_not, turned, two}
 use Rattle.state_laws.proofs.KeptLemmas.{AreKept, IsKeptNamed, are_kept, by_name, have_so}
 use Rattle.state_laws.proofs.OnceLemmas.{none_tied}

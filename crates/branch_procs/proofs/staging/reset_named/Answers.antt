@@ -24,9 +24,9 @@ returns-in-Some-clause-is g c = λ state database on.
     let head = c.in_ok-head.ensures database on.root_stands in
     let staged = c.in_ok-staged.ensures state.staged stands.staged in
     refused_so address chunks (each (may_reset database state) c.args.names.now) (λ named. staged_as state (taking_all database state.staged named)) c.in-Some.number
-    (sym c.in-Some.is ∙ c.reset_refusal-refusal.ensures
+    (sym c.in-Some.is
     ∙ resets_listed address chunks c.in_ok-head.head.items c.in_ok-staged.staged.items database state c.as_slice.result.now c.as_slice-2.result.now c.args.names.now
-    c.as_slice.ensures.value c.as_slice-2.ensures.value head staged)
+    c.reset_refusal-refusal.result c.reset_refusal-refusal.ensures c.as_slice.ensures.value c.as_slice-2.ensures.value head staged)
 
 pub stage_tables-requires-after_bounds : goal.stage_tables-requires-after_bounds
 stage_tables-requires-after_bounds g c κs within =
@@ -52,9 +52,9 @@ returns-clause-is g c = λ state database on.
     IfOk-weaker c.stage_tables.result (λ m. IsCandidate address new m (staged_as state (taking_all database state.staged c.args.names.now)))
     (λ m. IsCandidate address new m (reset_to database (reset.Tables (tables.Named c.args.names.now)) state))
     (λ m is. reset_named address new m database state c.args.names.now
-    (sym c.in-None.is ∙ c.reset_refusal-refusal.ensures
+    (sym c.in-None.is
     ∙ resets_listed address chunks c.in_ok-head.head.items c.in_ok-staged.staged.items database state c.as_slice.result.now c.as_slice-2.result.now c.args.names.now
-    c.as_slice.ensures.value c.as_slice-2.ensures.value head staged) is)
+    c.reset_refusal-refusal.result c.reset_refusal-refusal.ensures c.as_slice.ensures.value c.as_slice-2.ensures.value head staged) is)
     (c.stage_tables.ensures.is state (taking_all database state.staged c.args.names.now)
     (can_stage address chunks c.as_slice-in-None.result.now c.in_ok-staged.staged.items c.in_ok-made-in-None.made.items c.as_slice-in-None-2.result.now
     c.args.own.now state database c.args.names.now stands
