@@ -1,0 +1,7 @@
+mod TablesLemmas
+mod OpenLemmas
+mod TakingLemmas
+mod StageLemmas
+mod RootLemmas
+mod LocalLemmas
+mod ClosingLemmas

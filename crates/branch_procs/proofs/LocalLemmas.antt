@@ -1,0 +1,333 @@
+-- A session after a call that stages tables or sets them back.
+use Rattle.std.proofs.Common.{◌≡◌, refl, sym, ◌∙◌, ap, subst, inl, inr, ℕ, Bool, true, false, List, [], ◌∷◌, ◌++◌, length, nat_lt, Option, None, Some, Ok, Err, arith}
+use Rattle.std.specs.Option.{option_map_or}
+use Rattle.std.proofs.lemmas.Bool.Decides.{nat_tests}
+use Rattle.tuple_codec.specs.declared.addresses.Address.{Address}
+use Rattle.tuple_codec.specs.declared.records.BranchRecord.{BranchRecord}
+use Rattle.chunk_store.specs.Chunks.{Chunk, Chunks, Listed, bytes_at}
+use Rattle.chunk_store.specs.Clashes.{IsReason}
+use Rattle.chunk_store.specs.Drafts.{AreOfKind, Drafting, DraftParts, Grows, IsNamed, IsSound, Longer, chunks_of, cut_to}
+use Rattle.chunk_store.specs.Kinds.{is_commit, is_database}
+use Rattle.chunk_store.specs.Laws.{ChunksFollow, DraftsFollow, DraftsGrow}
+use Rattle.chunk_store.specs.declared.faults.PutFault.{PutFault}
+use Rattle.chunk_store.specs.declared.faults.PutFault.TheVariants.{Memory, Collision}
+use Rattle.chunk_store.proofs.ChunkLemmas.{at_join, either_some}
+use Rattle.constraint_scan.specs.Scanning.{IsKeptAt}
+use Rattle.expr_eval.specs.Binding.{Outcome, and_then}
+use Rattle.schema_model.specs.Limits.{most_tables}
+use Rattle.schema_model.specs.PlainCommits.{Commits, is_known}
+use Rattle.schema_model.specs.PlainTables.{PlainDatabase}
+use Rattle.script_text.specs.Collisions.{TellsTruly}
+use Rattle.script_text.specs.Output.{shortage}
+use Rattle.script_text.specs.declared.replies.Reply.{Reply}
+use Rattle.script_text.specs.declared.replies.Reply.TheVariants.{Refused}
+use Rattle.table_root.specs.declared.heads.Look.{Look}
+use Rattle.plain_sql.specs.Lists.{each}
+use Rattle.sql_procedures.specs.declared.requests.Reset.{Reset}
+use Rattle.sql_procedures.specs.declared.requests.Reset.TheVariants as reset
+use Rattle.sql_procedures.specs.declared.requests.Tables.{Tables}
+use Rattle.sql_procedures.specs.declared.requests.Tables.TheVariants as tables
+use Rattle.plain_sessions.specs.Branching.{add, is_open, may_reset, may_stage, reset_to, staged_as, taking_all}
+use Rattle.plain_sessions.specs.Moments.{is_in_transaction}
+use Rattle.plain_sessions.specs.Records.{BranchState, clean_at, root_of}
+use Rattle.plain_sessions.specs.Replies.{refused}
+use Rattle.plain_sessions.specs.Sessions as plain
+use Rattle.plain_sessions.specs.Sessions.{Said, Transaction, own_root, with_own, within}
+use Rattle.plain_sessions.specs.Statements.{staged, worked}
+use Rattle.plain_sessions.specs.declared.commands.Command.TheVariants as command
+use Rattle.plain_sessions.specs.declared.commands.Work.{Work}
+use Rattle.plain_sessions.specs.declared.commands.Work.TheVariants.{Ask, Change, Add, ResetTo, Commit, Merge, Resolve, Verify}
+use Rattle.root_merge.specs.States.{IsCandidate, StateStands}
+use Rattle.root_merge.specs.declared.candidates.Candidate.{Candidate}
+use Rattle.root_merge.specs.declared.candidates.Candidate.TheVariants as cand
+use Rattle.session_laws.specs.Commits.{HasNoCommit}
+use Rattle.session_laws.specs.Laws.{TransactionsFollow}
+use Rattle.session_laws.specs.Records.{RecordStands}
+use Rattle.session_laws.specs.Transactions.{StartStands, TransactionStands}
+use Rattle.session_state.specs.Standing.{SessionStands}
+use Rattle.session_state.specs.declared.sessions.Session.{Session}
+use Rattle.session_txn.specs.Answering.{AnswersAlone}
+use Rattle.session_txn.specs.Showing.{IsDue, is_sound_reply}
+use Rattle.session_txn.proofs.AloneLemmas.{answers_due, answers_so, collides, starves, takes_none, worked_ill, worked_well}
+use Rattle.session_txn.proofs.SessionLemmas.{has_one}
+use Rattle.session_txn.proofs.ShowLemmas.{due_truly}
+use Rattle.branch_procs.specs.Calls.{IsExcused, IsTold, OwnStands, Settles, Stages, staged_by, stages, status_reply}
+use Rattle.branch_procs.specs.Staging.{StandsOn}
+use Rattle.branch_procs.proofs.StageLemmas.{ok_same, past_unless}
+
+-- ---- what the state names
+
+abbrev pub Known : Commits → BranchState → Type 0
+Known commits state = (is_known commits state.head ≡ true) × (option_map_or (is_known commits) state.merging true ≡ true)
+
+pub gives : {A B : Type 0} (P : Type 0) (x : Outcome A) (f : A → Outcome B) (y : B) → and_then x f ≡ Ok y → ((a : A) → x ≡ Ok a → f a ≡ Ok y → P) → P
+gives P (Ok a) f y is next = next a refl is
+gives P (Err number) f y is next = absurd (cc)
+
+module _ (commits : Commits) (own made : BranchState) (known : Known commits own) where
+  known_staged : (database : PlainDatabase) → staged_as own database ≡ Ok made → Known commits made
+  known_staged database is =
+      let after : BranchState = record own { staged = database } in
+      subst (Known commits) (ok_same after made (past_unless (nat_lt most_tables (length database)) 9010 (Ok after) made is)) known
+
+  known_added : (which : Tables) → add which own ≡ Ok made → Known commits made
+  known_added tables.All is = known_staged own.working (past_unless (is_open own.working) 9011 (staged_as own own.working) made is)
+  known_added (tables.Named names) is =
+      gives (Known commits made) (each (may_stage own) names) (λ named. staged_as own (taking_all own.working own.staged named)) made is
+      (λ named _ e. known_staged (taking_all own.working own.staged named) e)
+
+  known_reset : (root : PlainDatabase) (which : Reset) → reset_to root which own ≡ Ok made → Known commits made
+  known_reset root reset.Hard is = subst (Known commits) (ok_same (clean_at own.head root) made is) (known.0, refl)
+  known_reset root (reset.Tables tables.All) is = let after : BranchState = record own { staged = root } in subst (Known commits) (ok_same after made is) known
+  known_reset root (reset.Tables (tables.Named names)) is =
+      gives (Known commits made) (each (may_reset root own) names) (λ named. staged_as own (taking_all root own.staged named)) made is
+      (λ named _ e. known_staged (taking_all root own.staged named) e)
+
+  -- its commits are those that were named before
+  pub known_after : (root : PlainDatabase) (asked : Work) → staged_by root asked own ≡ Ok made → Known commits made
+  known_after root (Add which) is = known_added which is
+  known_after root (ResetTo which) is = known_reset root which is
+  known_after root (Ask one) is = subst (Known commits) (ok_same own made is) known
+  known_after root (Change write) is = subst (Known commits) (ok_same own made is) known
+  known_after root (Commit request) is = subst (Known commits) (ok_same own made is) known
+  known_after root (Merge request) is = subst (Known commits) (ok_same own made is) known
+  known_after root (Resolve request) is = subst (Known commits) (ok_same own made is) known
+  known_after root (Verify way) is = subst (Known commits) (ok_same own made is) known
+
+pub record_in : (address : List ℕ → List ℕ) (chunks : Chunks) (commits : Commits) (rec : BranchRecord) (state : BranchState) → StateStands address chunks rec state → Known commits state
+    → RecordStands address chunks commits rec state
+record_in address chunks commits rec state stands known = record {
+  head = stands.head;
+  working = stands.working;
+  staged = stands.staged;
+  merging = stands.merging;
+  head_known = known.0;
+  merging_known = known.1;
+}
+
+pub state_in : (address : List ℕ → List ℕ) (chunks : Chunks) (commits : Commits) (rec : BranchRecord) (state : BranchState) → RecordStands address chunks commits rec state
+    → StateStands address chunks rec state
+state_in address chunks commits rec state stands = record { head = stands.head; working = stands.working; staged = stands.staged; merging = stands.merging }
+
+-- ---- the head
+
+pub head_known_at : (address : List ℕ → List ℕ) (draft : DraftParts) (own : BranchRecord) (commits : Commits) (state : BranchState) → OwnStands address draft own commits state
+    → is_known commits own.head.0 ≡ true
+head_known_at address draft own commits state at = let stands = at.stands in ap (is_known commits) stands.head ∙ stands.head_known
+
+pub on_head : (address : List ℕ → List ℕ) (draft : DraftParts) (own : BranchRecord) (commits : Commits) (state : BranchState) → OwnStands address draft own commits state → (root : Address)
+    → IsKeptAt address (chunks_of draft) root.0 (root_of commits own.head.0) → StandsOn address (chunks_of draft) own root state (root_of commits state.head)
+on_head address draft own commits state at root kept =
+    let stands = at.stands in
+    record {
+      stands = state_in address (chunks_of draft) commits own state stands;
+      root_stands = subst (λ (k : List ℕ). IsKeptAt address (chunks_of draft) root.0 (root_of commits k)) stands.head kept;
+    }
+
+-- ---- the draft
+
+of_kind : (kind : List ℕ → Bool) (cs : List Chunk) (k bytes : List ℕ) → AreOfKind kind cs → Listed cs k bytes → kind bytes ≡ true
+of_kind kind [] k bytes all listed = absurd listed
+of_kind kind (c ∷ cs) k bytes all (inl is) = ap kind (sym is.1) ∙ all.0
+of_kind kind (c ∷ cs) k bytes all (inr listed) = of_kind kind cs k bytes all.1 listed
+
+database_apart : (bytes : List ℕ) → is_database bytes ≡ true → is_commit bytes ≡ true → ⊥
+database_apart [] h is = absurd (cc)
+database_apart (byte ∷ bytes) h is =
+    let five : byte ≡ 5 = grind (arith, nat_tests) in
+    let wrong : false ≡ true = ap (λ (n : ℕ). is_database (n ∷ bytes)) (sym five) ∙ h in absurd (cc)
+
+-- databases more are no commits
+no_commit_more : ChunksFollow → (own more : List Chunk) → HasNoCommit own → AreOfKind is_database more → HasNoCommit (own ++ more)
+no_commit_more laws own more none all k bytes there is =
+    elim (either_some (bytes_at own k) (bytes_at more k) bytes (sym (at_join own more k) ∙ there)) [
+      | inl here ↦ none k bytes here is
+      | inr here ↦ database_apart bytes (of_kind is_database more k bytes all (laws.is_listed more k bytes here)) is
+    ]
+
+-- ---- the call on the own record
+
+pub done_so : (address : List ℕ → List ℕ) (old new : Drafting) (before after : BranchRecord) (m : Candidate) (wanted : Outcome BranchState) (reply : Reply) → m ≡ cand.Record after
+    → IsCandidate address (chunks_of new.chunks) m wanted → Grows is_database old new → reply ≡ status_reply → Stages address old new before after wanted reply
+done_so address old new before after m wanted reply is stood grows told = by wanted (subst (λ (c : Candidate). IsCandidate address (chunks_of new.chunks) c wanted) is stood) where
+  by : (wanted : Outcome BranchState) → IsCandidate address (chunks_of new.chunks) (cand.Record after) wanted → Stages address old new before after wanted reply
+  by (Ok state) stood = inl (record { made = state; is = refl; reply_is = told; stands = stood; grows = grows })
+  by (Err number) stood = absurd stood
+
+undone : (address : List ℕ → List ℕ) (old mid new : Drafting) (before : BranchRecord) (mark : ℕ) (wanted : Outcome BranchState) (reply : Reply) → DraftsFollow → DraftsGrow
+    → mark ≡ length old.chunks.own → Grows is_database old mid → new.chunks ≡ cut_to mark mid.chunks → IsExcused wanted reply → Stages address old new before before wanted reply
+undone address old mid new before mark wanted reply drafts growth at grows cut excused = inr (record {
+  chunks = cut ∙ ap (λ (n : ℕ). cut_to n mid.chunks) at ∙ drafts.comes_back old.chunks mid.chunks (growth.is_longer is_database old mid grows);
+  record_is = refl;
+  excused = excused;
+})
+
+pub refused_so : (address : List ℕ → List ℕ) (old mid new : Drafting) (before : BranchRecord) (mark : ℕ) (m : Candidate) (number : ℕ) (wanted : Outcome BranchState) (reply : Reply) → DraftsFollow → DraftsGrow
+    → mark ≡ length old.chunks.own → Grows is_database old mid → new.chunks ≡ cut_to mark mid.chunks → m ≡ cand.Refused number → IsCandidate address (chunks_of mid.chunks) m wanted
+    → IsDue 1 (Refused number) reply → Stages address old new before before wanted reply
+refused_so address old mid new before mark m number wanted reply drafts growth at grows cut is stood owed =
+    undone address old mid new before mark wanted reply drafts growth at grows cut (by wanted (subst (λ (c : Candidate). IsCandidate address (chunks_of mid.chunks) c wanted) is stood))
+  where
+    by : (wanted : Outcome BranchState) → IsCandidate address (chunks_of mid.chunks) (cand.Refused number) wanted → IsExcused wanted reply
+    by (Ok state) stood = absurd stood
+    by (Err other) same = inl (number, ap (λ (n : ℕ). let o : Outcome BranchState = Err n in o) (sym same), owed)
+
+pub failed_so : (address : List ℕ → List ℕ) (old mid new : Drafting) (before : BranchRecord) (mark : ℕ) (fault : PutFault) (wanted : Outcome BranchState) (reply : Reply) → DraftsFollow → DraftsGrow
+    → mark ≡ length old.chunks.own → Grows is_database old mid → new.chunks ≡ cut_to mark mid.chunks → IsTold fault reply → Stages address old new before before wanted reply
+failed_so address old mid new before mark Memory wanted reply drafts growth at grows cut told = undone address old mid new before mark wanted reply drafts growth at grows cut (inr (inl told))
+failed_so address old mid new before mark (Collision clash) wanted reply drafts growth at grows cut told =
+    undone address old mid new before mark wanted reply drafts growth at grows cut (inr (inr (clash, told)))
+
+-- a collision that is told is one
+pub fails_truly : (address : List ℕ → List ℕ) (old mid : Drafting) (fault : PutFault) (reply : Reply) → ChunksFollow → DraftsFollow → DraftsGrow → IsNamed address old.chunks
+    → IsSound address mid.chunks → Grows is_database old mid → IsReason address (chunks_of mid.chunks) fault → IsTold fault reply → TellsTruly address reply
+fails_truly address old mid Memory reply chunks drafts growth named sound grows reason told = subst (λ (r : Reply). TellsTruly address r) (sym told) tt
+fails_truly address old mid (Collision clash) reply chunks drafts growth named sound grows reason told =
+    let longer = growth.is_longer is_database old mid grows in
+    subst (λ (r : Reply). TellsTruly address r) (sym told) (record {
+      first = chunks.is_named address (mid.chunks.base ++ mid.chunks.own) clash.address.0 clash.first
+          (drafts.all_named address mid.chunks (drafts.still_named address old.chunks mid.chunks longer named) sound) reason.is_held;
+      second = reason.is_brought;
+      differ = reason.differ;
+    })
+
+pub settled_so : (address : List ℕ → List ℕ) (old mid new : Drafting) (before after : BranchRecord) (mark : ℕ) (m : Candidate) (wanted : Outcome BranchState) (reply : Reply) → DraftsFollow → DraftsGrow
+    → mark ≡ length old.chunks.own → Grows is_database old mid → IsCandidate address (chunks_of mid.chunks) m wanted → Settles mark mid new before after m reply
+    → Stages address old new before after wanted reply
+settled_so address old mid new before after mark (cand.Record rec) wanted reply drafts growth at grows stood s =
+    done_so address old new before after (cand.Record rec) wanted reply (ap cand.Record (sym s.1))
+    (subst (λ (d : Drafting). IsCandidate address (chunks_of d.chunks) (cand.Record rec) wanted) (sym s.0) stood)
+    (subst (λ (d : Drafting). Grows is_database old d) (sym s.0) grows) s.2
+settled_so address old mid new before after mark (cand.Refused number) wanted reply drafts growth at grows stood s =
+    subst (λ (r : BranchRecord). Stages address old new before r wanted reply) (sym s.1)
+    (refused_so address old mid new before mark (cand.Refused number) number wanted reply drafts growth at grows s.0 refl stood s.2)
+
+pub status_sound : (reply : Reply) → reply ≡ status_reply → is_sound_reply reply ≡ true
+status_sound reply is = ap is_sound_reply is ∙ refl
+
+pub status_truly : (address : List ℕ → List ℕ) (reply : Reply) → reply ≡ status_reply → TellsTruly address reply
+status_truly address reply is = subst (λ (r : Reply). TellsTruly address r) (sym is) tt
+
+pub base_back : (old mid new : DraftParts) (mark : ℕ) → mid.base ≡ old.base → new ≡ cut_to mark mid → new.base ≡ old.base
+base_back old mid new mark same cut = ap (λ (d : DraftParts). d.base) cut ∙ same
+
+-- ---- the session
+
+-- its own record stands in its draft
+own_by : (address : List ℕ → List ℕ) (draft : DraftParts) (start : Option Look) (own : BranchRecord) (found : Option Transaction) (t : Transaction) → found ≡ Some t
+    → StartStands address draft start own found → OwnStands address draft own t.commits t.own
+own_by address draft None own None t is stands = absurd (cc)
+own_by address draft None own (Some other) t is stands = absurd stands
+own_by address draft (Some look) own None t is stands = absurd stands
+own_by address draft (Some look) own (Some other) t is stands =
+    let same : other ≡ t = cc in
+    subst (λ (u : Transaction). OwnStands address draft own u.commits u.own) same (record { stands = stands.own_stands; all_there = stands.commits })
+
+pub own_in : {D : Type 0} (address : List ℕ → List ℕ) (session : Session D) (p : plain.Session) (t : Transaction) → SessionStands address session p → p.transaction ≡ Some t
+    → OwnStands address session.draft.chunks session.own t.commits t.own
+own_in address session p t stands there = own_by address session.draft.chunks session.start session.own p.transaction t there stands.transaction
+
+grown_by : (address : List ℕ → List ℕ) (old new : DraftParts) (start : Option Look) (own rec : BranchRecord) (found : Option Transaction) (t : Transaction) (state : BranchState)
+    → TransactionsFollow → found ≡ Some t → Longer old new → StartStands address old start own found → RecordStands address (chunks_of new) t.commits rec state
+    → StartStands address new start rec (Some (with_own state t))
+grown_by address old new None own rec None t state follow is longer stands made = absurd (cc)
+grown_by address old new None own rec (Some other) t state follow is longer stands made = absurd stands
+grown_by address old new (Some look) own rec None t state follow is longer stands made = absurd stands
+grown_by address old new (Some look) own rec (Some other) t state follow is longer stands made =
+    let same : other ≡ t = cc in
+    follow.grown address old new look own rec t state longer (subst (λ (u : Transaction). TransactionStands address old look own u) same stands) made
+
+abbrev with_record : {D : Type 0} → Session D → BranchRecord → Drafting → Session D
+with_record session own d = record session { own = own; draft = d }
+
+done_stands : {D : Type 0} (address : List ℕ → List ℕ) (old : Session D) (d : Drafting) (own : BranchRecord) (p : plain.Session) (t : Transaction) (state : BranchState)
+    → ChunksFollow → DraftsFollow → DraftsGrow → TransactionsFollow → p.transaction ≡ Some t → SessionStands address old p → StateStands address (chunks_of d.chunks) own state
+    → Known t.commits state → Grows is_database old.draft d → SessionStands address (with_record old own d) (within p (with_own state t))
+done_stands address old d own p t state chunks drafts growth follow there stands stood known grows =
+    let longer = growth.is_longer is_database old.draft d grows in
+    record {
+      name = stands.name;
+      number = stands.number;
+      branch = stands.branch;
+      autocommit = stands.autocommit;
+      allow = stands.allow;
+      force = stands.force;
+      position = stands.position;
+      transaction = grown_by address old.draft.chunks d.chunks old.start old.own own p.transaction t state follow there longer stands.transaction
+          (record_in address (chunks_of d.chunks) t.commits own state stood known);
+      named = drafts.still_named address old.draft.chunks d.chunks longer stands.named;
+      plain_own = subst (λ (cs : List Chunk). HasNoCommit cs) (sym grows.own) (no_commit_more chunks old.draft.chunks.own grows.more stands.plain_own grows.kinds);
+      committer = stands.committer;
+    }
+
+undone_stands : {D : Type 0} (address : List ℕ → List ℕ) (old : Session D) (d : Drafting) (own : BranchRecord) (p : plain.Session) → SessionStands address old p
+    → d.chunks ≡ old.draft.chunks → own ≡ old.own → SessionStands address (with_record old own d) p
+undone_stands address old d own p stands same back = record {
+  name = stands.name;
+  number = stands.number;
+  branch = stands.branch;
+  autocommit = stands.autocommit;
+  allow = stands.allow;
+  force = stands.force;
+  position = stands.position;
+  transaction = subst (λ (chunks : DraftParts). StartStands address chunks old.start own p.transaction) (sym same)
+      (subst (λ (rec : BranchRecord). StartStands address old.draft.chunks old.start rec p.transaction) (sym back) stands.transaction);
+  named = subst (λ (chunks : DraftParts). IsNamed address chunks) (sym same) stands.named;
+  plain_own = subst (λ (chunks : DraftParts). HasNoCommit chunks.own) (sym same) stands.plain_own;
+  committer = stands.committer;
+}
+
+-- ---- what is answered
+
+worked_staged : (p : plain.Session) (t : Transaction) (asked : Work) (outcome : Outcome BranchState) → stages asked ≡ true → staged_by (own_root t) asked t.own ≡ outcome
+    → worked p t asked ≡ staged outcome
+unfolding worked
+worked_staged p t (Add which) outcome h is = ap staged is
+worked_staged p t (ResetTo which) outcome h is = ap staged is
+worked_staged p t (Ask one) outcome h is = absurd (cc)
+worked_staged p t (Change write) outcome h is = absurd (cc)
+worked_staged p t (Commit request) outcome h is = absurd (cc)
+worked_staged p t (Merge request) outcome h is = absurd (cc)
+worked_staged p t (Resolve request) outcome h is = absurd (cc)
+worked_staged p t (Verify way) outcome h is = absurd (cc)
+
+excused : {D : Type 0} (address : List ℕ → List ℕ) (session : Session D) (p : plain.Session) (t : Transaction) (asked : Work) (reply : Reply) → stages asked ≡ true
+    → p.transaction ≡ Some t → SessionStands address session p → IsExcused (staged_by (own_root t) asked t.own) reply → AnswersAlone address p (command.Data asked) session reply
+excused address session p t asked reply h there stands (inl refusal) =
+    answers_due address session p p (command.Data asked) (refused refusal.0) reply
+    (worked_ill p t asked refusal.0 there (worked_staged p t asked (Err refusal.0) h refusal.1)) refusal.2 stands stands
+excused address session p t asked reply h there stands (inr (inl is)) = starves address session p (command.Data asked) reply stands is
+excused address session p t asked reply h there stands (inr (inr clash)) =
+    collides address session p (command.Data asked) clash.0 reply clash.1 (takes_none p t asked there) stands
+
+answers_in : {D : Type 0} (address : List ℕ → List ℕ) (old : Session D) (d : Drafting) (own : BranchRecord) (p : plain.Session) (t : Transaction) (asked : Work) (reply : Reply)
+    → ChunksFollow → DraftsFollow → DraftsGrow → TransactionsFollow → stages asked ≡ true → p.transaction ≡ Some t → SessionStands address old p
+    → Stages address old.draft d old.own own (staged_by (own_root t) asked t.own) reply
+    → AnswersAlone address p (command.Data asked) (with_record old own d) reply
+answers_in address old d own p t asked reply chunks drafts growth follow h there stands (inl done) =
+    let state = done.made in
+    let before = own_in address old p t stands there in
+    let kept = before.stands in
+    answers_so address (with_record old own d) p (within p (with_own state t)) (command.Data asked) reply
+    (worked_well p t asked status_reply state there (worked_staged p t asked (Ok state) h done.is)
+    ∙ ap (λ (r : Reply). let said : Option Said = Some (within p (with_own state t), r) in said) (sym done.reply_is))
+    (ap shortage done.reply_is)
+    (done_stands address old d own p t state chunks drafts growth follow there stands done.stands
+    (known_after t.commits t.own state (kept.head_known, kept.merging_known) (own_root t) asked done.is) done.grows)
+answers_in address old d own p t asked reply chunks drafts growth follow h there stands (inr undone) =
+    excused address (with_record old own d) p t asked reply h there (undone_stands address old d own p stands undone.chunks undone.record_is) undone.excused
+
+pub answers : {D : Type 0} (address : List ℕ → List ℕ) (old : Session D) (d : Drafting) (own : BranchRecord) (p : plain.Session) (asked : Work) (reply : Reply)
+    → ChunksFollow → DraftsFollow → DraftsGrow → TransactionsFollow → stages asked ≡ true → is_in_transaction p ≡ true → SessionStands address old p
+    → ((commits : Commits) (state : BranchState) → OwnStands address old.draft.chunks old.own commits state
+    → Stages address old.draft d old.own own (staged_by (root_of commits state.head) asked state) reply)
+    → AnswersAlone address p (command.Data asked) (with_record old own d) reply
+answers address old d own p asked reply chunks drafts growth follow h inside stands done =
+    let found = has_one p.transaction inside in
+    let t = found.0 in
+    answers_in address old d own p t asked reply chunks drafts growth follow h found.1 stands (done t.commits t.own (own_in address old p t stands found.1))
+
+pub settled_truly : (address : List ℕ → List ℕ) (mid new : Drafting) (before after : BranchRecord) (mark : ℕ) (m : Candidate) (reply : Reply) → Settles mark mid new before after m reply
+    → TellsTruly address reply
+settled_truly address mid new before after mark (cand.Record rec) reply s = status_truly address reply s.2
+settled_truly address mid new before after mark (cand.Refused number) reply s = due_truly address 1 (Refused number) reply s.2

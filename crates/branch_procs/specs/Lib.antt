@@ -1,0 +1,5 @@
+pub mod Listing
+pub mod Taking
+pub mod Staging
+pub mod Calls
+pub mod Closing

@@ -1,0 +1,15 @@
+//! DOLT_ADD, DOLT_RESET and DOLT_COMMIT of a session in a transaction.
+#![tactic(auto)]
+
+mod closing;
+mod laws;
+mod listing;
+mod local;
+mod opening;
+mod replying;
+mod roots;
+mod staging;
+mod taking;
+
+pub use closing::commit_closes;
+pub use local::branch_local;

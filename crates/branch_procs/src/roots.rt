@@ -1,0 +1,33 @@
+//! The database of a commit that the store below a draft has.
+
+ghost use Rattle.std.specs.Prelude.{◌≡◌, IfOk, true};
+ghost use Rattle.schema_model.specs.PlainCommits.{Commits, is_known};
+ghost use Rattle.chunk_store.specs.Chunks.{bytes_at};
+ghost use Rattle.chunk_store.specs.Drafts.{chunks_of};
+ghost use Rattle.constraint_scan.specs.Scanning.{IsKeptAt};
+ghost use Rattle.plain_sessions.specs.Records.{root_of};
+ghost use Rattle.session_laws.specs.Commits.{CommitsAreThere};
+
+use chunk_store::{Draft, law_of_chunks};
+use commit_graph::{law_of_commits, law_of_standing_commits, read_commit};
+use std::alloc::{AllocError, Global};
+use table_root::law_of_databases;
+use tuple_codec::{Address, Digester};
+
+/// The address of the database of a commit.
+pub(crate) fn head_root<D: Digester>(
+    alloc: Global,
+    draft: &Draft<D>,
+    head: &Address,
+) -> Result<Address, AllocError>
+    requires { (commits : Commits) × CommitsAreThere D.address (bytes_at draft.now.chunks.base) commits × (is_known commits head.now.0 ≡ true) }
+    ensures { (commits : Commits) → CommitsAreThere D.address (bytes_at draft.now.chunks.base) commits → is_known commits head.now.0 ≡ true
+        → IfOk result (λ root. IsKeptAt D.address (chunks_of draft.now.chunks) root.0 (root_of commits head.now.0)) }
+{
+    law_of_chunks();
+    law_of_commits();
+    law_of_standing_commits();
+    law_of_databases();
+    let commit = read_commit(alloc, draft, head)?;
+    Ok(commit.root)
+}

@@ -1,0 +1,61 @@
+//! Tables of one list taken into another, each by its name.
+
+ghost use Rattle.std.specs.Prelude.{◌≡◌, IfOk, map};
+ghost use Rattle.branch_procs.specs.Taking.{taking, taking_all};
+
+use crate::listing::{placed, table_in, without};
+use std::alloc::{AllocError, Global};
+use table_root::NamedTable;
+use tuple_codec::Text;
+
+/// The list that takes the table of this name, or its absence, from another.
+fn take(
+    alloc: Global,
+    from: &[NamedTable],
+    into: Vec<NamedTable>,
+    name: &Text,
+) -> Result<Vec<NamedTable>, AllocError>
+    ensures { IfOk result (λ made. made.items ≡ taking from.now into.items name.now) }
+{
+    let name = name.as_slice();
+    let left = without(alloc, into, name)?;
+    match table_in(from, name) {
+        None => Ok(left),
+        Some(table) => {
+            let name = Text::from_slice(alloc, name)?;
+            placed(left, NamedTable { name, table })
+        }
+    }
+}
+
+/// The list that takes the tables of these names, or their absence, from another.
+pub(crate) fn take_all(
+    alloc: Global,
+    from: &[NamedTable],
+    into: Vec<NamedTable>,
+    names: &[Text],
+) -> Result<Vec<NamedTable>, AllocError>
+    ensures { IfOk result (λ made. made.items ≡ taking_all from.now into.items names.now) }
+{
+    let mut made = into;
+    for name in names {
+        made = take(alloc, from, made, name)?;
+    }
+    Ok(made)
+}
+
+/// The same by the names of tables.
+pub(crate) fn take_named(
+    alloc: Global,
+    from: &[NamedTable],
+    into: Vec<NamedTable>,
+    tables: &[NamedTable],
+) -> Result<Vec<NamedTable>, AllocError>
+    ensures { IfOk result (λ made. made.items ≡ taking_all from.now into.items (map (λ named. named.name) tables.now)) }
+{
+    let mut made = into;
+    for named in tables {
+        made = take(alloc, from, made, &named.name)?;
+    }
+    Ok(made)
+}
