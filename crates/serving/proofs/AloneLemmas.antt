@@ -13,7 +13,7 @@ use Rattle.plain_sessions.specs.Statements.{worked}
 use Rattle.plain_sessions.specs.declared.commands.Command.{Command}
 use Rattle.plain_sessions.specs.declared.commands.Command.TheVariants as command
 use Rattle.plain_sessions.specs.declared.commands.Work.{Work}
-use Rattle.serving.specs.Running.{is_no_call}
+use Rattle.serving.specs.Running.{is_in_place}
 use Rattle.serving.specs.Steps.{IsStillAt}
 
 -- whoever says it is the same session
@@ -42,7 +42,7 @@ stays_working : (p : plain.Session) (work : Work) (transaction : Option Transact
 stays_working p work None = stays_none p
 stays_working p work (Some t) = stays_answered p t (worked p t work)
 
-stays_alone : (p : plain.Session) (asked : Command) → is_no_call asked ≡ true → Stays p (effect_alone p asked)
+stays_alone : (p : plain.Session) (asked : Command) → is_in_place asked ≡ true → Stays p (effect_alone p asked)
 stays_alone p (command.Faulty refusal) runs = stays p p _ (itself p)
 stays_alone p command.Begin runs = stays_none p
 stays_alone p command.CommitAll runs = stays_if p (is_changed p) None _ (stays_none p) (stays p _ _ (record { number = refl; branch = refl }))
@@ -57,7 +57,7 @@ stays_alone p (command.OnBranches request) runs = absurd (cc)
 stays_alone p (command.Checkout request) runs = absurd (cc)
 
 -- a statement answered without a moment leaves the session where it was
-pub still_alone : (answer : Option Shortage) (p : plain.Session) (asked : Command) → is_no_call asked ≡ true → (said : plain.Session) (reply : Reply)
+pub still_alone : (answer : Option Shortage) (p : plain.Session) (asked : Command) → is_in_place asked ≡ true → (said : plain.Session) (reply : Reply)
     → alone_by answer p asked ≡ Some (said, reply) → IsStillAt p said
 still_alone None p asked runs = stays_alone p asked runs
 still_alone (Some AtOnce) p asked runs = stays p p _ (itself p)

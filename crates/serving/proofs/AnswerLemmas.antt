@@ -25,7 +25,7 @@ use Rattle.session_state.specs.declared.sessions.Place.TheVariants as place
 use Rattle.session_state.specs.declared.sessions.Session.{Session}
 use Rattle.session_txn.specs.Answering.{AnswersAlone}
 use Rattle.shared_db.specs.Shared.{noted}
-use Rattle.serving.specs.Running.{is_no_call}
+use Rattle.serving.specs.Running.{is_in_place}
 use Rattle.serving.specs.Serving.{IsBefore, Serves}
 use Rattle.serving.specs.Steps.{Answered, ComesTo, Decided, IsStillAt, after_start, fault_reply, number_at}
 use Rattle.serving.proofs.AloneLemmas.{alone_before, still_alone}
@@ -71,7 +71,7 @@ module _ {D : Type 0} (address : List ℕ → List ℕ) (epoch : ℤ) (old sessi
   still_later : session.draft.chunks.base ≡ old.draft.chunks.base → (new : List Chunk) → Lists parts.chunks new → Lists session.draft.chunks.base new
   still_later base new grown = λ k bytes listed. grown k bytes (before.later k bytes (subst (λ (cs : List Chunk). Lists cs old.draft.chunks.base) (sym base) (λ j b l. l) k bytes listed))
 
-  pub alone_answered : (asked : Command) (reply : Reply) → is_no_call asked ≡ true → AnswersAlone address p asked session reply → session.draft.chunks.base ≡ old.draft.chunks.base
+  pub alone_answered : (asked : Command) (reply : Reply) → is_in_place asked ≡ true → AnswersAlone address p asked session reply → session.draft.chunks.base ≡ old.draft.chunks.base
       → Answered address epoch p asked shared parts parts session reply
   alone_answered asked reply runs alone base = record {
     said = alone.after;
@@ -191,7 +191,7 @@ module _ {D : Type 0} (address : List ℕ → List ℕ) (epoch : ℤ) (old sessi
 
   -- ---- database statements that took their start
 
-  module _ (t : Transaction) (asked : Work) (after : plain.Session) (reply : Reply) (none : p.transaction ≡ None) (is : taken shared p ≡ Some t) (runs : is_no_call (command.Data asked) ≡ true)
+  module _ (t : Transaction) (asked : Work) (after : plain.Session) (reply : Reply) (none : p.transaction ≡ None) (is : taken shared p ≡ Some t) (runs : is_in_place (command.Data asked) ≡ true)
       (here : Came p t asked after reply) (later : Lists session.draft.chunks.base parts.chunks) where
     pub refused_answered : is_refusal reply ≡ true → SessionStands address session p
         → Answered address epoch p (command.Data asked) shared parts (noted p.number p.statement parts) session (after_start reply)
@@ -215,12 +215,12 @@ module _ {D : Type 0} (address : List ℕ → List ℕ) (epoch : ℤ) (old sessi
 
   -- ---- what the code's steps hand over
 
-  pub faulted_answered : (fault : PutFault) (asked : Command) → is_no_call asked ≡ true → takes_start p asked ≡ false → SessionStands address session p → session.draft.chunks.base ≡ old.draft.chunks.base
+  pub faulted_answered : (fault : PutFault) (asked : Command) → is_in_place asked ≡ true → takes_start p asked ≡ false → SessionStands address session p → session.draft.chunks.base ≡ old.draft.chunks.base
       → Answered address epoch p asked shared parts parts session (fault_reply fault)
   faulted_answered fault asked runs starts stands base =
       alone_answered asked (fault_reply fault) runs (record { after = p; is = short_alone fault p asked starts; stands = stands }) base
 
-  pub faulted_as : (fault : PutFault) (asked : Command) (new : Parts) (reply : Reply) → is_no_call asked ≡ true → takes_start p asked ≡ false → SessionStands address session p
+  pub faulted_as : (fault : PutFault) (asked : Command) (new : Parts) (reply : Reply) → is_in_place asked ≡ true → takes_start p asked ≡ false → SessionStands address session p
       → session.draft.chunks.base ≡ old.draft.chunks.base → new ≡ parts → reply ≡ fault_reply fault → Answered address epoch p asked shared parts new session reply
   faulted_as fault asked new reply runs starts stands base same is =
       subst (λ (q : Parts). Answered address epoch p asked shared parts q session reply) (sym same)

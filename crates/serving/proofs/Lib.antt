@@ -9,6 +9,7 @@ pub mod MomentLemmas
 pub mod PointLemmas
 pub mod RuleLemmas
 pub mod ServeLemmas
+pub mod StageLemmas
 pub mod StartLemmas
 pub mod StateLemmas
 pub mod SwitchLemmas

@@ -15,17 +15,16 @@ use Rattle.plain_sessions.specs.declared.commands.Command.TheVariants as command
 use Rattle.session_laws.specs.Changes.{Parts}
 use Rattle.session_state.specs.declared.sessions.Place.TheVariants as place
 use Rattle.session_state.specs.declared.sessions.Session.{Session}
-use Rattle.session_txn.specs.Answering.{is_local}
 use Rattle.session_txn.specs.Naming.{names_system}
 use Rattle.sql_ast.specs.declared.statements.Setting.{Setting}
-use Rattle.serving.specs.Running.{is_no_call, runs_in_place}
+use Rattle.serving.specs.Running.{is_alone, is_in_place, runs_in_place}
 use Rattle.serving.specs.Serving.{IsBefore, Serves}
 use Rattle.serving.specs.Steps.{Answered, number_at}
 use Rattle.serving.proofs.AloneLemmas.{alone_before}
 use Rattle.serving.proofs.AnswerLemmas.{serves}
 
 pub is_stored : (asked : Command) → runs_in_place asked ≡ true → names_system asked ≡ false
-is_stored asked is = not-true (names_system asked) (and_parts (is_no_call asked) (not (names_system asked)) is).1
+is_stored asked is = not-true (names_system asked) (and_parts (is_in_place asked) (not (names_system asked)) is).1
 
 -- what has changed is open
 open_of : (p : plain.Session) → is_changed p ≡ true → (t : Transaction) × (p.transaction ≡ Some t)
@@ -39,19 +38,19 @@ module _ {D : Type 0} (address : List ℕ → List ℕ) (old session : Session D
   pub commits : asked ≡ command.CommitAll
       → ((epoch : ℤ) (p : plain.Session) (t : Transaction) (shared : Shared) → IsBefore address old parts p shared → p.transaction ≡ Some t → is_changed p ≡ true
       → Answered address epoch p command.CommitAll shared parts new session reply)
-      → (epoch : ℤ) (p : plain.Session) (shared : Shared) → IsBefore address old parts p shared → is_local p asked ≡ false → Answered address epoch p asked shared parts new session reply
+      → (epoch : ℤ) (p : plain.Session) (shared : Shared) → IsBefore address old parts p shared → is_alone p asked ≡ false → Answered address epoch p asked shared parts new session reply
   commits is answered epoch p shared before waits =
-      let changed = not-false (is_changed p) (sym (ap (is_local p) is) ∙ waits) in
+      let changed = not-false (is_changed p) (sym (ap (is_alone p) is) ∙ waits) in
       let held = open_of p changed in
       subst (λ (one : Command). Answered address epoch p one shared parts new session reply) (sym is) (answered epoch p held.0 shared before held.1 changed)
 
   pub switches : (setting : Setting) → asked ≡ command.Switch setting
       → ((epoch : ℤ) (p : plain.Session) (t : Transaction) (shared : Shared) → IsBefore address old parts p shared → p.transaction ≡ Some t → is_changed p ≡ true
       → ends_by_set p setting.variable setting.on ≡ true → Answered address epoch p (command.Switch setting) shared parts new session reply)
-      → (epoch : ℤ) (p : plain.Session) (shared : Shared) → IsBefore address old parts p shared → is_local p asked ≡ false → Answered address epoch p asked shared parts new session reply
+      → (epoch : ℤ) (p : plain.Session) (shared : Shared) → IsBefore address old parts p shared → is_alone p asked ≡ false → Answered address epoch p asked shared parts new session reply
   switches setting is answered epoch p shared before waits =
       let ends = ends_by_set p setting.variable setting.on in
-      let both = and_parts ends (is_changed p) (not-false (ends && is_changed p) (sym (ap (is_local p) is) ∙ waits)) in
+      let both = and_parts ends (is_changed p) (not-false (ends && is_changed p) (sym (ap (is_alone p) is) ∙ waits)) in
       let held = open_of p both.1 in
       subst (λ (one : Command). Answered address epoch p one shared parts new session reply) (sym is) (answered epoch p held.0 shared before held.1 both.1 both.0)
 

@@ -33,9 +33,9 @@ use Rattle.session_laws.specs.Laws.{StatesFollow}
 use Rattle.session_laws.specs.Transactions.{IsLookOf}
 use Rattle.session_state.specs.Standing.{SessionStands}
 use Rattle.session_state.specs.declared.sessions.Session.{Session}
-use Rattle.session_txn.specs.Answering.{AnswersAlone, is_local}
+use Rattle.session_txn.specs.Answering.{AnswersAlone}
 use Rattle.shared_db.specs.Shared.{noted}
-use Rattle.serving.specs.Running.{is_no_call}
+use Rattle.serving.specs.Running.{is_alone, is_in_place}
 use Rattle.serving.specs.Serving.{IsBefore}
 use Rattle.serving.specs.Starting.{HasStarted, HasWorked, with_reply}
 use Rattle.serving.specs.Steps.{Answered, ComesTo, Decided, after_start, fault_reply, number_at}
@@ -182,23 +182,23 @@ outside p (command.Data asked) takes = none_there p.transaction (not-true _ take
 outside p (command.OnBranches request) takes = absurd (cc)
 outside p (command.Checkout request) takes = absurd (cc)
 
-pub local_within : (p : plain.Session) (t : Transaction) (asked : Command) → takes_start p asked ≡ true → is_no_call asked ≡ true → is_local (within p t) asked ≡ true
-local_within p t (command.Faulty refusal) takes runs = absurd (cc)
-local_within p t command.Begin takes runs = absurd (cc)
-local_within p t command.CommitAll takes runs = absurd (cc)
-local_within p t command.Rollback takes runs = absurd (cc)
-local_within p t (command.Switch setting) takes runs = absurd (cc)
-local_within p t (command.Say list) takes runs = absurd (cc)
-local_within p t (command.Data (work.Ask query)) takes runs = refl
-local_within p t (command.Data (work.Change statement)) takes runs = refl
-local_within p t (command.Data (work.Add tables)) takes runs = absurd (cc)
-local_within p t (command.Data (work.ResetTo reset)) takes runs = absurd (cc)
-local_within p t (command.Data (work.Commit request)) takes runs = absurd (cc)
-local_within p t (command.Data (work.Merge request)) takes runs = absurd (cc)
-local_within p t (command.Data (work.Resolve request)) takes runs = absurd (cc)
-local_within p t (command.Data (work.Verify way)) takes runs = absurd (cc)
-local_within p t (command.OnBranches request) takes runs = absurd (cc)
-local_within p t (command.Checkout request) takes runs = absurd (cc)
+pub alone_within : (p : plain.Session) (t : Transaction) (asked : Command) → takes_start p asked ≡ true → is_in_place asked ≡ true → is_alone (within p t) asked ≡ true
+alone_within p t (command.Faulty refusal) takes runs = absurd (cc)
+alone_within p t command.Begin takes runs = absurd (cc)
+alone_within p t command.CommitAll takes runs = absurd (cc)
+alone_within p t command.Rollback takes runs = absurd (cc)
+alone_within p t (command.Switch setting) takes runs = absurd (cc)
+alone_within p t (command.Say list) takes runs = absurd (cc)
+alone_within p t (command.Data (work.Ask query)) takes runs = refl
+alone_within p t (command.Data (work.Change statement)) takes runs = refl
+alone_within p t (command.Data (work.Add tables)) takes runs = refl
+alone_within p t (command.Data (work.ResetTo reset)) takes runs = refl
+alone_within p t (command.Data (work.Commit request)) takes runs = absurd (cc)
+alone_within p t (command.Data (work.Merge request)) takes runs = absurd (cc)
+alone_within p t (command.Data (work.Resolve request)) takes runs = absurd (cc)
+alone_within p t (command.Data (work.Verify way)) takes runs = absurd (cc)
+alone_within p t (command.OnBranches request) takes runs = absurd (cc)
+alone_within p t (command.Checkout request) takes runs = absurd (cc)
 
 said_over : (p after : plain.Session) (answer reply : Reply) (q : plain.Session) → over q ≡ over p → ◌≡◌ {A = Option Said} (Some (q, answer)) (Some (after, reply)) → over after ≡ over p
 said_over p after answer reply q ends is = sym (ap (λ (said : Said). over said.0) (same_Some _ _ is)) ∙ ends
@@ -221,7 +221,7 @@ module _ {D : Type 0} (address : List ℕ → List ℕ) (started session : Sessi
   later_still : Lists session.draft.chunks.base parts.chunks
   later_still = subst (λ (cs : List Chunk). Lists cs parts.chunks) (sym base) has.later
 
-  dropped : (epoch : ℤ) (asked : Work) → is_no_call (command.Data asked) ≡ true → AnswersAlone address (within p t) (command.Data asked) session reply → is_refusal reply ≡ true
+  dropped : (epoch : ℤ) (asked : Work) → is_in_place (command.Data asked) ≡ true → AnswersAlone address (within p t) (command.Data asked) session reply → is_refusal reply ≡ true
       → Answered address epoch p (command.Data asked) shared parts now (record session { start = None }) (after_start reply)
   dropped epoch asked runs alone refusal =
       let ended = record session { start = None } in
@@ -232,11 +232,11 @@ module _ {D : Type 0} (address : List ℕ → List ℕ) (started session : Sessi
       (came p t asked alone.after reply runs alone.is) later_still refusal stands)
 
   -- a refusal drops the transaction
-  pub dropped_answered : (epoch : ℤ) (asked : Command) (said : Reply) → takes_start p asked ≡ true → is_no_call asked ≡ true → AnswersAlone address (within p t) asked session reply
+  pub dropped_answered : (epoch : ℤ) (asked : Command) (said : Reply) → takes_start p asked ≡ true → is_in_place asked ≡ true → AnswersAlone address (within p t) asked session reply
       → is_refusal reply ≡ true → said ≡ after_start reply → Answered address epoch p asked shared parts now (record session { start = None }) said
   dropped_answered epoch asked said takes runs alone refusal is =
       subst (λ (r : Reply). Answered address epoch p asked shared parts now (record session { start = None }) r) (sym is) (by asked takes runs alone) where
-        by : (asked : Command) → takes_start p asked ≡ true → is_no_call asked ≡ true → AnswersAlone address (within p t) asked session reply
+        by : (asked : Command) → takes_start p asked ≡ true → is_in_place asked ≡ true → AnswersAlone address (within p t) asked session reply
             → Answered address epoch p asked shared parts now (record session { start = None }) (after_start reply)
         by (command.Faulty refusal) takes runs alone = absurd (cc)
         by command.Begin takes runs alone = absurd (cc)
@@ -252,7 +252,7 @@ module _ {D : Type 0} (address : List ℕ → List ℕ) (started session : Sessi
   abbrev pub HasWorkedAt : Command → Type 0
   HasWorkedAt asked = (work : Work) × (asked ≡ command.Data work) × HasWorked address session parts now p work shared reply
 
-  pub worked_well : (asked : Command) → takes_start p asked ≡ true → is_no_call asked ≡ true → AnswersAlone address (within p t) asked session reply
+  pub worked_well : (asked : Command) → takes_start p asked ≡ true → is_in_place asked ≡ true → AnswersAlone address (within p t) asked session reply
       → is_refusal reply ≡ false → HasWorkedAt asked
   worked_well (command.Faulty refusal) takes runs alone well = absurd (cc)
   worked_well command.Begin takes runs alone well = absurd (cc)

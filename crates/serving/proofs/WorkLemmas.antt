@@ -23,8 +23,9 @@ use Rattle.plain_sessions.specs.Moments.{After, Past, Still, alone_by, answered,
 use Rattle.plain_sessions.specs.Records.{BranchState, Shared}
 use Rattle.plain_sessions.specs.Replies.{is_refusal, refused}
 use Rattle.plain_sessions.specs.Sessions as plain
-use Rattle.plain_sessions.specs.Sessions.{Before, Between, Said, is_before_statement, Transaction, is_changed_since, taken, with_own, within}
-use Rattle.plain_sessions.specs.Statements.{changed, changed_by, counted_or_done, or_of_rows, worked, write_worked}
+use Rattle.plain_sessions.specs.Sessions.{Before, Between, Said, is_before_statement, Transaction, is_changed_since, own_root, taken, with_own, within}
+use Rattle.plain_sessions.specs.Branching.{add, reset_to}
+use Rattle.plain_sessions.specs.Statements.{changed, changed_by, counted_or_done, or_of_rows, staged, worked, write_worked}
 use Rattle.plain_sessions.specs.SystemTables as system
 use Rattle.plain_sessions.specs.SystemTables.{delete_by, delete_conflicts, delete_entries, delete_violations, known}
 use Rattle.plain_sessions.specs.Branching as branching
@@ -34,7 +35,7 @@ use Rattle.plain_sessions.specs.declared.commands.Work.TheVariants as work
 use Rattle.plain_writes.specs.Violations.{table_in}
 use Rattle.run_laws.specs.Turns.{InOneTurn}
 use Rattle.run_laws.proofs.SeenLemmas.{start_short, start_waits}
-use Rattle.serving.specs.Running.{is_no_call}
+use Rattle.serving.specs.Running.{is_in_place}
 use Rattle.serving.specs.Steps.{after_start}
 use Rattle.serving.proofs.MomentLemmas.{in_one_turn, turn_at}
 
@@ -92,23 +93,27 @@ write_by own (write.Delete delete) =
     (answers_then (or_refuse 1146 (table_in own.working violations)) (delete_violations own delete violations) (delete_violations_by own delete violations))
 write_by own (write.Alter alter) = effect_by own _
 
-answers_work : (p : plain.Session) (t : Transaction) (asked : Work) → is_no_call (Data asked) ≡ true → IsAnswer (worked p t asked)
+staged_by : (outcome : Outcome BranchState) → IsAnswer (staged outcome)
+staged_by (Ok own) = refl
+staged_by (Err number) = tt
+
+answers_work : (p : plain.Session) (t : Transaction) (asked : Work) → is_in_place (Data asked) ≡ true → IsAnswer (worked p t asked)
 unfolding worked
 answers_work p t (work.Ask query) runs = answer_by t.own (plans.answer (known t) query)
 answers_work p t (work.Change statement) runs = write_by t.own statement
-answers_work p t (work.Add tables) runs = absurd (cc)
-answers_work p t (work.ResetTo reset) runs = absurd (cc)
+answers_work p t (work.Add tables) runs = staged_by (add tables t.own)
+answers_work p t (work.ResetTo reset) runs = staged_by (reset_to (own_root t) reset t.own)
 answers_work p t (work.Commit request) runs = absurd (cc)
 answers_work p t (work.Merge request) runs = absurd (cc)
 answers_work p t (work.Resolve request) runs = absurd (cc)
 answers_work p t (work.Verify way) runs = absurd (cc)
 
-same_work : (p : plain.Session) (t : Transaction) (asked : Work) → is_no_call (Data asked) ≡ true → worked (within p t) t asked ≡ worked p t asked
+same_work : (p : plain.Session) (t : Transaction) (asked : Work) → is_in_place (Data asked) ≡ true → worked (within p t) t asked ≡ worked p t asked
 unfolding worked
 same_work p t (work.Ask query) runs = refl
 same_work p t (work.Change statement) runs = refl
-same_work p t (work.Add tables) runs = absurd (cc)
-same_work p t (work.ResetTo reset) runs = absurd (cc)
+same_work p t (work.Add tables) runs = refl
+same_work p t (work.ResetTo reset) runs = refl
 same_work p t (work.Commit request) runs = absurd (cc)
 same_work p t (work.Merge request) runs = absurd (cc)
 same_work p t (work.Resolve request) runs = absurd (cc)
@@ -131,7 +136,7 @@ came_by p t asked after reply (Ok (Closes call)) is short same = absurd (cc)
 came_by p t asked after reply (Err number) is short same =
     Faulted number is (sym (ap (λ (said : Said). said.1) (same_Some _ _ same))) short
 
-came_with : (p : plain.Session) (t : Transaction) (asked : Work) (after : plain.Session) (reply : Reply) → is_no_call (Data asked) ≡ true → (answer : Option Shortage)
+came_with : (p : plain.Session) (t : Transaction) (asked : Work) (after : plain.Session) (reply : Reply) → is_in_place (Data asked) ≡ true → (answer : Option Shortage)
     → shortage reply ≡ answer → alone_by answer (within p t) (Data asked) ≡ Some (after, reply) → Came p t asked after reply
 came_with p t asked after reply runs None short is =
     came_by p t asked after reply (worked p t asked) refl short (sym (ap (if_answered (within p t) t) (same_work p t asked runs)) ∙ is)
@@ -139,7 +144,7 @@ came_with p t asked after reply runs (Some AtOnce) short is = Starved (sym (ap (
 came_with p t asked after reply runs (Some AfterStart) short is = absurd (cc)
 came_with p t asked after reply runs (Some (Clashes clash)) short is = Met clash (sym (ap (λ (said : Said). said.1) (same_Some _ _ is)))
 
-pub came : (p : plain.Session) (t : Transaction) (asked : Work) (after : plain.Session) (reply : Reply) → is_no_call (Data asked) ≡ true
+pub came : (p : plain.Session) (t : Transaction) (asked : Work) (after : plain.Session) (reply : Reply) → is_in_place (Data asked) ≡ true
     → alone_by (shortage reply) (within p t) (Data asked) ≡ Some (after, reply) → Came p t asked after reply
 came p t asked after reply runs is = came_with p t asked after reply runs (shortage reply) refl is
 
@@ -168,7 +173,7 @@ module _ (address : List ℕ → List ℕ) (epoch : ℤ) (shared : Shared) (p : 
   waits_for_start none = ap (option_and_then (λ (o : Transaction). if_answered p o (worked p o asked))) none
 
   -- a statement that is refused took its start, and has no transaction
-  pub refused_after : (after : plain.Session) (reply : Reply) → is_no_call (Data asked) ≡ true → p.place ≡ Before → p.transaction ≡ None → taken shared p ≡ Some t
+  pub refused_after : (after : plain.Session) (reply : Reply) → is_in_place (Data asked) ≡ true → p.place ≡ Before → p.transaction ≡ None → taken shared p ≡ Some t
       → Came p t asked after reply → is_refusal reply ≡ true → Refuses (after_start reply)
   refused_after after reply runs before none is (Starved said) refused = subst (λ (r : Reply). Refuses (after_start r)) (sym said) (record {
     waits = start_waits p asked none (Some AfterStart) (λ same. absurd (cc));

@@ -3,25 +3,31 @@ use Rattle.std.specs.Prelude.{Bool, true, false, ◌&&◌, ◌||◌, not}
 use Rattle.plain_sessions.specs.declared.commands.Command.{Command}
 use Rattle.plain_sessions.specs.declared.commands.Command.TheVariants as command
 use Rattle.plain_sessions.specs.declared.commands.Work.TheVariants as work
+use Rattle.plain_sessions.specs.Moments.{is_in_transaction}
+use Rattle.plain_sessions.specs.Sessions as plain
+use Rattle.session_txn.specs.Answering.{is_local}
 use Rattle.session_txn.specs.Naming.{names_system}
+use Rattle.branch_procs.specs.Calls.{stages}
 
--- all but calls of procedures; one with arguments that its procedure doesn't take is answered by its text alone
-abbrev pub is_no_call : Command → Bool
-is_no_call (command.Faulty refusal) = true
-is_no_call command.Begin = true
-is_no_call command.CommitAll = true
-is_no_call command.Rollback = true
-is_no_call (command.Switch setting) = true
-is_no_call (command.Say list) = true
-is_no_call (command.Data (work.Ask query)) = true
-is_no_call (command.Data (work.Change write)) = true
-is_no_call (command.Data other) = false
-is_no_call (command.OnBranches request) = false
-is_no_call (command.Checkout request) = false
+-- what has no decision but the commit rule's, and leaves its session on its branch; a call with arguments that its procedure doesn't take is answered by its text alone
+abbrev pub is_in_place : Command → Bool
+is_in_place (command.Faulty refusal) = true
+is_in_place command.Begin = true
+is_in_place command.CommitAll = true
+is_in_place command.Rollback = true
+is_in_place (command.Switch setting) = true
+is_in_place (command.Say list) = true
+is_in_place (command.Data (work.Ask query)) = true
+is_in_place (command.Data (work.Change write)) = true
+is_in_place (command.Data (work.Add tables)) = true
+is_in_place (command.Data (work.ResetTo reset)) = true
+is_in_place (command.Data other) = false
+is_in_place (command.OnBranches request) = false
+is_in_place (command.Checkout request) = false
 
 -- and what names no system table
 abbrev pub runs_in_place : Command → Bool
-runs_in_place asked = is_no_call asked && not (names_system asked)
+runs_in_place asked = is_in_place asked && not (names_system asked)
 
 -- DOLT_BRANCH and DOLT_CHECKOUT
 abbrev pub is_step : Command → Bool
@@ -31,3 +37,12 @@ is_step asked = false
 
 abbrev pub runs : Command → Bool
 runs asked = is_step asked || runs_in_place asked
+
+-- DOLT_ADD and DOLT_RESET
+abbrev pub is_staging : Command → Bool
+is_staging (command.Data asked) = stages asked
+is_staging asked = false
+
+-- the session answers it by itself
+abbrev pub is_alone : plain.Session → Command → Bool
+is_alone p asked = (is_staging asked && is_in_transaction p) || is_local p asked

@@ -15,7 +15,7 @@ use Rattle.session_laws.specs.Changes.{Parts}
 use Rattle.session_state.specs.Standing.{SessionStands}
 use Rattle.session_state.specs.declared.sessions.Session.{Session}
 use Rattle.shared_db.specs.Shared.{noted}
-use Rattle.serving.specs.Running.{is_no_call}
+use Rattle.serving.specs.Running.{is_in_place}
 use Rattle.serving.specs.Serving.{IsBefore}
 
 -- the session stood before its statement at these parts, outside a transaction; the start's moment is made, and it stands in this transaction
@@ -30,7 +30,7 @@ pub record HasStarted {D : Type 0} (address : List ℕ → List ℕ) (session : 
 
 -- in that transaction the statement's work came to this reply, which no refusal is
 pub record HasWorked {D : Type 0} (address : List ℕ → List ℕ) (session : Session D) (parts now : Parts) (p : plain.Session) (asked : Work) (shared : Shared) (reply : Reply) : Type 0 where
-  pub runs : is_no_call (Data asked) ≡ true
+  pub runs : is_in_place (Data asked) ≡ true
   pub old : Session D
   pub before : IsBefore address old parts p shared
   pub none : p.transaction ≡ None

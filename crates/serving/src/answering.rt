@@ -12,10 +12,9 @@ ghost use Rattle.plain_sessions.specs.declared.commands.Command.{Command};
 ghost use Rattle.plain_sessions.specs.declared.commands.Command.TheVariants as command;
 ghost use Rattle.session_laws.specs.Changes.{Parts};
 ghost use Rattle.session_state.specs.Standing.{SessionStands};
-ghost use Rattle.session_txn.specs.Answering.{is_local};
 ghost use Rattle.session_txn.specs.Showing.{is_sound_reply};
 ghost use Rattle.shared_db.specs.Shared.{KeepsRoom};
-ghost use Rattle.serving.specs.Running.{runs, runs_in_place};
+ghost use Rattle.serving.specs.Running.{is_alone, runs, runs_in_place};
 ghost use Rattle.serving.specs.Serving.{IsBefore, Serves};
 ghost use Rattle.serving.specs.Steps.{Answered, number_at};
 
@@ -119,7 +118,7 @@ fn answer<D: Digester>(
     ensures moments { db.old.moments_room ≤ db.new.moments_room + 2 }
     ensures segments { db.old.segments_room ≤ db.new.segments_room + 2 }
 {
-    if is_local(session, asked) {
+    if is_alone(session, asked) {
         alone(alloc, db, session, asked)
     } else {
         at_moments(alloc, db, session, asked)
@@ -127,25 +126,25 @@ fn answer<D: Digester>(
 }
 
 /// Whether the statement needs no moment.
-fn is_local<D: Digester>(session: &Session<D>, asked: &Command) -> bool
+fn is_alone<D: Digester>(session: &Session<D>, asked: &Command) -> bool
     requires { (p : plain.Session) × SessionStands D.address session.now p }
-    ensures { (p : plain.Session) → SessionStands D.address session.now p → result ≡ is_local p asked.now }
+    ensures { (p : plain.Session) → SessionStands D.address session.now p → result ≡ is_alone p asked.now }
 {
     match asked {
         Command::Faulty(_) | Command::Rollback | Command::Say(_) => true,
         Command::CommitAll => !session.is_changed(),
         Command::Switch(setting) => !ends_changed(session, setting),
-        Command::Data(work) => is_local_work(session, work),
+        Command::Data(work) => is_alone_work(session, work),
         Command::Begin | Command::OnBranches(_) | Command::Checkout(_) => false,
     }
 }
 
 /// A database statement needs no start in a transaction.
-fn is_local_work<D: Digester>(session: &Session<D>, work: &Work) -> bool
-    ensures { (p : plain.Session) → SessionStands D.address session.now p → result ≡ is_local p (command.Data work.now) }
+fn is_alone_work<D: Digester>(session: &Session<D>, work: &Work) -> bool
+    ensures { (p : plain.Session) → SessionStands D.address session.now p → result ≡ is_alone p (command.Data work.now) }
 {
     match work {
-        Work::Ask(_) | Work::Change(_) => session.start.is_some(),
+        Work::Ask(_) | Work::Change(_) | Work::Add(_) | Work::ResetTo(_) => session.start.is_some(),
         _ => false,
     }
 }
@@ -166,12 +165,12 @@ fn at_moments<D: Digester>(
     session: &mut Session<D>,
     asked: &Command,
 ) -> Reply
-    requires before { (p : plain.Session) × (shared : Shared) × IsBefore D.address session.old db.old.parts p shared × (is_local p asked.now ≡ false) }
+    requires before { (p : plain.Session) × (shared : Shared) × IsBefore D.address session.old db.old.parts p shared × (is_alone p asked.now ≡ false) }
     requires moments { 2 ≤ db.old.moments_room }
     requires segments { 2 ≤ db.old.segments_room }
     requires fit { IsFitCommand asked.now }
     requires runs { runs_in_place asked.now ≡ true }
-    ensures answered { (epoch : ℤ) (p : plain.Session) (shared : Shared) → IsBefore D.address session.old db.old.parts p shared → is_local p asked.now ≡ false
+    ensures answered { (epoch : ℤ) (p : plain.Session) (shared : Shared) → IsBefore D.address session.old db.old.parts p shared → is_alone p asked.now ≡ false
         → Answered D.address epoch p asked.now shared db.old.parts db.new.parts session.new result }
     ensures sound { is_sound_reply result ≡ true }
     ensures truly { TellsTruly D.address result }

@@ -1,12 +1,12 @@
 //! Which statements are served so far.
 
 ghost use Rattle.std.specs.Prelude.{◌≡◌};
-ghost use Rattle.serving.specs.Running.{is_no_call, is_step, runs, runs_in_place};
+ghost use Rattle.serving.specs.Running.{is_in_place, is_step, runs, runs_in_place};
 
 use plain_sessions::{Command, Work};
 use session_txn::names_system;
 
-/// Whether a statement is served. Of the procedures only DOLT_BRANCH and DOLT_CHECKOUT are yet, and nothing that names a system table.
+/// Whether a statement is served. Of the procedures DOLT_ADD, DOLT_RESET, DOLT_BRANCH and DOLT_CHECKOUT are yet, and nothing that names a system table.
 pub fn runs(asked: &Command) -> bool
     ensures { result ≡ runs asked.now }
 {
@@ -32,12 +32,12 @@ fn is_step(asked: &Command) -> bool
 fn runs_in_place(asked: &Command) -> bool
     ensures { result ≡ runs_in_place asked.now }
 {
-    is_no_call(asked) && !names_system(asked)
+    is_in_place(asked) && !names_system(asked)
 }
 
 /// A call with arguments that its procedure doesn't take isn't one: it is answered by its text alone.
-fn is_no_call(asked: &Command) -> bool
-    ensures { result ≡ is_no_call asked.now }
+fn is_in_place(asked: &Command) -> bool
+    ensures { result ≡ is_in_place asked.now }
 {
     match asked {
         Command::Faulty(_)
@@ -46,7 +46,7 @@ fn is_no_call(asked: &Command) -> bool
         | Command::Rollback
         | Command::Switch(_)
         | Command::Say(_) => true,
-        Command::Data(Work::Ask(_) | Work::Change(_)) => true,
+        Command::Data(Work::Ask(_) | Work::Change(_) | Work::Add(_) | Work::ResetTo(_)) => true,
         Command::Data(_) | Command::OnBranches(_) | Command::Checkout(_) => false,
     }
 }

@@ -7,14 +7,14 @@ ghost use Rattle.plain_sessions.specs.Records.{Shared};
 ghost use Rattle.plain_sessions.specs.Sessions as plain;
 ghost use Rattle.plain_sessions.specs.Sessions.{is_changed};
 ghost use Rattle.plain_sessions.specs.declared.commands.Command.TheVariants as command;
-ghost use Rattle.session_txn.specs.Answering.{is_local};
 ghost use Rattle.session_txn.specs.Naming.{names_system};
 ghost use Rattle.session_txn.specs.Showing.{is_sound_reply};
 ghost use Rattle.shared_db.specs.Shared.{KeepsRoom};
-ghost use Rattle.serving.specs.Running.{is_no_call};
+ghost use Rattle.serving.specs.Running.{is_alone, is_in_place};
 ghost use Rattle.serving.specs.Serving.{IsBefore};
 ghost use Rattle.serving.specs.Steps.{Answered, fault_reply};
 
+use crate::alone::answer_alone;
 use crate::deciding::decide;
 use crate::places::number_of;
 use chunk_store::PutFault;
@@ -22,7 +22,7 @@ use plain_sessions::Command;
 use script_text::Reply;
 use session_laws::law_of_states;
 use session_state::Session;
-use session_txn::{local, plan_begin};
+use session_txn::plan_begin;
 use shared_db::SharedDb;
 use std::alloc::Global;
 use tuple_codec::Digester;
@@ -45,16 +45,16 @@ pub(crate) fn alone<D: Digester>(
     session: &mut Session<D>,
     asked: &Command,
 ) -> Reply
-    requires before { (p : plain.Session) × (shared : Shared) × IsBefore D.address session.old db.now.parts p shared × (is_local p asked.now ≡ true) }
+    requires before { (p : plain.Session) × (shared : Shared) × IsBefore D.address session.old db.now.parts p shared × (is_alone p asked.now ≡ true) }
     requires fit { IsFitCommand asked.now }
     requires stored { names_system asked.now ≡ false }
-    requires call { is_no_call asked.now ≡ true }
-    ensures answered { (epoch : ℤ) (p : plain.Session) (shared : Shared) → IsBefore D.address session.old db.now.parts p shared → is_local p asked.now ≡ true
+    requires call { is_in_place asked.now ≡ true }
+    ensures answered { (epoch : ℤ) (p : plain.Session) (shared : Shared) → IsBefore D.address session.old db.now.parts p shared → is_alone p asked.now ≡ true
         → Answered D.address epoch p asked.now shared db.now.parts db.now.parts session.new result }
     ensures sound { is_sound_reply result ≡ true }
     ensures truly { TellsTruly D.address result }
 {
-    local(alloc, session, asked)
+    answer_alone(alloc, session, asked)
 }
 
 /// COMMIT where the open transaction has changed something.

@@ -13,11 +13,12 @@ ghost use Rattle.session_laws.specs.Changes.{Parts};
 ghost use Rattle.session_txn.specs.Naming.{names_system};
 ghost use Rattle.session_txn.specs.Showing.{is_sound_reply};
 ghost use Rattle.shared_db.specs.Shared.{KeepsRoom};
-ghost use Rattle.serving.specs.Running.{is_no_call};
+ghost use Rattle.serving.specs.Running.{is_in_place};
 ghost use Rattle.serving.specs.Serving.{IsBefore};
 ghost use Rattle.serving.specs.Starting.{HasStarted, HasWorked, with_reply};
 ghost use Rattle.serving.specs.Steps.{Answered, after_start};
 
+use crate::alone::answer_alone;
 use crate::deciding::decide;
 use crate::places::number_of;
 use crate::serving::reply_to;
@@ -25,7 +26,7 @@ use plain_sessions::Command;
 use script_text::Reply;
 use session_laws::law_of_states;
 use session_state::Session;
-use session_txn::{local, plan_begin};
+use session_txn::plan_begin;
 use shared_db::SharedDb;
 use std::alloc::Global;
 use tuple_codec::Digester;
@@ -40,7 +41,7 @@ pub(crate) fn started<D: Digester>(
     requires before { (p : plain.Session) × (shared : Shared) × IsBefore D.address session.old db.old.parts p shared × (takes_start p asked.now ≡ true) }
     requires fit { IsFitCommand asked.now }
     requires stored { names_system asked.now ≡ false }
-    requires call { is_no_call asked.now ≡ true }
+    requires call { is_in_place asked.now ≡ true }
     requires moments { 1 < db.old.moments_room }
     requires segments { 0 < db.old.segments_room }
     ensures answered { (epoch : ℤ) (p : plain.Session) (shared : Shared) → IsBefore D.address session.old db.old.parts p shared → takes_start p asked.now ≡ true
@@ -72,7 +73,7 @@ fn answer_started<D: Digester>(
     requires started { (parts : Parts) × (p : plain.Session) × (t : plain.Transaction) × (shared : Shared) × HasStarted D.address session.old parts db.old.parts p t shared × (takes_start p asked.now ≡ true) }
     requires fit { IsFitCommand asked.now }
     requires stored { names_system asked.now ≡ false }
-    requires call { is_no_call asked.now ≡ true }
+    requires call { is_in_place asked.now ≡ true }
     requires moments { 0 < db.old.moments_room }
     requires segments { 0 < db.old.segments_room }
     ensures answered { (epoch : ℤ) (parts : Parts) (p : plain.Session) (t : plain.Transaction) (shared : Shared) → HasStarted D.address session.old parts db.old.parts p t shared
@@ -81,7 +82,7 @@ fn answer_started<D: Digester>(
     ensures truly { TellsTruly D.address result }
     ensures room { KeepsRoom 1 db.old db.new }
 {
-    let reply = local(alloc, session, asked);
+    let reply = answer_alone(alloc, session, asked);
     if is_refusal(&reply) {
         session.start = None;
         after_start(reply)
