@@ -43,10 +43,7 @@ pub fn shown_ancestors<D: Digester>(
 }
 
 /// `dolt_branches`: the branches as they were when the transaction began.
-pub fn shown_branches<D: Digester>(
-    alloc: Global,
-    session: &Session<D>,
-) -> Result<Known, AllocError>
+pub fn shown_branches<D: Digester>(alloc: Global, session: &Session<D>) -> Result<Known, AllocError>
     requires { IsInTransaction D.address session.now }
     ensures { (p : plain.Session) (t : Transaction) → SessionStands D.address session.now p → p.transaction ≡ Some t
         → IfOk result (λ known. known ≡ shown.branches t) }

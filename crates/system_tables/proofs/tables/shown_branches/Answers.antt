@@ -7,8 +7,7 @@ use Rattle.system_tables.proofs.tables.shown_branches.Goals as goal
 
 pub branches-requires-after_bounds : goal.branches-requires-after_bounds
 branches-requires-after_bounds g c κs within =
-    let (p, t, stands, there) = c.requires in
-    (
+    let (p, t, stands, there) = c.requires in (
       t,
       subst (λ (heads : List Head). AreHeadsOf g.D.Digester.address (chunks_of c.args.session.now.draft.chunks) heads t) (sym c.as_slice.ensures.heads)
           (heads_are g.D.Digester.address c.args.session.now p t stands there c.law_of_chunks.ensures c.law_of_standing_commits.ensures c.in-Some.look c.in-Some.is),
