@@ -1,7 +1,6 @@
 -- What is found of commits that stand.
 use Rattle.std.proofs.Common.{◌≡◌, refl, sym, ◌∙◌, ap, subst, ℕ, true, List, ◌∷◌, [], Option, None, Some}
 use Rattle.std.specs.Prelude.{is_some}
-use Rattle.std.specs.List.{list_all}
 use Rattle.std.proofs.lemmas.Bool.{and_from, and_parts}
 use Rattle.std.proofs.lemmas.Option.{same_Some}
 use Rattle.chunk_store.specs.Chunks.{Chunks}

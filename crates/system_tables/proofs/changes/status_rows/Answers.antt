@@ -13,11 +13,11 @@ use Rattle.system_tables.proofs.changes.status_rows.Goals as goal
 pub tables_of-requires-after_bounds : goal.tables_of-requires-after_bounds
 tables_of-requires-after_bounds g c κs within = let states = c.requires.1 in (own_root c.requires.0, states.head_stands)
 
-pub tables_of-requires-after_bounds-2 : goal.tables_of-requires-after_bounds-2
-tables_of-requires-after_bounds-2 g c κs within = let t = c.requires.0 in let states = c.requires.1 in (t.own.staged, states.staged_stands)
+pub tables_of-requires-2-after_bounds : goal.tables_of-requires-2-after_bounds
+tables_of-requires-2-after_bounds g c κs within = let t = c.requires.0 in let states = c.requires.1 in (t.own.staged, states.staged_stands)
 
-pub tables_of-requires-after_bounds-3 : goal.tables_of-requires-after_bounds-3
-tables_of-requires-after_bounds-3 g c κs within = let t = c.requires.0 in let states = c.requires.1 in (t.own.working, states.working_stands)
+pub tables_of-requires-3-after_bounds : goal.tables_of-requires-3-after_bounds
+tables_of-requires-3-after_bounds g c κs within = let t = c.requires.0 in let states = c.requires.1 in (t.own.working, states.working_stands)
 
 pub returns : goal.returns
 returns g c = λ t states.

@@ -1,4 +1,4 @@
-use Rattle.std.proofs.Common.{sym, subst, List, ◌∙◌}
+use Rattle.std.proofs.Common.{sym, subst, List}
 use Rattle.chunk_store.specs.Drafts.{chunks_of}
 use Rattle.table_root.specs.declared.heads.Head.{Head}
 use Rattle.system_tables.specs.Rows.{AreHeadsOf}
@@ -18,8 +18,8 @@ unreachable-requires g c =
     let (p, t, stands, there) = c.requires in
     let b = begun g.D.Digester.address c.args.session.now p t stands there in absurd (cc)
 
-pub returns-in-Some : goal.returns-in-Some
-returns-in-Some g c = λ p t stands there.
+pub returns : goal.returns
+returns g c = λ p t stands there.
     c.branches.ensures t
     (subst (λ (heads : List Head). AreHeadsOf g.D.Digester.address (chunks_of c.args.session.now.draft.chunks) heads t) (sym c.as_slice.ensures.heads)
     (heads_are g.D.Digester.address c.args.session.now p t stands there c.law_of_chunks.ensures c.law_of_standing_commits.ensures c.in-Some.look c.in-Some.is))
