@@ -19,7 +19,7 @@ is_no_call (command.Data other) = false
 is_no_call (command.OnBranches request) = false
 is_no_call (command.Checkout request) = false
 
--- and what names no system table
+-- and what names no table of conflicts or of violations
 abbrev pub runs_in_place : Command → Bool
 runs_in_place asked = is_no_call asked && not (names_system asked)
 

@@ -31,7 +31,7 @@ use std::alloc::{AllocError, Global};
 use system_tables::system_sources;
 use tuple_codec::{Address, Boxed, Digester, Sequence};
 
-/// What a SELECT shows of the transaction's working tables.
+/// What a SELECT shows of the transaction's working tables, and of the system tables that it names.
 pub(crate) fn ask<D: Digester>(alloc: Global, session: &Session<D>, select: &Select) -> Reply
     requires stands { IsInTransaction D.address session.now }
     requires stored { asks_system select.now ≡ false }
@@ -46,7 +46,7 @@ pub(crate) fn ask<D: Digester>(alloc: Global, session: &Session<D>, select: &Sel
     }
 }
 
-/// The system tables that a SELECT reads.
+/// The system tables that a SELECT names, read for this session.
 fn system_of<D: Digester>(
     alloc: Global,
     session: &Session<D>,
