@@ -25,7 +25,7 @@ is_in_place (command.Data other) = false
 is_in_place (command.OnBranches request) = false
 is_in_place (command.Checkout request) = false
 
--- and what names no system table
+-- and what names no table of conflicts or of violations
 abbrev pub runs_in_place : Command → Bool
 runs_in_place asked = is_in_place asked && not (names_system asked)
 

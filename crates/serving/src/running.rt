@@ -6,7 +6,7 @@ ghost use Rattle.serving.specs.Running.{is_in_place, is_step, runs, runs_in_plac
 use plain_sessions::{Command, Work};
 use session_txn::names_system;
 
-/// Whether a statement is served. Of the procedures DOLT_ADD, DOLT_RESET, DOLT_BRANCH and DOLT_CHECKOUT are yet, and nothing that names a system table.
+/// Whether a statement is served. Of the procedures DOLT_ADD, DOLT_RESET, DOLT_BRANCH and DOLT_CHECKOUT are yet, and nothing that names a table of conflicts or of violations.
 pub fn runs(asked: &Command) -> bool
     ensures { result ≡ runs asked.now }
 {

@@ -1,4 +1,4 @@
--- A SELECT that names no system table reads the stored ones.
+-- A SELECT that names no table of conflicts or of violations shows what it shows of the stored tables and of the system tables that it names.
 use Rattle.std.proofs.Common.{◌≡◌, refl, sym, ◌∙◌, ap, subst, arith, nat_le, length, Some, Ok, Err, ℕ, Bool, true, false, ◌||◌, ◌&&◌, cond, nat_eq, List, [], ◌∷◌, ◌++◌, map, filter, bytes_eq, codes}
 use Rattle.std.proofs.lemmas.Bool.Decides.{nat_tests}
 use Rattle.std.proofs.lemmas.List.{append_assoc}
@@ -18,6 +18,7 @@ use Rattle.plain_sessions.specs.SystemTables.{branches, commit_ancestors, confli
 use Rattle.sql_select.specs.Sources as sources
 use Rattle.sql_select.specs.Sources.{CanRead, IsReadAt, ReadsSuffice, is_read, known_system, known_table, typed}
 use Rattle.sql_select.specs.declared.sources.NamedAnswer.{NamedAnswer}
+use Rattle.system_tables.specs.Known.{as_named, entry_tables, four_tables, named_read, system_tables}
 use Rattle.tuple_codec.specs.declared.answers.Answer.{Answer}
 use Rattle.chunk_store.specs.Chunks.{Chunks}
 use Rattle.chunk_store.specs.Drafts.{chunks_of}
@@ -35,15 +36,13 @@ use Rattle.plain_sessions.specs.declared.commands.Work.TheVariants as work
 use Rattle.session_state.specs.Standing.{SessionStands}
 use Rattle.session_state.specs.declared.sessions.Session.{Session}
 use Rattle.session_txn.specs.Answering.{AnswersAlone}
+use Rattle.session_txn.specs.Reading.{system_of}
 use Rattle.session_txn.specs.Showing.{IsDue}
 use Rattle.session_txn.specs.Naming.{asks_system, is_system_name, reads_system}
 use Rattle.session_txn.proofs.AloneLemmas.{answers_due, in_place, worked_ill, worked_well}
 use Rattle.session_txn.proofs.SessionLemmas.{has_one, own_kept}
 
 -- ---- system tables as answers
-
-abbrev as_named : Known → NamedAnswer
-as_named k = record { name = k.name; answer = record { names = map (λ (c : NamedType). c.name) k.columns; kinds = map (λ (c : NamedType). c.kind) k.columns; rows = k.rows } }
 
 typed_back : (columns : List NamedType) → typed (map (λ (c : NamedType). c.name) columns) (map (λ (c : NamedType). c.kind) columns) ≡ columns
 typed_back [] = refl
@@ -56,20 +55,14 @@ all_back : (ks : List Known) → map known_system (map as_named ks) ≡ ks
 all_back [] = refl
 all_back (k ∷ ks) = ap (λ (one : Known). one ∷ map known_system (map as_named ks)) (known_back k) ∙ ap (λ (more : List Known). k ∷ more) (all_back ks)
 
-abbrev systems : Transaction → List Known
-systems t =
-    log t ∷ branches t ∷ status t ∷ commit_ancestors t ∷ conflicts t.own.working ∷ constraint_violations t.own.working ∷ []
-    ++ map conflicts_of t.own.working
-    ++ map violations_of t.own.working
-
-known_as : (t : Transaction) → known t ≡ sources.known t.own.working (map as_named (systems t))
+known_as : (t : Transaction) → known t ≡ sources.known t.own.working (map as_named (system_tables t))
 known_as t =
     let stores = map stored t.own.working in
     let first = log t ∷ branches t ∷ status t ∷ commit_ancestors t ∷ conflicts t.own.working ∷ constraint_violations t.own.working ∷ [] in
     let second = map conflicts_of t.own.working in
     let third = map violations_of t.own.working in
     ap (λ (ks : List Known). ks ++ third) (append_assoc stores first second) ∙ append_assoc stores (first ++ second) third
-    ∙ ap (λ (ks : List Known). stores ++ ks) (sym (all_back (systems t)))
+    ∙ ap (λ (ks : List Known). stores ++ ks) (sym (all_back (system_tables t)))
 
 -- ---- their names
 
@@ -104,9 +97,9 @@ violations_are : (database : PlainDatabase) → are_system (map violations_of da
 violations_are [] = refl
 violations_are (named ∷ database) = violations_are database
 
-systems_are : (t : Transaction) → are_system (systems t) ≡ true
-systems_are t =
-    let first = log t ∷ branches t ∷ status t ∷ commit_ancestors t ∷ conflicts t.own.working ∷ constraint_violations t.own.working ∷ [] in
+entries_are : (t : Transaction) → are_system (entry_tables t) ≡ true
+entries_are t =
+    let first = conflicts t.own.working ∷ constraint_violations t.own.working ∷ [] in
     system_more (first ++ map conflicts_of t.own.working) (map violations_of t.own.working)
     (system_more first (map conflicts_of t.own.working) refl (conflicts_are t.own.working)) (violations_are t.own.working)
 
@@ -132,36 +125,54 @@ unread from name h g =
     of_neither (bytes_eq name from.first.table) (list_any (λ (join : Join). bytes_eq name join.source.table) from.joins) (apart name from.first.table g none.0)
     (apart_joins name from.joins g none.1)
 
-all_unread : (from : FromClause) (ks : List Known) → reads_system from ≡ false → are_system ks ≡ true → filter (λ (named : NamedAnswer). is_read from named.name) (map as_named ks) ≡ []
+all_unread : (from : FromClause) (ks : List Known) → reads_system from ≡ false → are_system ks ≡ true → named_read from ks ≡ []
 all_unread from [] h g = refl
 all_unread from (k ∷ ks) h g =
     let all = both (is_system_name k.name) (are_system ks) g in
-    let rest = filter (λ (named : NamedAnswer). is_read from named.name) (map as_named ks) in
+    let rest = named_read from ks in
     ap (λ (b : Bool). cond b (as_named k ∷ rest) rest) (unread from k.name h all.0) ∙ all_unread from ks h all.1
 
--- what it shows of all that it may name it shows of the stored tables
-query_stored : ReadsSuffice → (t : Transaction) (query : Query) → reads_system query.from ≡ false
-    → answer (known t) (select.From query) ≡ answer (sources.known t.own.working []) (select.From query)
-query_stored suffice t query h =
+-- ---- what is read is read of the first four
+
+front_read : (from : FromClause) (xs ys : List Known) → named_read from ys ≡ [] → named_read from (xs ++ ys) ≡ named_read from xs
+front_read from [] ys h = h
+front_read from (x ∷ xs) ys h = ap (λ (read : List NamedAnswer). cond (is_read from x.name) (as_named x ∷ read) read) (front_read from xs ys h)
+
+abbrev read_of : FromClause → List NamedAnswer → List NamedAnswer
+read_of from xs = filter (λ (named : NamedAnswer). is_read from named.name) xs
+
+one_twice : (from : FromClause) (x : NamedAnswer) (xs : List NamedAnswer) (b : Bool) → is_read from x.name ≡ b → read_of from xs ≡ xs → read_of from (cond b (x ∷ xs) xs) ≡ cond b (x ∷ xs) xs
+one_twice from x xs true is same = ap (λ (b : Bool). cond b (x ∷ read_of from xs) (read_of from xs)) is ∙ ap (λ (l : List NamedAnswer). x ∷ l) same
+one_twice from x xs false is same = same
+
+read_twice : (from : FromClause) (xs : List NamedAnswer) → read_of from (read_of from xs) ≡ read_of from xs
+read_twice from [] = refl
+read_twice from (x ∷ xs) = one_twice from x (read_of from xs) (is_read from x.name) refl (read_twice from xs)
+
+-- what it shows of all that it may name it shows of the stored tables and of those of the four that it names
+query_read : ReadsSuffice → (t : Transaction) (query : Query) → reads_system query.from ≡ false
+    → answer (known t) (select.From query) ≡ answer (sources.known t.own.working (named_read query.from (four_tables t))) (select.From query)
+query_read suffice t query h =
     let database = t.own.working in
     ap (λ (ks : List Known). answer ks (select.From query)) (known_as t)
-    ∙ sym (suffice database (map as_named (systems t)) query)
+    ∙ sym (suffice database (map as_named (system_tables t)) query)
     ∙ ap (λ (read : List NamedAnswer). answer (map known_table (filter (λ named. is_read query.from named.name) database) ++ map known_system read) (select.From query))
-    (all_unread query.from (systems t) h (systems_are t))
-    ∙ suffice database [] query
+    (front_read query.from (four_tables t) (entry_tables t) (all_unread query.from (entry_tables t) h (entries_are t))
+    ∙ sym (read_twice query.from (map as_named (four_tables t))))
+    ∙ suffice database (named_read query.from (four_tables t)) query
 
-answers_stored : ReadsSuffice → (t : Transaction) (one : Select) → asks_system one ≡ false → answer (known t) one ≡ answer (sources.known t.own.working []) one
-answers_stored suffice t (select.From query) h = query_stored suffice t query h
-answers_stored suffice t (select.Alone list) h = refl
+answers_read : ReadsSuffice → (t : Transaction) (one : Select) → asks_system one ≡ false → answer (known t) one ≡ answer (sources.known t.own.working (system_of t one)) one
+answers_read suffice t (select.From query) h = query_read suffice t query h
+answers_read suffice t (select.Alone list) h = refl
 
 -- ---- the reply
 
-pub shows_due : ReadsSuffice → (t : Transaction) (one : Select) (system : List NamedAnswer) (outcome : Outcome Answer) (reply : Reply) → system ≡ [] → asks_system one ≡ false
+pub shows_due : ReadsSuffice → (t : Transaction) (one : Select) (system : List NamedAnswer) (outcome : Outcome Answer) (reply : Reply) → system ≡ system_of t one → asks_system one ≡ false
     → answer (sources.known t.own.working system) one ≡ outcome → IsDue 1 (shown_or_refused outcome) reply
     → IsDue 1 (shown_or_refused (answer (known t) one)) reply
-shows_due suffice t one system outcome reply none h is owed =
-    subst (λ (r : Reply). IsDue 1 r reply) (sym (ap shown_or_refused (answers_stored suffice t one h
-    ∙ ap (λ (s : List NamedAnswer). answer (sources.known t.own.working s) one) (sym none) ∙ is))) owed
+shows_due suffice t one system outcome reply same h is owed =
+    subst (λ (r : Reply). IsDue 1 r reply) (sym (ap shown_or_refused (answers_read suffice t one h
+    ∙ ap (λ (s : List NamedAnswer). answer (sources.known t.own.working s) one) (sym same) ∙ is))) owed
 
 -- a database that is kept can be read
 pub kept_reads : (address : List ℕ → List ℕ) (chunks : Chunks) (k : List ℕ) (database : PlainDatabase) → IsKeptAt address chunks k database → IsReadAt address chunks k database
@@ -185,11 +196,11 @@ asked_by address session p t one reply (Err number) there is stands owed =
     (worked_ill p t (work.Ask one) number there (ap (λ (o : Outcome Answer). and_then {B = Worked} o (λ a. Ok (Answers (shown a) t.own))) is)) owed stands stands
 
 pub asks : {D : Type 0} (address : List ℕ → List ℕ) (session : Session D) (p : plain.Session) (one : Select) (reply : Reply) → is_in_transaction p ≡ true → SessionStands address session p
-    → ((t : Transaction) → IsKeptAt address (chunks_of session.draft.chunks) session.own.working.0 t.own.working → IsDue 1 (shown_or_refused (answer (known t) one)) reply)
+    → ((t : Transaction) → p.transaction ≡ Some t → IsKeptAt address (chunks_of session.draft.chunks) session.own.working.0 t.own.working → IsDue 1 (shown_or_refused (answer (known t) one)) reply)
     → AnswersAlone address p (command.Data (work.Ask one)) session reply
 asks address session p one reply inside stands owed =
     let found = has_one p.transaction inside in
-    asked_by address session p found.0 one reply (answer (known found.0) one) found.1 refl stands (owed found.0 (own_kept address session p found.0 stands found.1))
+    asked_by address session p found.0 one reply (answer (known found.0) one) found.1 refl stands (owed found.0 found.1 (own_kept address session p found.0 stands found.1))
 
 -- ---- without sources
 

@@ -2,6 +2,7 @@ pub mod Answering
 pub mod Committing
 pub mod Naming
 pub mod Planning
+pub mod Reading
 pub mod Showing
 pub mod Values
 pub mod Writing

@@ -1,4 +1,4 @@
--- Statements that name system tables.
+-- Statements that name the tables of conflicts or of violations.
 use Rattle.std.specs.Prelude.{ℕ, Bool, true, false, ◌||◌, nat_eq, List, codes}
 use Rattle.std.specs.List.{list_any, starts_with}
 use Rattle.sql_ast.specs.declared.selects.FromClause.{FromClause}
@@ -11,9 +11,9 @@ use Rattle.plain_sessions.specs.declared.commands.Command.{Command}
 use Rattle.plain_sessions.specs.declared.commands.Command.TheVariants as command
 use Rattle.plain_sessions.specs.declared.commands.Work.TheVariants as work
 
--- each system table's name begins so, and no stored table's
+-- the name of each table of conflicts or of violations begins so, and no stored table's
 abbrev pub is_system_name : List ℕ → Bool
-is_system_name name = starts_with nat_eq name (codes "dolt_")
+is_system_name name = starts_with nat_eq name (codes "dolt_conflicts") || starts_with nat_eq name (codes "dolt_constraint_violations")
 
 abbrev pub reads_system : FromClause → Bool
 reads_system from = is_system_name from.first.table || list_any (λ join. is_system_name join.source.table) from.joins

@@ -1,4 +1,4 @@
-//! Statements that name system tables.
+//! Statements that name the tables of conflicts or of violations.
 
 ghost use Rattle.std.specs.Prelude.{◌≡◌};
 ghost use Rattle.std.specs.List.{list_any};
@@ -8,7 +8,7 @@ ghost use Rattle.session_txn.specs.Naming.{asks_system, is_system_name, names_sy
 use plain_sessions::{Command, Work};
 use sql_ast::{FromClause, Select, Write};
 
-/// Whether a statement reads or writes system tables.
+/// Whether a statement reads or writes tables of conflicts or of violations. The other system tables can be read.
 pub fn names_system(asked: &Command) -> bool
     ensures { result ≡ names_system asked.now }
 {
@@ -65,9 +65,9 @@ fn is_below(name: &[u8], front: &[u8]) -> bool
     name.starts_with(front) && name.len() > front.len()
 }
 
-/// System tables' names begin so, and no stored table's does.
+/// The names of tables of conflicts and of violations begin so, and no stored table's does.
 fn is_system_name(name: &[u8]) -> bool
     ensures { result ≡ is_system_name name.now }
 {
-    name.starts_with(b"dolt_")
+    name.starts_with(b"dolt_conflicts") || name.starts_with(b"dolt_constraint_violations")
 }

@@ -1,6 +1,6 @@
 //! SELECT of a transaction's tables, and SELECT without sources.
 
-ghost use Rattle.std.specs.Prelude.{◌≡◌, ℕ, List, [], false, true, IfOk};
+ghost use Rattle.std.specs.Prelude.{◌≡◌, ℕ, List, [], false, true, IfOk, Some};
 ghost use Rattle.chunk_store.specs.Drafts.{chunks_of};
 ghost use Rattle.constraint_scan.specs.Scanning.{HasKeptAt, IsKeptAt};
 ghost use Rattle.plain_sql.specs.Plans.{answer};
@@ -16,6 +16,7 @@ ghost use Rattle.sql_ast.specs.declared.selects.Select.TheVariants as select;
 ghost use Rattle.session_state.specs.Standing.{IsInTransaction, SessionStands};
 ghost use Rattle.session_txn.specs.Answering.{AnswersAlone};
 ghost use Rattle.session_txn.specs.Naming.{asks_system};
+ghost use Rattle.session_txn.specs.Reading.{system_of};
 ghost use Rattle.session_txn.specs.Showing.{IsDue, is_sound_reply};
 
 use crate::showing::due;
@@ -25,11 +26,12 @@ use plain_sql::Refused;
 use script_text::Reply;
 use session_state::Session;
 use sql_ast::{NamedExpr, Select};
-use sql_select::{AskFault, Sources, answer, law_of_reading};
+use sql_select::{AskFault, NamedAnswer, Sources, answer, law_of_reading};
 use std::alloc::{AllocError, Global};
+use system_tables::system_sources;
 use tuple_codec::{Address, Boxed, Digester, Sequence};
 
-/// What a SELECT shows of the transaction's working tables.
+/// What a SELECT shows of the transaction's working tables, and of the system tables that it names.
 pub(crate) fn ask<D: Digester>(alloc: Global, session: &Session<D>, select: &Select) -> Reply
     requires stands { IsInTransaction D.address session.now }
     requires stored { asks_system select.now ≡ false }
@@ -38,15 +40,40 @@ pub(crate) fn ask<D: Digester>(alloc: Global, session: &Session<D>, select: &Sel
     ensures sound { is_sound_reply result ≡ true }
     ensures truly { TellsTruly D.address result }
 {
-    show(alloc, &session.draft, &session.own.working, select)
+    match system_of(alloc, session, select) {
+        Ok(system) => show(alloc, &session.draft, &session.own.working, system, select),
+        Err(_) => Reply::Refused(1),
+    }
 }
 
-/// What a SELECT shows of the tables at an address.
+/// The system tables that a SELECT names, read for this session.
+fn system_of<D: Digester>(
+    alloc: Global,
+    session: &Session<D>,
+    select: &Select,
+) -> Result<Sequence<NamedAnswer>, AllocError>
+    requires { IsInTransaction D.address session.now }
+    ensures { (p : plain.Session) (t : plain.Transaction) → SessionStands D.address session.now p → p.transaction ≡ Some t
+        → IfOk result (λ system. system ≡ system_of t select.now) }
+{
+    match select {
+        Select::From(query) => system_sources(alloc, session, &query.from),
+        Select::Alone(_) => Ok(Sequence::new(alloc)),
+    }
+}
+
+/// What a SELECT shows of the tables at an address and of these system tables.
 #[tactic(auto, using(crate::proofs::SelectLemmas::can_read))]
-fn show<D: Digester>(alloc: Global, draft: &Draft<D>, database: &Address, select: &Select) -> Reply
+fn show<D: Digester>(
+    alloc: Global,
+    draft: &Draft<D>,
+    database: &Address,
+    system: Sequence<NamedAnswer>,
+    select: &Select,
+) -> Reply
     requires kept { HasKeptAt D.address (chunks_of draft.now.chunks) database.now.0 }
     requires stored { asks_system select.now ≡ false }
-    ensures due { (t : plain.Transaction) → IsKeptAt D.address (chunks_of draft.now.chunks) database.now.0 t.own.working
+    ensures due { (t : plain.Transaction) → IsKeptAt D.address (chunks_of draft.now.chunks) database.now.0 t.own.working → system ≡ system_of t select.now
         → IsDue 1 (shown_or_refused (answer (known t) select.now)) result }
     ensures sound { is_sound_reply result ≡ true }
     ensures truly { TellsTruly D.address result }
@@ -54,7 +81,7 @@ fn show<D: Digester>(alloc: Global, draft: &Draft<D>, database: &Address, select
     law_of_reading();
     let sources = Sources {
         database: *database,
-        system: Sequence::new(alloc),
+        system,
     };
     match answer(alloc, draft, &sources, select) {
         Ok(answer) => due(Reply::Rows(answer), 1),

@@ -4,3 +4,4 @@ mod CommitLemmas
 mod HeadLemmas
 mod RowLemmas
 mod SessionLemmas
+mod SourceLemmas

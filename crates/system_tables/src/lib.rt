@@ -8,6 +8,8 @@ mod commits;
 mod log;
 mod names;
 mod parents;
+mod sources;
 mod tables;
 
+pub use sources::system_sources;
 pub use tables::{shown_ancestors, shown_branches, shown_log, shown_status};
