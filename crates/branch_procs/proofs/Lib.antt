@@ -5,3 +5,4 @@ mod StageLemmas
 mod RootLemmas
 mod LocalLemmas
 mod ClosingLemmas
+mod MakingLemmas

@@ -5,6 +5,7 @@ mod closing;
 mod laws;
 mod listing;
 mod local;
+mod making;
 mod opening;
 mod replying;
 mod roots;
