@@ -6,3 +6,4 @@ mod RootLemmas
 mod LocalLemmas
 mod ClosingLemmas
 mod MakingLemmas
+mod CommittingLemmas

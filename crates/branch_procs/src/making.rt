@@ -20,7 +20,6 @@ use crate::roots::head_root;
 use crate::staging::with_staged;
 use chunk_store::{Draft, PutFault, law_of_chunks};
 use commit_graph::{CommitRecord, height, law_of_standing_commits};
-
 use sql_procedures::Staging;
 use std::alloc::{AllocError, Global};
 use tuple_codec::{Address, BranchRecord, Digester, Sequence, Text};
@@ -54,7 +53,7 @@ fn greater(first: u64, second: u64) -> u64
 }
 
 /// The own record with the tables that a commit stages first.
-fn staged_for<D: Digester>(
+pub(crate) fn staged_for<D: Digester>(
     alloc: Global,
     draft: &mut Draft<D>,
     own: &BranchRecord,
@@ -95,7 +94,7 @@ fn parents_of(
 
 /// A commit of the record's staged database, on the branch's head and on the commit that is being merged. A height that is no number in 64 bits is
 /// want of memory.
-fn new_commit<D: Digester>(
+pub(crate) fn new_commit<D: Digester>(
     alloc: Global,
     draft: &Draft<D>,
     rec: &BranchRecord,
