@@ -248,7 +248,7 @@ module _ {D : Type 0} (address : List ℕ → List ℕ) (chunks : ChunksFollow) 
       pub can_commit : (state : BranchState) × (outcome ≡ Ok state) × Can state
       can_commit = can_by outcome refl (by_variables (made.Record rec) is)
 
-      module _ (drafts : DraftsFollow) (segments : SegmentsFollow) (databases : DatabasesStand) (epoch : ℤ) (message : List ℕ) (plan : Plan) (state : BranchState) (can : Can state) where
+      module _ (drafts : DraftsFollow) (segments : SegmentsFollow) (databases : DatabasesStand) (epoch : ℤ) (message : List ℕ) (state : BranchState) (can : Can state) where
         abbrev commit : PlainCommit
         commit = commit_of epoch shared.commits p present message state
 
@@ -267,7 +267,7 @@ module _ {D : Type 0} (address : List ℕ → List ℕ) (chunks : ChunksFollow) 
             subst HasNoCommit (sym (grown.own ∙ ap (λ (cs : List Chunk). cs ++ grown.more) w.own))
             (decisions.no_commit_more chunks session.draft.chunks.own grown.more stands.plain_own grown.kinds)
 
-        module _ (made_so : IsCommitted address after commit rec plan) where
+        module _ (plan : Plan) (made_so : IsCommitted address after commit rec plan) where
           abbrev now : Drafting
           now = made_so.after
 
@@ -381,7 +381,13 @@ module _ {D : Type 0} (address : List ℕ → List ℕ) (chunks : ChunksFollow) 
                 };
               }
 
-        pub plans : outcome ≡ Ok state → IsCommitted address after named_by rec plan → PlanIs address look shared.commits plan (closed address epoch shared.commits p t present (Committing mine message))
-        plans decided made_so =
+        plans : (plan : Plan) → outcome ≡ Ok state → IsCommitted address after named_by rec plan
+            → PlanIs address look shared.commits plan (closed address epoch shared.commits p t present (Committing mine message))
+        plans plan decided made_so =
             subst (λ (o : Outcome BranchState). PlanIs address look shared.commits plan (and_then o (λ (found : BranchState). Ok (committed_as address (commit_of epoch shared.commits p present message found) found))))
-            (sym decided) (planned_as (subst (λ (c : PlainCommit). IsCommitted address after c rec plan) same_commit made_so))
+            (sym decided) (planned_as plan (subst (λ (c : PlainCommit). IsCommitted address after c rec plan) same_commit made_so))
+
+        pub plans_told : outcome ≡ Ok state → (result : Result Plan PutFault) → IfOk result (λ plan. IsCommitted address after named_by rec plan)
+            → IfOk result (λ plan. PlanIs address look shared.commits plan (closed address epoch shared.commits p t present (Committing mine message)))
+        plans_told decided (Err fault) made_so = tt
+        plans_told decided (Ok plan) made_so = plans plan decided made_so
