@@ -22,7 +22,7 @@ use Rattle.expr_eval.specs.Binding.{Outcome, and_then}
 use Rattle.plain_sql.specs.Lists.{unless}
 use Rattle.schema_model.specs.PlainCommits.{Commits, IsGrown, PlainCommit, commit_address, commit_parts, is_known, plain_commit_bytes}
 use Rattle.schema_model.specs.PlainTables.{PlainDatabase}
-use Rattle.schema_model.specs.WrittenForms.{CommitParts, commit_bytes, database_address}
+use Rattle.schema_model.specs.WrittenForms.{CommitParts, commit_bytes}
 use Rattle.script_text.specs.Collisions.{IsFault}
 use Rattle.script_text.specs.declared.replies.Reply.{Reply}
 use Rattle.sql_procedures.specs.declared.requests.CommitRequest.{CommitRequest}
@@ -51,7 +51,6 @@ use Rattle.shared_db.specs.declared.changes.Plan.{Plan}
 use Rattle.session_txn.specs.Answering.{Decides}
 use Rattle.session_txn.specs.Committing.{IsWorkOf}
 use Rattle.session_txn.proofs.CommitLemmas as decisions
-use Rattle.branch_procs.specs.Calls.{OwnStands}
 use Rattle.branch_procs.specs.Committing.{CanCommit, CanDecide, IsCommitted, IsPlannedOf, IsWritten, hash_reply, parents_on, staged_in}
 use Rattle.branch_procs.proofs.ClosingLemmas.{worked_commit}
 use Rattle.branch_procs.proofs.LocalLemmas.{Known, gives, record_in}

@@ -1,5 +1,5 @@
 -- The commit that a decision makes.
-use Rattle.std.proofs.Common.{◌≡◌, refl, sym, ap, ◌∙◌, subst, ℕ, suc, ◌+◌, ◌<◌, ◌^◌, ℤ, pos, ◌≤◌, ◌≤ℤ◌, true, length, false, nat_lt, List, [], ◌∷◌, map, Option, None, Some, arith}
+use Rattle.std.proofs.Common.{◌≡◌, sym, ap, ◌∙◌, subst, ℕ, suc, ◌+◌, ◌<◌, ◌^◌, ℤ, pos, ◌≤◌, ◌≤ℤ◌, true, length, nat_lt, List, [], ◌∷◌, map, Option, None, Some, arith}
 use Rattle.std.specs.Prelude.{if◌then◌else◌}
 use Rattle.std.specs.Option.{option_map_or, option_to_list}
 use Rattle.std.proofs.lemmas.Bool.{ltb-false}

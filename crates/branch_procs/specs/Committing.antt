@@ -8,14 +8,13 @@ use Rattle.chunk_store.specs.Chunks.{bytes_at}
 use Rattle.chunk_store.specs.Drafts.{DraftParts, Drafting, IsSound, chunks_of, put_in}
 use Rattle.chunk_store.specs.Stores.{IsSealed}
 use Rattle.commit_graph.specs.Commits.{IsCommitFound}
-use Rattle.constraint_scan.specs.Scanning.{IsKeptAt}
 use Rattle.schema_model.specs.PlainCommits.{Commits, PlainCommit, commit_address, commit_parts, is_known, plain_commit_bytes}
 use Rattle.script_text.specs.declared.replies.Reply.{Reply}
 use Rattle.sql_procedures.specs.declared.requests.Staging.{Staging}
 use Rattle.plain_sessions.specs.Branching.{staged_first}
 use Rattle.plain_sessions.specs.Records.{BranchState, root_of}
 use Rattle.plain_sessions.specs.Replies.{one_row, text_field}
-use Rattle.root_merge.specs.States.{StateStands, bytes_of}
+use Rattle.root_merge.specs.States.{StateStands}
 use Rattle.session_laws.specs.Commits.{CommitsAreThere}
 use Rattle.shared_db.specs.Plans.{brought}
 use Rattle.shared_db.specs.declared.changes.Change.TheVariants.{Record}

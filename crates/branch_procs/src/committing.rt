@@ -28,7 +28,7 @@ ghost use Rattle.branch_procs.specs.Committing.{CanCommit, CanDecide, IsCommitte
 use crate::making::{new_commit, staged_for};
 use crate::replying::hash_reply;
 use chunk_store::{
-  Draft, PutFault, SealFault, law_of_chunks, law_of_drafts, law_of_growth, law_of_segments,
+    Draft, PutFault, SealFault, law_of_chunks, law_of_drafts, law_of_growth, law_of_segments,
 };
 use commit_graph::write_commit;
 use root_merge::{Candidate, candidate};

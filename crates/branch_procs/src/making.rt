@@ -25,11 +25,7 @@ use std::alloc::{AllocError, Global};
 use tuple_codec::{Address, BranchRecord, Digester, Sequence, Text};
 
 /// The greatest height of the commits on which a commit of this record is made.
-fn greatest_height<D: Digester>(
-    draft: &Draft<D>,
-    rec: &BranchRecord,
-    present: &Address,
-) -> u64
+fn greatest_height<D: Digester>(draft: &Draft<D>, rec: &BranchRecord, present: &Address) -> u64
     requires { (commits : Commits) × (state : BranchState) × CanCommit D.address draft.now.chunks rec.now present.now commits state }
     ensures { (commits : Commits) (state : BranchState) → CanCommit D.address draft.now.chunks rec.now present.now commits state
         → result ≡ greatest (map (height_of commits) (parents_on present.now state)) }

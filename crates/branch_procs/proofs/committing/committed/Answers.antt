@@ -1,4 +1,4 @@
-use Rattle.std.proofs.Common.{◌≡◌, ℤ, subst, sym, w64}
+use Rattle.std.proofs.Common.{ℤ, subst, w64}
 use Rattle.std.proofs.lemmas.Int.{to_z-of_z}
 use Rattle.chunk_store.specs.Kinds.{is_commit}
 use Rattle.plain_sessions.specs.Records.{commit_on}

@@ -1,5 +1,5 @@
 use Rattle.chunk_store.specs.Chunks.{Extends}
-use Rattle.chunk_store.specs.Drafts.{Grows, chunks_of}
+use Rattle.chunk_store.specs.Drafts.{chunks_of}
 use Rattle.chunk_store.specs.Kinds.{is_database}
 use Rattle.root_merge.specs.Merging.{is_data}
 use Rattle.branch_procs.specs.Committing.{staged_in}

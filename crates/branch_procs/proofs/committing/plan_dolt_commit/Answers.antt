@@ -1,4 +1,4 @@
-use Rattle.std.proofs.Common.{◌≡◌, ℤ, subst, sym, w64}
+use Rattle.std.proofs.Common.{ℤ, subst, w64}
 use Rattle.std.specs.Prelude.{IfOk}
 use Rattle.std.proofs.lemmas.Int.{to_z-of_z}
 use Rattle.plain_sessions.specs.Merging.{Committing}

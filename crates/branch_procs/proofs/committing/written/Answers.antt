@@ -1,4 +1,4 @@
-use Rattle.std.proofs.Common.{◌≡◌, ℤ, subst, w64, rules, arith}
+use Rattle.std.proofs.Common.{◌≡◌, ℤ, subst, w64, rules}
 use Rattle.std.proofs.lemmas.Int.{to_z-of_z}
 use Rattle.commit_graph.specs.Commits.{parts_of}
 use Rattle.plain_sessions.specs.Records.{commit_on}

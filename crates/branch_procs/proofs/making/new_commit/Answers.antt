@@ -1,4 +1,4 @@
-use Rattle.std.proofs.Common.{◌≡◌, ◌∙◌, ◌≤◌, ◌<◌, ◌^◌, ◌≤ℤ◌, ℕ, ℤ, List, pos, refl, sym, ap, subst, length, true, w64, rules, arith}
+use Rattle.std.proofs.Common.{◌∙◌, ◌≤◌, ◌≤ℤ◌, ℕ, ℤ, List, pos, refl, sym, ap, subst, length, w64, rules}
 use Rattle.std.proofs.lemmas.Int.{to_z-of_z}
 use Rattle.tuple_codec.specs.Rows.{fits_bits}
 use Rattle.branch_procs.proofs.MakingLemmas.{limits_of, made_as}
