@@ -5,3 +5,5 @@ mod StageLemmas
 mod RootLemmas
 mod LocalLemmas
 mod ClosingLemmas
+mod MakingLemmas
+mod CommittingLemmas

@@ -2,7 +2,7 @@
 use Rattle.std.proofs.Common.{◌≡◌, refl, sym, ap, ◌∙◌, subst, ℕ, true, List, Option, None, Some}
 use Rattle.std.specs.Prelude.{is_some}
 use Rattle.std.proofs.lemmas.Option.{same_Some}
-use Rattle.schema_model.specs.PlainCommits.{Commits, PlainCommit, commit_parts, is_known}
+use Rattle.schema_model.specs.PlainCommits.{Commits, PlainCommit, commit_parts, height_in, height_of, is_known}
 use Rattle.schema_model.specs.PlainTables.{PlainDatabase}
 use Rattle.schema_model.specs.WrittenForms.{CommitParts, commit_bytes, database_address}
 use Rattle.chunk_store.specs.Chunks.{Extends, bytes_at}
@@ -35,6 +35,10 @@ module _ (address : List ℕ → List ℕ) (chunks : ChunksFollow) (law : Commit
 
   pub has_commit : is_known commits k ≡ true → HasCommit (chunks_of d) k
   has_commit known = let one = commit_of known in (commit_parts address one.0, found one.0 one.1)
+
+  -- a commit's height is the one that is found
+  pub height_is : is_known commits k ≡ true → (result : ℕ) → ((commit : CommitParts) → IsCommitFound (chunks_of d) k commit → result ≡ commit.height) → result ≡ height_of commits k
+  height_is known result told = let one = commit_of known in told (commit_parts address one.0) (found one.0 one.1) ∙ sym (ap height_in one.1)
 
   pub root_kept : HasOneSpelling → DatabasesStand → is_known commits k ≡ true → (read : CommitRecord) → IsCommitFound (chunks_of d) k (parts_of read)
       → IsKeptAt address (chunks_of d) read.root.0 (root_of commits k)

@@ -3,3 +3,4 @@ pub mod Taking
 pub mod Staging
 pub mod Calls
 pub mod Closing
+pub mod Committing

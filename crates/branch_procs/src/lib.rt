@@ -2,9 +2,11 @@
 #![tactic(auto)]
 
 mod closing;
+mod committing;
 mod laws;
 mod listing;
 mod local;
+mod making;
 mod opening;
 mod replying;
 mod roots;
@@ -12,4 +14,5 @@ mod staging;
 mod taking;
 
 pub use closing::commit_closes;
+pub use committing::plan_dolt_commit;
 pub use local::branch_local;

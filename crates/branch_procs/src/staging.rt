@@ -27,7 +27,7 @@ use table_root::NamedTable;
 use tuple_codec::{Address, BranchRecord, Digester, Text};
 
 /// The record with another staged database.
-fn with_staged(own: &BranchRecord, staged: Address) -> BranchRecord
+pub(crate) fn with_staged(own: &BranchRecord, staged: Address) -> BranchRecord
     ensures { result ≡ record own.now { staged = staged } }
 {
     BranchRecord {

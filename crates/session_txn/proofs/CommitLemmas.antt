@@ -61,7 +61,7 @@ module _ (laws : ChunksFollow) where
       λ i k. found_both (bytes_at xs k) (bytes_at ys k) (laws.lists_extends xs ys others there k) (laws.lists_extends ys xs single back k) i
 
   -- beside the store the same is found of what was sealed as of the draft's own
-  sealed_found : (store own sealed : List Chunk) → IsSingle (store ++ own) → Lists own sealed → Lists sealed (store ++ own) → bytes_at (store ++ own) ≡ bytes_at (store ++ sealed)
+  pub sealed_found : (store own sealed : List Chunk) → IsSingle (store ++ own) → Lists own sealed → Lists sealed (store ++ own) → bytes_at (store ++ own) ≡ bytes_at (store ++ sealed)
   sealed_found store own sealed single all only =
       let there : Lists (store ++ own) (store ++ sealed) = joined_lists store own sealed (λ k bytes l. (laws.listed_either store sealed).1 k bytes (all k bytes l)) in
       let back : Lists (store ++ sealed) (store ++ own) = joined_lists store sealed own only in
@@ -79,7 +79,7 @@ data_apart (byte ∷ bytes) h is =
     let wrong : false ≡ true = ap (λ (n : ℕ). is_data (n ∷ bytes)) (sym five) ∙ h in absurd (cc)
 
 -- data more are no commits
-no_commit_more : ChunksFollow → (own more : List Chunk) → HasNoCommit own → AreOfKind is_data more → HasNoCommit (own ++ more)
+pub no_commit_more : ChunksFollow → (own more : List Chunk) → HasNoCommit own → AreOfKind is_data more → HasNoCommit (own ++ more)
 no_commit_more laws own more none all k bytes there is =
     elim (either_some (bytes_at own k) (bytes_at more k) bytes (sym (at_join own more k) ∙ there)) [
       | inl here ↦ none k bytes here is
@@ -88,7 +88,7 @@ no_commit_more laws own more none all k bytes there is =
 
 -- ---- what the decided state names
 
-abbrev Known : Commits → BranchState → Type 0
+abbrev pub Known : Commits → BranchState → Type 0
 Known commits state = (is_known commits state.head ≡ true) × (option_map_or (is_known commits) state.merging true ≡ true)
 
 abbrev ok_or : {A : Type 0} → Outcome A → A → A
@@ -140,7 +140,7 @@ candidate_known commits start present own state own_known known is = by (is_same
   by true e = subst (Known commits) (ok_same own state e) own_known
   by false e = merged_known commits start present own state known e
 
-decided_known : (commits : Commits) (start present own state : BranchState) (v : Variables) → Known commits own → is_known commits present.head ≡ true
+pub decided_known : (commits : Commits) (start present own state : BranchState) (v : Variables) → Known commits own → is_known commits present.head ≡ true
     → decide start present own v ≡ Ok state → Known commits state
 unfolding decide
 decided_known commits start present own state v own_known known is =
@@ -164,11 +164,11 @@ record_in address chunks commits rec state stands known = record {
   merging_known = known.1;
 }
 
-known_more : (o p : Option PlainCommit) → ((c : PlainCommit) → o ≡ Some c → p ≡ Some c) → is_some o ≡ true → is_some p ≡ true
+pub known_more : (o p : Option PlainCommit) → ((c : PlainCommit) → o ≡ Some c → p ≡ Some c) → is_some o ≡ true → is_some p ≡ true
 known_more None p among known = absurd (cc)
 known_more (Some c) p among known = ap is_some (among c refl)
 
-merging_more : (commits others : Commits) → AreAmong commits others → (o : Option (List ℕ)) → option_map_or (is_known commits) o true ≡ true → option_map_or (is_known others) o true ≡ true
+pub merging_more : (commits others : Commits) → AreAmong commits others → (o : Option (List ℕ)) → option_map_or (is_known commits) o true ≡ true → option_map_or (is_known others) o true ≡ true
 merging_more commits others among None known = refl
 merging_more commits others among (Some k) known = known_more (commits k) (others k) (among k) known
 
@@ -179,10 +179,10 @@ set_as : {D : Type 0} (address : List ℕ → List ℕ) (session : Session D) (p
 set_as address session p stands = λ i. record { autocommit = p.variables.autocommit; allow = stands.allow i; force = stands.force i }
 
 -- what was decided by these
-abbrev decided_by : {D : Type 0} → Session D → plain.Session → Transaction → BranchState → Outcome BranchState
+abbrev pub decided_by : {D : Type 0} → Session D → plain.Session → Transaction → BranchState → Outcome BranchState
 decided_by session p t present = decide t.start present t.own (set p.variables.autocommit session.allow session.force)
 
-decided_so : {D : Type 0} (address : List ℕ → List ℕ) (found : Chunks) (session : Session D) (p : plain.Session) (t : Transaction) (present : BranchState) (m other : Candidate)
+pub decided_so : {D : Type 0} (address : List ℕ → List ℕ) (found : Chunks) (session : Session D) (p : plain.Session) (t : Transaction) (present : BranchState) (m other : Candidate)
     → SessionStands address session p → m ≡ other → IsCandidate address found m (decided_by session p t present)
     → IsCandidate address found other (decide t.start present t.own p.variables)
 decided_so address found session p t present m other stands is stood =
@@ -217,10 +217,10 @@ module _ {D : Type 0} (address : List ℕ → List ℕ) (chunks : ChunksFollow) 
   abbrev own : List Chunk
   own = session.draft.chunks.own
 
-  stands : TransactionStands address session.draft.chunks start session.own t
+  pub stands : TransactionStands address session.draft.chunks start session.own t
   stands = transaction_in address session.draft.chunks session.start session.own p.transaction start t started d.transaction d.session_stands.transaction
 
-  base_extends : Extends (bytes_at session.draft.chunks.base) (bytes_at store)
+  pub base_extends : Extends (bytes_at session.draft.chunks.base) (bytes_at store)
   base_extends = chunks.lists_extends session.draft.chunks.base store w.single d.later
 
   more : Extends (chunks_of session.draft.chunks) (bytes_at (store ++ own))
@@ -232,7 +232,7 @@ module _ {D : Type 0} (address : List ℕ → List ℕ) (chunks : ChunksFollow) 
   is_present : d.look_is.state ≡ present
   is_present = same_Some d.look_is.state present (sym d.look_is.there ∙ ap (state_of shared.branches) d.branch ∙ d.present_is)
 
-  present_stands : RecordStands address (bytes_at store) shared.commits look.rec present
+  pub present_stands : RecordStands address (bytes_at store) shared.commits look.rec present
   present_stands = subst (λ (state : BranchState). RecordStands address (bytes_at store) shared.commits look.rec state) is_present d.look_is.stands
 
   pub states_in : AreStates address (chunks_of work.chunks) start.rec look.rec session.own t.start present t.own

@@ -1,0 +1,238 @@
+//! DOLT_COMMIT's decision, planned on a look.
+
+ghost use Rattle.std.specs.Prelude.{◌≡◌, ◌≤◌, ◌≤ℤ◌, Bool, IfErr, IfOk, Ok, length, pos, true};
+ghost use Rattle.chunk_store.specs.Clashes.{IsReason};
+ghost use Rattle.chunk_store.specs.Drafts.{Grows, IsNamed, chunks_of};
+ghost use Rattle.chunk_store.specs.Kinds.{is_commit};
+ghost use Rattle.chunk_store.specs.Laws.{ChunksFollow, DraftsFollow, DraftsGrow, SegmentsFollow};
+ghost use Rattle.schema_model.specs.PlainCommits.{Commits};
+ghost use Rattle.script_text.specs.Collisions.{IsFault};
+ghost use Rattle.sql_procedures.specs.Arguments.{is_message};
+ghost use Rattle.table_root.specs.Standing.{DatabasesStand};
+ghost use Rattle.plain_sessions.specs.CommitRule.{decide};
+ghost use Rattle.plain_sessions.specs.Merging.{Closes, Committing};
+ghost use Rattle.plain_sessions.specs.Moments.{closed};
+ghost use Rattle.plain_sessions.specs.Records.{BranchState, Shared, commit_on};
+ghost use Rattle.plain_sessions.specs.Sessions as plain;
+ghost use Rattle.plain_sessions.specs.Statements.{worked};
+ghost use Rattle.plain_sessions.specs.declared.commands.Work.TheVariants as work;
+ghost use Rattle.root_merge.specs.Deciding.{set};
+ghost use Rattle.root_merge.specs.Merging.{is_data};
+ghost use Rattle.root_merge.specs.States.{IsCandidate};
+ghost use Rattle.session_laws.specs.Laws.{CommitsFollow, RecordsFollow};
+ghost use Rattle.session_txn.specs.Answering.{Decides};
+ghost use Rattle.session_txn.specs.Committing.{IsWorkOf};
+ghost use Rattle.shared_db.specs.Plans.{IsRefusedBy, PlanIs};
+ghost use Rattle.branch_procs.specs.Committing.{CanCommit, CanDecide, IsCommitted, IsPlannedOf, IsWritten, parents_on, staged_in};
+
+use crate::making::{new_commit, staged_for};
+use crate::replying::hash_reply;
+use chunk_store::{
+    Draft, PutFault, SealFault, law_of_chunks, law_of_drafts, law_of_growth, law_of_segments,
+};
+use commit_graph::write_commit;
+use root_merge::{Candidate, candidate};
+use script_text::Reply;
+use session_laws::{law_of_records, law_of_standing_commits};
+use session_state::Session;
+use shared_db::{Change, Plan};
+use sql_procedures::{CommitRequest, Staging};
+use std::alloc::Global;
+use table_root::{Look, law_of_databases};
+use tuple_codec::{Address, BranchRecord, Digester, Text};
+
+/// What a DOLT_COMMIT decides on the branch as the session looks at it, where it isn't refused before its decision. The session stays as it was: where
+/// the branch has moved on before this is settled, it plans anew.
+pub fn plan_dolt_commit<D: Digester>(
+    alloc: Global,
+    session: &Session<D>,
+    request: &CommitRequest,
+    look: &Look,
+    epoch: i64,
+) -> Result<Plan, PutFault>
+    requires decides { (p : plain.Session) × (t : plain.Transaction) × (shared : Shared) × (present : BranchState) × Decides D.address session.now look.now p t shared present }
+    requires date { pos 0 ≤ℤ epoch }
+    requires message { is_message request.now.message ≡ true }
+    ensures planned { (p : plain.Session) (t : plain.Transaction) (shared : Shared) (present own : BranchState) → Decides D.address session.now look.now p t shared present
+        → worked p t (work.Commit request.now) ≡ Ok (Closes (Committing own request.now.message))
+        → IfOk result (λ plan. PlanIs D.address look.now shared.commits plan (closed D.address epoch shared.commits p t present (Committing own request.now.message))) }
+    ensures fault { IfErr result (IsFault D.address) }
+{
+    laws();
+    let Some(start) = &session.start else {
+        return Err(PutFault::Memory);
+    };
+    let mut work = work_of(session, look)?;
+    let made = decided(
+        alloc,
+        &mut work,
+        &start.rec,
+        &look.rec,
+        session,
+        request.staging,
+    );
+    work.tell();
+    match made? {
+        Candidate::Refused(number) => Ok(refused(number)),
+        Candidate::Record(rec) => committed(
+            alloc,
+            work,
+            &rec,
+            &look.rec.head,
+            &session.name,
+            &request.message,
+            epoch,
+        ),
+    }
+}
+
+/// A draft over the look's store with the session's own chunks, in which to work.
+fn work_of<D: Digester>(session: &Session<D>, look: &Look) -> Result<Draft<D>, PutFault>
+    requires { (p : plain.Session) × (t : plain.Transaction) × (shared : Shared) × (present : BranchState) × Decides D.address session.now look.now p t shared present }
+    ensures work { IfOk result (λ work. IsWorkOf session.now look.now work) }
+    ensures fault { IfErr result (IsFault D.address) }
+{
+    law_of_chunks();
+    look.store.tell();
+    session.draft.tell();
+    let store = look.store.share()?;
+    session.draft.copied(store)
+}
+
+/// What the commit rule makes of the own record with the tables that the commit stages first.
+fn decided<D: Digester>(
+    alloc: Global,
+    work: &mut Draft<D>,
+    start: &BranchRecord,
+    present: &BranchRecord,
+    session: &Session<D>,
+    staging: Staging,
+) -> Result<Candidate, PutFault>
+    requires { (commits : Commits) × (s p o : BranchState) × CanDecide D.address work.old.chunks start.now present.now session.now.own commits s p o }
+    ensures is { (commits : Commits) (s p o : BranchState) (autocommit : Bool) → CanDecide D.address work.old.chunks start.now present.now session.now.own commits s p o
+        → IfOk result (λ made. IsCandidate D.address (chunks_of work.new.chunks) made (decide s p (staged_in commits staging o) (set autocommit session.now.allow session.now.force))) }
+    ensures grows { Grows is_data work.old work.new }
+    ensures cause { IfErr result (IsReason D.address (chunks_of work.new.chunks)) }
+{
+    laws();
+    let own = staged_for(alloc, work, &session.own, staging)?;
+    let made = candidate(
+        alloc,
+        work,
+        start,
+        present,
+        &own,
+        session.allow,
+        session.force,
+    )?;
+    Ok(made)
+}
+
+/// Writes the commit of the record's staged database.
+fn written<D: Digester>(
+    alloc: Global,
+    work: &mut Draft<D>,
+    rec: &BranchRecord,
+    present: &Address,
+    committer: &Text,
+    message: &Text,
+    epoch: i64,
+) -> Result<Address, PutFault>
+    requires can { (commits : Commits) × (state : BranchState) × CanCommit D.address work.old.chunks rec.now present.now commits state }
+    requires committer { length committer.now ≤ 32 }
+    requires date { pos 0 ≤ℤ epoch }
+    requires message { length message.now ≤ 8192 }
+    ensures written { (commits : Commits) (state : BranchState) → CanCommit D.address work.old.chunks rec.now present.now commits state
+        → IfOk result (λ k. IsWritten D.address work.old.chunks work.new.chunks (commit_on commits epoch committer.now state.staged (parents_on present.now state) message.now) k) }
+    ensures grows { Grows is_commit work.old work.new }
+    ensures cause { IfErr result (IsReason D.address (chunks_of work.new.chunks)) }
+{
+    law_of_growth();
+    let commit = new_commit(alloc, work, rec, present, committer, message, epoch)?;
+    let k = write_commit(alloc, work, &commit)?;
+    Ok(k)
+}
+
+/// Writes the commit, and plans the record that is at it.
+fn committed<D: Digester>(
+    alloc: Global,
+    mut work: Draft<D>,
+    rec: &BranchRecord,
+    present: &Address,
+    committer: &Text,
+    message: &Text,
+    epoch: i64,
+) -> Result<Plan, PutFault>
+    requires can { (commits : Commits) × (state : BranchState) × CanCommit D.address work.chunks rec.now present.now commits state }
+    requires committer { length committer.now ≤ 32 }
+    requires date { pos 0 ≤ℤ epoch }
+    requires message { length message.now ≤ 8192 }
+    requires named { IsNamed D.address work.chunks }
+    ensures planned { (commits : Commits) (state : BranchState) → CanCommit D.address work.chunks rec.now present.now commits state
+        → IfOk result (λ plan. IsCommitted D.address work (commit_on commits epoch committer.now state.staged (parents_on present.now state) message.now) rec.now plan) }
+    ensures fault { IfErr result (IsFault D.address) }
+{
+    laws();
+    let made = written(alloc, &mut work, rec, present, committer, message, epoch);
+    work.tell();
+    let head = made?;
+    let reply = hash_reply(alloc, &head)?;
+    sealed(work, at_commit(rec, head), reply)
+}
+
+/// The record at its commit: nothing is being merged.
+fn at_commit(rec: &BranchRecord, head: Address) -> BranchRecord
+    ensures { result ≡ record { head = head; working = rec.now.working; staged = rec.now.staged; merging = None } }
+{
+    BranchRecord {
+        head,
+        working: rec.working,
+        staged: rec.staged,
+        merging: None,
+    }
+}
+
+/// A decision for this record, with all that was worked.
+fn sealed<D: Digester>(work: Draft<D>, rec: BranchRecord, reply: Reply) -> Result<Plan, PutFault>
+    ensures sealed { IfOk result (λ plan. IsPlannedOf work rec reply plan) }
+    ensures fault { IfErr result (IsFault D.address) }
+{
+    match work.seal() {
+        Ok((segment, _)) => Ok(Plan {
+            change: Change::Record(rec),
+            reply,
+            sealed: Some(segment),
+        }),
+        Err(SealFault::Memory(_)) => Err(PutFault::Memory),
+    }
+}
+
+/// A decision that changes nothing.
+fn refused(number: u16) -> Plan
+    ensures { IsRefusedBy number result }
+{
+    Plan {
+        change: Change::Nothing,
+        reply: Reply::Refused(number),
+        sealed: None,
+    }
+}
+
+/// What follows of chunks, drafts, databases, records and commits.
+fn laws()
+    ensures chunks { ChunksFollow }
+    ensures drafts { DraftsFollow }
+    ensures growth { DraftsGrow }
+    ensures segments { SegmentsFollow }
+    ensures databases { DatabasesStand }
+    ensures records { RecordsFollow }
+    ensures commits { CommitsFollow }
+{
+    law_of_chunks();
+    law_of_drafts();
+    law_of_growth();
+    law_of_segments();
+    law_of_databases();
+    law_of_records();
+    law_of_standing_commits();
+}
