@@ -1,6 +1,6 @@
 //! A statement by its text.
 
-ghost use Rattle.std.specs.Prelude.{◌≡◌, ◌<◌, ◌≤◌, ◌+◌, ◌^◌, ℤ, true, IfOk};
+ghost use Rattle.std.specs.Prelude.{◌≡◌, ◌<◌, ◌≤◌, ◌≤ℤ◌, ◌+◌, ◌^◌, pos, true, IfOk};
 ghost use Rattle.script_text.specs.Collisions.{TellsTruly};
 ghost use Rattle.plain_sessions.specs.Fitness.{IsFitCommand};
 ghost use Rattle.plain_sessions.specs.Narrowing.{narrowed, not_yet};
@@ -29,12 +29,14 @@ pub fn serve_text<D: Digester>(
     db: &mut SharedDb,
     session: &mut Session<D>,
     text: &[u8],
+    epoch: i64,
 ) -> Reply
+    requires epoch { pos 0 ≤ℤ epoch }
     requires before { (p : plain.Session) × (shared : Shared) × IsBefore D.address session.old db.old.parts p shared }
     requires place { number_at session.old.position + 1 < 2 ^ 32 }
     requires moments { 2 ≤ db.old.moments_room }
     requires segments { 2 ≤ db.old.segments_room }
-    ensures served { (epoch : ℤ) (p : plain.Session) (shared : Shared) → IsBefore D.address session.old db.old.parts p shared
+    ensures served { (p : plain.Session) (shared : Shared) → IsBefore D.address session.old db.old.parts p shared
         → Serves D.address epoch p (narrowed runs text.now) shared db.old.parts db.new.parts session.new result }
     ensures sound { is_sound_reply result ≡ true }
     ensures truly { TellsTruly D.address result }
@@ -42,7 +44,7 @@ pub fn serve_text<D: Digester>(
     ensures segments { db.old.segments_room ≤ db.new.segments_room + 2 }
 {
     match asked_by(alloc, text) {
-        Ok(asked) => serve(alloc, db, session, asked.get()),
+        Ok(asked) => serve(alloc, db, session, asked.get(), epoch),
         Err(_) => pass_over(session),
     }
 }

@@ -1,6 +1,6 @@
 //! The run of a script, line by line.
 
-ghost use Rattle.std.specs.Prelude.{◌≡◌, ◌+◌, ◌<◌, ◌≤◌, ◌^◌, ◌≤ℤ◌, ℤ, pos, map, length, vec_len, vec_capacity, IfOk, IfErr};
+ghost use Rattle.std.specs.Prelude.{◌≡◌, ◌+◌, ◌<◌, ◌≤◌, ◌^◌, ◌≤ℤ◌, pos, map, length, vec_len, vec_capacity, IfOk, IfErr};
 ghost use Rattle.script_text.specs.Collisions.{AllTellTruly};
 ghost use Rattle.script_text.specs.Shown.{IsPrintable, IsShown};
 ghost use Rattle.plain_sessions.specs.Narrowing.{narrowed};
@@ -46,7 +46,7 @@ pub fn run_script<D: Digester, P: Pacer>(
 {
     law_of_lines();
     let mut running = open::<D>(alloc, &script, epoch)?;
-    run_lines(alloc, pacer, &script, &mut running);
+    run_lines(alloc, pacer, &script, &mut running, epoch);
     let order = Vec::from_slice(alloc, running.db.moments())?;
     let branches = running.db.branch_lines(alloc)?;
     let replies = replies_of(alloc, running.speakers)?;
@@ -63,13 +63,15 @@ fn run_lines<D: Digester, P: Pacer>(
     pacer: &P,
     script: &Script,
     running: &mut Running<D>,
+    epoch: i64,
 )
     requires sound { IsSoundScript script.now }
-    requires opened { (epoch : ℤ) × IsRunningAt D.address epoch script.now 0 running.old }
-    ensures { (epoch : ℤ) → IsRunningAt D.address epoch script.now 0 running.old → IsRunningAt D.address epoch script.now (length script.now.lines) running.new }
+    requires epoch { pos 0 ≤ℤ epoch }
+    requires opened { IsRunningAt D.address epoch script.now 0 running.old }
+    ensures { IsRunningAt D.address epoch script.now (length script.now.lines) running.new }
 {
     for at in 0..script.lines.as_slice().len() {
-        run_line(alloc, pacer, script, at, running);
+        run_line(alloc, pacer, script, at, running, epoch);
     }
 }
 
@@ -80,11 +82,13 @@ fn run_line<D: Digester, P: Pacer>(
     script: &Script,
     at: usize,
     running: &mut Running<D>,
+    epoch: i64,
 )
     requires sound { IsSoundScript script.now }
     requires there { at < length script.now.lines }
-    requires before { (epoch : ℤ) × IsRunningAt D.address epoch script.now at running.old }
-    ensures { (epoch : ℤ) → IsRunningAt D.address epoch script.now at running.old → IsRunningAt D.address epoch script.now (at + 1) running.new }
+    requires epoch { pos 0 ≤ℤ epoch }
+    requires before { IsRunningAt D.address epoch script.now at running.old }
+    ensures { IsRunningAt D.address epoch script.now (at + 1) running.new }
 {
     law_of_lines();
     let line = &script.lines.as_slice()[at];
@@ -95,6 +99,7 @@ fn run_line<D: Digester, P: Pacer>(
         &mut running.db,
         speaker,
         line.statement.as_slice(),
+        epoch,
     );
 }
 
@@ -105,13 +110,15 @@ fn speak<D: Digester, P: Pacer>(
     db: &mut SharedDb,
     speaker: &mut Speaker<D>,
     text: &[u8],
+    epoch: i64,
 )
+    requires epoch { pos 0 ≤ℤ epoch }
     requires before { (p : plain.Session) × (shared : Shared) × IsBefore D.address speaker.old.session db.old.parts p shared }
     requires place { number_at speaker.old.session.position + 1 < 2 ^ 32 }
     requires moments { 2 ≤ db.old.moments_room }
     requires segments { 2 ≤ db.old.segments_room }
     requires room { vec_len speaker.old.replies < vec_capacity speaker.old.replies }
-    ensures speaks { (epoch : ℤ) (p : plain.Session) (shared : Shared) → IsBefore D.address speaker.old.session db.old.parts p shared
+    ensures speaks { (p : plain.Session) (shared : Shared) → IsBefore D.address speaker.old.session db.old.parts p shared
         → Speaks D.address epoch p (narrowed runs text.now) shared db.old.parts db.new.parts speaker.old speaker.new }
     ensures moments { db.old.moments_room ≤ db.new.moments_room + 2 }
     ensures segments { db.old.segments_room ≤ db.new.segments_room + 2 }
@@ -119,7 +126,7 @@ fn speak<D: Digester, P: Pacer>(
 {
     let statement = number_of(speaker.session.position);
     pacer.before(speaker.session.number, statement);
-    let reply = serve_text(alloc, db, &mut speaker.session, text);
+    let reply = serve_text(alloc, db, &mut speaker.session, text, epoch);
     speaker.replies.push_reserved(reply);
 }
 

@@ -31,7 +31,7 @@ use Rattle.serving.specs.Steps.{Answered, ComesTo, Decided, IsStillAt, after_sta
 use Rattle.serving.proofs.AloneLemmas.{alone_before, still_alone}
 use Rattle.serving.proofs.MomentLemmas.{begun_at, decided_as, in_one_turn, in_two_turns, turn_at, verdict_said}
 use Rattle.serving.proofs.StateLemmas.{stands_noted}
-use Rattle.serving.proofs.WorkLemmas.{Came, Kept, came, is_decided, is_over, kept_after, refused_after, stays_open, waits_for_start}
+use Rattle.serving.proofs.WorkLemmas.{Came, IsAnswer, Kept, answers_work, came, is_decided, is_over, kept_after, opposite, refused_after, stays_open, waits_for_start}
 
 pub same_number : (at : Place) (statement : ℕ) (there : plain.Place) → IsAt at statement there → number_at at ≡ statement
 same_number (place.Before number) statement there is = is.0
@@ -196,7 +196,9 @@ module _ {D : Type 0} (address : List ℕ → List ℕ) (epoch : ℤ) (old sessi
     pub refused_answered : is_refusal reply ≡ true → SessionStands address session p
         → Answered address epoch p (command.Data asked) shared parts (noted p.number p.statement parts) session (after_start reply)
     refused_answered refusal stands =
-        started_answered (command.Data asked) p (after_start reply) (refused_after address epoch shared p t asked after reply runs before.before none is here refusal)
+        started_answered (command.Data asked) p (after_start reply)
+        (refused_after address epoch shared p t asked after reply (λ own work_is. opposite (is_refusal reply) refusal (subst IsAnswer work_is (answers_work p t asked runs)))
+        before.before none is here)
         stands (record { number = refl; branch = refl }) later
 
     pub well_started : (said : plain.Session) → shortage reply ≡ None → moment_of address epoch shared p (command.Data asked) ≡ Some (shared, Past (said, reply))

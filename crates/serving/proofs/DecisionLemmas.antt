@@ -45,12 +45,12 @@ sealed_as : {A : Type 0} (f : A → List Chunk) (sealed : Option A) → sealed_i
 sealed_as f None = refl
 sealed_as f (Some sealed) = refl
 
-brought_is : (plan : Plan) → sealed_in (option_map arc_value plan.sealed) ≡ brought plan
+pub brought_is : (plan : Plan) → sealed_in (option_map arc_value plan.sealed) ≡ brought plan
 brought_is plan = sealed_as arc_value plan.sealed
 
 module _ (follow : StatesFollow) (address : List ℕ → List ℕ) (parts new : Parts) (p : plain.Session) (t : plain.Transaction) (shared : Shared) (present : BranchState) (look : Look) (plan : Plan) where
   -- nothing has changed but that a moment was made
-  stands_still : IsSettled p.number p.statement look.branch plan.change (option_map arc_value plan.sealed) parts new → new.branches ≡ parts.branches → new.chunks ≡ parts.chunks
+  pub stands_still : IsSettled p.number p.statement look.branch plan.change (option_map arc_value plan.sealed) parts new → new.branches ≡ parts.branches → new.chunks ≡ parts.chunks
       → StateStands address parts shared → StateStands address new shared
   stands_still settled branches chunks stands =
       let bare : StateStands address (record parts { moments = new.moments }) shared = record {

@@ -3,6 +3,7 @@ pub mod AloneLemmas
 pub mod AnswerLemmas
 pub mod BeginLemmas
 pub mod BranchLemmas
+pub mod ClosingLemmas
 pub mod DecisionLemmas
 pub mod LookLemmas
 pub mod MomentLemmas

@@ -69,7 +69,7 @@ module _ (address : List ℕ → List ℕ) (epoch : ℤ) where
   settled_by shared last p next reply good (Ok state) comes = ap (λ (left : Shared). Some (left, Past (next, good))) (sym comes.0)
   settled_by shared last p next reply good (Err number) comes = ap (λ (left : Shared). Some (left, Past (over p, refused number))) (sym comes.0)
 
-  both_at : (f : Transaction → BranchState → Option (Shared × After)) (shared : Shared) (p : plain.Session) (t : Transaction) (present : BranchState)
+  pub both_at : (f : Transaction → BranchState → Option (Shared × After)) (shared : Shared) (p : plain.Session) (t : Transaction) (present : BranchState)
       → p.transaction ≡ Some t → state_of shared.branches p.branch ≡ Some present → with_both f shared p ≡ f t present
   both_at f shared p t present transaction there =
       ap (option_and_then (λ (o : Transaction). option_and_then (f o) (state_of shared.branches p.branch))) transaction ∙ ap (option_and_then (f t)) there

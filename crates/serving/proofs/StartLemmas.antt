@@ -49,7 +49,7 @@ use Rattle.serving.proofs.WorkLemmas.{Came, Done, Kept, Met, Starved, came, is_d
 pub over_same : (p : plain.Session) → p.transaction ≡ None → over p ≡ p
 over_same p none = λ i. record p { transaction = sym none i }
 
-fault_came : (p : plain.Session) (t : Transaction) (asked : Work) (after : plain.Session) (fault : PutFault) → Came p t asked after (fault_reply fault)
+pub fault_came : (p : plain.Session) (t : Transaction) (asked : Work) (after : plain.Session) (fault : PutFault) → Came p t asked after (fault_reply fault)
 fault_came p t asked after Memory = Starved refl
 fault_came p t asked after (Collision clash) = Met clash refl
 

@@ -40,7 +40,7 @@ use Rattle.serving.specs.Steps.{after_start}
 use Rattle.serving.proofs.MomentLemmas.{in_one_turn, turn_at}
 
 -- what is answered is no refusal, and no call closes the transaction
-abbrev IsAnswer : Outcome Worked → Type 0
+abbrev pub IsAnswer : Outcome Worked → Type 0
 IsAnswer (Ok (Answers reply own)) = is_refusal reply ≡ false
 IsAnswer (Ok (Closes call)) = ⊥
 IsAnswer (Err number) = Unit {0}
@@ -97,7 +97,7 @@ staged_by : (outcome : Outcome BranchState) → IsAnswer (staged outcome)
 staged_by (Ok own) = refl
 staged_by (Err number) = tt
 
-answers_work : (p : plain.Session) (t : Transaction) (asked : Work) → is_in_place (Data asked) ≡ true → IsAnswer (worked p t asked)
+pub answers_work : (p : plain.Session) (t : Transaction) (asked : Work) → is_in_place (Data asked) ≡ true → IsAnswer (worked p t asked)
 unfolding worked
 answers_work p t (work.Ask query) runs = answer_by t.own (plans.answer (known t) query)
 answers_work p t (work.Change statement) runs = write_by t.own statement
@@ -148,7 +148,7 @@ pub came : (p : plain.Session) (t : Transaction) (asked : Work) (after : plain.S
     → alone_by (shortage reply) (within p t) (Data asked) ≡ Some (after, reply) → Came p t asked after reply
 came p t asked after reply runs is = came_with p t asked after reply runs (shortage reply) refl is
 
-opposite : (a : Bool) → a ≡ true → a ≡ false → ⊥
+pub opposite : (a : Bool) → a ≡ true → a ≡ false → ⊥
 opposite a h g = let same : true ≡ false = sym h ∙ g in absurd (cc)
 
 -- a refusal that is no want of memory
@@ -172,26 +172,25 @@ module _ (address : List ℕ → List ℕ) (epoch : ℤ) (shared : Shared) (p : 
   pub waits_for_start : p.transaction ≡ None → alone_by None p (Data asked) ≡ None
   waits_for_start none = ap (option_and_then (λ (o : Transaction). if_answered p o (worked p o asked))) none
 
-  -- a statement that is refused took its start, and has no transaction
-  pub refused_after : (after : plain.Session) (reply : Reply) → is_in_place (Data asked) ≡ true → p.place ≡ Before → p.transaction ≡ None → taken shared p ≡ Some t
-      → Came p t asked after reply → is_refusal reply ≡ true → Refuses (after_start reply)
-  refused_after after reply runs before none is (Starved said) refused = subst (λ (r : Reply). Refuses (after_start r)) (sym said) (record {
+  -- a statement that isn't answered in it took its start, and has no transaction
+  pub refused_after : (after : plain.Session) (reply : Reply) → ((own : BranchState) → worked p t asked ≢ Ok (Answers reply own)) → p.place ≡ Before → p.transaction ≡ None
+      → taken shared p ≡ Some t → Came p t asked after reply → Refuses (after_start reply)
+  refused_after after reply never before none is (Starved said) = subst (λ (r : Reply). Refuses (after_start r)) (sym said) (record {
     waits = start_waits p asked none (Some AfterStart) (λ same. absurd (cc));
     numbered = refl;
     answered = start_short address epoch shared p asked AfterStart none (ap is_before_statement before) (λ same. absurd (cc));
   })
-  refused_after after reply runs before none is (Met clash said) refused = subst (λ (r : Reply). Refuses (after_start r)) (sym said) (record {
+  refused_after after reply never before none is (Met clash said) = subst (λ (r : Reply). Refuses (after_start r)) (sym said) (record {
     waits = start_waits p asked none (Some (Clashes clash)) (λ same. absurd (cc));
     numbered = refl;
     answered = start_short address epoch shared p asked (Clashes clash) none (ap is_before_statement before) (λ same. absurd (cc));
   })
-  refused_after after reply runs before none is (Faulted number work_is said short) refused =
+  refused_after after reply never before none is (Faulted number work_is said short) =
       let told : shortage (print.Refused number) ≡ None = ap shortage (sym said) ∙ short in
       subst Refuses (sym (ap after_start said ∙ not_starved number told))
       (subst (λ (answer : Option Shortage). InOneTurn address epoch answer p (Data asked) (turn_at p shared shared) (past p.statement (p, print.Refused number))) (sym told)
       (in_one_turn address epoch None shared shared p (Data asked) (p, print.Refused number) before (waits_for_start none) (start_is none is (Err number) work_is)))
-  refused_after after reply runs before none is (Done own work_is after_is short) refused =
-      absurd (opposite (is_refusal reply) refused (subst IsAnswer work_is (answers_work p t asked runs)))
+  refused_after after reply never before none is (Done own work_is after_is short) = absurd (never own work_is)
 
   -- one that is well has made of the transaction what the session has now
   pub record Kept (after : plain.Session) (reply : Reply) : Type 0 where

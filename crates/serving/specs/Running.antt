@@ -35,8 +35,12 @@ is_step (command.OnBranches request) = true
 is_step (command.Checkout request) = true
 is_step asked = false
 
+abbrev pub is_commit : Command → Bool
+is_commit (command.Data (work.Commit request)) = true
+is_commit asked = false
+
 abbrev pub runs : Command → Bool
-runs asked = is_step asked || runs_in_place asked
+runs asked = (is_step asked || is_commit asked) || runs_in_place asked
 
 -- DOLT_ADD and DOLT_RESET
 abbrev pub is_staging : Command → Bool

@@ -1,6 +1,6 @@
 //! A statement from what it asks to its reply, and the session's way to the next one.
 
-ghost use Rattle.std.specs.Prelude.{◌≡◌, ◌<◌, ◌≤◌, ◌+◌, ◌^◌, ◌&&◌, ℤ, true, false};
+ghost use Rattle.std.specs.Prelude.{◌≡◌, ◌<◌, ◌≤◌, ◌≤ℤ◌, ◌+◌, ◌^◌, ◌&&◌, ℤ, pos, true, false};
 ghost use Rattle.script_text.specs.Collisions.{TellsTruly};
 ghost use Rattle.script_text.specs.declared.replies.Reply.TheVariants.{Refused};
 ghost use Rattle.plain_sessions.specs.Fitness.{IsFitCommand};
@@ -20,6 +20,7 @@ ghost use Rattle.serving.specs.Steps.{Answered, number_at};
 
 use crate::beginning::begin_changed;
 use crate::branching::{change_branches, check_out};
+use crate::committing::commit;
 use crate::places::{go_on, number_of};
 use crate::serving::{alone, begin_unchanged, commit_changed};
 use crate::starting::started;
@@ -33,20 +34,23 @@ use sql_ast::Setting;
 use std::alloc::Global;
 use tuple_codec::Digester;
 
-/// Serves a statement: it is answered, with the moments that it takes, and the session goes on to the next one.
+/// Serves a statement: it is answered, with the moments that it takes, and the session goes on to the next one. A commit that is made has the
+/// epoch as its date.
 pub fn serve<D: Digester>(
     alloc: Global,
     db: &mut SharedDb,
     session: &mut Session<D>,
     asked: &Command,
+    epoch: i64,
 ) -> Reply
     requires before { (p : plain.Session) × (shared : Shared) × IsBefore D.address session.old db.old.parts p shared }
     requires place { number_at session.old.position + 1 < 2 ^ 32 }
     requires moments { 2 ≤ db.old.moments_room }
     requires segments { 2 ≤ db.old.segments_room }
+    requires epoch { pos 0 ≤ℤ epoch }
     requires fit { IsFitCommand asked.now }
     requires runs { runs asked.now ≡ true }
-    ensures served { (epoch : ℤ) (p : plain.Session) (shared : Shared) → IsBefore D.address session.old db.old.parts p shared
+    ensures served { (p : plain.Session) (shared : Shared) → IsBefore D.address session.old db.old.parts p shared
         → Serves D.address epoch p asked.now shared db.old.parts db.new.parts session.new result }
     ensures sound { is_sound_reply result ≡ true }
     ensures truly { TellsTruly D.address result }
@@ -56,6 +60,7 @@ pub fn serve<D: Digester>(
     match asked {
         Command::OnBranches(request) => change_branches(alloc, db, session, request),
         Command::Checkout(request) => check_out(alloc, db, session, request),
+        Command::Data(Work::Commit(request)) => commit(alloc, db, session, request, epoch),
         _ => serve_in_place(alloc, db, session, asked),
     }
 }

@@ -6,6 +6,7 @@ mod alone;
 mod answering;
 mod beginning;
 mod branching;
+mod committing;
 mod deciding;
 mod places;
 mod rows;

@@ -1,16 +1,16 @@
 //! Which statements are served so far.
 
 ghost use Rattle.std.specs.Prelude.{◌≡◌};
-ghost use Rattle.serving.specs.Running.{is_in_place, is_step, runs, runs_in_place};
+ghost use Rattle.serving.specs.Running.{is_commit, is_in_place, is_step, runs, runs_in_place};
 
 use plain_sessions::{Command, Work};
 use session_txn::names_system;
 
-/// Whether a statement is served. Of the procedures DOLT_ADD, DOLT_RESET, DOLT_BRANCH and DOLT_CHECKOUT are yet, and nothing that names a table of conflicts or of violations.
+/// Whether a statement is served. Of the procedures DOLT_ADD, DOLT_RESET, DOLT_COMMIT, DOLT_BRANCH and DOLT_CHECKOUT are yet, and nothing that names a table of conflicts or of violations.
 pub fn runs(asked: &Command) -> bool
     ensures { result ≡ runs asked.now }
 {
-    is_step(asked) || runs_in_place(asked)
+    is_step(asked) || is_commit(asked) || runs_in_place(asked)
 }
 
 /// Whether a statement is a step on the list of branches.
@@ -26,6 +26,23 @@ fn is_step(asked: &Command) -> bool
         | Command::Switch(_)
         | Command::Say(_)
         | Command::Data(_) => false,
+    }
+}
+
+fn is_commit(asked: &Command) -> bool
+    ensures { result ≡ is_commit asked.now }
+{
+    match asked {
+        Command::Data(Work::Commit(_)) => true,
+        Command::Data(_)
+        | Command::Faulty(_)
+        | Command::Begin
+        | Command::CommitAll
+        | Command::Rollback
+        | Command::Switch(_)
+        | Command::Say(_)
+        | Command::OnBranches(_)
+        | Command::Checkout(_) => false,
     }
 }
 

@@ -135,7 +135,7 @@ fn is_refusal(reply: &Reply) -> bool
 }
 
 /// A want of memory that came after the start is told so.
-fn after_start(reply: Reply) -> Reply
+pub(crate) fn after_start(reply: Reply) -> Reply
     ensures reply { result ≡ after_start reply }
 {
     match reply {

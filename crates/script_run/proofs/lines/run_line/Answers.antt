@@ -1,4 +1,5 @@
-use Rattle.std.proofs.Common.{◌≡◌, List, ℕ, length, refl, subst, arith}
+use Rattle.std.proofs.Common.{◌≡◌, List, ℕ, ℤ, length, refl, subst, arith, w64}
+use Rattle.std.proofs.lemmas.Int.{to_z-of_z}
 use Rattle.plain_sessions.specs.Narrowing.{narrowed}
 use Rattle.serving.specs.Running.{runs}
 use Rattle.script_run.specs.Running.{Speaks}
@@ -8,38 +9,40 @@ use Rattle.script_run.proofs.lines.run_line.Goals as goal
 pub index_mut-speaker-requires : goal.index_mut-speaker-requires
 index_mut-speaker-requires g c =
     let len : c.args.running.now.speakers.len ≡ length c.args.running.now.speakers.items = c.args.running.now.speakers.ok.0 in
-    let there = session_there g.D.Digester.address c.requires.before.0 c.args.script.now c.args.at c.args.running.now c.as_slice.result.now c.index-as_slice-at.result c.requires.sound c.requires.there c.as_slice.ensures c.index-as_slice-at.is c.requires.before.1 in
+    let there = session_there g.D.Digester.address c.args.epoch c.args.script.now c.args.at c.args.running.now c.as_slice.result.now c.index-as_slice-at.result c.requires.sound c.requires.there c.as_slice.ensures c.index-as_slice-at.is c.requires.before in
     omega (arith, there)
 
 pub speak-requires-clause-before : goal.speak-requires-clause-before
 speak-requires-clause-before g c κs within =
-    let next = next_of g.D.Digester.address c.requires.before.0 c.args.script.now c.args.at c.args.running.now c.as_slice.result.now c.index-as_slice-at.result c.index_mut-speaker.result.now c.requires.sound c.requires.there c.as_slice.ensures c.index-as_slice-at.is c.requires.before.1 c.index_mut-speaker.ensures.value in
+    let next = next_of g.D.Digester.address c.args.epoch c.args.script.now c.args.at c.args.running.now c.as_slice.result.now c.index-as_slice-at.result c.index_mut-speaker.result.now c.requires.sound c.requires.there c.as_slice.ensures c.index-as_slice-at.is c.requires.before c.index_mut-speaker.ensures.value in
     (next.p, next.now.shared, next.is.before)
 
 pub speak-requires-clause-place : goal.speak-requires-clause-place
 speak-requires-clause-place g c κs within =
-    let next = next_of g.D.Digester.address c.requires.before.0 c.args.script.now c.args.at c.args.running.now c.as_slice.result.now c.index-as_slice-at.result c.index_mut-speaker.result.now c.requires.sound c.requires.there c.as_slice.ensures c.index-as_slice-at.is c.requires.before.1 c.index_mut-speaker.ensures.value in
+    let next = next_of g.D.Digester.address c.args.epoch c.args.script.now c.args.at c.args.running.now c.as_slice.result.now c.index-as_slice-at.result c.index_mut-speaker.result.now c.requires.sound c.requires.there c.as_slice.ensures c.index-as_slice-at.is c.requires.before c.index_mut-speaker.ensures.value in
     may_number next
 
 pub speak-requires-clause-moments : goal.speak-requires-clause-moments
 speak-requires-clause-moments g c κs within =
-    let next = next_of g.D.Digester.address c.requires.before.0 c.args.script.now c.args.at c.args.running.now c.as_slice.result.now c.index-as_slice-at.result c.index_mut-speaker.result.now c.requires.sound c.requires.there c.as_slice.ensures c.index-as_slice-at.is c.requires.before.1 c.index_mut-speaker.ensures.value in
+    let next = next_of g.D.Digester.address c.args.epoch c.args.script.now c.args.at c.args.running.now c.as_slice.result.now c.index-as_slice-at.result c.index_mut-speaker.result.now c.requires.sound c.requires.there c.as_slice.ensures c.index-as_slice-at.is c.requires.before c.index_mut-speaker.ensures.value in
     has_moments next
 
 pub speak-requires-clause-segments : goal.speak-requires-clause-segments
 speak-requires-clause-segments g c κs within =
-    let next = next_of g.D.Digester.address c.requires.before.0 c.args.script.now c.args.at c.args.running.now c.as_slice.result.now c.index-as_slice-at.result c.index_mut-speaker.result.now c.requires.sound c.requires.there c.as_slice.ensures c.index-as_slice-at.is c.requires.before.1 c.index_mut-speaker.ensures.value in
+    let next = next_of g.D.Digester.address c.args.epoch c.args.script.now c.args.at c.args.running.now c.as_slice.result.now c.index-as_slice-at.result c.index_mut-speaker.result.now c.requires.sound c.requires.there c.as_slice.ensures c.index-as_slice-at.is c.requires.before c.index_mut-speaker.ensures.value in
     has_segments next
 
 pub speak-requires-clause-room : goal.speak-requires-clause-room
 speak-requires-clause-room g c κs within =
-    let next = next_of g.D.Digester.address c.requires.before.0 c.args.script.now c.args.at c.args.running.now c.as_slice.result.now c.index-as_slice-at.result c.index_mut-speaker.result.now c.requires.sound c.requires.there c.as_slice.ensures c.index-as_slice-at.is c.requires.before.1 c.index_mut-speaker.ensures.value in
+    let next = next_of g.D.Digester.address c.args.epoch c.args.script.now c.args.at c.args.running.now c.as_slice.result.now c.index-as_slice-at.result c.index_mut-speaker.result.now c.requires.sound c.requires.there c.as_slice.ensures c.index-as_slice-at.is c.requires.before c.index_mut-speaker.ensures.value in
     has_room next
 
 pub returns : goal.returns
-returns g c = λ epoch before.
-    let next = next_of g.D.Digester.address epoch c.args.script.now c.args.at c.args.running.now c.as_slice.result.now c.index-as_slice-at.result c.index_mut-speaker.result.now c.requires.sound c.requires.there c.as_slice.ensures c.index-as_slice-at.is before c.index_mut-speaker.ensures.value in
+returns g c =
+    let next = next_of g.D.Digester.address c.args.epoch c.args.script.now c.args.at c.args.running.now c.as_slice.result.now c.index-as_slice-at.result c.index_mut-speaker.result.now c.requires.sound c.requires.there c.as_slice.ensures c.index-as_slice-at.is c.requires.before c.index_mut-speaker.ensures.value in
     run_further next _ c.speak.new.speaker c.law_of_lines.ensures
-    (subst (λ (text : List ℕ). Speaks g.D.Digester.address epoch next.p (narrowed runs text) next.now.shared c.args.running.now.db.parts c.speak.new.db.parts c.index_mut-speaker.result.now c.speak.new.speaker)
-    c.as_slice-2.ensures (c.speak.ensures.speaks epoch next.p next.now.shared next.is.before))
+    (subst (λ (text : List ℕ). Speaks g.D.Digester.address c.args.epoch next.p (narrowed runs text) next.now.shared c.args.running.now.db.parts c.speak.new.db.parts c.index_mut-speaker.result.now c.speak.new.speaker)
+    c.as_slice-2.ensures
+    (subst (λ (e : ℤ). Speaks g.D.Digester.address e next.p (narrowed runs c.as_slice-2.result.now) next.now.shared c.args.running.now.db.parts c.speak.new.db.parts c.index_mut-speaker.result.now c.speak.new.speaker)
+    (to_z-of_z w64 c.args.epoch c.ranges.epoch) (c.speak.ensures.speaks next.p next.now.shared next.is.before)))
     refl c.speak.ensures.room c.speak.ensures.moments c.speak.ensures.segments

@@ -1,4 +1,4 @@
-use Rattle.std.proofs.Common.{◌∙◌, ℤ, sym, subst, w64}
+use Rattle.std.proofs.Common.{◌∙◌, ℤ, length, sym, subst, w64}
 use Rattle.std.proofs.lemmas.Int.{to_z-of_z}
 use Rattle.script_text.specs.Collisions.{AllTellTruly}
 use Rattle.script_text.specs.Shown.{IsPrintable, IsShown}
@@ -12,12 +12,11 @@ use Rattle.script_run.proofs.EndLemmas.{is_in_order, is_plain, is_printable, is_
 use Rattle.script_run.proofs.lines.run_script.Goals as goal
 
 pub run_lines-requires-clause-opened : goal.run_lines-requires-clause-opened
-run_lines-requires-clause-opened g c κs within = (c.args.epoch, subst (λ (e : ℤ). IsRunningAt g.D.Digester.address e c.args.script 0 c.in_ok-running.running) (to_z-of_z w64 c.args.epoch c.ranges.epoch) c.in_ok-running.ensures.opened)
+run_lines-requires-clause-opened g c κs within = c.in_ok-running.ensures.opened
 
 pub returns-clause-plain : goal.returns-clause-plain
 returns-clause-plain g c =
-    let opened = subst (λ (e : ℤ). IsRunningAt g.D.Digester.address e c.args.script 0 c.in_ok-running.running) (to_z-of_z w64 c.args.epoch c.ranges.epoch) c.in_ok-running.ensures.opened in
-    let ended = c.run_lines.ensures c.args.epoch opened in
+    let ended = subst (λ (e : ℤ). IsRunningAt g.D.Digester.address e c.args.script (length c.args.script.lines) c.run_lines.new.running) (to_z-of_z w64 c.args.epoch c.ranges.epoch) c.run_lines.ensures in
     let shown = shown_is g.D.Digester.address c.args.epoch c.args.script c.run_lines.new.running ended c.in_ok-replies.replies c.from_vec.result c.in_ok-branches.branches
     c.in_ok-replies.ensures (c.from_vec.ensures ∙ c.in_ok-order.ensures.items ∙ c.moments.ensures) c.in_ok-branches.ensures in
     subst (λ (run : RunText). IsPlainRun (narrowed runs) g.D.Digester.address c.args.epoch c.args.script run) (sym shown)
@@ -25,8 +24,7 @@ returns-clause-plain g c =
 
 pub returns-clause-truly : goal.returns-clause-truly
 returns-clause-truly g c =
-    let opened = subst (λ (e : ℤ). IsRunningAt g.D.Digester.address e c.args.script 0 c.in_ok-running.running) (to_z-of_z w64 c.args.epoch c.ranges.epoch) c.in_ok-running.ensures.opened in
-    let ended = c.run_lines.ensures c.args.epoch opened in
+    let ended = subst (λ (e : ℤ). IsRunningAt g.D.Digester.address e c.args.script (length c.args.script.lines) c.run_lines.new.running) (to_z-of_z w64 c.args.epoch c.ranges.epoch) c.run_lines.ensures in
     let shown = shown_is g.D.Digester.address c.args.epoch c.args.script c.run_lines.new.running ended c.in_ok-replies.replies c.from_vec.result c.in_ok-branches.branches
     c.in_ok-replies.ensures (c.from_vec.ensures ∙ c.in_ok-order.ensures.items ∙ c.moments.ensures) c.in_ok-branches.ensures in
     subst (λ (run : RunText). AllTellTruly g.D.Digester.address run.replies) (sym shown)
@@ -34,8 +32,7 @@ returns-clause-truly g c =
 
 pub returns-clause-order : goal.returns-clause-order
 returns-clause-order g c =
-    let opened = subst (λ (e : ℤ). IsRunningAt g.D.Digester.address e c.args.script 0 c.in_ok-running.running) (to_z-of_z w64 c.args.epoch c.ranges.epoch) c.in_ok-running.ensures.opened in
-    let ended = c.run_lines.ensures c.args.epoch opened in
+    let ended = subst (λ (e : ℤ). IsRunningAt g.D.Digester.address e c.args.script (length c.args.script.lines) c.run_lines.new.running) (to_z-of_z w64 c.args.epoch c.ranges.epoch) c.run_lines.ensures in
     let shown = shown_is g.D.Digester.address c.args.epoch c.args.script c.run_lines.new.running ended c.in_ok-replies.replies c.from_vec.result c.in_ok-branches.branches
     c.in_ok-replies.ensures (c.from_vec.ensures ∙ c.in_ok-order.ensures.items ∙ c.moments.ensures) c.in_ok-branches.ensures in
     subst (λ (run : RunText). IsTextOrder c.args.script run.order) (sym shown)
@@ -43,16 +40,14 @@ returns-clause-order g c =
 
 pub returns-clause-printable : goal.returns-clause-printable
 returns-clause-printable g c =
-    let opened = subst (λ (e : ℤ). IsRunningAt g.D.Digester.address e c.args.script 0 c.in_ok-running.running) (to_z-of_z w64 c.args.epoch c.ranges.epoch) c.in_ok-running.ensures.opened in
-    let ended = c.run_lines.ensures c.args.epoch opened in
+    let ended = subst (λ (e : ℤ). IsRunningAt g.D.Digester.address e c.args.script (length c.args.script.lines) c.run_lines.new.running) (to_z-of_z w64 c.args.epoch c.ranges.epoch) c.run_lines.ensures in
     let shown = shown_is g.D.Digester.address c.args.epoch c.args.script c.run_lines.new.running ended c.in_ok-replies.replies c.from_vec.result c.in_ok-branches.branches
     c.in_ok-replies.ensures (c.from_vec.ensures ∙ c.in_ok-order.ensures.items ∙ c.moments.ensures) c.in_ok-branches.ensures in
     subst (λ (run : RunText). IsPrintable run) (sym shown) (is_printable g.D.Digester.address c.args.epoch c.args.script c.run_lines.new.running ended)
 
 pub returns-clause-shown : goal.returns-clause-shown
 returns-clause-shown g c =
-    let opened = subst (λ (e : ℤ). IsRunningAt g.D.Digester.address e c.args.script 0 c.in_ok-running.running) (to_z-of_z w64 c.args.epoch c.ranges.epoch) c.in_ok-running.ensures.opened in
-    let ended = c.run_lines.ensures c.args.epoch opened in
+    let ended = subst (λ (e : ℤ). IsRunningAt g.D.Digester.address e c.args.script (length c.args.script.lines) c.run_lines.new.running) (to_z-of_z w64 c.args.epoch c.ranges.epoch) c.run_lines.ensures in
     let shown = shown_is g.D.Digester.address c.args.epoch c.args.script c.run_lines.new.running ended c.in_ok-replies.replies c.from_vec.result c.in_ok-branches.branches
     c.in_ok-replies.ensures (c.from_vec.ensures ∙ c.in_ok-order.ensures.items ∙ c.moments.ensures) c.in_ok-branches.ensures in
     subst (λ (run : RunText). IsShown run) (sym shown) (is_shown g.D.Digester.address c.args.epoch c.args.script c.run_lines.new.running ended c.requires.sound)

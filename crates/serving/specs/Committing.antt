@@ -1,0 +1,32 @@
+-- DOLT_COMMIT: its decision, and what that leaves.
+use Rattle.std.specs.Prelude.{◌≡◌, ℕ, ℤ, List, [], ◌∷◌, ◌++◌, None, Some, Ok, Err}
+use Rattle.chunk_store.specs.Chunks.{Lists}
+use Rattle.expr_eval.specs.Binding.{Outcome}
+use Rattle.script_text.specs.Output.{shortage}
+use Rattle.script_text.specs.declared.replies.Reply.{Reply}
+use Rattle.plain_sessions.specs.Merging.{Ending}
+use Rattle.plain_sessions.specs.Moments.{Change, changed_by, closed}
+use Rattle.plain_sessions.specs.Records.{BranchState, Shared, state_of}
+use Rattle.plain_sessions.specs.Replies.{refused}
+use Rattle.plain_sessions.specs.Sessions as plain
+use Rattle.session_laws.specs.Changes.{Parts, StateStands}
+
+-- what a closing call's decision leaves of the shared state, and what it answers
+abbrev pub LeavesAs : (List ℕ → List ℕ) → Shared → plain.Session → Outcome Change → Shared → Reply → Type 0
+LeavesAs address shared p (Ok change) last reply = (changed_by address shared p change ≡ Some last) × (reply ≡ change.reply)
+LeavesAs address shared p (Err number) last reply = (last ≡ shared) × (reply ≡ refused number)
+
+-- a closing call was decided on at one moment, with what that left
+pub record ClosedAs (address : List ℕ → List ℕ) (epoch : ℤ) (p : plain.Session) (t : plain.Transaction) (call : Ending) (shared : Shared) (old new : Parts) (reply : Reply) : Type 0 where
+  pub present : BranchState
+  pub there : state_of shared.branches p.branch ≡ Some present
+  pub outcome : Outcome Change
+  pub is : closed address epoch shared.commits p t present call ≡ outcome
+  pub last : Shared
+  pub leaves : LeavesAs address shared p outcome last reply
+  pub short : shortage reply ≡ None
+  pub places : last.places ≡ shared.places
+  pub state_stands : StateStands address new last
+  pub chunks : Lists old.chunks new.chunks
+  pub moments : new.moments ≡ old.moments ++ record { session = p.number; statement = p.statement } ∷ []
+  pub numbers : new.numbers ≡ old.numbers
