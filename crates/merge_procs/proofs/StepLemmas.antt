@@ -17,7 +17,6 @@ use Rattle.constraint_scan.specs.Scanning.{IsKeptAt}
 use Rattle.expr_eval.specs.Binding.{Outcome, and_then}
 use Rattle.plain_sql.specs.Lists.{unless}
 use Rattle.schema_model.specs.PlainCommits.{Commits, is_known}
-use Rattle.schema_model.specs.PlainTables.{PlainDatabase}
 use Rattle.script_text.specs.Collisions.{TellsTruly}
 use Rattle.script_text.specs.Output.{shortage}
 use Rattle.script_text.specs.declared.replies.Reply.{Reply}
@@ -26,8 +25,7 @@ use Rattle.table_root.specs.declared.heads.Look.{Look}
 use Rattle.sql_procedures.specs.declared.requests.MergeOf.{MergeOf}
 use Rattle.sql_procedures.specs.declared.requests.MergeRequest.TheVariants as merging
 use Rattle.plain_merge.specs.RootMerge.{MergedDatabase}
-use Rattle.plain_sessions.specs.CommitRule.{recorded}
-use Rattle.plain_sessions.specs.Merging.{Worked, Answers, Closes, Joining, base_root, in_progress, is_clean, merge, merge_made, merge_message, merge_reply, merged_with}
+use Rattle.plain_sessions.specs.Merging.{Worked, Answers, Closes, Joining, base_root, in_progress, merge, merge_made, merge_message, merge_reply, merged_with}
 use Rattle.plain_sessions.specs.Moments.{is_in_transaction}
 use Rattle.plain_sessions.specs.Records.{BranchState, clean_at, root_of}
 use Rattle.plain_sessions.specs.Replies.{refused}
@@ -44,15 +42,14 @@ use Rattle.session_laws.specs.Transactions.{StartStands, TransactionStands}
 use Rattle.session_state.specs.Standing.{IsInTransaction, SessionStands}
 use Rattle.session_state.specs.declared.sessions.Session.{Session}
 use Rattle.session_txn.specs.Answering.{AnswersAlone}
-use Rattle.session_txn.specs.Showing.{IsDue, is_plain_reply}
+use Rattle.session_txn.specs.Showing.{is_plain_reply}
 use Rattle.session_txn.proofs.AloneLemmas.{answers_due, answers_so, collides, starves, takes_none, worked_ill, worked_well}
 use Rattle.session_txn.proofs.SessionLemmas.{has_one}
 use Rattle.session_txn.proofs.ShowLemmas.{due_truly, plain_told}
 use Rattle.branch_procs.specs.Calls.{OwnStands}
-use Rattle.merge_procs.specs.Databases.{IsMet, merged_of}
+use Rattle.merge_procs.specs.Databases.{IsMet}
 use Rattle.merge_procs.specs.Steps.{IsBack, IsMade, IsPlain, IsSame, IsStep, Settles}
 use Rattle.merge_procs.specs.Ways.{IsThree}
-use Rattle.merge_procs.specs.declared.databases.Met.{Met}
 use Rattle.merge_procs.specs.declared.databases.Met.TheVariants as met
 use Rattle.merge_procs.specs.declared.steps.Made.{Made}
 use Rattle.merge_procs.specs.declared.steps.Step.{Step}
@@ -103,21 +100,9 @@ has_head address session (p, t, stands, there) =
     let kept = own.stands in
     (t.commits, own.all_there, ap (is_known t.commits) kept.head ∙ kept.head_known)
 
-none_there : (found : Option Address) → is_some found ≡ false → option_map (λ (k : Address). k.0) found ≡ None
-none_there None h = refl
-none_there (Some k) h = absurd (cc)
-
 some_there : (found : Option Address) → is_some found ≡ true → is_some (option_map (λ (k : Address). k.0) found) ≡ true
 some_there None h = absurd (cc)
 some_there (Some k) h = refl
-
-
-pub aborts_none : {D : Type 0} (address : List ℕ → List ℕ) (session : Session D) (p : plain.Session) (t : Transaction) → SessionStands address session p → p.transaction ≡ Some t
-    → is_some session.own.merging ≡ false → merge p t merging.Abort ≡ Err 9012
-aborts_none address session p t stands there h =
-    let own = own_stands address session p t stands there in
-    let done : Outcome Worked = Ok (Answers (merge_reply [] 0 0 (codes "merge aborted")) (clean_at t.own.head (own_root t))) in
-    ap (λ (m : Option (List ℕ)). unless (not (is_some m)) 9012 done) (sym own.merging ∙ none_there session.own.merging h)
 
 pub aborts : {D : Type 0} (address : List ℕ → List ℕ) (session : Session D) (p : plain.Session) (t : Transaction) (root : Address) (made : Step) → SessionStands address session p
     → p.transaction ≡ Some t → is_some session.own.merging ≡ true
@@ -151,11 +136,6 @@ stays address session p t made wanted stands there comes is =
 pub three_roots : (address : List ℕ → List ℕ) (chunks : Chunks) (t : Transaction) (request : MergeOf) (three : Three) → IsThree address chunks t request three
     → AreRoots address chunks three.base three.ours three.theirs (base_root t three.other.0) (own_root t) (root_of t.commits three.other.0)
 three_roots address chunks t request three is = record { base_root = is.base; our_root = is.ours; their_root = is.theirs }
-
-pub refuses : (address : List ℕ → List ℕ) (chunks later : Chunks) (p : plain.Session) (t : Transaction) (request : MergeOf) (three : Three) (number : ℕ) → IsThree address chunks t request three
-    → IsMet address later (met.Refused number) (merged_with t three.other.0) → merge p t (merging.Merge request) ≡ Err number
-refuses address chunks later p t request three number is refused =
-    is.is p ∙ ap (λ (o : Outcome MergedDatabase). and_then o (λ merged. Ok (merge_made p t request three.other.0 merged))) refused
 
 pub opens : (address : List ℕ → List ℕ) (old new : Drafting) (own : BranchRecord) (p : plain.Session) (t : Transaction) (request : MergeOf) (three : Three) (working : Address) (made : Step)
     → DraftsFollow → DraftsGrow → RecordsFollow → RecordStands address (chunks_of old.chunks) t.commits own t.own → IsThree address (chunks_of old.chunks) t request three

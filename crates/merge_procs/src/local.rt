@@ -159,11 +159,7 @@ fn aborted<D: Digester>(alloc: Global, session: &Session<D>) -> Result<Step, All
 }
 
 /// Goes where a merge leads.
-fn led<D: Digester>(
-    alloc: Global,
-    session: &mut Session<D>,
-    way: Way,
-) -> Result<Step, PutFault>
+fn led<D: Digester>(alloc: Global, session: &mut Session<D>, way: Way) -> Result<Step, PutFault>
     requires { (p : plain.Session) × (t : plain.Transaction) × (request : MergeOf) × SessionStands D.address session.old p × (p.transaction ≡ Some t)
         × IsWay D.address (chunks_of session.old.draft.chunks) t request way }
     ensures is { (p : plain.Session) (t : plain.Transaction) (request : MergeOf) → SessionStands D.address session.old p → p.transaction ≡ Some t
