@@ -15,7 +15,7 @@ use table_root::law_of_databases;
 use tuple_codec::{Address, Digester};
 
 /// The address of the database of a commit.
-pub(crate) fn head_root<D: Digester>(
+pub fn head_root<D: Digester>(
     alloc: Global,
     draft: &Draft<D>,
     head: &Address,
