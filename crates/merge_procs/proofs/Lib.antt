@@ -1,0 +1,2 @@
+mod WayNames
+mod WayLemmas

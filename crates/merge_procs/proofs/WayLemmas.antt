@@ -1,9 +1,9 @@
 -- Where a merge leads: the base against ancestors, what has changed, and what the plain merge comes to.
-use Rattle.std.proofs.Common.{◌≡◌, refl, sym, ap, ◌∙◌, subst, ◌⊎◌, inl, inr, ℕ, zero, suc, Bool, true, false, cond, ◌&&◌, ◌||◌, not, is_some, is_lt, List, [], ◌∷◌, Option, Some, None, Ok, Err, option_map}
+use Rattle.std.proofs.Common.{◌≡◌, refl, sym, ap, ◌∙◌, subst, ◌⊎◌, inl, inr, ℕ, zero, suc, Bool, true, false, cond, ◌&&◌, ◌||◌, ◌==◌, not, is_some, is_lt, List, [], ◌∷◌, Option, Some, None, Ok, Err, option_map}
 use Rattle.std.specs.Prelude.{bytes_eq, codes}
 use Rattle.std.specs.Cmp.Lexicographic.{bytes_decides}
 use Rattle.std.specs.Option.{option_map_or}
-use Rattle.std.proofs.lemmas.Bool.{and_from}
+use Rattle.std.proofs.lemmas.Bool.{and_from, eqb-false}
 use Rattle.std.proofs.lemmas.Option.{same_Some}
 use Rattle.tuple_codec.specs.declared.addresses.Address.{Address}
 use Rattle.tuple_codec.specs.declared.records.BranchRecord.{BranchRecord}
@@ -12,6 +12,7 @@ use Rattle.chunk_store.specs.Drafts.{DraftParts, chunks_of}
 use Rattle.chunk_store.specs.Laws.{ChunksFollow}
 use Rattle.commit_graph.specs.Standing as graph
 use Rattle.commit_graph.specs.Standing.{CommitsStand}
+use Rattle.commit_graph.specs.declared.walks.Rank.{Rank}
 use Rattle.commit_graph.proofs.OrderLemmas.{itself, or_left}
 use Rattle.commit_graph.proofs.WalkLemmas.{first_or_later, to_left}
 use Rattle.constraint_scan.specs.Scanning.{IsKeptAt}
@@ -52,11 +53,14 @@ known_there : (commits : Commits) (steps : ℕ) (k x : List ℕ) → IsAncestorB
 known_there commits zero k x by = subst (λ (j : List ℕ). is_known commits j ≡ true) by.1 by.0
 known_there commits (suc steps) k x by = known_there commits steps by.0 x by.2
 
+eqb_itself : (n : ℕ) → (n == n) ≡ true
+eqb_itself n = two (n == n) (λ t. t) (λ f. absurd (eqb-false n n f refl))
+
 module _ (laws : AncestorsFollow) (commits : Commits) (grown : AreGrown commits) where
   -- a commit's ancestors come after it
   later : (k x : List ℕ) → is_known commits k ≡ true → IsAncestor commits k x → (k ≡ x) ⊎ (is_lt (commit_cmp commits k x) ≡ true)
   later k x known up =
-      let here = record { height = record { 0 = height_of commits k }; address = k } in
+      let here : Rank = record { height = record { 0 = height_of commits k }; address = k } in
       first_or_later laws commits grown here [] x (record { each = and_from _ _ (and_from _ _ known (eqb_itself (height_of commits k))) refl; rise = refl })
       (to_left laws commits grown (here ∷ []) k x (or_left _ _ (itself k)) up)
 
@@ -96,3 +100,128 @@ module _ (laws : AncestorsFollow) (commits : Commits) (grown : AreGrown commits)
     is_first h =
         let up = laws.only commits b a h in
         no_other a (itself_known a (known_there commits up.0 b a up.1)) up is_base.first
+
+-- ---- the commits below a draft
+
+-- all commits have a common ancestor
+pub have_common : (address : List ℕ → List ℕ) (chunks : Chunks) (commits : Commits) → CommitsAreThere address chunks commits → (a b : List ℕ) → is_known commits a ≡ true
+    → is_known commits b ≡ true → HasCommon commits a b
+have_common address chunks commits there a b first second = let one = there.first in (one.0, one.1 a first, one.1 b second)
+
+module _ (address : List ℕ → List ℕ) (chunks : ChunksFollow) (follow : graph.CommitsFollow) (laws : AncestorsFollow) (d : DraftParts) (head root other : Address) (t : Transaction) (over : IsOver address d head root other t) where
+  there : CommitsAreThere address (bytes_at d.base) t.commits
+  there = over.commits
+
+  grown : AreGrown t.commits
+  grown = let stand = there.stand in stand.grown
+
+  pub all_stand : CommitsStand address (chunks_of d) t.commits
+  all_stand = follow.later address (bytes_at d.base) (chunks_of d) t.commits (chunks.extends_left d.base d.own) there.stand
+
+  pub common : HasCommon t.commits head.0 other.0
+  common = have_common address (bytes_at d.base) t.commits there head.0 other.0 over.head_known over.other_known
+
+  module _ (k : Address) (is : base t.commits head.0 other.0 ≡ Some k.0) where
+    pub known : is_known t.commits k.0 ≡ true
+    known = base_known laws t.commits grown head.0 other.0 k.0 is
+
+    -- of the transaction's own head
+    of_head : (P : List ℕ → Type 0) → P head.0 → P t.own.head
+    of_head P x = subst P over.head_is x
+
+    pub up_to_date : (no_ff : Bool) → bytes_eq k.0 other.0 ≡ true → Leads address (chunks_of d) t no_ff other way.UpToDate
+    up_to_date no_ff same =
+        of_head (λ (h : List ℕ). is_ancestor t.commits h other.0 ≡ true) (at_second laws t.commits grown head.0 other.0 k.0 is ((bytes_decides k.0 other.0).0 same))
+
+    ahead : bytes_eq k.0 other.0 ≡ false → is_ancestor t.commits t.own.head other.0 ≡ false
+    ahead apart = of_head (λ (h : List ℕ). is_ancestor t.commits h other.0 ≡ false)
+        (two (is_ancestor t.commits head.0 other.0) (λ h. clash ((bytes_decides k.0 other.0).1 (is_second laws t.commits grown head.0 other.0 k.0 is h)) apart) (λ h. h))
+
+    pub forward : (no_ff : Bool) → bytes_eq k.0 other.0 ≡ false → bytes_eq k.0 head.0 ≡ true → no_ff ≡ false → Leads address (chunks_of d) t no_ff other (way.Forward other)
+    forward no_ff apart same ff = (
+      refl,
+      ahead apart,
+      and_from (is_ancestor t.commits other.0 t.own.head) (not no_ff)
+          (of_head (λ (h : List ℕ). is_ancestor t.commits other.0 h ≡ true) (at_first laws t.commits grown head.0 other.0 k.0 is ((bytes_decides k.0 head.0).0 same)))
+          (ap not ff),
+    )
+
+    behind : (no_ff : Bool) → (bytes_eq k.0 head.0 ≡ true → no_ff ≡ true) → (is_ancestor t.commits other.0 head.0 && not no_ff) ≡ false
+    behind no_ff only = two (is_ancestor t.commits other.0 head.0 && not no_ff)
+        (λ h. let on = only ((bytes_decides k.0 head.0).1 (is_first laws t.commits grown head.0 other.0 k.0 is (left_so (is_ancestor t.commits other.0 head.0) (not no_ff) h))) in
+        clash (right_so (is_ancestor t.commits other.0 head.0) (not no_ff) h) (ap not on))
+        (λ h. h)
+
+    root_at : base_root t other.0 ≡ root_of t.commits k.0
+    root_at = of_head (λ (h : List ℕ). option_map_or (root_of t.commits) (base t.commits h other.0) [] ≡ root_of t.commits k.0)
+        (ap (λ (o : Option (List ℕ)). option_map_or (root_of t.commits) o []) is)
+
+    pub meets : (no_ff : Bool) (three : Three) → bytes_eq k.0 other.0 ≡ false → (bytes_eq k.0 head.0 ≡ true → no_ff ≡ true) → AreDatabases address (chunks_of d) t.commits k root other three
+        → Leads address (chunks_of d) t no_ff other (way.Merge three)
+    meets no_ff three apart only are = (
+      record { ahead = ahead apart; behind = of_head (λ (h : List ℕ). (is_ancestor t.commits other.0 h && not no_ff) ≡ false) (behind no_ff only) },
+      are.other_is,
+      subst (λ (database : PlainDatabase). IsKeptAt address (chunks_of d) three.base.0 database) (sym root_at) are.base_stands,
+      subst (λ (a : Address). IsKeptAt address (chunks_of d) a.0 (own_root t)) (sym are.ours_is) over.root_stands,
+      are.theirs_stands,
+    )
+
+-- ---- changes
+
+module _ (databases : DatabasesStand) (sameness : SamenessIsEquality) (address : List ℕ → List ℕ) (chunks : Chunks) where
+  -- addresses of databases are the same exactly where these are
+  same_root : (a b : Address) (one other : PlainDatabase) → IsKeptAt address chunks a.0 one → IsKeptAt address chunks b.0 other → bytes_eq a.0 b.0 ≡ is_same_database one other
+  same_root a b one other first second =
+      let exactly = databases.exactly address chunks a.0 b.0 one other first.stands second.stands in
+      two (bytes_eq a.0 b.0)
+      (λ e. e ∙ sym ((sameness.databases one other).1 (exactly.0 ((bytes_decides a.0 b.0).0 e))))
+      (λ e. two (is_same_database one other)
+      (λ f. clash ((bytes_decides a.0 b.0).1 (exactly.1 ((sameness.databases one other).0 f))) e)
+      (λ f. e ∙ sym f))
+
+-- ---- what the plain merge comes to
+
+module _ (t : Transaction) (request : MergeOf) where
+  pub unknown : resolved t.heads t.commits request.name ≡ None → (p : plain.Session) → merge p t (merging.Merge request) ≡ Err 9004
+  unknown none p = ap (λ (o : Option (List ℕ)). and_then (or_refuse 9004 o) (λ other. unless (has_changes t) 9006 (merge_with p t request other))) none
+
+  module _ (other : Address) (named : resolved t.heads t.commits request.name ≡ Some other.0) where
+    goes_on : (p : plain.Session) → merge p t (merging.Merge request) ≡ unless (has_changes t) 9006 (merge_with p t request other.0)
+    goes_on p = ap (λ (o : Option (List ℕ)). and_then (or_refuse 9004 o) (λ other. unless (has_changes t) 9006 (merge_with p t request other))) named
+
+    pub changed : has_changes t ≡ true → (p : plain.Session) → merge p t (merging.Merge request) ≡ Err 9006
+    changed h p = goes_on p ∙ ap (λ (b : Bool). unless b 9006 (merge_with p t request other.0)) h
+
+    module _ (clean : has_changes t ≡ false) where
+      merges : (p : plain.Session) → merge p t (merging.Merge request) ≡ merge_with p t request other.0
+      merges p = goes_on p ∙ ap (λ (b : Bool). unless b 9006 (merge_with p t request other.0)) clean
+
+      abbrev done : Outcome Worked
+      done = Ok (Answers (merge_reply [] 0 0 (codes "up to date")) t.own)
+
+      abbrev rest : plain.Session → Outcome Worked
+      rest p = and_then (merged_with t other.0) (λ merged. Ok (merge_made p t request other.0 merged))
+
+      apart : (p : plain.Session) → is_ancestor t.commits t.own.head other.0 ≡ false
+          → merge_with p t request other.0 ≡ cond (is_ancestor t.commits other.0 t.own.head && not request.no_ff) (Ok (Closes (Forwarding other.0))) (rest p)
+      apart p h = ap (λ (b : Bool). cond b done (cond (is_ancestor t.commits other.0 t.own.head && not request.no_ff) (Ok (Closes (Forwarding other.0))) (rest p))) h
+
+      pub way_is : (address : List ℕ → List ℕ) (chunks : Chunks) (known : is_known t.commits other.0 ≡ true) (w : Way) → Leads address chunks t request.no_ff other w
+          → IsWay address chunks t request w
+      way_is address chunks there (way.Refused number) leads = absurd leads
+      way_is address chunks there way.UpToDate leads = λ p.
+          merges p ∙ ap (λ (b : Bool). cond b done (cond (is_ancestor t.commits other.0 t.own.head && not request.no_ff) (Ok (Closes (Forwarding other.0))) (rest p))) leads
+      way_is address chunks there (way.Forward k) (same, first, second) = (
+        subst (λ (a : Address). is_known t.commits a.0 ≡ true) (sym same) there,
+        λ p. merges p ∙ apart p first ∙ ap (λ (b : Bool). cond b (Ok (Closes (Forwarding other.0))) (rest p)) second ∙ ap (λ (a : Address). Ok (Closes (Forwarding a.0))) (sym same),
+      )
+      way_is address chunks there (way.Merge three) (is, same, low, ours, theirs) =
+          let at : (P : Address → Type 0) → P other → P three.other = λ P x. subst P (sym same) x in
+          record {
+            other_known = at (λ a. is_known t.commits a.0 ≡ true) there;
+            base = at (λ a. IsKeptAt address chunks three.base.0 (base_root t a.0)) low;
+            ours = ours;
+            theirs = at (λ a. IsKeptAt address chunks three.theirs.0 (root_of t.commits a.0)) theirs;
+            is = λ p. at (λ a. merge p t (merging.Merge request) ≡ and_then (merged_with t a.0) (λ merged. Ok (merge_made p t request a.0 merged)))
+                (merges p ∙ apart p is.ahead ∙ ap (λ (b : Bool). cond b (Ok (Closes (Forwarding other.0))) (rest p)) is.behind);
+          }

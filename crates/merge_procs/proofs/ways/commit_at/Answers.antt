@@ -1,0 +1,10 @@
+use Rattle.std.proofs.Common.{map, ◌∙◌, sym}
+use Rattle.session_laws.specs.Transactions.{head_seen}
+use Rattle.merge_procs.proofs.WayNames.{resolved_branch, resolved_commit}
+use Rattle.merge_procs.proofs.ways.commit_at.Goals as goal
+
+pub returns-in-Some : goal.returns-in-Some
+returns-in-Some g c = ?
+
+pub returns-in-None : goal.returns-in-None
+returns-in-None g c = ?
