@@ -1,10 +1,10 @@
--- Where a merge leads: the base against ancestors, what has changed, and what the plain merge comes to.
-use Rattle.std.proofs.Common.{◌≡◌, refl, sym, ap, ◌∙◌, subst, ◌⊎◌, inl, inr, ℕ, zero, suc, Bool, true, false, cond, ◌&&◌, ◌||◌, ◌==◌, not, is_some, is_lt, List, [], ◌∷◌, Option, Some, None, Ok, Err, option_map}
-use Rattle.std.specs.Prelude.{bytes_eq, codes}
+-- Where a merge leads: the base against ancestors, what the plain merge comes to, and what stands in a session's transaction.
+use Rattle.std.proofs.Common.{◌≡◌, refl, sym, ap, ◌∙◌, subst, ◌⊎◌, inl, inr, ℕ, zero, suc, Bool, true, false, cond, ◌&&◌, ◌||◌, ◌==◌, not, is_some, is_lt, List, [], ◌∷◌, Option, Some, None, Ok, Err, map}
+use Rattle.std.specs.Prelude.{IfOk, Result, bytes_eq, codes}
 use Rattle.std.specs.Cmp.Lexicographic.{bytes_decides}
 use Rattle.std.specs.Option.{option_map_or}
 use Rattle.std.proofs.lemmas.Bool.{and_from, eqb-false}
-use Rattle.std.proofs.lemmas.Option.{same_Some}
+use Rattle.std.proofs.lemmas.Result.{IfOk-weaker}
 use Rattle.tuple_codec.specs.declared.addresses.Address.{Address}
 use Rattle.tuple_codec.specs.declared.records.BranchRecord.{BranchRecord}
 use Rattle.chunk_store.specs.Chunks.{Chunks, bytes_at}
@@ -20,8 +20,6 @@ use Rattle.expr_eval.specs.Binding.{Outcome, and_then}
 use Rattle.merge_base.specs.Common.{HasCommon}
 use Rattle.schema_model.specs.PlainCommits.{AncestorsFollow, AreGrown, Commits, IsAncestor, IsAncestorBy, IsBase, IsBaseOrNone, PlainCommit, base, commit_cmp, has_address, height_of, is_ancestor, is_known, parents_in}
 use Rattle.schema_model.specs.PlainTables.{PlainDatabase}
-use Rattle.schema_model.specs.Sameness.{SamenessIsEquality, is_same_database}
-use Rattle.table_root.specs.Standing.{DatabasesStand}
 use Rattle.plain_sql.specs.Lists.{or_refuse, unless}
 use Rattle.plain_writes.proofs.InsertionLemmas.{two, clash, left_so, right_so}
 use Rattle.plain_sessions.specs.Branching.{resolved}
@@ -32,11 +30,18 @@ use Rattle.plain_sessions.specs.Sessions.{Transaction, own_root}
 use Rattle.sql_procedures.specs.declared.requests.MergeOf.{MergeOf}
 use Rattle.sql_procedures.specs.declared.requests.MergeRequest.TheVariants as merging
 use Rattle.session_laws.specs.Commits.{CommitsAreThere}
+use Rattle.session_laws.specs.Laws.{CommitsFollow}
 use Rattle.session_laws.specs.Records.{RecordStands}
+use Rattle.session_laws.specs.Transactions.{StartStands, TransactionStands, head_seen}
+use Rattle.session_state.specs.Standing.{SessionStands}
+use Rattle.session_state.specs.declared.sessions.Session.{Session}
+use Rattle.table_root.specs.declared.heads.Head as seen
+use Rattle.table_root.specs.declared.heads.Look.{Look}
 use Rattle.merge_procs.specs.Ways.{AreDatabases, IsApart, IsOver, IsThree, IsWay, Leads, is_changed}
 use Rattle.merge_procs.specs.declared.ways.Three.{Three}
 use Rattle.merge_procs.specs.declared.ways.Way.{Way}
 use Rattle.merge_procs.specs.declared.ways.Way.TheVariants as way
+use Rattle.merge_procs.proofs.WayNames.{known_told}
 
 -- ---- the base of two commits, of which one may be the other's ancestor
 
@@ -166,19 +171,6 @@ module _ (address : List ℕ → List ℕ) (chunks : ChunksFollow) (follow : gra
       are.theirs_stands,
     )
 
--- ---- changes
-
-module _ (databases : DatabasesStand) (sameness : SamenessIsEquality) (address : List ℕ → List ℕ) (chunks : Chunks) where
-  -- addresses of databases are the same exactly where these are
-  same_root : (a b : Address) (one other : PlainDatabase) → IsKeptAt address chunks a.0 one → IsKeptAt address chunks b.0 other → bytes_eq a.0 b.0 ≡ is_same_database one other
-  same_root a b one other first second =
-      let exactly = databases.exactly address chunks a.0 b.0 one other first.stands second.stands in
-      two (bytes_eq a.0 b.0)
-      (λ e. e ∙ sym ((sameness.databases one other).1 (exactly.0 ((bytes_decides a.0 b.0).0 e))))
-      (λ e. two (is_same_database one other)
-      (λ f. clash ((bytes_decides a.0 b.0).1 (exactly.1 ((sameness.databases one other).0 f))) e)
-      (λ f. e ∙ sym f))
-
 -- ---- what the plain merge comes to
 
 module _ (t : Transaction) (request : MergeOf) where
@@ -208,20 +200,75 @@ module _ (t : Transaction) (request : MergeOf) where
 
       pub way_is : (address : List ℕ → List ℕ) (chunks : Chunks) (known : is_known t.commits other.0 ≡ true) (w : Way) → Leads address chunks t request.no_ff other w
           → IsWay address chunks t request w
-      way_is address chunks there (way.Refused number) leads = absurd leads
-      way_is address chunks there way.UpToDate leads = λ p.
+      way_is address chunks is_there (way.Refused number) leads = absurd leads
+      way_is address chunks is_there way.UpToDate leads = λ p.
           merges p ∙ ap (λ (b : Bool). cond b done (cond (is_ancestor t.commits other.0 t.own.head && not request.no_ff) (Ok (Closes (Forwarding other.0))) (rest p))) leads
-      way_is address chunks there (way.Forward k) (same, first, second) = (
-        subst (λ (a : Address). is_known t.commits a.0 ≡ true) (sym same) there,
+      way_is address chunks is_there (way.Forward k) (same, first, second) = (
+        subst (λ (a : Address). is_known t.commits a.0 ≡ true) (sym same) is_there,
         λ p. merges p ∙ apart p first ∙ ap (λ (b : Bool). cond b (Ok (Closes (Forwarding other.0))) (rest p)) second ∙ ap (λ (a : Address). Ok (Closes (Forwarding a.0))) (sym same),
       )
-      way_is address chunks there (way.Merge three) (is, same, low, ours, theirs) =
+      way_is address chunks is_there (way.Merge three) (is, same, low, ours, theirs) =
           let at : (P : Address → Type 0) → P other → P three.other = λ P x. subst P (sym same) x in
           record {
-            other_known = at (λ a. is_known t.commits a.0 ≡ true) there;
+            other_known = at (λ a. is_known t.commits a.0 ≡ true) is_there;
             base = at (λ a. IsKeptAt address chunks three.base.0 (base_root t a.0)) low;
             ours = ours;
             theirs = at (λ a. IsKeptAt address chunks three.theirs.0 (root_of t.commits a.0)) theirs;
             is = λ p. at (λ a. merge p t (merging.Merge request) ≡ and_then (merged_with t a.0) (λ merged. Ok (merge_made p t request a.0 merged)))
                 (merges p ∙ apart p is.ahead ∙ ap (λ (b : Bool). cond b (Ok (Closes (Forwarding other.0))) (rest p)) is.behind);
           }
+
+-- ---- a session in its transaction
+
+module _ {D : Type 0} (address : List ℕ → List ℕ) (session : Session D) (look : Look) (started : session.start ≡ Some look) (p : plain.Session) (t : Transaction)
+    (session_stands : SessionStands address session p) (inside : p.transaction ≡ Some t) where
+  abbrev all : Chunks
+  all = chunks_of session.draft.chunks
+
+  stands : TransactionStands address session.draft.chunks look session.own t
+  stands = subst (λ (o : Option Look). StartStands address session.draft.chunks o session.own (Some t)) started
+      (subst (λ (o : Option Transaction). StartStands address session.draft.chunks session.start session.own o) inside session_stands.transaction)
+
+  own_stands : RecordStands address all t.commits session.own t.own
+  own_stands = stands.own_stands
+
+  head_known : is_known t.commits session.own.head.0 ≡ true
+  head_known = ap (is_known t.commits) own_stands.head ∙ own_stands.head_known
+
+  -- none of the draft's own chunks is a commit, so that the commits are those of all its chunks
+  pub all_there : CommitsFollow → CommitsAreThere address all t.commits
+  all_there follow = follow.beside address session.draft.chunks.base session.draft.chunks.own t.commits session_stands.plain_own stands.commits
+
+  module _ (heads : List seen.Head) (name : List ℕ) (heads_are : heads ≡ look.heads) (request : MergeOf) (name_is : name ≡ request.name) where
+    name_told : resolved (map head_seen heads) t.commits name ≡ resolved t.heads t.commits request.name
+    name_told = (λ i. resolved ((ap (map head_seen) heads_are ∙ stands.heads) i) t.commits (name_is i))
+
+    pub not_told : None ≡ resolved (map head_seen heads) t.commits name → resolved t.heads t.commits request.name ≡ None
+    not_told e = sym (e ∙ name_told)
+
+    module _ (other root : Address) (e : Some other.0 ≡ resolved (map head_seen heads) t.commits name) where
+      pub told : resolved t.heads t.commits request.name ≡ Some other.0
+      told = sym (e ∙ name_told)
+
+      other_known : is_known t.commits other.0 ≡ true
+      other_known = known_told t.commits request.name other.0 t.heads stands.heads_known told
+
+      module _ (kept : (commits : Commits) → CommitsAreThere address (bytes_at session.draft.chunks.base) commits → is_known commits session.own.head.0 ≡ true
+          → IsKeptAt address all root.0 (root_of commits session.own.head.0)) where
+        root_stands : IsKeptAt address all root.0 (own_root t)
+        root_stands = subst (λ (k : List ℕ). IsKeptAt address all root.0 (root_of t.commits k)) own_stands.head (kept t.commits stands.commits head_known)
+
+        pub over : IsOver address session.draft.chunks session.own.head root other t
+        over = record { commits = stands.commits; head_is = own_stands.head; head_known = head_known; other_known = other_known; root_stands = root_stands }
+
+        module _ (found : Bool) (is : (a : List ℕ → List ℕ) (chunks : Chunks) (commits : Commits) (state : BranchState) (database : PlainDatabase) → RecordStands a chunks commits session.own state
+            → IsKeptAt a chunks root.0 database → found ≡ is_changed state database) where
+          found_is : has_changes t ≡ found
+          found_is = sym (is address all t.commits t.own (own_root t) own_stands root_stands)
+
+          pub refused : found ≡ true → (q : plain.Session) → merge q t (merging.Merge request) ≡ Err 9006
+          refused so q = changed t request other told (found_is ∙ so) q
+
+          pub led : {E : Type 0} → found ≡ false → (result : Result Way E) → IfOk result (Leads address all t request.no_ff other) → IfOk result (λ way. IsWay address all t request way)
+          led so result leads = IfOk-weaker result (Leads address all t request.no_ff other) (λ way. IsWay address all t request way)
+              (λ w is_so. way_is t request other told (found_is ∙ so) address all other_known w is_so) leads

@@ -117,7 +117,9 @@ known_name commits name k e = two (bytes_eq (address_text (address_bytes name)) 
 pub known_told : (commits : Commits) (name k : List ℕ) (heads : List Head) → list_all (λ (head : Head). is_known commits head.commit) heads ≡ true
     → resolved heads commits name ≡ Some k → is_known commits k ≡ true
 known_told commits name k [] known e = known_name commits name k e
-known_told commits name k (head ∷ heads) known e = by (bytes_eq head.name name) e where
-  by : (t : Bool) → or_commit commits name (cond t (Some head) (find (λ (other : Head). bytes_eq other.name name) heads)) ≡ Some k → is_known commits k ≡ true
-  by true here = ap (is_known commits) (same_Some k head.commit (sym here)) ∙ left_so (is_known commits head.commit) (list_all (λ (other : Head). is_known commits other.commit) heads) known
-  by false here = known_told commits name k heads (right_so (is_known commits head.commit) (list_all (λ (other : Head). is_known commits other.commit) heads) known) here
+known_told commits name k (head ∷ heads) known e =
+    by (bytes_eq head.name name) (known_told commits name k heads (right_so (is_known commits head.commit) (list_all (λ (other : Head). is_known commits other.commit) heads) known)) e where
+  by : (t : Bool) → (resolved heads commits name ≡ Some k → is_known commits k ≡ true)
+      → or_commit commits name (cond t (Some head) (find (λ (other : Head). bytes_eq other.name name) heads)) ≡ Some k → is_known commits k ≡ true
+  by true rest here = ap (is_known commits) (same_Some k head.commit (sym here)) ∙ left_so (is_known commits head.commit) (list_all (λ (other : Head). is_known commits other.commit) heads) known
+  by false rest here = rest here
