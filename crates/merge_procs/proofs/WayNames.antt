@@ -79,9 +79,11 @@ module _ (address : List ℕ → List ℕ) (chunks : Chunks) (commits : Commits)
   -- a name that is no address's text tells no commit
   pub none_named : (name : List ℕ) → ReadsAddress name None → None ≡ commit_named commits name
   none_named name none = two (bytes_eq (address_text (address_bytes name)) name && is_known commits (address_bytes name))
-      (λ t. absurd (none (address_bytes name)
-      (address_of_known (address_bytes name) (commits (address_bytes name)) refl
-      (right_so (bytes_eq (address_text (address_bytes name)) name) (is_known commits (address_bytes name)) t), small name)
+      (λ t. absurd (none (address_bytes name) (
+        address_of_known (address_bytes name) (commits (address_bytes name)) refl
+            (right_so (bytes_eq (address_text (address_bytes name)) name) (is_known commits (address_bytes name)) t),
+        small name,
+      )
       ((bytes_decides (address_text (address_bytes name)) name).0 (left_so (bytes_eq (address_text (address_bytes name)) name) (is_known commits (address_bytes name)) t))))
       (λ t. sym (ap (λ b. cond b (Some (address_bytes name)) None) t))
 
@@ -119,7 +121,7 @@ pub known_told : (commits : Commits) (name k : List ℕ) (heads : List Head) →
 known_told commits name k [] known e = known_name commits name k e
 known_told commits name k (head ∷ heads) known e =
     by (bytes_eq head.name name) (known_told commits name k heads (right_so (is_known commits head.commit) (list_all (λ (other : Head). is_known commits other.commit) heads) known)) e where
-  by : (t : Bool) → (resolved heads commits name ≡ Some k → is_known commits k ≡ true)
-      → or_commit commits name (cond t (Some head) (find (λ (other : Head). bytes_eq other.name name) heads)) ≡ Some k → is_known commits k ≡ true
-  by true rest here = ap (is_known commits) (same_Some k head.commit (sym here)) ∙ left_so (is_known commits head.commit) (list_all (λ (other : Head). is_known commits other.commit) heads) known
-  by false rest here = rest here
+      by : (t : Bool) → (resolved heads commits name ≡ Some k → is_known commits k ≡ true)
+          → or_commit commits name (cond t (Some head) (find (λ (other : Head). bytes_eq other.name name) heads)) ≡ Some k → is_known commits k ≡ true
+      by true rest here = ap (is_known commits) (same_Some k head.commit (sym here)) ∙ left_so (is_known commits head.commit) (list_all (λ (other : Head). is_known commits other.commit) heads) known
+      by false rest here = rest here

@@ -184,5 +184,12 @@ pub(crate) fn find_way<D: Digester>(
     if has_changes(&session.own, &root) {
         return Ok(Way::Refused(9006));
     }
-    way_to(alloc, draft, &session.own.head, &root, &other, request.no_ff)
+    way_to(
+        alloc,
+        draft,
+        &session.own.head,
+        &root,
+        &other,
+        request.no_ff,
+    )
 }
