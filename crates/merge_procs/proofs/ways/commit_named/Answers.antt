@@ -1,4 +1,4 @@
-use Rattle.std.proofs.Common.{sym, ap, ◌∙◌, subst, cond, Option, option_map, Some, None}
+use Rattle.std.proofs.Common.{sym, ap, ◌∙◌, cond, Option, option_map, Some, None}
 use Rattle.tuple_codec.specs.declared.addresses.Address.{Address}
 use Rattle.chunk_store.specs.Drafts.{chunks_of}
 use Rattle.merge_procs.proofs.WayNames.{none_named, named_by}
