@@ -1,1 +1,3 @@
 mod StepLemmas
+mod WayNames
+mod WayLemmas
