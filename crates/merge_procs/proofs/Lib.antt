@@ -1,0 +1,3 @@
+mod DatabasesLemmas
+pub mod ClosingLemmas
+mod VerifyingLemmas
