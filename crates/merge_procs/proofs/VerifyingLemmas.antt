@@ -29,9 +29,9 @@ found_plain : (found : Bool) → is_plain_reply (one_row (number_field (codes "v
 found_plain true = refl
 found_plain false = refl
 
-found_as : (list : List Violation) (database : PlainDatabase) → is_none list ≡ is_none (violations checks database) → cond (not (is_none list)) 1 0 ≡ found_in database
-found_as list database same = ap (λ (b : Bool). cond (not b) 1 0) same ∙ turned (is_none (violations checks database)) where
-  turned : (b : Bool) → cond (not b) 1 0 ≡ cond b 0 1
+found_as : (list : List Violation) (database : PlainDatabase) → is_none list ≡ is_none (violations checks database) → ◌≡◌ {A = ℕ} (cond (not (is_none list)) 1 0) (found_in database)
+found_as list database same = ap (λ (b : Bool). let n : ℕ = cond (not b) 1 0 in n) same ∙ turned (is_none (violations checks database)) where
+  turned : (b : Bool) → ◌≡◌ {A = ℕ} (cond (not b) 1 0) (cond b 0 1)
   turned true = refl
   turned false = refl
 
