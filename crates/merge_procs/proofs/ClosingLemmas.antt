@@ -54,13 +54,6 @@ looked_stands {D = D} address old new p before stands =
       committer = stands.committer;
     })
 
-pub untouched : {D : Type 0} (session : Session D) → IsAsBefore session session
-untouched session = record { same = refl; chunks = refl; segments = refl }
-
-pub looked : {D : Type 0} (session : Session D) (draft : Drafting) → draft.chunks ≡ session.draft.chunks → draft.segments ≡ session.draft.segments
-    → IsAsBefore session (record session { draft = draft })
-looked session draft chunks segments = record { same = refl; chunks = chunks; segments = segments }
-
 -- ---- the draft
 
 pub comes_back : (old mid new : Drafting) (mark : ℕ) → DraftsFollow → DraftsGrow → mark ≡ length old.chunks.own → Grows is_data old mid → new.chunks ≡ cut_to mark mid.chunks → new.chunks ≡ old.chunks
@@ -87,10 +80,10 @@ clean_told address chunks (met.Open working) wanted is = sym (ap comes_clean is.
 
 pub abort_stays : (p : plain.Session) (t : Transaction) → false ≡ is_closing (worked p t (work.Merge merging.Abort))
 unfolding worked
-abort_stays p t = by (is_some t.own.merging) where
-  by : {reply : Reply} {own : BranchState} (b : Bool) → false ≡ is_closing (unless (not b) 9012 (Ok (Answers reply own)))
-  by true = refl
-  by false = refl
+abort_stays p t = by _ _ (is_some t.own.merging) where
+  by : (reply : Reply) (own : BranchState) (b : Bool) → false ≡ is_closing (unless (not b) 9012 (Ok (Answers reply own)))
+  by reply own true = refl
+  by reply own false = refl
 
 worked_merge : (p : plain.Session) (t : Transaction) (request : MergeRequest) → worked p t (work.Merge request) ≡ merge p t request
 unfolding worked
@@ -124,10 +117,10 @@ module _ (address : List ℕ → List ℕ) (chunks : Chunks) (p : plain.Session)
   three_roots three leads = record { base_root = leads.base; our_root = leads.ours; their_root = leads.theirs }
 
   made_closes : (other : List ℕ) (merged : MergedDatabase) → is_closing (Ok (merge_made p t request other merged)) ≡ is_clean merged
-  made_closes other merged = by (is_clean merged) where
-    by : {ending : Ending} {reply : Reply} {own : BranchState} (b : Bool) → is_closing (Ok (cond b (Closes ending) (Answers reply own))) ≡ b
-    by true = refl
-    by false = refl
+  made_closes other merged = by _ _ _ (is_clean merged) where
+    by : (ending : Ending) (reply : Reply) (own : BranchState) (b : Bool) → is_closing (Ok (cond b (Closes ending) (Answers reply own))) ≡ b
+    by ending reply own true = refl
+    by ending reply own false = refl
 
   outcome_closes : (other : List ℕ) (outcome : Outcome MergedDatabase) → is_closing (and_then outcome (λ merged. Ok (merge_made p t request other merged))) ≡ comes_clean outcome
   outcome_closes other (Ok merged) = made_closes other merged
