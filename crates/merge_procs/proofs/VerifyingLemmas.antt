@@ -1,5 +1,5 @@
 -- What a verification makes of the own record, and its reply.
-use Rattle.std.proofs.Common.{◌≡◌, refl, sym, ap, ◌∙◌, ℕ, Bool, true, false, not, cond, if◌then◌else◌, List, [], ◌∷◌, codes, Ok}
+use Rattle.std.proofs.Common.{◌≡◌, refl, sym, ap, ◌∙◌, ℕ, Bool, true, false, not, cond, List, [], ◌∷◌, codes, Ok}
 use Rattle.tuple_codec.specs.declared.addresses.Address.{Address}
 use Rattle.tuple_codec.specs.declared.records.BranchRecord.{BranchRecord}
 use Rattle.chunk_store.specs.Chunks.{Chunks, Extends}
@@ -20,7 +20,6 @@ use Rattle.session_laws.specs.Records.{RecordStands}
 use Rattle.session_txn.specs.Showing.{is_plain_reply}
 use Rattle.table_root.specs.Standing.{DatabasesStand}
 use Rattle.merge_procs.specs.Steps.{IsMade}
-use Rattle.merge_procs.specs.declared.steps.Made.{Made}
 
 told : ℕ → Reply
 told number = one_row (number_field (codes "violations") number ∷ [])

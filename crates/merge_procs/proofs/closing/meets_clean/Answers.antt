@@ -1,4 +1,4 @@
-use Rattle.std.proofs.Common.{◌≡◌, ◌∙◌}
+use Rattle.std.proofs.Common.{◌∙◌}
 use Rattle.chunk_store.specs.Drafts.{chunks_of}
 use Rattle.merge_procs.specs.Databases.{merged_of}
 use Rattle.merge_procs.proofs.ClosingLemmas.{clean_told, comes_back, fails_truly}
