@@ -1,3 +1,6 @@
 mod StepLemmas
 mod WayNames
 mod WayLemmas
+mod DatabasesLemmas
+pub mod ClosingLemmas
+mod VerifyingLemmas
