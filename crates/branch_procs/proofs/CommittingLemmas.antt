@@ -123,7 +123,7 @@ committed_told address work after commit rec at k reply (Ok plan) written segmen
 -- ---- chunks and commits
 
 -- no other commit than the one that was put is among the draft's own chunks
-one_put : (there : Bool) (d : DraftParts) (k bytes j more : List ℕ) → HasNoCommit d.own
+pub one_put : (there : Bool) (d : DraftParts) (k bytes j more : List ℕ) → HasNoCommit d.own
     → (let put : DraftParts = if there then d else record { base = d.base; own = d.own ++ (k, bytes) ∷ [] } in bytes_at put.own j ≡ Some more) → is_commit more ≡ true → j ≡ k
 one_put true d k bytes j more none found is = absurd (none j more found is)
 one_put false d k bytes j more none found is =
@@ -132,7 +132,7 @@ one_put false d k bytes j more none found is =
       | inr here ↦ sym (one_at k bytes j more here).0
     ]
 
-merging_all : (commits : Commits) (merging : Option (List ℕ)) → option_map_or (is_known commits) merging true ≡ true → list_all (is_known commits) (option_to_list merging) ≡ true
+pub merging_all : (commits : Commits) (merging : Option (List ℕ)) → option_map_or (is_known commits) merging true ≡ true → list_all (is_known commits) (option_to_list merging) ≡ true
 merging_all commits None known = refl
 merging_all commits (Some k) known = ap (λ (b : Bool). b && true) known
 
