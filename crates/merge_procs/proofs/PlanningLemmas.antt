@@ -1,7 +1,8 @@
 -- The decision of a DOLT_MERGE: which it is, whether the branch is as it was, and what goes on standing where the work is sealed.
 use Rattle.std.proofs.Common.{◌≡◌, refl, ◌∙◌, sym, ap, subst, inl, inr, ℕ, ℤ, Bool, true, false, ◌&&◌, ◌||◌, not, List, [], ◌∷◌, ◌++◌, length, Option, None, Some, Result, Ok, Err}
-use Rattle.std.specs.Prelude.{IfOk, if◌then◌else◌, bytes_eq, is_some}
-use Rattle.std.specs.List.{list_any}
+use Rattle.std.specs.Prelude.{◌≤◌, IfOk, if◌then◌else◌, bytes_eq, is_some, nat_le}
+use Rattle.std.proofs.lemmas.Bool.{leb-true}
+use Rattle.std.specs.List.{list_all, list_any}
 use Rattle.std.specs.Option.{option_map_or, option_to_list}
 use Rattle.tuple_codec.specs.declared.addresses.Address.{Address}
 use Rattle.tuple_codec.specs.declared.records.BranchRecord.{BranchRecord}
@@ -22,11 +23,13 @@ use Rattle.plain_sql.specs.Lists.{unless}
 use Rattle.schema_model.specs.PlainCommits.{Commits, IsGrown, PlainCommit, commit_address, commit_parts, is_known, plain_commit_bytes}
 use Rattle.schema_model.specs.PlainTables.{PlainDatabase}
 use Rattle.script_text.specs.declared.replies.Reply.{Reply}
+use Rattle.sql_procedures.specs.Arguments.{begins_with_minus, is_message, is_name_byte, is_point}
 use Rattle.sql_procedures.specs.declared.requests.MergeOf.{MergeOf}
 use Rattle.sql_procedures.specs.declared.requests.MergeRequest.{MergeRequest}
 use Rattle.sql_procedures.specs.declared.requests.MergeRequest.TheVariants as merging
 use Rattle.table_root.specs.Standing.{DatabasesStand, IsDatabaseAt}
 use Rattle.table_root.specs.declared.heads.Look.{Look}
+use Rattle.plain_sessions.specs.Fitness.{is_fit_merge}
 use Rattle.plain_sessions.specs.Merging.{Answers, Closes, Ending, Forwarding, Joining, Worked, base_root, is_clean, merge, merge_made, merge_message, merge_reply, merged_with}
 use Rattle.plain_sessions.specs.Moments.{Change, closed, forwarded, merged_as, unless_moved}
 use Rattle.plain_sessions.specs.Records.{BranchState, Shared, clean_at, commit_on, is_same_state, root_of, with_new_commit}
@@ -39,7 +42,7 @@ use Rattle.root_merge.specs.States.{StateStands}
 use Rattle.session_laws.specs.Commits.{AreAmong, CommitsAreThere, HasNoCommit}
 use Rattle.session_laws.specs.Laws.{CommitsFollow, RecordsFollow}
 use Rattle.session_laws.specs.Records.{RecordStands}
-use Rattle.session_laws.specs.Transactions.{TransactionStands}
+use Rattle.session_laws.specs.Transactions.{StartStands, TransactionStands}
 use Rattle.session_state.specs.declared.sessions.Session.{Session}
 use Rattle.session_state.proofs.ChangeLemmas.{record_by, record_told, same_record}
 use Rattle.session_txn.specs.Answering.{Decides}
@@ -54,10 +57,31 @@ use Rattle.merge_procs.specs.Databases.{IsMet, merged_of}
 use Rattle.merge_procs.specs.Planning.{CanMerge, IsForwarded, IsJoined, IsMerged, clean_record, joining_record, success}
 use Rattle.merge_procs.specs.Ways.{IsThree, IsWay}
 use Rattle.merge_procs.specs.declared.databases.Met.{Met}
-use Rattle.merge_procs.specs.declared.databases.Met.TheVariants as met
+use Rattle.merge_procs.specs.declared.databases.Met.TheVariants as meeting
 use Rattle.merge_procs.specs.declared.ways.Three.{Three}
 use Rattle.merge_procs.specs.declared.ways.Way.{Way}
 use Rattle.merge_procs.specs.declared.ways.Way.TheVariants as way
+
+-- ---- what is asked
+
+front : (a b : Bool) → (a && b) ≡ true → a ≡ true
+front true b h = refl
+front false b h = absurd (cc)
+
+back : (a b : Bool) → (a && b) ≡ true → b ≡ true
+back true b h = h
+back false b h = absurd (cc)
+
+-- a short name, and a message that is one
+pub fit_parts : (request : MergeOf) → is_fit_merge (merging.Merge request) ≡ true → (length request.name ≤ 64) × (option_map_or is_message request.message true ≡ true)
+fit_parts request fit =
+    let short : Bool = nat_le 1 (length request.name) && nat_le (length request.name) 64 in
+    let plain : Bool = short && list_all is_name_byte request.name in
+    let point = front (is_point request.name) (option_map_or is_message request.message true) fit in
+    let few = front short (list_all is_name_byte request.name) (front plain (not (begins_with_minus request.name)) point) in (
+      leb-true (length request.name) 64 (back (nat_le 1 (length request.name)) (nat_le (length request.name) 64) few),
+      back (is_point request.name) (option_map_or is_message request.message true) fit,
+    )
 
 -- ---- which decision it is
 
@@ -98,23 +122,6 @@ module _ (address : List ℕ → List ℕ) (found : Chunks) (p : plain.Session) 
   pub is_joining : (three : Three) → IsThree address found t request three → IsClean p request three.other.0 (merged_with t three.other.0) ending
   is_joining three is = clean_by p t request three.other.0 (merged_with t three.other.0) ending (sym (is.is p) ∙ merges)
 
-  module _ (epoch : ℤ) (commits : Commits) (present : BranchState) where
-    abbrev Decided : Type 0
-    Decided = (change : Change) × (closed address epoch commits p t present ending ≡ unless_moved t present change)
-
-    abbrev closed_by : Ending → Outcome Change
-    closed_by decided = closed address epoch commits p t present decided
-
-    -- it is decided on the branch as it was at the start
-    pub is_decided : (w : Way) → IsWay address found t request w → Decided
-    is_decided (way.Refused number) is = let wrong : ◌≡◌ {A = Outcome Worked} (Err number) (Ok (Closes ending)) = sym (is p) ∙ merges in absurd (cc)
-    is_decided way.UpToDate is = absurd (answers_apart _ _ ending (sym (is p) ∙ merges))
-    is_decided (way.Forward other) is = (forwarded commits other.0, ap closed_by (is_forwarding other is))
-    is_decided (way.Merge three) is =
-        let clean = is_joining three is in
-        let merged = clean.0 in
-        (merged_as address (commit_on commits epoch p.name merged.database (t.own.head ∷ three.other.0 ∷ []) (merge_message p request)), ap closed_by clean.2)
-
 -- ---- tests
 
 -- tests of two things that come to the same are the same
@@ -122,6 +129,35 @@ one_test : (a b : Bool) → (a ≡ true → b ≡ true) → (b ≡ true → a �
 one_test true b h g = sym (h refl)
 one_test false true h g = g refl
 one_test false false h g = refl
+
+-- ---- a branch that moved
+
+-- a session in a transaction has a start
+pub none_started : (address : List ℕ → List ℕ) (draft : DraftParts) (start : Option Look) (own : BranchRecord) (found : Option Transaction) (t : Transaction) → start ≡ None → found ≡ Some t
+    → StartStands address draft start own found → ⊥
+none_started address draft None own None t none some stands = absurd (cc)
+none_started address draft None own (Some other) t none some stands = stands
+none_started address draft (Some look) own found t none some stands = absurd (cc)
+
+has_start : (address : List ℕ → List ℕ) (draft : DraftParts) (start : Option Look) (own : BranchRecord) (found : Option Transaction) (t : Transaction) → found ≡ Some t
+    → StartStands address draft start own found → (look : Look) × (start ≡ Some look)
+has_start address draft None own found t some stands = absurd (none_started address draft None own found t refl some stands)
+has_start address draft (Some look) own found t some stands = (look, refl)
+
+pub start_of : {D : Type 0} (address : List ℕ → List ℕ) (session : Session D) (look : Look) (p : plain.Session) (t : Transaction) (shared : Shared) (present : BranchState)
+    → Decides address session look p t shared present → (start : Look) × (session.start ≡ Some start)
+start_of address session look p t shared present d =
+    has_start address session.draft.chunks session.start session.own p.transaction t d.transaction (let own = d.session_stands in own.transaction)
+
+module _ (address : List ℕ → List ℕ) (look : Look) (t : Transaction) (shared : Shared) (present : BranchState) (moved : Bool) (told : moved ≡ not (is_same_state present t.start)) (change : Change) where
+  decided_as : (b : Bool) → moved ≡ b → unless_moved t present change ≡ unless b 1213 (Ok change)
+  decided_as b is = ap (λ (wrong : Bool). unless wrong 1213 (Ok change)) (sym told ∙ is)
+
+  pub refuses : (plan : Plan) → moved ≡ true → IsRefusedBy 1213 plan → PlanIs address look shared.commits plan (unless_moved t present change)
+  refuses plan is refused = subst (PlanIs address look shared.commits plan) (sym (decided_as true is)) refused
+
+  pub goes_on : (plan : Plan) → moved ≡ false → IsPlannedAs address look shared.commits plan change → PlanIs address look shared.commits plan (unless_moved t present change)
+  goes_on plan is planned = subst (PlanIs address look shared.commits plan) (sym (decided_as false is)) planned
 
 -- ---- what was sealed
 
@@ -190,17 +226,8 @@ module _ {D : Type 0} (address : List ℕ → List ℕ) (chunks : ChunksFollow) 
       (λ h. record_told start.rec look.rec (records.same address (chunks_of work.chunks) t.commits shared.commits start.rec look.rec t.start start_at
       (subst (λ (state : BranchState). RecordStands address (chunks_of work.chunks) shared.commits look.rec state) ((records.told present t.start).0 h) present_at)))
 
-  module _ (moved : Bool) (told : moved ≡ not (same_record start.rec look.rec)) (change : Change) where
-    decided_as : unless_moved t present change ≡ unless moved 1213 (Ok change)
-    decided_as = ap (λ (b : Bool). unless b 1213 (Ok change)) (sym (told ∙ ap not unmoved))
-
-    pub refuses : (plan : Plan) → moved ≡ true → IsRefusedBy 1213 plan → PlanIs address look shared.commits plan (unless_moved t present change)
-    refuses plan is refused =
-        subst (PlanIs address look shared.commits plan) (sym (decided_as ∙ ap (λ (b : Bool). unless b 1213 (Ok change)) is)) refused
-
-    pub goes_on : (plan : Plan) → moved ≡ false → IsPlannedAs address look shared.commits plan change → PlanIs address look shared.commits plan (unless_moved t present change)
-    goes_on plan is planned =
-        subst (PlanIs address look shared.commits plan) (sym (decided_as ∙ ap (λ (b : Bool). unless b 1213 (Ok change)) is)) planned
+  pub is_moved : not (same_record start.rec look.rec) ≡ not (is_same_state present t.start)
+  is_moved = ap not unmoved
 
   -- ---- what the work has
 
@@ -397,6 +424,25 @@ module _ {D : Type 0} (address : List ℕ → List ℕ) (chunks : ChunksFollow) 
       pub joins_written : (plan : Plan) → IsMerged address work written_as plan → IsPlannedAs address look shared.commits plan (merged_as address commit)
       joins_written plan made = joins plan (subst (λ (c : PlainCommit). IsMerged address work c plan) same_commit made)
 
+    -- ---- the plans
+
+    pub plans_forward : (sound : IsSound address work.chunks) (other : Address) (known : is_known t.commits other.0 ≡ true) (moved : Bool) → moved ≡ not (is_same_state present t.start) → moved ≡ false
+        → (result : Result Plan PutFault) → IfOk result (λ plan. IsForwarded address work other (root_of shared.commits other.0) plan)
+        → IfOk result (λ plan. PlanIs address look shared.commits plan (unless_moved t present (forwarded shared.commits other.0)))
+    plans_forward sound other known moved told is (Err fault) made = tt
+    plans_forward sound other known moved told is (Ok plan) made =
+        goes_on address look t shared present moved told (forwarded shared.commits other.0) plan is (forwards sound other (known_now other.0 known) plan made)
+
+    pub plans_joined : (databases : DatabasesStand) (three : Three) (known : is_known t.commits three.other.0 ≡ true) (request : MergeOf) (epoch : ℤ) (message : List ℕ) (database : PlainDatabase)
+        → message ≡ merge_message p request → (moved : Bool) → moved ≡ not (is_same_state present t.start) → moved ≡ false → (result : Result Plan PutFault)
+        → IfOk result (λ plan. IsMerged address work (commit_on shared.commits epoch session.name database (session.own.head.0 ∷ three.other.0 ∷ []) message) plan)
+        → IfOk result (λ plan. PlanIs address look shared.commits plan (closed address epoch shared.commits p t present (Joining database three.other.0 (merge_message p request))))
+    plans_joined databases three known request epoch message database says moved told is (Err fault) made = tt
+    plans_joined databases three known request epoch message database says moved told is (Ok plan) made =
+        subst (λ (m : List ℕ). PlanIs address look shared.commits plan (closed address epoch shared.commits p t present (Joining database three.other.0 m))) says
+        (goes_on address look t shared present moved told (merged_as address (commit_on shared.commits epoch p.name database (t.own.head ∷ three.other.0 ∷ []) message)) plan is
+        (joins_written databases three known epoch message database plan made))
+
 -- ---- what was written
 
 pub joined_told : (address : List ℕ → List ℕ) (work after : Drafting) (commit : PlainCommit) (root : Address) (at : BranchRecord) (k : Address) (reply : Reply) (result : Result Plan PutFault)
@@ -425,7 +471,7 @@ forwarded_told address work other root database at reply (Ok plan) kept at_is to
 -- a commit of the merged database can be written
 module _ (address : List ℕ → List ℕ) (work met : Drafting) (grown : Grows is_data work met) (head root : Address) (three : Three) (commits : Commits) (b o t : PlainDatabase)
     (can : CanMerge address work.chunks head three commits b o t) (database : PlainDatabase) (kept : IsKeptAt address (chunks_of met.chunks) root.0 database) where
-  abbrev joining_state : BranchState
+  abbrev pub joining_state : BranchState
   joining_state = record { head = head.0; working = database; staged = database; merging = Some three.other.0 }
 
   pub can_commit : CanCommit address met.chunks (joining_record head root three.other) head commits joining_state
@@ -439,7 +485,7 @@ module _ (address : List ℕ → List ℕ) (work met : Drafting) (grown : Grows 
 -- ---- by the answers
 
 -- what was met is clean
-pub is_met_clean : (address : List ℕ → List ℕ) (found : Chunks) (root : Address) (wanted : Outcome MergedDatabase) → IsMet address found (met.Clean root) wanted
+pub is_met_clean : (address : List ℕ → List ℕ) (found : Chunks) (root : Address) (wanted : Outcome MergedDatabase) → IsMet address found (meeting.Clean root) wanted
     → (merged : MergedDatabase) → wanted ≡ Ok merged → IsKeptAt address found root.0 merged.database
 is_met_clean address found root wanted is merged wanted_is =
     subst (λ (m : MergedDatabase). IsKeptAt address found root.0 m.database) (ok_same is.0 merged (sym is.1 ∙ wanted_is)) is.3

@@ -1,15 +1,15 @@
 //! DOLT_MERGE's decision, planned on a look.
 
-ghost use Rattle.std.specs.Prelude.{◌≡◌, ◌≤◌, ◌≤ℤ◌, ◌∷◌, ◌++◌, [], codes, IfErr, IfOk, Ok, length, pos, true};
+ghost use Rattle.std.specs.Prelude.{◌≡◌, ◌≤◌, ◌≤ℤ◌, ◌∷◌, ◌++◌, [], codes, IfErr, IfOk, Ok, length, not, pos, true};
 ghost use Rattle.std.specs.Option.{option_map_or};
 ghost use Rattle.chunk_store.specs.Chunks.{bytes_at};
-ghost use Rattle.chunk_store.specs.Drafts.{IsNamed};
+ghost use Rattle.chunk_store.specs.Drafts.{IsNamed, chunks_of};
 ghost use Rattle.chunk_store.specs.Laws.{ChunksFollow, DraftsFollow, DraftsGrow, SegmentsFollow};
 ghost use Rattle.plain_merge.specs.RootMerge.{MergedDatabase};
 ghost use Rattle.plain_sessions.specs.Fitness.{is_fit_merge};
-ghost use Rattle.plain_sessions.specs.Merging.{Closes, Ending};
-ghost use Rattle.plain_sessions.specs.Moments.{closed};
-ghost use Rattle.plain_sessions.specs.Records.{BranchState, Shared, commit_on, root_of};
+ghost use Rattle.plain_sessions.specs.Merging.{Closes, Ending, Joining, merge_message, merged_with};
+ghost use Rattle.plain_sessions.specs.Moments.{closed, forwarded, unless_moved};
+ghost use Rattle.plain_sessions.specs.Records.{BranchState, Shared, commit_on, is_same_state, root_of};
 ghost use Rattle.plain_sessions.specs.Sessions as plain;
 ghost use Rattle.plain_sessions.specs.Statements.{worked};
 ghost use Rattle.plain_sessions.specs.declared.commands.Work.TheVariants as work;
@@ -19,12 +19,15 @@ ghost use Rattle.script_text.specs.Collisions.{IsFault};
 ghost use Rattle.session_laws.specs.Commits.{CommitsAreThere};
 ghost use Rattle.session_laws.specs.Laws.{CommitsFollow, RecordsFollow};
 ghost use Rattle.session_txn.specs.Answering.{Decides};
+ghost use Rattle.session_txn.specs.Committing.{IsWorkOf};
 ghost use Rattle.shared_db.specs.Plans.{PlanIs};
 ghost use Rattle.sql_procedures.specs.Arguments.{is_message};
+ghost use Rattle.sql_procedures.specs.declared.requests.MergeRequest.TheVariants as merging;
 ghost use Rattle.table_root.specs.Standing.{DatabasesStand};
 ghost use Rattle.branch_procs.specs.Committing.{CanCommit, parents_on};
 ghost use Rattle.merge_procs.specs.Databases.{merged_of};
 ghost use Rattle.merge_procs.specs.Planning.{CanMerge, IsForwarded, IsJoined, IsMerged, clean_record, joining_record, message_on};
+ghost use Rattle.merge_procs.specs.Ways.{IsThree};
 
 use crate::databases::{Met, meet};
 use crate::replying::merge_reply;
@@ -58,34 +61,82 @@ pub fn plan_merge<D: Digester>(
         → IfOk result (λ plan. PlanIs D.address look.now shared.commits plan (closed D.address epoch shared.commits p t present ending)) }
     ensures fault { IfErr result (IsFault D.address) }
 {
-    laws();
     let MergeRequest::Merge(merge) = request else {
         return Err(PutFault::Memory);
     };
-    let Some(start) = &session.start else {
-        return Err(PutFault::Memory);
-    };
-    let way = find_way(alloc, session, merge)?;
+    match find_way(alloc, session, merge)? {
+        Way::Forward(other) => plan_forward(alloc, session, look, other),
+        Way::Merge(three) => plan_join(alloc, session, look, &three, merge, epoch),
+        Way::Refused(_) | Way::UpToDate => Err(PutFault::Memory),
+    }
+}
+
+/// A fast-forward to the other commit, unless the branch has moved.
+fn plan_forward<D: Digester>(
+    alloc: Global,
+    session: &Session<D>,
+    look: &Look,
+    other: Address,
+) -> Result<Plan, PutFault>
+    requires decides { (p : plain.Session) × (t : plain.Transaction) × (shared : Shared) × (present : BranchState) × Decides D.address session.now look.now p t shared present × (is_known t.commits other.0 ≡ true) }
+    ensures planned { (p : plain.Session) (t : plain.Transaction) (shared : Shared) (present : BranchState) → Decides D.address session.now look.now p t shared present → is_known t.commits other.0 ≡ true
+        → IfOk result (λ plan. PlanIs D.address look.now shared.commits plan (unless_moved t present (forwarded shared.commits other.0))) }
+    ensures fault { IfErr result (IsFault D.address) }
+{
+    laws();
     let work = work_of(session, look)?;
     work.tell();
-    if start.rec != look.rec {
+    if is_moved(session, look, &work) {
         return Ok(refused(1213));
     }
-    match way {
-        Way::Forward(other) => forwarded(alloc, work, other),
-        Way::Merge(three) => {
-            let message = merge_message(alloc, &session.branch, merge)?;
-            merged(
-                alloc,
-                work,
-                session.own.head,
-                &three,
-                &session.name,
-                &message,
-                epoch,
-            )
-        }
-        Way::Refused(_) | Way::UpToDate => Err(PutFault::Memory),
+    forwarded(alloc, work, other)
+}
+
+/// A clean merge of three databases, unless the branch has moved.
+fn plan_join<D: Digester>(
+    alloc: Global,
+    session: &Session<D>,
+    look: &Look,
+    three: &Three,
+    merge: &MergeOf,
+    epoch: i64,
+) -> Result<Plan, PutFault>
+    requires decides { (p : plain.Session) × (t : plain.Transaction) × (shared : Shared) × (present : BranchState) × Decides D.address session.now look.now p t shared present
+        × IsThree D.address (chunks_of session.now.draft.chunks) t merge.now three.now }
+    requires date { pos 0 ≤ℤ epoch }
+    requires fit { is_fit_merge (merging.Merge merge.now) ≡ true }
+    ensures planned { (p : plain.Session) (t : plain.Transaction) (shared : Shared) (present : BranchState) (merged : MergedDatabase) → Decides D.address session.now look.now p t shared present
+        → IsThree D.address (chunks_of session.now.draft.chunks) t merge.now three.now → merged_with t three.now.other.0 ≡ Ok merged
+        → IfOk result (λ plan. PlanIs D.address look.now shared.commits plan (closed D.address epoch shared.commits p t present (Joining merged.database three.now.other.0 (merge_message p merge.now)))) }
+    ensures fault { IfErr result (IsFault D.address) }
+{
+    laws();
+    let message = merge_message(alloc, &session.branch, merge)?;
+    let work = work_of(session, look)?;
+    if is_moved(session, look, &work) {
+        return Ok(refused(1213));
+    }
+    merged(
+        alloc,
+        work,
+        session.own.head,
+        three,
+        &session.name,
+        &message,
+        epoch,
+    )
+}
+
+/// Whether the branch isn't as it was at the transaction's start, in a draft where both stand.
+fn is_moved<D: Digester>(session: &Session<D>, look: &Look, work: &Draft<D>) -> bool
+    requires { IsWorkOf session.now look.now work.now }
+    ensures { (p : plain.Session) (t : plain.Transaction) (shared : Shared) (present : BranchState) → Decides D.address session.now look.now p t shared present
+        → result ≡ not (is_same_state present t.start) }
+{
+    laws();
+    match &session.start {
+        Some(start) => start.rec != look.rec,
+        None => false,
     }
 }
 
