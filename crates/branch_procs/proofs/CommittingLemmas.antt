@@ -132,7 +132,7 @@ one_put false d k bytes j more none found is =
       | inr here ↦ sym (one_at k bytes j more here).0
     ]
 
-pub merging_all : (commits : Commits) (merging : Option (List ℕ)) → option_map_or (is_known commits) merging true ≡ true → list_all (is_known commits) (option_to_list merging) ≡ true
+merging_all : (commits : Commits) (merging : Option (List ℕ)) → option_map_or (is_known commits) merging true ≡ true → list_all (is_known commits) (option_to_list merging) ≡ true
 merging_all commits None known = refl
 merging_all commits (Some k) known = ap (λ (b : Bool). b && true) known
 

@@ -3,7 +3,7 @@ mod OpenLemmas
 mod TakingLemmas
 pub mod StageLemmas
 mod RootLemmas
-pub mod LocalLemmas
+mod LocalLemmas
 mod ClosingLemmas
 mod MakingLemmas
 pub mod CommittingLemmas

@@ -195,7 +195,11 @@ fn at_commit(rec: &BranchRecord, head: Address) -> BranchRecord
 }
 
 /// A decision for this record, with all that was worked in the draft.
-pub fn sealed<D: Digester>(work: Draft<D>, rec: BranchRecord, reply: Reply) -> Result<Plan, PutFault>
+pub fn sealed<D: Digester>(
+    work: Draft<D>,
+    rec: BranchRecord,
+    reply: Reply,
+) -> Result<Plan, PutFault>
     ensures sealed { IfOk result (λ plan. IsPlannedOf work rec reply plan) }
     ensures fault { IfErr result (IsFault D.address) }
 {

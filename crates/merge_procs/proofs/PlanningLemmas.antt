@@ -1,26 +1,25 @@
 -- The decision of a DOLT_MERGE: which it is, whether the branch is as it was, and what goes on standing where the work is sealed.
-use Rattle.std.proofs.Common.{◌≡◌, refl, ◌∙◌, sym, ap, subst, inl, inr, ℕ, ℤ, Bool, true, false, ◌&&◌, ◌||◌, not, List, [], ◌∷◌, ◌++◌, length, Option, None, Some, Result, Ok, Err}
+use Rattle.std.proofs.Common.{◌≡◌, refl, ◌∙◌, sym, ap, subst, ℕ, ℤ, Bool, true, false, ◌&&◌, ◌||◌, not, List, [], ◌∷◌, ◌++◌, length, Option, None, Some, Result, Ok, Err}
 use Rattle.std.specs.Prelude.{◌≤◌, IfOk, if◌then◌else◌, bytes_eq, is_some, nat_le}
-use Rattle.std.proofs.lemmas.Bool.{leb-true}
+use Rattle.std.proofs.lemmas.Bool.{and_parts, leb-true}
 use Rattle.std.specs.List.{list_all, list_any}
-use Rattle.std.specs.Option.{option_map_or, option_to_list}
+use Rattle.std.specs.Option.{option_map_or}
 use Rattle.tuple_codec.specs.declared.addresses.Address.{Address}
 use Rattle.tuple_codec.specs.declared.records.BranchRecord.{BranchRecord}
 use Rattle.chunk_store.specs.Chunks.{AreNamed, Chunk, Chunks, Extends, IsSingle, Lists, bytes_at}
-use Rattle.chunk_store.specs.Drafts.{Drafting, DraftParts, Grows, IsSound, Longer, chunks_of, put_in}
+use Rattle.chunk_store.specs.Drafts.{Drafting, DraftParts, Grows, IsSound, Longer, chunks_of}
 use Rattle.chunk_store.specs.Kinds.{is_commit}
-use Rattle.chunk_store.specs.Laws.{ChunksFollow, DraftsFollow, DraftsGrow, SegmentsFollow}
+use Rattle.chunk_store.specs.Laws.{ChunksFollow, DraftsFollow, SegmentsFollow}
 use Rattle.chunk_store.specs.Standing.{IsThere}
 use Rattle.chunk_store.specs.Stores.{IsSealed, all_chunks, joined}
 use Rattle.chunk_store.specs.declared.faults.PutFault.{PutFault}
 use Rattle.chunk_store.proofs.ChunkLemmas.{bytes_same}
-use Rattle.commit_graph.specs.Commits.{IsCommitFound}
 use Rattle.commit_graph.specs.Standing.{IsCommitThere}
 use Rattle.constraint_scan.specs.Scanning.{IsKeptAt}
 use Rattle.expr_eval.specs.Binding.{Outcome, and_then}
 use Rattle.plain_merge.specs.RootMerge.{MergedDatabase}
 use Rattle.plain_sql.specs.Lists.{unless}
-use Rattle.schema_model.specs.PlainCommits.{Commits, IsGrown, PlainCommit, commit_address, commit_parts, is_known, plain_commit_bytes}
+use Rattle.schema_model.specs.PlainCommits.{Commits, IsGrown, PlainCommit, commit_address, is_known, plain_commit_bytes}
 use Rattle.schema_model.specs.PlainTables.{PlainDatabase}
 use Rattle.script_text.specs.declared.replies.Reply.{Reply}
 use Rattle.sql_procedures.specs.Arguments.{begins_with_minus, is_message, is_name_byte, is_point}
@@ -30,15 +29,14 @@ use Rattle.sql_procedures.specs.declared.requests.MergeRequest.TheVariants as me
 use Rattle.table_root.specs.Standing.{DatabasesStand, IsDatabaseAt}
 use Rattle.table_root.specs.declared.heads.Look.{Look}
 use Rattle.plain_sessions.specs.Fitness.{is_fit_merge}
-use Rattle.plain_sessions.specs.Merging.{Answers, Closes, Ending, Forwarding, Joining, Worked, base_root, is_clean, merge, merge_made, merge_message, merge_reply, merged_with}
+use Rattle.plain_sessions.specs.Merging.{Answers, Closes, Ending, Forwarding, Joining, Worked, base_root, is_clean, merge, merge_made, merge_message, merged_with}
 use Rattle.plain_sessions.specs.Moments.{Change, closed, forwarded, merged_as, unless_moved}
-use Rattle.plain_sessions.specs.Records.{BranchState, Shared, clean_at, commit_on, is_same_state, root_of, with_new_commit}
+use Rattle.plain_sessions.specs.Records.{BranchState, Shared, commit_on, is_same_state, root_of, with_new_commit}
 use Rattle.plain_sessions.specs.Sessions as plain
 use Rattle.plain_sessions.specs.Sessions.{Transaction, own_root}
 use Rattle.plain_sessions.specs.Statements.{worked}
 use Rattle.plain_sessions.specs.declared.commands.Work.TheVariants as call
-use Rattle.root_merge.specs.Merging.{AreRoots, is_data}
-use Rattle.root_merge.specs.States.{StateStands}
+use Rattle.root_merge.specs.Merging.{is_data}
 use Rattle.session_laws.specs.Commits.{AreAmong, CommitsAreThere, HasNoCommit}
 use Rattle.session_laws.specs.Laws.{CommitsFollow, RecordsFollow}
 use Rattle.session_laws.specs.Records.{RecordStands}
@@ -50,37 +48,27 @@ use Rattle.session_txn.specs.Committing.{IsWorkOf}
 use Rattle.session_txn.proofs.CommitLemmas as decisions
 use Rattle.shared_db.specs.Plans.{IsPlannedAs, IsRefusedBy, PlanIs, brought}
 use Rattle.shared_db.specs.declared.changes.Plan.{Plan}
-use Rattle.branch_procs.specs.Committing.{CanCommit, IsPlannedOf, IsWritten, parents_on}
-use Rattle.branch_procs.proofs.CommittingLemmas.{merging_all, one_put, state_later}
+use Rattle.branch_procs.specs.Committing.{CanCommit, IsPlannedOf, IsWritten}
+use Rattle.branch_procs.proofs.CommittingLemmas.{one_put}
 use Rattle.branch_procs.proofs.StageLemmas.{kept_later, ok_same}
-use Rattle.merge_procs.specs.Databases.{IsMet, merged_of}
+use Rattle.merge_procs.specs.Databases.{IsMet}
 use Rattle.merge_procs.specs.Planning.{CanMerge, IsForwarded, IsJoined, IsMerged, clean_record, joining_record, success}
 use Rattle.merge_procs.specs.Ways.{IsThree, IsWay}
-use Rattle.merge_procs.specs.declared.databases.Met.{Met}
 use Rattle.merge_procs.specs.declared.databases.Met.TheVariants as meeting
 use Rattle.merge_procs.specs.declared.ways.Three.{Three}
-use Rattle.merge_procs.specs.declared.ways.Way.{Way}
 use Rattle.merge_procs.specs.declared.ways.Way.TheVariants as way
 
 -- ---- what is asked
 
-front : (a b : Bool) → (a && b) ≡ true → a ≡ true
-front true b h = refl
-front false b h = absurd (cc)
-
-back : (a b : Bool) → (a && b) ≡ true → b ≡ true
-back true b h = h
-back false b h = absurd (cc)
-
 -- a short name, and a message that is one
 pub fit_parts : (request : MergeOf) → is_fit_merge (merging.Merge request) ≡ true → (length request.name ≤ 64) × (option_map_or is_message request.message true ≡ true)
 fit_parts request fit =
+    let both = and_parts (is_point request.name) (option_map_or is_message request.message true) fit in
     let short : Bool = nat_le 1 (length request.name) && nat_le (length request.name) 64 in
-    let plain : Bool = short && list_all is_name_byte request.name in
-    let point = front (is_point request.name) (option_map_or is_message request.message true) fit in
-    let few = front short (list_all is_name_byte request.name) (front plain (not (begins_with_minus request.name)) point) in (
-      leb-true (length request.name) 64 (back (nat_le 1 (length request.name)) (nat_le (length request.name) 64) few),
-      back (is_point request.name) (option_map_or is_message request.message true) fit,
+    let plain = and_parts (short && list_all is_name_byte request.name) (not (begins_with_minus request.name)) both.0 in
+    let few = and_parts short (list_all is_name_byte request.name) plain.0 in (
+      leb-true (length request.name) 64 (and_parts (nat_le 1 (length request.name)) (nat_le (length request.name) 64) few.0).1,
+      both.1,
     )
 
 -- ---- which decision it is

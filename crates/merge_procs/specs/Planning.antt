@@ -1,5 +1,5 @@
 -- How a DOLT_MERGE's decision is planned.
-use Rattle.std.specs.Prelude.{◌≡◌, ℕ, true, List, [], ◌∷◌, ◌++◌, length, codes, None, Some, unwrap_or}
+use Rattle.std.specs.Prelude.{◌≡◌, ℕ, true, List, ◌++◌, codes, None, Some, unwrap_or}
 use Rattle.tuple_codec.specs.AddressTexts.{address_text}
 use Rattle.tuple_codec.specs.declared.addresses.Address.{Address}
 use Rattle.tuple_codec.specs.declared.records.BranchRecord.{BranchRecord}

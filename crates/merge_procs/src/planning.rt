@@ -33,9 +33,7 @@ use crate::databases::{Met, meet};
 use crate::replying::merge_reply;
 use crate::ways::{Three, Way, find_way};
 use branch_procs::{head_root, refused, sealed, work_of, written};
-use chunk_store::{
-    Draft, PutFault, law_of_chunks, law_of_drafts, law_of_growth, law_of_segments,
-};
+use chunk_store::{Draft, PutFault, law_of_chunks, law_of_drafts, law_of_growth, law_of_segments};
 use session_laws::{law_of_records, law_of_standing_commits};
 use session_state::Session;
 use shared_db::Plan;
@@ -206,9 +204,7 @@ fn joined<D: Digester>(
     ensures fault { IfErr result (IsFault D.address) }
 {
     laws();
-    let made = written(
-        alloc, &mut work, rec, &rec.head, committer, message, epoch,
-    );
+    let made = written(alloc, &mut work, rec, &rec.head, committer, message, epoch);
     work.tell();
     let head = made?;
     let reply = merge_reply(alloc, &head.text(), 0, 0, b"merge successful")?;
