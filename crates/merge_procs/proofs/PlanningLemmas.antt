@@ -433,27 +433,17 @@ module _ {D : Type 0} (address : List ℕ → List ℕ) (chunks : ChunksFollow) 
 
 -- ---- what was written
 
-pub joined_told : (address : List ℕ → List ℕ) (work after : Drafting) (commit : PlainCommit) (root : Address) (at : BranchRecord) (k : Address) (reply : Reply) (result : Result Plan PutFault)
-    → IsWritten address work.chunks after.chunks commit k → after.segments ≡ work.segments → IsSound address after.chunks → at ≡ clean_record k root → reply ≡ success k.0 0
-    → IfOk result (λ plan. IsPlannedOf after at reply plan) → IfOk result (λ plan. IsJoined address work commit root plan)
-joined_told address work after commit root at k reply (Err fault) written segments sound at_is told is = tt
-joined_told address work after commit root at k reply (Ok plan) written segments sound at_is told is = record {
+pub joined_told : (address : List ℕ → List ℕ) (work after : Drafting) (wanted : PlainCommit) (root : Address) (at : BranchRecord) (k : Address) (reply : Reply) (result : Result Plan PutFault)
+    → IsWritten address work.chunks after.chunks wanted k → after.segments ≡ work.segments → IsSound address after.chunks → at ≡ clean_record k root → reply ≡ success k.0 0
+    → IfOk result (λ plan. IsPlannedOf after at reply plan) → IfOk result (λ plan. IsJoined address work wanted root plan)
+joined_told address work after wanted root at k reply (Err fault) written segments sound at_is told is = tt
+joined_told address work after wanted root at k reply (Ok plan) written segments sound at_is told is = record {
   k = k;
   after = after;
   written = written;
   segments = segments;
   sound = sound;
   planned = subst (λ (r : BranchRecord). IsPlannedOf after r (success k.0 0) plan) at_is (subst (λ (said : Reply). IsPlannedOf after at said plan) told is);
-}
-
-pub forwarded_told : (address : List ℕ → List ℕ) (work : Drafting) (other root : Address) (database : PlainDatabase) (at : BranchRecord) (reply : Reply) (result : Result Plan PutFault)
-    → IsKeptAt address (chunks_of work.chunks) root.0 database → at ≡ clean_record other root → reply ≡ success other.0 1
-    → IfOk result (λ plan. IsPlannedOf work at reply plan) → IfOk result (λ plan. IsForwarded address work other database plan)
-forwarded_told address work other root database at reply (Err fault) kept at_is told is = tt
-forwarded_told address work other root database at reply (Ok plan) kept at_is told is = record {
-  root = root;
-  kept = kept;
-  planned = subst (λ (r : BranchRecord). IsPlannedOf work r (success other.0 1) plan) at_is (subst (λ (said : Reply). IsPlannedOf work at said plan) told is);
 }
 
 -- a commit of the merged database can be written
@@ -478,7 +468,7 @@ pub is_met_clean : (address : List ℕ → List ℕ) (found : Chunks) (root : Ad
 is_met_clean address found root wanted is merged wanted_is =
     subst (λ (m : MergedDatabase). IsKeptAt address found root.0 m.database) (ok_same is.0 merged (sym is.1 ∙ wanted_is)) is.3
 
-pub merged_told : (address : List ℕ → List ℕ) (work after : Drafting) (grown : Grows is_data work after) (root : Address) (commit : PlainCommit) (result : Result Plan PutFault)
-    → IsKeptAt address (chunks_of after.chunks) root.0 commit.database → IfOk result (λ plan. IsJoined address after commit root plan) → IfOk result (λ plan. IsMerged address work commit plan)
-merged_told address work after grown root commit (Err fault) kept joined = tt
-merged_told address work after grown root commit (Ok plan) kept joined = record { met = after; grown = grown; root = root; kept = kept; joined = joined }
+pub merged_told : (address : List ℕ → List ℕ) (work after : Drafting) (grown : Grows is_data work after) (root : Address) (wanted : PlainCommit) (result : Result Plan PutFault)
+    → IsKeptAt address (chunks_of after.chunks) root.0 wanted.database → IfOk result (λ plan. IsJoined address after wanted root plan) → IfOk result (λ plan. IsMerged address work wanted plan)
+merged_told address work after grown root wanted (Err fault) at_root joined = tt
+merged_told address work after grown root wanted (Ok plan) at_root joined = record { met = after; grown = grown; root = root; kept = at_root; joined = joined }
