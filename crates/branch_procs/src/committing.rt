@@ -129,8 +129,8 @@ fn decided<D: Digester>(
     Ok(made)
 }
 
-/// Writes the commit of the record's staged database, on the commit that is given and on the one that the record says is being merged. It is the only
-/// commit that is put, and nothing is where it was there before.
+/// Writes the commit of the record's staged database, on the commit that is given and on the one that the record says is being merged. Only its chunk is
+/// put, and none where it was there before.
 pub fn written<D: Digester>(
     alloc: Global,
     work: &mut Draft<D>,
