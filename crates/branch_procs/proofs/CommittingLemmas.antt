@@ -123,7 +123,7 @@ committed_told address work after commit rec at k reply (Ok plan) written segmen
 -- ---- chunks and commits
 
 -- no other commit than the one that was put is among the draft's own chunks
-one_put : (there : Bool) (d : DraftParts) (k bytes j more : List ℕ) → HasNoCommit d.own
+pub one_put : (there : Bool) (d : DraftParts) (k bytes j more : List ℕ) → HasNoCommit d.own
     → (let put : DraftParts = if there then d else record { base = d.base; own = d.own ++ (k, bytes) ∷ [] } in bytes_at put.own j ≡ Some more) → is_commit more ≡ true → j ≡ k
 one_put true d k bytes j more none found is = absurd (none j more found is)
 one_put false d k bytes j more none found is =

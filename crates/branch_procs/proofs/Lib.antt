@@ -1,9 +1,9 @@
 mod TablesLemmas
 mod OpenLemmas
 mod TakingLemmas
-mod StageLemmas
+pub mod StageLemmas
 mod RootLemmas
 mod LocalLemmas
 mod ClosingLemmas
 mod MakingLemmas
-mod CommittingLemmas
+pub mod CommittingLemmas

@@ -86,8 +86,9 @@ pub fn plan_dolt_commit<D: Digester>(
     }
 }
 
-/// A draft over the look's store with the session's own chunks, in which to work.
-fn work_of<D: Digester>(session: &Session<D>, look: &Look) -> Result<Draft<D>, PutFault>
+/// A draft over the look's store with the session's own chunks, in which to work on a decision: what stands in the session's draft stands in it, and so does
+/// what the look shows.
+pub fn work_of<D: Digester>(session: &Session<D>, look: &Look) -> Result<Draft<D>, PutFault>
     requires { (p : plain.Session) × (t : plain.Transaction) × (shared : Shared) × (present : BranchState) × Decides D.address session.now look.now p t shared present }
     ensures work { IfOk result (λ work. IsWorkOf session.now look.now work) }
     ensures fault { IfErr result (IsFault D.address) }
@@ -128,8 +129,9 @@ fn decided<D: Digester>(
     Ok(made)
 }
 
-/// Writes the commit of the record's staged database.
-fn written<D: Digester>(
+/// Writes the commit of the record's staged database, on the commit that is given and on the one that the record says is being merged. Only its chunk is
+/// put, and none where it was there before.
+pub fn written<D: Digester>(
     alloc: Global,
     work: &mut Draft<D>,
     rec: &BranchRecord,
@@ -192,8 +194,12 @@ fn at_commit(rec: &BranchRecord, head: Address) -> BranchRecord
     }
 }
 
-/// A decision for this record, with all that was worked.
-fn sealed<D: Digester>(work: Draft<D>, rec: BranchRecord, reply: Reply) -> Result<Plan, PutFault>
+/// A decision for this record, with all that was worked in the draft.
+pub fn sealed<D: Digester>(
+    work: Draft<D>,
+    rec: BranchRecord,
+    reply: Reply,
+) -> Result<Plan, PutFault>
     ensures sealed { IfOk result (λ plan. IsPlannedOf work rec reply plan) }
     ensures fault { IfErr result (IsFault D.address) }
 {
@@ -207,8 +213,8 @@ fn sealed<D: Digester>(work: Draft<D>, rec: BranchRecord, reply: Reply) -> Resul
     }
 }
 
-/// A decision that changes nothing.
-fn refused(number: u16) -> Plan
+/// A decision that changes nothing, and answers this refusal.
+pub fn refused(number: u16) -> Plan
     ensures { IsRefusedBy number result }
 {
     Plan {

@@ -1,4 +1,4 @@
-//! DOLT_ADD, DOLT_RESET and DOLT_COMMIT of a session in a transaction.
+//! DOLT_ADD, DOLT_RESET and DOLT_COMMIT of a session in a transaction, and the steps of a decision that other calls share with DOLT_COMMIT.
 #![tactic(auto)]
 
 mod closing;
@@ -14,6 +14,6 @@ mod staging;
 mod taking;
 
 pub use closing::commit_closes;
-pub use committing::plan_dolt_commit;
+pub use committing::{plan_dolt_commit, refused, sealed, work_of, written};
 pub use local::branch_local;
 pub use roots::head_root;

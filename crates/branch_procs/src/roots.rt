@@ -14,7 +14,7 @@ use std::alloc::{AllocError, Global};
 use table_root::law_of_databases;
 use tuple_codec::{Address, Digester};
 
-/// The address of the database of a commit.
+/// The address of the database of a commit. The commit's chunk is read, and none of the database's.
 pub fn head_root<D: Digester>(
     alloc: Global,
     draft: &Draft<D>,

@@ -4,3 +4,4 @@ mod WayLemmas
 mod DatabasesLemmas
 pub mod ClosingLemmas
 mod VerifyingLemmas
+mod PlanningLemmas
