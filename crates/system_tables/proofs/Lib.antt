@@ -1,6 +1,7 @@
 mod AncestorLemmas
 mod ChangeLemmas
 mod CommitLemmas
+mod ConflictLemmas
 mod HeadLemmas
 mod RowLemmas
 mod SessionLemmas

@@ -5,11 +5,18 @@ mod branches;
 mod cells;
 mod changes;
 mod commits;
+mod conflicts;
+mod counts;
+mod entries;
+mod lists;
 mod log;
 mod names;
 mod parents;
 mod sources;
 mod tables;
+mod violations;
 
+pub use entries::{Entry, Listed};
+pub use lists::{columns_of, entries_of};
 pub use sources::system_sources;
 pub use tables::{shown_ancestors, shown_branches, shown_log, shown_status};
