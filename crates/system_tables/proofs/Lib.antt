@@ -6,3 +6,4 @@ mod HeadLemmas
 mod RowLemmas
 mod SessionLemmas
 mod SourceLemmas
+mod ViolationLemmas

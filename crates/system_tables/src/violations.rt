@@ -68,7 +68,7 @@ fn name_before(alloc: Global, types: &[SqlType], bytes: &[u8]) -> Result<Value, 
 /// What stands behind a name's cell.
 fn behind<'a>(name: &Value, bytes: &'a [u8]) -> &'a [u8]
     requires { (key : Cells) × (key_bytes (name.now ∷ key) ≡ bytes.now) }
-    ensures { (key : Cells) → key_bytes (name.now ∷ key) ≡ bytes.entry → result.now ≡ key_bytes key }
+    ensures { (key : Cells) → key_bytes (name.now ∷ key) ≡ bytes.now → result.now ≡ key_bytes key }
 {
     &bytes[key_cell_size(name) as usize..]
 }
