@@ -6,4 +6,5 @@ mod HeadLemmas
 mod RowLemmas
 mod SessionLemmas
 mod SourceLemmas
+mod TableLemmas
 mod ViolationLemmas

@@ -7,6 +7,7 @@ use Rattle.std.proofs.lemmas.Bool.Decides.{nat_tests}
 use Rattle.std.proofs.lemmas.List.Sums.{count_by-le-length}
 use Rattle.chunk_store.specs.Chunks.{Chunks}
 use Rattle.chunk_store.specs.Standing.{IsTree}
+use Rattle.plain_sessions.specs.SystemTables.{kind_text, violation_row}
 use Rattle.prolly_tree.specs.Lists.{from_key, pair_of}
 use Rattle.schema_model.specs.PlainTables.{PlainTable, Violation, body_bytes, is_row, is_row_at, is_violation, key_types, primary_key, violation_item, violation_items}
 use Rattle.schema_model.specs.Schemas.{is_name, is_schema}
@@ -73,6 +74,10 @@ row_is told schema k rest value violation of bytes are =
     let is = violation_is schema violation of.is in
     let parts = and_parts (is_row schema violation.row) (is_eq (key_cmp (primary_key schema violation.row) violation.key)) is.row in
     record { fits = parts.0; key = ap key_bytes ((told (primary_key schema violation.row) violation.key).0 parts.1) ∙ sym are; value = sym of.value_is }
+
+pub shown_is : (violation : Violation) (k : ℕ) (name : Value) (row : Cells) → k ≡ violation.kind → name ≡ cell.Text violation.constraint → row ≡ violation.row
+    → cell.Text (kind_text k) ∷ (row ++ name ∷ []) ≡ violation_row violation
+shown_is violation k name row is named are = λ i. cell.Text (kind_text (is i)) ∷ (are i ++ named i ∷ [])
 
 -- ---- what stands behind a cell
 

@@ -64,6 +64,10 @@ abbrev pub counts_shown : Listed → PlainDatabase → Known
 counts_shown listed.Conflicts database = plain.conflicts database
 counts_shown listed.Violations database = plain.constraint_violations database
 
+abbrev pub counts_name : Listed → List ℕ
+counts_name listed.Conflicts = codes "dolt_conflicts"
+counts_name listed.Violations = codes "dolt_constraint_violations"
+
 -- those of a table
 abbrev pub list_shown : Listed → contents.NamedTable → Known
 list_shown listed.Conflicts named = plain.conflicts_of named

@@ -8,6 +8,7 @@ mod commits;
 mod conflicts;
 mod counts;
 mod entries;
+mod listing;
 mod lists;
 mod log;
 mod names;
