@@ -1,5 +1,6 @@
 -- The system tables that a SELECT names, one after another.
 use Rattle.std.proofs.Common.{◌≡◌, refl, ◌∙◌, ap, sym, subst, ℕ, Bool, true, false, ◌||◌, ◌&&◌, cond, List, [], ◌∷◌, ◌++◌, map, bytes_eq, append_assoc, append-nil}
+use Rattle.std.specs.Prelude.{OnOk, Result, Ok, Err}
 use Rattle.std.specs.List.{list_all, list_any}
 use Rattle.std.specs.Cmp.Lexicographic.{bytes_decides}
 use Rattle.std.proofs.lemmas.Bool.{and_from, and_parts}
@@ -10,7 +11,7 @@ use Rattle.plain_sql.specs.declared.sources.Known.{Known}
 use Rattle.sql_ast.specs.declared.selects.FromClause.{FromClause}
 use Rattle.sql_select.specs.Sources.{is_read}
 use Rattle.sql_select.specs.declared.sources.NamedAnswer.{NamedAnswer}
-use Rattle.system_tables.specs.Entries.{counts_name, counts_shown, front_of, list_shown}
+use Rattle.system_tables.specs.Entries.{front_of, list_shown}
 use Rattle.system_tables.specs.Known.{as_named, entry_tables_of, named_read}
 use Rattle.system_tables.specs.Naming.{is_entry_name, reads_entries}
 use Rattle.system_tables.specs.declared.entries.Listed.{Listed}
@@ -36,25 +37,16 @@ one_after from xs y old new before is =
 abbrev read_if : Bool → Known → List NamedAnswer
 read_if b known = cond b (as_named known ∷ []) []
 
-counts_called : (which : Listed) (database : PlainDatabase) → (counts_shown which database).name ≡ counts_name which
-counts_called listed.Conflicts database = refl
-counts_called listed.Violations database = refl
-
 list_called : (which : Listed) (named : NamedTable) → (list_shown which named).name ≡ front_of which ++ named.name
 list_called listed.Conflicts named = refl
 list_called listed.Violations named = refl
 
--- it was added where it is named, and nothing where it isn't
-module _ (from : FromClause) (known : Known) (name : List ℕ) (called : known.name ≡ name) (old new : List NamedAnswer) where
-  pub named_added : is_read from name ≡ true → (added : NamedAnswer) → added ≡ as_named known → new ≡ old ++ added ∷ [] → new ≡ old ++ named_read from (known ∷ [])
-  named_added read added is more =
-      more ∙ ap (λ (one : NamedAnswer). old ++ one ∷ []) is ∙ ap (λ (b : Bool). old ++ read_if b known) (sym read ∙ ap (is_read from) (sym called))
+-- it is there where it is named, and nothing is where it isn't
+pub named_there : (from : FromClause) (known : Known) (name : List ℕ) → known.name ≡ name → is_read from name ≡ true → as_named known ∷ [] ≡ named_read from (known ∷ [])
+named_there from known name called read = ap (λ (b : Bool). read_if b known) (sym read ∙ ap (is_read from) (sym called))
 
-  pub unnamed_left : is_read from name ≡ false → new ≡ old → new ≡ old ++ named_read from (known ∷ [])
-  unnamed_left read is = is ∙ sym (append-nil old) ∙ ap (λ (b : Bool). old ++ read_if b known) (sym read ∙ ap (is_read from) (sym called))
-
-pub counts_named : (which : Listed) (database : PlainDatabase) (name : List ℕ) → name ≡ counts_name which → (counts_shown which database).name ≡ name
-counts_named which database name is = counts_called which database ∙ sym is
+pub unnamed_left : (from : FromClause) (known : Known) (name : List ℕ) → known.name ≡ name → is_read from name ≡ false → (old : List NamedAnswer) → old ≡ old ++ named_read from (known ∷ [])
+unnamed_left from known name called read old = sym (append-nil old) ∙ ap (λ (b : Bool). old ++ read_if b known) (sym read ∙ ap (is_read from) (sym called))
 
 pub list_named : (which : Listed) (named : NamedTable) (name : List ℕ) → name ≡ front_of which ++ named.name → (list_shown which named).name ≡ name
 list_named which named name is = list_called which named ∙ sym is
@@ -78,6 +70,11 @@ more_read from xs ys first mid new before is =
     ∙ ap (λ (l : List NamedAnswer). l ++ named_read from ys) before
     ∙ append_assoc first (named_read from xs) (named_read from ys)
     ∙ ap (λ (l : List NamedAnswer). first ++ l) (sym (read_append from xs ys))
+
+pub on_ok_more : {T E : Type 0} (result : Result T E) (from : FromClause) (xs ys : List Known) (first mid new : List NamedAnswer) → mid ≡ first ++ named_read from xs
+    → OnOk result (new ≡ mid ++ named_read from ys) → OnOk result (new ≡ first ++ named_read from (xs ++ ys))
+on_ok_more (Ok x) from xs ys first mid new before is = more_read from xs ys first mid new before is
+on_ok_more (Err e) from xs ys first mid new before is = is
 
 -- ---- where no table of entries is named
 

@@ -120,6 +120,11 @@ fn counts_of(alloc: Global, which: Listed, rows: Sequence<Row>) -> Result<Known,
 {
     match which {
         Listed::Conflicts => known_counts(alloc, b"dolt_conflicts", b"num_conflicts", rows),
-        Listed::Violations => known_counts(alloc, b"dolt_constraint_violations", b"num_violations", rows),
+        Listed::Violations => known_counts(
+            alloc,
+            b"dolt_constraint_violations",
+            b"num_violations",
+            rows,
+        ),
     }
 }

@@ -22,10 +22,7 @@ pub struct Entry {
     pub row: Row,
 }
 
-pub(crate) fn rows_of(
-    alloc: Global,
-    entries: Sequence<Entry>,
-) -> Result<Sequence<Row>, AllocError>
+pub(crate) fn rows_of(alloc: Global, entries: Sequence<Entry>) -> Result<Sequence<Row>, AllocError>
     ensures { IfOk result (λ rows. rows ≡ rows_of entries) }
 {
     let mut rows = Sequence::new(alloc);

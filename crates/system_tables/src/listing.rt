@@ -10,7 +10,7 @@ ghost use Rattle.schema_model.specs.PlainTables.{PlainDatabase, PlainTable};
 ghost use Rattle.session_state.specs.Standing.{IsInTransaction, SessionStands};
 ghost use Rattle.table_root.specs.Standing.{IsTableAt};
 ghost use Rattle.system_tables.specs.Entries.{HasTableAt, counts_name, counts_shown, list_shown};
-ghost use Rattle.system_tables.specs.Known.{entry_tables, entry_tables_of, named_read};
+ghost use Rattle.system_tables.specs.Known.{as_named, entry_tables, entry_tables_of, named_read};
 ghost use Rattle.system_tables.specs.Naming.{is_entry_name, reads_entries};
 
 use crate::changes::tables_of;
@@ -72,10 +72,7 @@ fn push_counts<D: Digester>(
         → OnOk result (sources.new ≡ sources.old ++ named_read from.now (counts_shown which database ∷ [])) }
 {
     if is_read(from, counts_name(which)) {
-        sources.push(as_named(
-            alloc,
-            counts_shown(alloc, draft, which, tables)?,
-        )?)?;
+        sources.push(as_named(alloc, counts_shown(alloc, draft, which, tables)?)?)?;
     }
     Ok(())
 }
@@ -95,8 +92,24 @@ fn push_list<D: Digester>(
 {
     let name = list_name(alloc, which, &named.name)?;
     if is_read(from, name.as_slice()) {
-        sources.push(as_named(alloc, list_shown(alloc, draft, which, named)?)?)?;
+        push_shown(alloc, draft, which, named, sources)
+    } else {
+        Ok(())
     }
+}
+
+fn push_shown<D: Digester>(
+    alloc: Global,
+    draft: &Draft<D>,
+    which: Listed,
+    named: &NamedTable,
+    sources: &mut Sequence<NamedAnswer>,
+) -> Result<(), AllocError>
+    requires { HasTableAt D.address (chunks_of draft.now.chunks) named.now.table.0 }
+    ensures { (table : PlainTable) → IsTableAt D.address (chunks_of draft.now.chunks) named.now.table.0 table
+        → OnOk result (sources.new ≡ sources.old ++ as_named (list_shown which (record { name = named.now.name; table = table })) ∷ []) }
+{
+    sources.push(as_named(alloc, list_shown(alloc, draft, which, named)?)?)?;
     Ok(())
 }
 

@@ -74,12 +74,7 @@ fn behind<'a>(name: &Value, bytes: &'a [u8]) -> &'a [u8]
 }
 
 /// The row that shows a violation of this kind, whose name and key these bytes are.
-fn shown_row(
-    alloc: Global,
-    kind: u8,
-    name: Value,
-    cells: &[Value],
-) -> Result<Row, AllocError>
+fn shown_row(alloc: Global, kind: u8, name: Value, cells: &[Value]) -> Result<Row, AllocError>
     ensures { IfOk result (λ row. row ≡ cell.Text (plain.kind_text kind) ∷ (cells.now ++ name ∷ [])) }
 {
     let mut row = Row::new(alloc);
@@ -148,13 +143,7 @@ pub(crate) fn violation_entries<D: Digester>(
     let mut entries = Sequence::new(alloc);
     let mut scan = scan_from(alloc, draft, &table.violations, &[])?;
     'items: while let Some((key, value)) = scan.next() {
-        entries.push(violation_entry(
-            alloc,
-            &table.schema,
-            types.as_slice(),
-            key,
-            value,
-        )?)?;
+        entries.push(violation_entry(alloc, &table.schema, types.as_slice(), key, value)?)?;
     }
     Ok(entries)
 }
