@@ -7,8 +7,8 @@ use Rattle.session_txn.specs.Naming.{names_system}
 use Rattle.session_txn.proofs.SessionLemmas.{in_transaction}
 use Rattle.session_txn.proofs.answering.do_work.Goals as goal
 
-pub ask-requires : goal.ask-requires
-ask-requires g c κs within =
+pub ask-requires-after_bounds : goal.ask-requires-after_bounds
+ask-requires-after_bounds g c κs within =
     in_transaction g.D.Digester.address c.args.session.now c.requires.stands.0 c.requires.stands.1
     (ap (λ (w : Work). is_local c.requires.stands.0 (command.Data w)) (sym c.in-Ask.is) ∙ c.requires.stands.2)
 
