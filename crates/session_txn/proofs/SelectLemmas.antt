@@ -1,12 +1,10 @@
--- A SELECT that names no table of conflicts or of violations shows what it shows of the stored tables and of the system tables that it names.
+-- A SELECT shows what it shows of the stored tables and of the system tables that it names.
 use Rattle.std.proofs.Common.{◌≡◌, refl, sym, ◌∙◌, ap, subst, arith, nat_le, length, Some, Ok, Err, ℕ, Bool, true, false, ◌||◌, ◌&&◌, cond, nat_eq, List, [], ◌∷◌, ◌++◌, map, filter, bytes_eq, codes}
 use Rattle.std.proofs.lemmas.Bool.Decides.{nat_tests}
 use Rattle.std.proofs.lemmas.List.{append_assoc}
-use Rattle.std.specs.List.{list_all, list_any}
-use Rattle.std.specs.Cmp.Lexicographic.{bytes_decides}
+use Rattle.std.specs.List.{list_all}
 use Rattle.schema_model.specs.PlainTables.{PlainDatabase}
 use Rattle.sql_ast.specs.declared.selects.FromClause.{FromClause}
-use Rattle.sql_ast.specs.declared.selects.Join.{Join}
 use Rattle.sql_ast.specs.declared.selects.Query.{Query}
 use Rattle.sql_ast.specs.declared.selects.Select.{Select}
 use Rattle.sql_ast.specs.declared.selects.Select.TheVariants as select
@@ -18,7 +16,7 @@ use Rattle.plain_sessions.specs.SystemTables.{branches, commit_ancestors, confli
 use Rattle.sql_select.specs.Sources as sources
 use Rattle.sql_select.specs.Sources.{CanRead, IsReadAt, ReadsSuffice, is_read, known_system, known_table, typed}
 use Rattle.sql_select.specs.declared.sources.NamedAnswer.{NamedAnswer}
-use Rattle.system_tables.specs.Known.{as_named, entry_tables, four_tables, named_read, system_tables}
+use Rattle.system_tables.specs.Known.{as_named, named_read, system_tables}
 use Rattle.tuple_codec.specs.declared.answers.Answer.{Answer}
 use Rattle.chunk_store.specs.Chunks.{Chunks}
 use Rattle.chunk_store.specs.Drafts.{chunks_of}
@@ -38,7 +36,6 @@ use Rattle.session_state.specs.declared.sessions.Session.{Session}
 use Rattle.session_txn.specs.Answering.{AnswersAlone}
 use Rattle.session_txn.specs.Reading.{system_of}
 use Rattle.session_txn.specs.Showing.{IsDue}
-use Rattle.session_txn.specs.Naming.{asks_system, is_system_name, reads_system}
 use Rattle.session_txn.proofs.AloneLemmas.{answers_due, in_place, worked_ill, worked_well}
 use Rattle.session_txn.proofs.SessionLemmas.{has_one, own_kept}
 
@@ -64,79 +61,11 @@ known_as t =
     ap (λ (ks : List Known). ks ++ third) (append_assoc stores first second) ∙ append_assoc stores (first ++ second) third
     ∙ ap (λ (ks : List Known). stores ++ ks) (sym (all_back (system_tables t)))
 
--- ---- their names
-
-abbrev are_system : List Known → Bool
-are_system ks = list_all (λ k. is_system_name k.name) ks
+-- ---- what is read
 
 both : (a b : Bool) → (a && b) ≡ true → (a ≡ true) × (b ≡ true)
 both true b h = (refl, h)
 both false b h = absurd (cc)
-
-of_both : (a b : Bool) → a ≡ true → b ≡ true → (a && b) ≡ true
-of_both true b h g = g
-of_both false b h g = absurd (cc)
-
-neither : (a b : Bool) → (a || b) ≡ false → (a ≡ false) × (b ≡ false)
-neither true b h = absurd (cc)
-neither false b h = (refl, h)
-
-of_neither : (a b : Bool) → a ≡ false → b ≡ false → (a || b) ≡ false
-of_neither true b h g = absurd (cc)
-of_neither false b h g = g
-
-system_more : (xs ys : List Known) → are_system xs ≡ true → are_system ys ≡ true → are_system (xs ++ ys) ≡ true
-system_more [] ys h g = g
-system_more (x ∷ xs) ys h g = let all = both (is_system_name x.name) (are_system xs) h in of_both (is_system_name x.name) (are_system (xs ++ ys)) all.0 (system_more xs ys all.1 g)
-
-conflicts_are : (database : PlainDatabase) → are_system (map conflicts_of database) ≡ true
-conflicts_are [] = refl
-conflicts_are (named ∷ database) = conflicts_are database
-
-violations_are : (database : PlainDatabase) → are_system (map violations_of database) ≡ true
-violations_are [] = refl
-violations_are (named ∷ database) = violations_are database
-
-entries_are : (t : Transaction) → are_system (entry_tables t) ≡ true
-entries_are t =
-    let first = conflicts t.own.working ∷ constraint_violations t.own.working ∷ [] in
-    system_more (first ++ map conflicts_of t.own.working) (map violations_of t.own.working)
-    (system_more first (map conflicts_of t.own.working) refl (conflicts_are t.own.working)) (violations_are t.own.working)
-
--- ---- none of them is read
-
-two : {A : Type 0} (b : Bool) → (b ≡ true → A) → (b ≡ false → A) → A
-two true f g = f refl
-two false f g = g refl
-
-apart : (name table : List ℕ) → is_system_name name ≡ true → is_system_name table ≡ false → bytes_eq name table ≡ false
-apart name table h g = two (bytes_eq name table) (λ same. let is : name ≡ table = (bytes_decides name table).0 same in let called : true ≡ false = sym h ∙ ap is_system_name is ∙ g in absurd (cc)) (λ other. other)
-
-apart_joins : (name : List ℕ) (joins : List Join) → is_system_name name ≡ true → list_any (λ join. is_system_name join.source.table) joins ≡ false
-    → list_any (λ join. bytes_eq name join.source.table) joins ≡ false
-apart_joins name [] h g = refl
-apart_joins name (join ∷ joins) h g =
-    let none = neither (is_system_name join.source.table) (list_any (λ (join : Join). is_system_name join.source.table) joins) g in
-    of_neither (bytes_eq name join.source.table) (list_any (λ (join : Join). bytes_eq name join.source.table) joins) (apart name join.source.table h none.0) (apart_joins name joins h none.1)
-
-unread : (from : FromClause) (name : List ℕ) → reads_system from ≡ false → is_system_name name ≡ true → is_read from name ≡ false
-unread from name h g =
-    let none = neither (is_system_name from.first.table) (list_any (λ (join : Join). is_system_name join.source.table) from.joins) h in
-    of_neither (bytes_eq name from.first.table) (list_any (λ (join : Join). bytes_eq name join.source.table) from.joins) (apart name from.first.table g none.0)
-    (apart_joins name from.joins g none.1)
-
-all_unread : (from : FromClause) (ks : List Known) → reads_system from ≡ false → are_system ks ≡ true → named_read from ks ≡ []
-all_unread from [] h g = refl
-all_unread from (k ∷ ks) h g =
-    let all = both (is_system_name k.name) (are_system ks) g in
-    let rest = named_read from ks in
-    ap (λ (b : Bool). cond b (as_named k ∷ rest) rest) (unread from k.name h all.0) ∙ all_unread from ks h all.1
-
--- ---- what is read is read of the first four
-
-front_read : (from : FromClause) (xs ys : List Known) → named_read from ys ≡ [] → named_read from (xs ++ ys) ≡ named_read from xs
-front_read from [] ys h = h
-front_read from (x ∷ xs) ys h = ap (λ (read : List NamedAnswer). cond (is_read from x.name) (as_named x ∷ read) read) (front_read from xs ys h)
 
 abbrev read_of : FromClause → List NamedAnswer → List NamedAnswer
 read_of from xs = filter (λ (named : NamedAnswer). is_read from named.name) xs
@@ -149,29 +78,28 @@ read_twice : (from : FromClause) (xs : List NamedAnswer) → read_of from (read_
 read_twice from [] = refl
 read_twice from (x ∷ xs) = one_twice from x (read_of from xs) (is_read from x.name) refl (read_twice from xs)
 
--- what it shows of all that it may name it shows of the stored tables and of those of the four that it names
-query_read : ReadsSuffice → (t : Transaction) (query : Query) → reads_system query.from ≡ false
-    → answer (known t) (select.From query) ≡ answer (sources.known t.own.working (named_read query.from (four_tables t))) (select.From query)
-query_read suffice t query h =
+-- what it shows of all that it may name it shows of the stored tables and of the system tables that it names
+query_read : ReadsSuffice → (t : Transaction) (query : Query)
+    → answer (known t) (select.From query) ≡ answer (sources.known t.own.working (named_read query.from (system_tables t))) (select.From query)
+query_read suffice t query =
     let database = t.own.working in
     ap (λ (ks : List Known). answer ks (select.From query)) (known_as t)
     ∙ sym (suffice database (map as_named (system_tables t)) query)
     ∙ ap (λ (read : List NamedAnswer). answer (map known_table (filter (λ named. is_read query.from named.name) database) ++ map known_system read) (select.From query))
-    (front_read query.from (four_tables t) (entry_tables t) (all_unread query.from (entry_tables t) h (entries_are t))
-    ∙ sym (read_twice query.from (map as_named (four_tables t))))
-    ∙ suffice database (named_read query.from (four_tables t)) query
+    (sym (read_twice query.from (map as_named (system_tables t))))
+    ∙ suffice database (named_read query.from (system_tables t)) query
 
-answers_read : ReadsSuffice → (t : Transaction) (one : Select) → asks_system one ≡ false → answer (known t) one ≡ answer (sources.known t.own.working (system_of t one)) one
-answers_read suffice t (select.From query) h = query_read suffice t query h
-answers_read suffice t (select.Alone list) h = refl
+answers_read : ReadsSuffice → (t : Transaction) (one : Select) → answer (known t) one ≡ answer (sources.known t.own.working (system_of t one)) one
+answers_read suffice t (select.From query) = query_read suffice t query
+answers_read suffice t (select.Alone list) = refl
 
 -- ---- the reply
 
-pub shows_due : ReadsSuffice → (t : Transaction) (one : Select) (system : List NamedAnswer) (outcome : Outcome Answer) (reply : Reply) → system ≡ system_of t one → asks_system one ≡ false
+pub shows_due : ReadsSuffice → (t : Transaction) (one : Select) (system : List NamedAnswer) (outcome : Outcome Answer) (reply : Reply) → system ≡ system_of t one
     → answer (sources.known t.own.working system) one ≡ outcome → IsDue 1 (shown_or_refused outcome) reply
     → IsDue 1 (shown_or_refused (answer (known t) one)) reply
-shows_due suffice t one system outcome reply same h is owed =
-    subst (λ (r : Reply). IsDue 1 r reply) (sym (ap shown_or_refused (answers_read suffice t one h
+shows_due suffice t one system outcome reply same is owed =
+    subst (λ (r : Reply). IsDue 1 r reply) (sym (ap shown_or_refused (answers_read suffice t one
     ∙ ap (λ (s : List NamedAnswer). answer (sources.known t.own.working s) one) (sym same) ∙ is))) owed
 
 -- a database that is kept can be read

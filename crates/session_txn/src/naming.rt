@@ -1,46 +1,20 @@
-//! Statements that name the tables of conflicts or of violations.
+//! Statements that delete conflicts or recorded violations.
 
 ghost use Rattle.std.specs.Prelude.{◌≡◌};
-ghost use Rattle.std.specs.List.{list_any};
 ghost use Rattle.sql_rules.specs.Writes.{is_below, is_list_of_entries};
-ghost use Rattle.session_txn.specs.Naming.{asks_system, is_system_name, names_system, reads_system, writes_system};
+ghost use Rattle.session_txn.specs.Naming.{names_system, writes_system};
 
 use plain_sessions::{Command, Work};
-use sql_ast::{FromClause, Select, Write};
+use sql_ast::Write;
 
-/// Whether a statement reads or writes tables of conflicts or of violations. The other system tables can be read.
+/// Whether a statement deletes from tables of conflicts or of violations. All system tables can be read.
 pub fn names_system(asked: &Command) -> bool
     ensures { result ≡ names_system asked.now }
 {
     match asked {
-        Command::Data(Work::Ask(select)) => asks_system(select),
         Command::Data(Work::Change(statement)) => writes_system(statement),
         _ => false,
     }
-}
-
-fn asks_system(select: &Select) -> bool
-    ensures { result ≡ asks_system select.now }
-{
-    match select {
-        Select::From(query) => reads_system(&query.from),
-        Select::Alone(_) => false,
-    }
-}
-
-fn reads_system(from: &FromClause) -> bool
-    ensures { result ≡ reads_system from.now }
-{
-    is_system_name(from.first.table.as_slice()) || joins_system(from)
-}
-
-fn joins_system(from: &FromClause) -> bool
-    ensures { result ≡ list_any (λ join. is_system_name join.source.table) from.now.joins }
-{
-    from.joins
-        .as_slice()
-        .iter()
-        .any(|join| is_system_name(join.source.table.as_slice()))
 }
 
 fn writes_system(statement: &Write) -> bool
@@ -63,11 +37,4 @@ fn is_below(name: &[u8], front: &[u8]) -> bool
     ensures { result ≡ is_below front.now name.now }
 {
     name.starts_with(front) && name.len() > front.len()
-}
-
-/// The names of tables of conflicts and of violations begin so, and no stored table's does.
-fn is_system_name(name: &[u8]) -> bool
-    ensures { result ≡ is_system_name name.now }
-{
-    name.starts_with(b"dolt_conflicts") || name.starts_with(b"dolt_constraint_violations")
 }

@@ -1,6 +1,6 @@
 //! SELECT of a transaction's tables, and SELECT without sources.
 
-ghost use Rattle.std.specs.Prelude.{◌≡◌, ℕ, List, [], false, true, IfOk, Some};
+ghost use Rattle.std.specs.Prelude.{◌≡◌, ℕ, List, [], true, IfOk, Some};
 ghost use Rattle.chunk_store.specs.Drafts.{chunks_of};
 ghost use Rattle.constraint_scan.specs.Scanning.{HasKeptAt, IsKeptAt};
 ghost use Rattle.plain_sql.specs.Plans.{answer};
@@ -15,7 +15,6 @@ ghost use Rattle.plain_sessions.specs.declared.commands.Work.TheVariants as work
 ghost use Rattle.sql_ast.specs.declared.selects.Select.TheVariants as select;
 ghost use Rattle.session_state.specs.Standing.{IsInTransaction, SessionStands};
 ghost use Rattle.session_txn.specs.Answering.{AnswersAlone};
-ghost use Rattle.session_txn.specs.Naming.{asks_system};
 ghost use Rattle.session_txn.specs.Reading.{system_of};
 ghost use Rattle.session_txn.specs.Showing.{IsDue, is_sound_reply};
 
@@ -33,8 +32,7 @@ use tuple_codec::{Address, Boxed, Digester, Sequence};
 
 /// What a SELECT shows of the transaction's working tables, and of the system tables that it names.
 pub(crate) fn ask<D: Digester>(alloc: Global, session: &Session<D>, select: &Select) -> Reply
-    requires stands { IsInTransaction D.address session.now }
-    requires stored { asks_system select.now ≡ false }
+    requires { IsInTransaction D.address session.now }
     ensures alone { (p : plain.Session) → SessionStands D.address session.now p → is_in_transaction p ≡ true
         → AnswersAlone D.address p (command.Data (work.Ask select.now)) session.now result }
     ensures sound { is_sound_reply result ≡ true }
@@ -71,8 +69,7 @@ fn show<D: Digester>(
     system: Sequence<NamedAnswer>,
     select: &Select,
 ) -> Reply
-    requires kept { HasKeptAt D.address (chunks_of draft.now.chunks) database.now.0 }
-    requires stored { asks_system select.now ≡ false }
+    requires { HasKeptAt D.address (chunks_of draft.now.chunks) database.now.0 }
     ensures due { (t : plain.Transaction) → IsKeptAt D.address (chunks_of draft.now.chunks) database.now.0 t.own.working → system ≡ system_of t select.now
         → IsDue 1 (shown_or_refused (answer (known t) select.now)) result }
     ensures sound { is_sound_reply result ≡ true }

@@ -1,7 +1,10 @@
 mod AncestorLemmas
 mod ChangeLemmas
 mod CommitLemmas
+mod ConflictLemmas
 mod HeadLemmas
 mod RowLemmas
 mod SessionLemmas
 mod SourceLemmas
+mod TableLemmas
+mod ViolationLemmas

@@ -35,6 +35,9 @@ module _ {D : Type 0} (address : List ℕ → List ℕ) (session : Session D) (p
   pub begun : Begun address session.draft.chunks session.start session.own t
   begun = begun_by address session.draft.chunks session.start session.own p.transaction t there stands.transaction
 
+  pub working_kept : IsKeptAt address (chunks_of session.draft.chunks) session.own.working.0 t.own.working
+  working_kept = let b = begun in let s = b.stands in s.own_stands.working
+
   module _ (chunks : ChunksFollow) (commits : CommitsFollow) where
     all_stand : CommitsStand address (chunks_of session.draft.chunks) t.commits
     all_stand =

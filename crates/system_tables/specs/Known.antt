@@ -8,6 +8,7 @@ use Rattle.plain_sql.specs.Lists.{or_refuse}
 use Rattle.plain_sql.specs.Plans.{is_known_as}
 use Rattle.plain_sql.specs.declared.sources.Known.{Known}
 use Rattle.plain_sql.specs.declared.sources.NamedType.{NamedType}
+use Rattle.schema_model.specs.PlainTables.{PlainDatabase}
 use Rattle.sql_ast.specs.declared.selects.FromClause.{FromClause}
 use Rattle.sql_select.specs.Sources.{is_read}
 use Rattle.sql_select.specs.declared.sources.NamedAnswer.{NamedAnswer}
@@ -22,10 +23,13 @@ with_rows known rows = record { name = known.name; columns = known.columns; rows
 abbrev pub four_tables : Transaction → List Known
 four_tables t = log t ∷ branches t ∷ status t ∷ commit_ancestors t ∷ []
 
--- the tables of conflicts and of violations
+-- the tables of conflicts and of violations in a database
+abbrev pub entry_tables_of : PlainDatabase → List Known
+entry_tables_of database = conflicts database ∷ constraint_violations database ∷ [] ++ map conflicts_of database ++ map violations_of database
+
+-- those of the working database
 abbrev pub entry_tables : Transaction → List Known
-entry_tables t =
-    let database = t.own.working in conflicts database ∷ constraint_violations database ∷ [] ++ map conflicts_of database ++ map violations_of database
+entry_tables t = entry_tables_of t.own.working
 
 -- all that a SELECT may name beside the working tables
 abbrev pub system_tables : Transaction → List Known

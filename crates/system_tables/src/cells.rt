@@ -1,11 +1,11 @@
 //! Columns and cells of system tables.
 
-ghost use Rattle.std.specs.Prelude.{◌≡◌, IfOk};
+ghost use Rattle.std.specs.Prelude.{◌≡◌, ◌++◌, IfOk, OnOk};
 ghost use Rattle.plain_sessions.specs.SystemTables.{hash, number_column, text_column, truth_column};
 
 use plain_sql::NamedType;
 use std::alloc::{AllocError, Global};
-use tuple_codec::{Address, SqlType, Text, Value};
+use tuple_codec::{Address, Blob, Row, SqlType, Text, Value, copy_value};
 
 pub(crate) fn number_column(alloc: Global, name: &[u8]) -> Result<NamedType, AllocError>
     ensures { IfOk result (λ column. column ≡ number_column name.now) }
@@ -40,4 +40,20 @@ pub(crate) fn hash(alloc: Global, address: &Address) -> Result<Value, AllocError
 {
     let text = address.text();
     Ok(Value::Text(Text::from_slice(alloc, &text)?))
+}
+
+/// Adds copies of these cells.
+pub(crate) fn push_cells(alloc: Global, cells: &[Value], row: &mut Row) -> Result<(), AllocError>
+    ensures { OnOk result (row.new ≡ row.old ++ cells.now) }
+{
+    for value in cells {
+        row.push(copy_value(alloc, value)?)?;
+    }
+    Ok(())
+}
+
+pub(crate) fn copy_bytes(alloc: Global, bytes: &[u8]) -> Result<Blob, AllocError>
+    ensures { IfOk result (λ copy. copy ≡ bytes.now) }
+{
+    Ok(Blob::from_vec(Vec::from_slice(alloc, bytes)?))
 }

@@ -178,7 +178,7 @@ pub(crate) fn status<D: Digester>(
 }
 
 /// The tables of the database at an address.
-fn tables_of<D: Digester>(
+pub(crate) fn tables_of<D: Digester>(
     alloc: Global,
     draft: &Draft<D>,
     database: &Address,

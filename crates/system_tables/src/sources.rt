@@ -7,8 +7,9 @@ ghost use Rattle.plain_sessions.specs.Sessions.{Transaction};
 ghost use Rattle.plain_sessions.specs.SystemTables as shown;
 ghost use Rattle.session_state.specs.Standing.{IsInTransaction, SessionStands};
 ghost use Rattle.sql_select.specs.Sources.{is_read};
-ghost use Rattle.system_tables.specs.Known.{as_named, four_tables, kinds_of, names_of, named_read};
+ghost use Rattle.system_tables.specs.Known.{as_named, kinds_of, named_read, names_of, system_tables};
 
+use crate::listing::push_entries;
 use crate::tables::{shown_ancestors, shown_branches, shown_log, shown_status};
 use plain_sql::{Known, NamedType};
 use session_state::Session;
@@ -26,7 +27,7 @@ fn is_joined(joins: &[Join], name: &[u8]) -> bool
 }
 
 /// Whether the SELECT names it among its sources.
-fn is_read(from: &FromClause, name: &[u8]) -> bool
+pub(crate) fn is_read(from: &FromClause, name: &[u8]) -> bool
     ensures { result ≡ is_read from.now name.now }
 {
     name == from.first.table.as_slice() || is_joined(from.joins.as_slice(), name)
@@ -53,7 +54,7 @@ fn kinds_of(alloc: Global, columns: &[NamedType]) -> Result<Sequence<SqlType>, A
 }
 
 /// A table as an answer, under its name.
-fn as_named(alloc: Global, known: Known) -> Result<NamedAnswer, AllocError>
+pub(crate) fn as_named(alloc: Global, known: Known) -> Result<NamedAnswer, AllocError>
     ensures { IfOk result (λ named. named ≡ as_named known) }
 {
     let Known {
@@ -135,7 +136,8 @@ fn push_ancestors<D: Digester>(
     Ok(())
 }
 
-/// Those of the four tables that the SELECT names, each under its name. One that isn't named isn't read.
+/// Those of the system tables that the SELECT names, each under its name. One that isn't named isn't read, and a table that the
+/// database doesn't have has no conflicts or violations to be named.
 pub fn system_sources<D: Digester>(
     alloc: Global,
     session: &Session<D>,
@@ -143,12 +145,13 @@ pub fn system_sources<D: Digester>(
 ) -> Result<Sequence<NamedAnswer>, AllocError>
     requires { IsInTransaction D.address session.now }
     ensures { (p : plain.Session) (t : Transaction) → SessionStands D.address session.now p → p.transaction ≡ Some t
-        → IfOk result (λ sources. sources ≡ named_read from.now (four_tables t)) }
+        → IfOk result (λ sources. sources ≡ named_read from.now (system_tables t)) }
 {
     let mut sources = Sequence::new(alloc);
     push_log(alloc, session, from, &mut sources)?;
     push_branches(alloc, session, from, &mut sources)?;
     push_status(alloc, session, from, &mut sources)?;
     push_ancestors(alloc, session, from, &mut sources)?;
+    push_entries(alloc, session, from, &mut sources)?;
     Ok(sources)
 }

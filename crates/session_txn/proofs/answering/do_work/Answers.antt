@@ -7,13 +7,10 @@ use Rattle.session_txn.specs.Naming.{names_system}
 use Rattle.session_txn.proofs.SessionLemmas.{in_transaction}
 use Rattle.session_txn.proofs.answering.do_work.Goals as goal
 
-pub ask-requires-clause-stands : goal.ask-requires-clause-stands
-ask-requires-clause-stands g c κs within =
+pub ask-requires-after_bounds : goal.ask-requires-after_bounds
+ask-requires-after_bounds g c κs within =
     in_transaction g.D.Digester.address c.args.session.now c.requires.stands.0 c.requires.stands.1
     (ap (λ (w : Work). is_local c.requires.stands.0 (command.Data w)) (sym c.in-Ask.is) ∙ c.requires.stands.2)
-
-pub ask-requires-clause-stored : goal.ask-requires-clause-stored
-ask-requires-clause-stored g c κs within = ap (λ (w : Work). names_system (command.Data w)) (sym c.in-Ask.is) ∙ c.requires.stored
 
 pub change-requires-clause-stands : goal.change-requires-clause-stands
 change-requires-clause-stands g c κs within =

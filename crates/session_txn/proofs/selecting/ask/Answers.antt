@@ -4,8 +4,8 @@ use Rattle.session_txn.proofs.SelectLemmas.{asks}
 use Rattle.session_txn.proofs.SessionLemmas.{has_own}
 use Rattle.session_txn.proofs.selecting.ask.Goals as goal
 
-pub show-requires-clause-kept : goal.show-requires-clause-kept
-show-requires-clause-kept g c κs within = has_own g.D.Digester.address c.args.session.now c.requires.stands.0 c.requires.stands.1 c.requires.stands.2 c.requires.stands.3
+pub show-requires-after_bounds : goal.show-requires-after_bounds
+show-requires-after_bounds g c κs within = has_own g.D.Digester.address c.args.session.now c.requires.0 c.requires.1 c.requires.2 c.requires.3
 
 pub returns-in-Ok-clause-alone : goal.returns-in-Ok-clause-alone
 returns-in-Ok-clause-alone g c = λ p stands inside.

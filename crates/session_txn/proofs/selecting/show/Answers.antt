@@ -13,7 +13,7 @@ use Rattle.session_txn.proofs.selecting.show.Goals as goal
 
 pub returns-in-Ok-clause-due : goal.returns-in-Ok-clause-due
 returns-in-Ok-clause-due g c = λ t stands same.
-    shows_due c.law_of_reading.ensures t c.args.select.now c.args.system (Ok c.in-Ok.answer) c.due.result same c.requires.stored
+    shows_due c.law_of_reading.ensures t c.args.select.now c.args.system (Ok c.in-Ok.answer) c.due.result same
     (c.in-Ok.ensures t.own.working (kept_reads g.D.Digester.address (chunks_of c.args.draft.now.chunks) c.args.database.now.0 t.own.working stands)) c.due.ensures.due
 
 pub returns-in-Ok-clause-truly : goal.returns-in-Ok-clause-truly
@@ -21,7 +21,7 @@ returns-in-Ok-clause-truly g c = due_truly g.D.Digester.address 1 (Rows c.in-Ok.
 
 pub returns-in-Err-Refused-clause-due : goal.returns-in-Err-Refused-clause-due
 returns-in-Err-Refused-clause-due g c = λ t stands same.
-    shows_due c.law_of_reading.ensures t c.args.select.now c.args.system (Err c.in-Err-Refused.number) c.due-in-Err-Refused.result same c.requires.stored
+    shows_due c.law_of_reading.ensures t c.args.select.now c.args.system (Err c.in-Err-Refused.number) c.due-in-Err-Refused.result same
     (subst (λ (f : AskFault). Answers {A = Answer} (Err f) (answer (known t.own.working c.args.system) c.args.select.now)) c.in-Err-Refused.field-0-is
     (c.in-Err-Refused.ensures t.own.working (kept_reads g.D.Digester.address (chunks_of c.args.draft.now.chunks) c.args.database.now.0 t.own.working stands)))
     (subst (λ n. IsDue 1 (Refused n) c.due-in-Err-Refused.result) c.in-Err-Refused.number-is c.due-in-Err-Refused.ensures.due)
