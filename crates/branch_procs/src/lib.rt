@@ -16,3 +16,4 @@ mod taking;
 pub use closing::commit_closes;
 pub use committing::plan_dolt_commit;
 pub use local::branch_local;
+pub use replying::status_reply;

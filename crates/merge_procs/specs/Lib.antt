@@ -2,3 +2,4 @@ pub mod Databases
 pub mod Ways
 pub mod Closing
 pub mod Steps
+pub mod Resolving
