@@ -1,3 +1,4 @@
 mod TakeLemmas
 mod TakenLemmas
 mod SettleLemmas
+mod JudgeLemmas

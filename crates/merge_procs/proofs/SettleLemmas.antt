@@ -122,8 +122,8 @@ entry_after address old new entry made request named can name at = record { name
 
 -- ---- the tables of a database
 
-module _ (address : List ℕ → List ℕ) (old : Chunks) (entries rest : List entries.NamedTable) (request : Resolution) (database : PlainDatabase) (first : entries.NamedTable)
-    (can : CanSettleEach address old entries request database) (parts : Parts address old database first rest) where
+module _ (address : List ℕ → List ℕ) (old : Chunks) (tables rest : List entries.NamedTable) (request : Resolution) (database : PlainDatabase) (first : entries.NamedTable)
+    (can : CanSettleEach address old tables request database) (parts : Parts address old database first rest) where
   abbrev named : plain.NamedTable
   named = parts.named
 

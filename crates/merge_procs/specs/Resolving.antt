@@ -1,12 +1,12 @@
 -- Tables of a draft that lose their conflicts, and take theirs' rows.
-use Rattle.std.specs.Prelude.{◌≡◌, ℕ, Bool, true, false, ◌&&◌, nat_le, if◌then◌else◌, List, [], ◌∷◌, bytes_eq, length, map, Option, None, Some}
+use Rattle.std.specs.Prelude.{◌≡◌, ℕ, Bool, true, false, ◌&&◌, if◌then◌else◌, List, [], ◌∷◌, bytes_eq, map, Option, None, Some}
 use Rattle.std.specs.List.{flat_map, list_all, list_any}
 use Rattle.std.specs.Option.{option_or, option_to_list}
 use Rattle.tuple_codec.specs.Rows.{Cells}
 use Rattle.tuple_codec.specs.declared.addresses.Address.{Address}
 use Rattle.tuple_codec.specs.declared.edits.Edit.{Edit}
 use Rattle.tuple_codec.specs.declared.records.BranchRecord.{BranchRecord}
-use Rattle.schema_model.specs.Limits.{is_short_name, is_table_within_limits, most_tables}
+use Rattle.schema_model.specs.Limits.{is_table_within_limits}
 use Rattle.schema_model.specs.PlainCommits.{Commits}
 use Rattle.schema_model.specs.PlainTables as plain
 use Rattle.schema_model.specs.PlainTables.{Conflict, PlainDatabase, PlainTable, is_conflict}
@@ -91,13 +91,6 @@ pub record CanSettleEach (address : List ℕ → List ℕ) (chunks : Chunks) (ta
   pub there : AreThere address chunks database tables
   pub within : are_within database ≡ true
   pub short : takes_bad_row breaks_index request database ≡ false
-
--- these tables may be written as a database, however many rows they have
-pub record MayBeRead (address : List ℕ → List ℕ) (chunks : Chunks) (tables : List entries.NamedTable) (database : PlainDatabase) : Type 0 where
-  pub is_database : plain.IsDatabase database
-  pub few : nat_le (length database) most_tables ≡ true
-  pub short : list_all (λ named. is_short_name named.name) database ≡ true
-  pub there : AreThere address chunks database tables
 
 -- ---- what a call comes to
 

@@ -14,7 +14,8 @@ ghost use Rattle.plain_sessions.specs.Records.{BranchState};
 ghost use Rattle.plain_sessions.specs.Statements.{resolve_worked};
 ghost use Rattle.root_merge.specs.Merging.{is_data};
 ghost use Rattle.session_laws.specs.Records.{RecordStands};
-ghost use Rattle.merge_procs.specs.Resolving.{CanJudge, CanResolve, MayBeRead, first_absent, first_refusal, has_name};
+ghost use Rattle.sql_write.specs.Putting.{AreListed};
+ghost use Rattle.merge_procs.specs.Resolving.{CanJudge, CanResolve, first_absent, first_refusal, has_name};
 ghost use Rattle.merge_procs.specs.Steps.{IsStep};
 
 use crate::settling::{laws_of_growth, settle_each};
@@ -51,8 +52,8 @@ fn write_tables<D: Digester>(
     draft: &mut Draft<D>,
     tables: &[NamedTable],
 ) -> Result<Address, PutFault>
-    requires { (database : PlainDatabase) × MayBeRead D.address (chunks_of draft.old.chunks) tables.now database }
-    ensures stands { (database : PlainDatabase) → MayBeRead D.address (chunks_of draft.old.chunks) tables.now database
+    requires { (database : PlainDatabase) × AreListed D.address (chunks_of draft.old.chunks) tables.now database }
+    ensures stands { (database : PlainDatabase) → AreListed D.address (chunks_of draft.old.chunks) tables.now database
         → IfOk result (λ at. IsReadAt D.address (chunks_of draft.new.chunks) at.0 database) }
     ensures grows { Grows is_database draft.old draft.new }
     ensures cause { IfErr result (IsReason D.address (chunks_of draft.new.chunks)) }

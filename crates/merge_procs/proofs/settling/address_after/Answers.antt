@@ -1,7 +1,5 @@
-use Rattle.std.proofs.Common.{◌≡◌, ◌∙◌, ap}
-use Rattle.std.specs.Prelude.{IfOk}
+use Rattle.std.proofs.Common.{◌∙◌, ap}
 use Rattle.std.proofs.lemmas.Result.{IfOk-weaker}
-use Rattle.tuple_codec.specs.declared.addresses.Address.{Address}
 use Rattle.chunk_store.specs.Drafts.{chunks_of}
 use Rattle.table_root.specs.Standing.{IsTableAt}
 use Rattle.plain_sessions.specs.Merging.{is_meant, table_after}
@@ -18,7 +16,16 @@ settled-requires-after_bounds g c κs within =
     )
 
 pub returns-then-is_meant-clause-stands : goal.returns-then-is_meant-clause-stands
-returns-then-is_meant-clause-stands g c = ?
+returns-then-is_meant-clause-stands g c = λ named can.
+    let address = g.D.Digester.address in
+    let chunks = chunks_of c.args.draft.now.chunks in
+    let new = chunks_of c.settled.new.draft.chunks in
+    let told = c.is_meant.ensures ∙ ap (is_meant c.args.request.now.tables) c.as_slice.ensures in
+    IfOk-weaker c.settled.result (λ at. IsTableAt address new at.0 (settled c.args.request.now.side named.table)) (λ at. IsTableAt address new at.0 (table_after c.args.request.now named).table)
+    (λ at stands. settled_after address chunks new c.args.entry.now c.args.request.now named c.is_meant.result at.0 can told c.if-is_meant.true stands)
+    (c.settled.ensures.stands named.table (meant_so address chunks c.args.entry.now c.args.request.now named c.is_meant.result can told c.if-is_meant.true))
 
 pub returns-else-is_meant-clause-stands : goal.returns-else-is_meant-clause-stands
-returns-else-is_meant-clause-stands g c = ?
+returns-else-is_meant-clause-stands g c = λ named can.
+    left_after g.D.Digester.address (chunks_of c.args.draft.now.chunks) c.args.entry.now c.args.request.now named c.is_meant.result can
+    (c.is_meant.ensures ∙ ap (is_meant c.args.request.now.tables) c.as_slice.ensures) c.if-is_meant.false

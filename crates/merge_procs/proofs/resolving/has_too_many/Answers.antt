@@ -1,0 +1,20 @@
+use Rattle.chunk_store.specs.Drafts.{chunks_of}
+use Rattle.schema_model.specs.PlainTables.{row_items}
+use Rattle.table_root.specs.Standing.{table_of_lists}
+use Rattle.std.proofs.Common.{◌∙◌}
+use Rattle.merge_procs.proofs.JudgeLemmas.{count_rows, tree_of}
+use Rattle.merge_procs.proofs.resolving.has_too_many.Goals as goal
+
+pub read_table-requires-after_bounds : goal.read_table-requires-after_bounds
+read_table-requires-after_bounds g c κs within =
+    let address = g.D.Digester.address in
+    (table_of_lists address c.requires.0, c.laws_of_growth.ensures.tables.found address (chunks_of c.args.draft.now.chunks) c.args.address.now.0 c.requires.0 c.requires.1)
+
+pub count-rows-requires-after_bounds : goal.count-rows-requires-after_bounds
+count-rows-requires-after_bounds g c κs within =
+    let address = g.D.Digester.address in
+    let chunks = chunks_of c.args.draft.now.chunks in
+    (row_items c.requires.0, tree_of address chunks c.in_ok-table.table c.requires.0 (c.laws_of_growth.ensures.values.read address chunks c.args.address.now.0 c.requires.0 c.in_ok-table.table c.requires.1 c.in_ok-table.ensures))
+
+pub returns : goal.returns
+returns g c = ?
