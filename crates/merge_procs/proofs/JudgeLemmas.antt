@@ -14,6 +14,9 @@ use Rattle.schema_model.specs.PlainTables.{IsDatabase, IsTable, PlainDatabase, P
 use Rattle.schema_model.specs.Schemas.{is_name}
 use Rattle.schema_model.specs.WrittenForms.{table_address}
 use Rattle.chunk_store.specs.Chunks.{Chunks, Extends}
+use Rattle.chunk_store.specs.Drafts.{Drafting, Grows}
+use Rattle.chunk_store.specs.Kinds.{is_database, is_either, is_node, is_table}
+use Rattle.chunk_store.specs.Laws.{DraftsGrow}
 use Rattle.chunk_store.specs.Standing.{IsTree}
 use Rattle.constraint_scan.specs.Scanning.{AreThere, IsKeptAt, IsReadAt}
 use Rattle.constraint_scan.proofs.RecordLemmas.{there_later}
@@ -28,7 +31,7 @@ use Rattle.plain_sessions.specs.Branching.{is_in}
 use Rattle.plain_sessions.specs.Merging.{Answers, Worked, breaks_index, breaks_null, database_after, has_too_many_rows, is_meant, may_settle, names_meant, resolve, settled_table, table_after, takes_bad_row, unless_violated}
 use Rattle.plain_sessions.specs.Records.{BranchState}
 use Rattle.plain_sessions.specs.Statements.{resolve_worked}
-use Rattle.root_merge.specs.Merging.{are_within}
+use Rattle.root_merge.specs.Merging.{are_within, is_data}
 use Rattle.script_text.specs.declared.replies.Reply.{Reply}
 use Rattle.session_laws.specs.Laws.{RecordsFollow}
 use Rattle.session_laws.specs.Records.{RecordStands}
@@ -203,6 +206,19 @@ can_judge address old mid new commits own tables made root request state later m
   at = at;
   comes = (fine_so request state.working can.fine).0;
 }
+
+pub grown : DraftsGrow → (old mid new : Drafting) → Grows is_data old mid → Grows is_database mid new → Grows is_data old new
+grown growth old mid new first later =
+    growth.in_steps is_data old mid new first (growth.either_right is_node (is_either is_table is_database) mid new (growth.either_right is_table is_database mid new later))
+
+pub there_of : (address : List ℕ → List ℕ) (chunks : Chunks) (k : List ℕ) (tables : List entries.NamedTable) (database : PlainDatabase) → IsKeptAt address chunks k database → tables ≡ named_tables address database
+    → AreThere address chunks database tables
+there_of address chunks k tables database kept listed = record { stand = (let at = kept.stands in at.tables); listed = listed }
+
+pub fine_found : (address : List ℕ → List ℕ) (chunks : Chunks) (commits : Commits) (own : BranchRecord) (tables : List entries.NamedTable) (request : Resolution) (state : BranchState) (refusal : Option ℕ)
+    → RecordStands address chunks commits own state → tables ≡ named_tables address state.working → refusal ≡ first_refusal request state.working → refusal ≡ None
+    → CanResolve address chunks commits own tables request state
+fine_found address chunks commits own tables request state refusal stands listed told none = record { is = record { stands = stands; listed = listed }; fine = sym told ∙ none }
 
 -- ---- once they stand
 

@@ -22,8 +22,18 @@ returns-in-Some g c = λ commits request state after can.
     let told = c.in_ok-violated.ensures state.working after (before_at address chunks commits c.args.own.now c.args.made.now c.args.root request state after can) can.at in
     violated_so address chunks commits c.args.own.now c.args.made.now c.args.root request state after can c.in_ok-violated.violated c.in-Some.number told c.in-Some.is
 
-pub returns-then-many-in-None : goal.returns-then-many-in-None
-returns-then-many-in-None g c = ?
+pub returns-then-many : goal.returns-then-many
+returns-then-many g c = λ commits request state after can.
+    let address = g.D.Digester.address in
+    let chunks = chunks_of c.args.draft.now.chunks in
+    let told = c.in_ok-violated.ensures state.working after (before_at address chunks commits c.args.own.now c.args.made.now c.args.root request state after can) can.at in
+    many_so address chunks commits c.args.own.now c.args.made.now c.args.root request state after can c.in_ok-violated.violated c.in_ok-many-in-None.many told c.in-None.is
+    (c.in_ok-many-in-None.ensures after can.there) c.if-many.true
 
-pub returns-in-None : goal.returns-in-None
-returns-in-None g c = ?
+pub returns-in_ok-reply-in-None : goal.returns-in_ok-reply-in-None
+returns-in_ok-reply-in-None g c = λ commits request state after can.
+    let address = g.D.Digester.address in
+    let chunks = chunks_of c.args.draft.now.chunks in
+    let told = c.in_ok-violated.ensures state.working after (before_at address chunks commits c.args.own.now c.args.made.now c.args.root request state after can) can.at in
+    made_so address chunks commits c.args.own.now c.args.made.now c.args.root request state after can c.in_ok-violated.violated c.in_ok-many-in-None.many c.with_working-rec.result c.in_ok-reply-in-None.reply
+    told c.in-None.is (c.in_ok-many-in-None.ensures after can.there) c.if-many.false c.with_working-rec.ensures c.in_ok-reply-in-None.ensures
