@@ -47,6 +47,7 @@ use Rattle.branch_procs.specs.Staging.{refusal_of}
 use Rattle.merge_procs.specs.Resolving.{CanJudge, CanResolve, CanSettleEach, first_absent, first_refusal, has_name}
 use Rattle.merge_procs.specs.Steps.{IsStep}
 use Rattle.merge_procs.specs.declared.steps.Step.TheVariants as step
+use Rattle.merge_procs.proofs.SettleLemmas.{same_name}
 
 -- ---- names
 
@@ -168,12 +169,6 @@ module _ (f : plain.NamedTable → plain.NamedTable) (same : (named : plain.Name
   mapped_rise (named ∷ []) = refl
   mapped_rise (named ∷ next ∷ database) = λ i. is_lt (slice_cmp nat_cmp (same named i) (same next i)) && mapped_rise (next ∷ database) i
 
-same_name : (request : Resolution) (named : plain.NamedTable) → (table_after request named).name ≡ named.name
-same_name request named = by (is_meant request.tables named.name) where
-  by : (b : Bool) → (cond b (settled_table request named) named).name ≡ named.name
-  by true = refl
-  by false = refl
-
 tables_of : (address : List ℕ → List ℕ) (chunks : Chunks) (database : PlainDatabase) → AllByRecursion (λ (named : plain.NamedTable). IsTableAt address chunks (table_address address named.table) named.table) database
     → AllByRecursion (λ (named : plain.NamedTable). IsTable named.table) database
 tables_of address chunks [] h = tt
@@ -221,11 +216,6 @@ pub fine_found : (address : List ℕ → List ℕ) (chunks : Chunks) (commits : 
 fine_found address chunks commits own tables request state refusal stands listed told none = record { is = record { stands = stands; listed = listed }; fine = sym told ∙ none }
 
 -- ---- once they stand
-
-pub tree_of : (address : List ℕ → List ℕ) (chunks : Chunks) (table : Table) (contents : PlainTable) → IsTableOf address chunks table contents → IsTree address chunks table.rows.0 (row_items contents)
-tree_of address chunks table contents stands =
-    let trees = stands.trees in
-    subst (λ (k : List ℕ). IsTree address chunks k (row_items contents)) (sym (ap (λ (t : Table). t.rows.0) stands.value)) trees.rows
 
 pub count_rows : (contents : PlainTable) (count : ℕ) → count ≡ length (row_items contents) → nat_lt most_rows count ≡ nat_lt most_rows (length contents.rows)
 count_rows contents count is = ap (λ (n : ℕ). nat_lt most_rows n) (is ∙ length-map contents.rows (row_item contents.schema))

@@ -1,4 +1,4 @@
-mod TakeLemmas
-mod TakenLemmas
+mod TheirsLemmas
+mod TakingLemmas
 mod SettleLemmas
 mod JudgeLemmas

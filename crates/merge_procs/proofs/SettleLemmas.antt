@@ -110,7 +110,7 @@ left_after address chunks entry request named meant can told fails =
     let is : is_meant request.tables named.name ≡ false = ap (is_meant request.tables) (sym can.name) ∙ sym told ∙ fails in
     subst (λ (t : plain.NamedTable). IsTableAt address chunks entry.table.0 t.table) (sym (ap (λ b. cond b (settled_table request named) named) is)) can.at
 
-same_name : (request : Resolution) (named : plain.NamedTable) → (table_after request named).name ≡ named.name
+pub same_name : (request : Resolution) (named : plain.NamedTable) → (table_after request named).name ≡ named.name
 same_name request named = by (is_meant request.tables named.name) where
   by : (b : Bool) → (cond b (settled_table request named) named).name ≡ named.name
   by true = refl

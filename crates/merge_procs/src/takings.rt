@@ -96,12 +96,7 @@ fn is_flawed(alloc: Global, flaw: Flaw, schema: &Schema, row: &[Value]) -> Resul
     }
 }
 
-fn any_flawed(
-    alloc: Global,
-    flaw: Flaw,
-    schema: &Schema,
-    rows: &[Row],
-) -> Result<bool, AllocError>
+fn any_flawed(alloc: Global, flaw: Flaw, schema: &Schema, rows: &[Row]) -> Result<bool, AllocError>
     ensures { IfOk result (λ found. found ≡ list_any (is_flawed flaw schema.now) rows.now) }
 {
     for row in rows {
@@ -120,12 +115,7 @@ fn taken_row(alloc: Global, schema: &Schema, edit: &Edit) -> Result<Option<Row>,
 {
     match &edit.value {
         None => Ok(None),
-        Some(value) => Ok(Some(row_of(
-            alloc,
-            schema,
-            edit.key.as_slice(),
-            value.as_slice(),
-        )?)),
+        Some(value) => Ok(Some(row_of(alloc, schema, edit.key.as_slice(), value.as_slice())?)),
     }
 }
 

@@ -1,4 +1,4 @@
-use Rattle.std.proofs.Common.{◌∷◌, ◌++◌, ◌-◌, ◌∙◌, List, [], drop, length, sym, subst, take}
+use Rattle.std.proofs.Common.{◌∷◌, ◌++◌, ◌-◌, List, [], drop, length, sym, subst, take}
 use Rattle.std.specs.Prelude.{OnOk}
 use Rattle.schema_model.specs.PlainTables.{PlainDatabase}
 use Rattle.chunk_store.specs.Chunks.{Extends}

@@ -1,4 +1,3 @@
-use Rattle.chunk_store.specs.Chunks.{Extends}
 use Rattle.chunk_store.specs.Drafts.{chunks_of}
 use Rattle.chunk_store.specs.Kinds.{is_database, is_either, is_node, is_table}
 use Rattle.root_merge.specs.Merging.{is_data}

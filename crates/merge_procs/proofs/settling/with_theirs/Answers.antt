@@ -2,7 +2,7 @@ use Rattle.std.proofs.Common.{◌∙◌, ◌<◌, ◌^◌, length, arith}
 use Rattle.chunk_store.specs.Drafts.{chunks_of}
 use Rattle.plain_sessions.specs.Merging.{rows_after}
 use Rattle.sql_procedures.specs.declared.requests.Side.TheVariants as side
-use Rattle.merge_procs.proofs.TakeLemmas.{can_edit}
+use Rattle.merge_procs.proofs.TheirsLemmas.{can_edit}
 use Rattle.merge_procs.proofs.settling.with_theirs.Goals as goal
 
 pub apply_with_indexes-requires-after_bounds : goal.apply_with_indexes-requires-after_bounds

@@ -4,7 +4,7 @@ use Rattle.std.proofs.lemmas.Result.{IfOk-weaker}
 use Rattle.chunk_store.specs.Drafts.{chunks_of}
 use Rattle.constraint_scan.proofs.StandLemmas.{parts_of}
 use Rattle.merge_procs.specs.Resolving.{takes_flawed}
-use Rattle.merge_procs.proofs.TakenLemmas.{any_first, any_later}
+use Rattle.merge_procs.proofs.TakingLemmas.{any_first, any_later}
 use Rattle.merge_procs.proofs.takings.+take_flawed.Goals as goal
 
 pub named_takes_flawed-requires-after_bounds : goal.named_takes_flawed-requires-after_bounds

@@ -7,7 +7,9 @@ use Rattle.chunk_store.specs.Drafts.{chunks_of}
 use Rattle.table_root.specs.Standing.{table_of_lists}
 use Rattle.plain_sessions.specs.Merging.{their_rows}
 use Rattle.merge_procs.specs.Resolving.{is_flawed}
-use Rattle.merge_procs.proofs.TakenLemmas.{schema_shown, takings_of, valid_schema}
+use Rattle.sql_write.proofs.PlaceLemmas.{schema_same}
+use Rattle.sql_write.proofs.TurnLemmas.{valid_schema}
+use Rattle.merge_procs.proofs.TakingLemmas.{takings_of}
 use Rattle.merge_procs.proofs.takings.table_takes_flawed.Goals as goal
 
 pub read_table-requires-after_bounds : goal.read_table-requires-after_bounds
@@ -42,5 +44,5 @@ returns g c = λ contents at.
     let chunks = chunks_of c.args.draft.now.chunks in
     let stands = c.laws_of_growth.ensures.values.read address chunks c.args.address.now.0 contents c.in_ok-table.table at c.in_ok-table.ensures in
     let rows = c.as_slice-2.ensures ∙ c.in_ok-rows.ensures contents.conflicts (takings_of address chunks c.in_ok-table.table contents c.as_slice.result.now stands (c.as_slice.ensures ∙ c.in_ok-edits.ensures contents stands)) in
-    subst (λ (s : Schema). IfOk c.any_flawed.result (λ found. found ≡ list_any (is_flawed c.args.flaw s) (their_rows contents))) (schema_shown address chunks c.in_ok-table.table contents stands)
+    subst (λ (s : Schema). IfOk c.any_flawed.result (λ found. found ≡ list_any (is_flawed c.args.flaw s) (their_rows contents))) (schema_same address chunks c.in_ok-table.table contents stands)
     (subst (λ (l : List Cells). IfOk c.any_flawed.result (λ found. found ≡ list_any (is_flawed c.args.flaw c.in_ok-table.table.schema) l)) rows c.any_flawed.ensures)

@@ -1,4 +1,4 @@
-use Rattle.merge_procs.proofs.TakenLemmas.{row_shown, row_taken, taken_of}
+use Rattle.merge_procs.proofs.TakingLemmas.{row_shown, row_taken, taken_of}
 use Rattle.merge_procs.proofs.takings.taken_row.Goals as goal
 
 pub row_of-requires-clause-row : goal.row_of-requires-clause-row

@@ -1,5 +1,5 @@
 use Rattle.merge_procs.specs.Resolving.{theirs_of}
-use Rattle.merge_procs.proofs.TakenLemmas.{one_more, one_of}
+use Rattle.merge_procs.proofs.TakingLemmas.{one_more, one_of}
 use Rattle.merge_procs.proofs.takings.taken_rows.Goals as goal
 
 pub push_taken-requires-clause-edit : goal.push_taken-requires-clause-edit

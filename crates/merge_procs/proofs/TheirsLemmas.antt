@@ -43,6 +43,7 @@ use Rattle.sql_write.proofs.RiseLemmas.{are_leaves}
 use Rattle.state_laws.proofs.KeptLemmas.{few_rows}
 use Rattle.state_laws.proofs.ResolveLemmas.{both_good, both_once}
 use Rattle.merge_procs.specs.Resolving.{CanTake, theirs_of}
+use Rattle.merge_procs.proofs.TakingLemmas.{at_key}
 
 -- ---- lists
 
@@ -128,10 +129,6 @@ module _ (schema : Schema) where
   abbrev staying : List Conflict → List Cells → List Cells
   staying conflicts rows = filter (λ (row : Cells). not (conflicted conflicts row)) rows
 
-  -- a side's row has the conflict's key
-  at_key : (key row : Cells) → is_side_at schema key (Some row) ≡ true → primary_key schema row ≡ key
-  at_key key row h = (cells_told (primary_key schema row) key).0 (and_parts (is_row schema row) (is_eq (key_cmp (primary_key schema row) key)) h).1
-
   side_of : (conflict : Conflict) → is_conflict schema conflict ≡ true → is_side_at schema conflict.key conflict.theirs ≡ true
   side_of conflict h = (and_parts _ (is_side_at schema conflict.key conflict.theirs) h).1
 
@@ -152,7 +149,7 @@ module _ (schema : Schema) where
             → EditsRiseAfter before (puts_of (option_to_list o ++ theirs_of conflicts))
         by None at more = edits_lower before (key_bytes conflict.key) (puts_of (theirs_of conflicts)) h.0 more
         by (Some row) at more =
-            let same : key_bytes conflict.key ≡ name row = ap key_bytes (sym (at_key conflict.key row at)) in
+            let same : key_bytes conflict.key ≡ name row = ap key_bytes (sym (at_key schema conflict.key row at)) in
             (subst (λ (k : List ℕ). is_after before k ≡ true) same h.0, subst (λ (k : List ℕ). EditsRiseAfter (Some k) (puts_of (theirs_of conflicts))) same more)
 
   put_value : (key : List ℕ) (before : Option (List ℕ)) (conflicts : List Conflict) → list_all (is_conflict schema) conflicts ≡ true → EditsRiseAfter before (takings conflicts)
@@ -178,7 +175,7 @@ module _ (schema : Schema) where
             ≡ put_only (cond (bytes_eq (key_bytes conflict.key) key) (Some (option_map (body_bytes schema) o)) (edit_at key (takings conflicts)))
         by None at more = more ∙ gone (bytes_eq (key_bytes conflict.key) key) refl
         by (Some row) at more =
-            ap (λ (k : Cells). cond (bytes_eq (key_bytes k) key) (Some (Some (body_bytes schema row))) (edit_at key (puts_of (theirs_of conflicts)))) (at_key conflict.key row at)
+            ap (λ (k : Cells). cond (bytes_eq (key_bytes k) key) (Some (Some (body_bytes schema row))) (edit_at key (puts_of (theirs_of conflicts)))) (at_key schema conflict.key row at)
             ∙ came (bytes_eq (key_bytes conflict.key) key) (body_bytes schema row) more
 
   -- ---- the rows that stay

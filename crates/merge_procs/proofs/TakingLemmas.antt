@@ -9,13 +9,13 @@ use Rattle.tuple_codec.specs.Rows.{Cells, key_cmp}
 use Rattle.tuple_codec.specs.declared.edits.Edit.{Edit}
 use Rattle.tuple_codec.proofs.Orders.{cells_told}
 use Rattle.schema_model.specs.PlainTables.{Conflict, PlainTable, body_bytes, is_conflict, is_row, is_side_at, primary_key}
-use Rattle.schema_model.specs.Schemas.{is_schema}
 use Rattle.schema_model.specs.declared.schemas.Schema.{Schema}
 use Rattle.chunk_store.specs.Chunks.{Chunks}
 use Rattle.conflict_tables.specs.Conflicts.{theirs_edit, theirs_edits}
 use Rattle.table_root.specs.Standing.{IsTableOf}
 use Rattle.table_root.specs.declared.records.Table.{Table}
 use Rattle.table_rows.specs.Rows.{IsRowOf}
+use Rattle.sql_write.proofs.PlaceLemmas.{schema_same}
 use Rattle.merge_procs.specs.Resolving.{AreTakings, IsTaking, theirs_of}
 
 -- the row that such an edit puts
@@ -24,7 +24,8 @@ pub record IsTaken (schema : Schema) (key value : List ℕ) (conflict : Conflict
   pub is : conflict.theirs ≡ Some row
   pub of : IsRowOf schema key value row
 
-at_key : (schema : Schema) (key row : Cells) → is_side_at schema key (Some row) ≡ true → primary_key schema row ≡ key
+-- a side's row has the conflict's key
+pub at_key : (schema : Schema) (key row : Cells) → is_side_at schema key (Some row) ≡ true → primary_key schema row ≡ key
 at_key schema key row h = (cells_told (primary_key schema row) key).0 (and_parts (is_row schema row) (is_eq (key_cmp (primary_key schema row) key)) h).1
 
 pub taken_of : (schema : Schema) (edit : Edit) (value : List ℕ) (conflict : Conflict) → IsTaking schema edit conflict → edit.value ≡ Some value → IsTaken schema edit.key value conflict
@@ -98,13 +99,7 @@ pub takings_of : (address : List ℕ → List ℕ) (chunks : Chunks) (table : Ta
     → AreTakings table.schema edits contents.conflicts
 takings_of address chunks table contents edits stands is =
     let of = stands.is_table in
-    subst (λ (s : Schema). AreTakings s edits contents.conflicts) (sym (ap (λ (t : Table). t.schema) stands.value)) (record { conflicts_are = of.conflicts; edits_are = is })
-
-pub schema_shown : (address : List ℕ → List ℕ) (chunks : Chunks) (table : Table) (contents : PlainTable) → IsTableOf address chunks table contents → table.schema ≡ contents.schema
-schema_shown address chunks table contents stands = ap (λ (t : Table). t.schema) stands.value
-
-pub valid_schema : (address : List ℕ → List ℕ) (chunks : Chunks) (table : Table) (contents : PlainTable) → IsTableOf address chunks table contents → is_schema table.schema ≡ true
-valid_schema address chunks table contents stands = let of = stands.is_table in ap is_schema (schema_shown address chunks table contents stands) ∙ of.schema
+    subst (λ (s : Schema). AreTakings s edits contents.conflicts) (sym (schema_same address chunks table contents stands)) (record { conflicts_are = of.conflicts; edits_are = is })
 
 -- ---- of the first of a list, and the others
 
