@@ -1,34 +1,32 @@
 -- What refuses a call, and what it comes to once its tables are settled.
-use Rattle.std.proofs.Common.{◌≡◌, refl, sym, ap, ◌∙◌, subst, ℕ, suc, ◌≤◌, Bool, true, false, cond, not, ◌&&◌, ◌||◌, nat_cmp, nat_lt, is_lt, List, [], ◌∷◌, length, map, Option, None, Some, Ok, Err, is_some, bytes_eq}
+use Rattle.std.proofs.Common.{◌≡◌, refl, sym, ap, ◌∙◌, subst, ℕ, ◌≤◌, Bool, true, false, cond, not, ◌&&◌, ◌||◌, nat_cmp, nat_lt, is_lt, List, [], ◌∷◌, length, map, Option, None, Some, Ok, Err, is_some}
 use Rattle.std.specs.Cmp.Lexicographic.{slice_cmp}
-use Rattle.std.specs.List.{AllByRecursion, find, list_all, list_any}
+use Rattle.std.specs.List.{AllByRecursion, find, list_all}
 use Rattle.std.specs.Option.{option_map, option_or}
 use Rattle.std.proofs.lemmas.Bool.{and_parts}
 use Rattle.std.proofs.lemmas.List.{length-map}
 use Rattle.tuple_codec.specs.declared.addresses.Address.{Address}
 use Rattle.tuple_codec.specs.declared.records.BranchRecord.{BranchRecord}
-use Rattle.schema_model.specs.Limits.{is_database_within_limits, is_named_within_limits, is_short_name, is_table_within_limits, most_rows, most_tables}
+use Rattle.schema_model.specs.Limits.{is_named_within_limits, is_short_name, is_table_within_limits, most_rows}
 use Rattle.schema_model.specs.PlainCommits.{Commits}
 use Rattle.schema_model.specs.PlainTables as plain
-use Rattle.schema_model.specs.PlainTables.{IsDatabase, IsTable, PlainDatabase, PlainTable, rises, row_item, row_items}
+use Rattle.schema_model.specs.PlainTables.{IsTable, PlainDatabase, PlainTable, rises, row_item, row_items}
 use Rattle.schema_model.specs.Schemas.{is_name}
 use Rattle.schema_model.specs.WrittenForms.{table_address}
 use Rattle.chunk_store.specs.Chunks.{Chunks, Extends}
 use Rattle.chunk_store.specs.Drafts.{Drafting, Grows}
 use Rattle.chunk_store.specs.Kinds.{is_database, is_either, is_node, is_table}
 use Rattle.chunk_store.specs.Laws.{DraftsGrow}
-use Rattle.chunk_store.specs.Standing.{IsTree}
 use Rattle.constraint_scan.specs.Scanning.{AreThere, IsKeptAt, IsReadAt}
 use Rattle.constraint_scan.proofs.RecordLemmas.{there_later}
 use Rattle.expr_eval.specs.Binding.{Outcome, and_then}
-use Rattle.table_root.specs.Standing.{DatabasesStand, IsTableAt, IsTableOf, TablesStand, named_tables}
+use Rattle.table_root.specs.Standing.{IsTableAt, TablesStand, named_tables}
 use Rattle.table_root.specs.declared.records.NamedTable as entries
-use Rattle.table_root.specs.declared.records.Table.{Table}
 use Rattle.plain_schemas.specs.Statements.{checks}
 use Rattle.plain_sql.specs.Lists.{each, unless}
 use Rattle.plain_writes.specs.Violations.{first_violation, is_called}
 use Rattle.plain_sessions.specs.Branching.{is_in}
-use Rattle.plain_sessions.specs.Merging.{Answers, Worked, breaks_index, breaks_null, database_after, has_too_many_rows, is_meant, may_settle, names_meant, resolve, settled_table, table_after, takes_bad_row, unless_violated}
+use Rattle.plain_sessions.specs.Merging.{Answers, breaks_index, breaks_null, database_after, has_too_many_rows, may_settle, names_meant, resolve, table_after, takes_bad_row, unless_violated}
 use Rattle.plain_sessions.specs.Records.{BranchState}
 use Rattle.plain_sessions.specs.Statements.{resolve_worked}
 use Rattle.root_merge.specs.Merging.{are_within, is_data}
@@ -38,7 +36,7 @@ use Rattle.session_laws.specs.Records.{RecordStands}
 use Rattle.session_txn.specs.Showing.{is_plain_reply}
 use Rattle.sql_procedures.specs.declared.requests.Resolution.{Resolution}
 use Rattle.sql_write.specs.Putting.{AreListed}
-use Rattle.sql_write.proofs.TableLemmas.{kept_few, kept_read, kept_short, read_later}
+use Rattle.sql_write.proofs.TableLemmas.{kept_few, kept_read, kept_short}
 use Rattle.state_laws.proofs.ResolveLemmas.{resolved_kept}
 use Rattle.write_laws.proofs.OrderLemmas.{both_so}
 use Rattle.write_laws.specs.Laws.{IsKept}

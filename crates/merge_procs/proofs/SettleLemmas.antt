@@ -1,9 +1,9 @@
 -- Tables without conflicts, and the tables of a database after the call.
-use Rattle.std.proofs.Common.{◌≡◌, refl, sym, ap, ◌∙◌, subst, ℕ, suc, ◌+◌, ◌<◌, Bool, true, false, cond, ◌&&◌, List, [], ◌∷◌, ◌++◌, length, map, append_assoc, append-nil, arith}
-use Rattle.std.specs.List.{list_all, list_any}
+use Rattle.std.proofs.Common.{◌≡◌, refl, sym, ap, ◌∙◌, subst, ℕ, Bool, true, false, cond, ◌&&◌, List, [], ◌∷◌, ◌++◌, append_assoc, append-nil}
+use Rattle.std.specs.List.{list_any}
 use Rattle.std.proofs.lemmas.Bool.{and_parts, or_parts}
 use Rattle.tuple_codec.specs.declared.addresses.Address.{Address}
-use Rattle.schema_model.specs.Limits.{is_table_within_limits, is_within_limits}
+use Rattle.schema_model.specs.Limits.{is_table_within_limits}
 use Rattle.schema_model.specs.PlainTables as plain
 use Rattle.schema_model.specs.PlainTables.{PlainDatabase, PlainTable}
 use Rattle.chunk_store.specs.Chunks.{Chunks, Extends}
@@ -12,12 +12,11 @@ use Rattle.constraint_scan.specs.Recording.{IsEntry, MayStand}
 use Rattle.constraint_scan.specs.Scanning.{AreThere}
 use Rattle.constraint_scan.proofs.RecordLemmas.{there_later}
 use Rattle.constraint_scan.proofs.StandLemmas.{Parts}
-use Rattle.index_keep.specs.Keeping.{with_rows}
 use Rattle.table_root.specs.Standing.{IsTableAt, IsTableOf, TableValuesStand, TablesStand}
 use Rattle.table_root.specs.Tables.{IsTableFound}
 use Rattle.table_root.specs.declared.records.NamedTable as entries
 use Rattle.table_root.specs.declared.records.Table.{Table}
-use Rattle.plain_sessions.specs.Merging.{breaks_index, database_after, is_meant, is_theirs, rows_after, settled_table, table_after, takes_bad_row, their_rows}
+use Rattle.plain_sessions.specs.Merging.{breaks_index, database_after, is_meant, is_theirs, settled_table, table_after, takes_bad_row, their_rows}
 use Rattle.root_merge.specs.Merging.{are_within}
 use Rattle.sql_procedures.specs.declared.requests.Resolution.{Resolution}
 use Rattle.sql_procedures.specs.declared.requests.Side.{Side}

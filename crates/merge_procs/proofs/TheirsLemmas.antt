@@ -1,21 +1,21 @@
 -- The items of a table that takes theirs' rows are its own after the edits that make rows theirs.
-use Rattle.std.proofs.Common.{◌≡◌, refl, sym, ap, ◌∙◌, subst, ℕ, zero, suc, ◌+◌, ◌≤◌, ◌<◌, ◌^◌, Bool, true, false, cond, not, ◌||◌, nat_le, List, [], ◌∷◌, ◌++◌, append-nil, filter, length, get_or, map, Option, None, Some, is_some, bytes_eq, arith, length-append}
+use Rattle.std.proofs.Common.{◌≡◌, refl, sym, ap, ◌∙◌, subst, ℕ, zero, suc, ◌+◌, ◌≤◌, ◌<◌, ◌^◌, Bool, true, false, cond, not, ◌||◌, List, [], ◌∷◌, ◌++◌, filter, length, get_or, map, Option, None, Some, is_some, bytes_eq, arith, length-append}
 use Rattle.std.specs.Cmp.Lexicographic.{bytes_decides}
-use Rattle.std.specs.List.{AllByRecursion, flat_map, list_all, list_any}
+use Rattle.std.specs.List.{list_all, list_any}
 use Rattle.std.specs.List.Sorted.{IsSortedBy}
 use Rattle.std.specs.Option.{option_map, option_to_list}
-use Rattle.std.specs.Ordering.{is_eq, is_lt}
+use Rattle.std.specs.Ordering.{is_lt}
 use Rattle.std.proofs.lemmas.Bool.{and_parts, leb-true}
 use Rattle.std.proofs.lemmas.List.{length-map}
 use Rattle.tuple_codec.specs.Edits.{EditsRiseAfter, edited, order, value_at}
 use Rattle.tuple_codec.specs.KeyBytes.{key_bytes}
 use Rattle.tuple_codec.specs.Nodes.{Item, Rise, RiseAfter, is_after}
-use Rattle.tuple_codec.specs.Rows.{Cells, fits_all, key_cmp, same_cells}
+use Rattle.tuple_codec.specs.Rows.{Cells, fits_all, same_cells}
 use Rattle.tuple_codec.specs.Spellings.{IsOneSpelling}
 use Rattle.tuple_codec.specs.declared.edits.Edit.{Edit}
 use Rattle.tuple_codec.proofs.Orders.{cells_told}
-use Rattle.schema_model.specs.Limits.{is_row_within_limits, is_table_within_limits, most_rows}
-use Rattle.schema_model.specs.PlainTables.{Conflict, PlainTable, body_bytes, conflict_item, conflict_items, is_conflict, is_row, is_side_at, key_types, primary_key, row_item, row_items}
+use Rattle.schema_model.specs.Limits.{is_row_within_limits, most_rows}
+use Rattle.schema_model.specs.PlainTables.{Conflict, PlainTable, body_bytes, conflict_item, is_conflict, is_row, is_side_at, key_types, primary_key, row_item, row_items}
 use Rattle.schema_model.specs.Schemas.{is_schema}
 use Rattle.schema_model.specs.declared.schemas.Schema.{Schema}
 use Rattle.schema_model.proofs.FitLemmas.{key_types_fit, primary_key_fits}
@@ -25,9 +25,8 @@ use Rattle.edit_laws.specs.ByKey.{edit_at, over}
 use Rattle.edit_laws.proofs.Orders.{eq_key, greater, less_is}
 use Rattle.edit_laws.proofs.Rising.{edited_all, edited_rise, edits_lower, rows_lower}
 use Rattle.edit_laws.proofs.Values.{edited_value, edits_above, same_rows}
-use Rattle.index_keep.specs.Entries.{AreSorted, comes_before}
+use Rattle.index_keep.specs.Entries.{comes_before}
 use Rattle.index_keep.specs.Keeping.{CanEditTable}
-use Rattle.table_root.specs.Standing.{IsTableOf}
 use Rattle.table_root.specs.declared.records.Table.{Table}
 use Rattle.table_rows.specs.Rows.{RowItemsFollow}
 use Rattle.plain_sql.specs.Lists.{in_order, repeats}

@@ -1,6 +1,6 @@
-//! Tables that lose their conflicts, and take theirs' rows.
+//! Tables that lose their conflicts and take theirs' rows.
 
-ghost use Rattle.std.specs.Prelude.{◌≡◌, ◌++◌, IfErr, IfOk, OnOk};
+ghost use Rattle.std.specs.Prelude.{◌++◌, IfErr, IfOk, OnOk};
 ghost use Rattle.schema_model.specs.PlainTables as plain;
 ghost use Rattle.schema_model.specs.PlainTables.{PlainDatabase, PlainTable};
 ghost use Rattle.chunk_store.specs.Clashes.{IsReason};

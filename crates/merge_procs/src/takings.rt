@@ -24,7 +24,7 @@ use schema_model::limits::MOST_INDEX_BYTES;
 use schema_model::{Column, IndexDef, Schema};
 use sql_procedures::{Resolution, Side, Tables};
 use std::alloc::{AllocError, Global};
-use table_root::{NamedTable, Table, read_table};
+use table_root::{NamedTable, read_table};
 use table_rows::row_of;
 use tuple_codec::{Address, Digester, Edit, Row, Sequence, Text, Value, key_of, key_size};
 

@@ -1,4 +1,4 @@
-use Rattle.std.proofs.Common.{◌∙◌, ap, sym}
+use Rattle.std.proofs.Common.{◌∙◌, sym}
 use Rattle.chunk_store.specs.Drafts.{chunks_of}
 use Rattle.merge_procs.proofs.JudgeLemmas.{fine_found, refused_so, there_of}
 use Rattle.merge_procs.proofs.resolving.resolved.Goals as goal

@@ -1,9 +1,7 @@
-use Rattle.std.proofs.Common.{◌∙◌, [], List, sym, subst}
-use Rattle.std.specs.Prelude.{IfOk}
+use Rattle.std.proofs.Common.{[], List, sym, subst}
 use Rattle.chunk_store.specs.Chunks.{Extends}
 use Rattle.chunk_store.specs.Drafts.{chunks_of}
 use Rattle.chunk_store.specs.Kinds.{is_database}
-use Rattle.constraint_scan.specs.Scanning.{AreThere}
 use Rattle.table_root.specs.declared.records.NamedTable.{NamedTable}
 use Rattle.plain_sessions.specs.Merging.{database_after}
 use Rattle.root_merge.specs.Merging.{is_data}
