@@ -16,4 +16,5 @@ mod taking;
 pub use closing::commit_closes;
 pub use committing::{plan_dolt_commit, refused, sealed, work_of, written};
 pub use local::branch_local;
+pub use replying::status_reply;
 pub use roots::head_root;

@@ -11,7 +11,7 @@ use std::alloc::{AllocError, Global};
 use tuple_codec::{Address, Answer, Row, Sequence, SqlType, Text, Value};
 
 /// A row with the column `status` and 0 in it.
-pub(crate) fn status_reply(alloc: Global) -> Result<Reply, AllocError>
+pub fn status_reply(alloc: Global) -> Result<Reply, AllocError>
     ensures { IfOk result (λ reply. reply ≡ status_reply) }
 {
     let mut names = Sequence::new(alloc);

@@ -5,3 +5,7 @@ mod DatabasesLemmas
 pub mod ClosingLemmas
 mod VerifyingLemmas
 mod PlanningLemmas
+mod TheirsLemmas
+mod TakingLemmas
+mod SettleLemmas
+mod JudgeLemmas

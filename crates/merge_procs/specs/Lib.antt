@@ -3,3 +3,4 @@ pub mod Ways
 pub mod Closing
 pub mod Steps
 pub mod Planning
+pub mod Resolving

@@ -9,7 +9,9 @@ mod local;
 mod planning;
 mod replying;
 mod resolving;
+mod settling;
 mod steps;
+mod takings;
 mod verifying;
 mod ways;
 

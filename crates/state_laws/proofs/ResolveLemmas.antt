@@ -158,21 +158,31 @@ module _ (table : PlainTable) (kept : IsKeptTable table) where
       let alike : is_conflicted table x ≡ is_conflicted table y = ap (λ (k : Cells). list_any (λ (conflict : Conflict). same_cells conflict.key k) table.conflicts) same in
       true≢false (sym q ∙ sym alike ∙ not-true _ p))
 
+  abbrev staying : List Cells
+  staying = filter (λ (row : Cells). not (is_conflicted table row)) table.rows
+
+  -- the rows that stay, and theirs: each within the limits, and no key twice
+  pub both_good : list_any (breaks_index table.schema) (their_rows table) ≡ false → list_all (is_good table.schema) (staying ++ their_rows table) ≡ true
+  both_good short =
+      let is = kept.is_table in
+      let limits = limits_so table kept.within in
+      all_append (is_good table.schema) staying (their_rows table) (filter_all (λ (row : Cells). not (is_conflicted table row)) (is_good table.schema) table.rows (rows_good table kept))
+      (theirs_good table.schema table.conflicts is.conflicts limits.2 short)
+
+  pub both_once : repeats (keyed_cmp table.schema) (staying ++ their_rows table) ≡ false
+  both_once =
+      let is = kept.is_table in
+      let keep = λ (row : Cells). not (is_conflicted table row) in
+      once_append (keyed_cmp table.schema) keep (is_conflicted table) kept_apart staying (their_rows table) (filter_keep keep table.rows) (theirs_in table.schema table.conflicts is.conflicts)
+      (filter_once (keyed_cmp table.schema) keep table.rows (rows_once table is))
+      (theirs_once table.schema table.conflicts is.conflicts (risen_once by_key (on_total (λ (conflict : Conflict). conflict.key) key_cmp_total) table.conflicts is.conflict_keys))
+
   theirs_kept : list_any (breaks_index table.schema) (their_rows table) ≡ false → nat_le (length (rows_after side.Theirs table)) most_rows ≡ true
       → IsKeptTable (record table { rows = rows_after side.Theirs table; conflicts = [] })
   theirs_kept short few =
-      let is = kept.is_table in
-      let limits = limits_so table kept.within in
-      let keep = λ (row : Cells). not (is_conflicted table row) in
-      let stay = filter keep table.rows in
-      let theirs = their_rows table in
       without_conflicts table (rows_after side.Theirs table) kept
-      (in_order_all (keyed_cmp table.schema) (is_good table.schema) (stay ++ theirs)
-      (all_append (is_good table.schema) stay theirs (filter_all keep (is_good table.schema) table.rows (rows_good table kept)) (theirs_good table.schema table.conflicts is.conflicts limits.2 short)))
-      (in_order_rises (keyed_cmp table.schema) (keyed_total table.schema) (stay ++ theirs)
-      (once_append (keyed_cmp table.schema) keep (is_conflicted table) kept_apart stay theirs (filter_keep keep table.rows) (theirs_in table.schema table.conflicts is.conflicts)
-      (filter_once (keyed_cmp table.schema) keep table.rows (rows_once table is))
-      (theirs_once table.schema table.conflicts is.conflicts (risen_once by_key (on_total (λ (conflict : Conflict). conflict.key) key_cmp_total) table.conflicts is.conflict_keys))))
+      (in_order_all (keyed_cmp table.schema) (is_good table.schema) (staying ++ their_rows table) (both_good short))
+      (in_order_rises (keyed_cmp table.schema) (keyed_total table.schema) (staying ++ their_rows table) both_once)
       few
 
   side_kept : (way : Side) (meant : Bool) → meant ≡ true → ((is_theirs way && meant) && list_any (breaks_index table.schema) (their_rows table)) ≡ false
