@@ -5,6 +5,7 @@
 #![tactic(auto)]
 
 mod answering;
+mod numerals;
 mod status;
 #[cfg(test)]
 mod tests;
@@ -18,6 +19,7 @@ use std::io::{self, ErrorKind};
 use std::process::ExitCode;
 use std::rt::Env;
 pub use top::{run, run_with};
+pub use words::{Form, Mode};
 use wire_io::{NoPace, StdSink, StdSource};
 
 fn main(rt: HostRuntime) -> ExitCode {
