@@ -28,9 +28,9 @@ fits value size (Ok x) some h =
     let test : nat_lt value (2 ^ 64) ≡ true = grind (arith, nat_tests) in
     rw test (ap Some h.1)
 fits value size (Err e) some h = elim (nat_lt value (2 ^ 64)) as (λ test. nat_lt value (2 ^ 64) ≡ test → None ≡ (if test then Some value else None)) [
-      | true ↦ λ test. let below : value < 2 ^ 64 = grind (arith, nat_tests) in absurd (h (some, below))
-      | false ↦ λ test. refl
-    ] refl
+  | true ↦ λ test. let below : value < 2 ^ 64 = grind (arith, nat_tests) in absurd (h (some, below))
+  | false ↦ λ test. refl
+] refl
 
 pub parsed : {E : Type 0} (text : List ℕ) (r : Result ℕ E) → ParsesUnsigned 64 10 text r → is_numeral text ≡ true → result_ok r ≡ number text
 parsed text r h numeral =

@@ -19,8 +19,8 @@ use std::io::{self, ErrorKind};
 use std::process::ExitCode;
 use std::rt::Env;
 pub use top::{run, run_with};
-pub use words::{Form, Mode};
 use wire_io::{NoPace, StdSink, StdSource};
+pub use words::{Form, Mode};
 
 fn main(rt: HostRuntime) -> ExitCode {
     let Ok(words) = read_words(&rt) else {

@@ -10,7 +10,7 @@ pub returns-in-Err-Bad-clause-part : goal.returns-in-Err-Bad-clause-part
 returns-in-Err-Bad-clause-part g c = λ is.
     let came : Comes g.D.Digester.address c.args.epoch c.args.bytes.now (Err (fault.Bad c.in-Err-Bad.bad))
     = subst (λ (f : NoAnswer). Comes g.D.Digester.address c.args.epoch c.args.bytes.now (Err f)) c.in-Err-Bad.field-0-is
-        (subst (λ (date : ℤ). Comes g.D.Digester.address date c.args.bytes.now (Err c.in-Err-Bad.field-0)) (to_z-of_z w64 c.args.epoch c.ranges.epoch) c.in-Err-Bad.ensures) in
+    (subst (λ (date : ℤ). Comes g.D.Digester.address date c.args.bytes.now (Err c.in-Err-Bad.field-0)) (to_z-of_z w64 c.args.epoch c.ranges.epoch) c.in-Err-Bad.ensures) in
     record {
       written = fault_line c.in-Err-Bad.bad;
       wanted = Fault c.in-Err-Bad.bad came refl;
@@ -22,7 +22,7 @@ pub returns-in-Err-Collision-clause-part : goal.returns-in-Err-Collision-clause-
 returns-in-Err-Collision-clause-part g c = λ is.
     let came : Comes g.D.Digester.address c.args.epoch c.args.bytes.now (Err (fault.Collision c.in-Err-Collision.clash))
     = subst (λ (f : NoAnswer). Comes g.D.Digester.address c.args.epoch c.args.bytes.now (Err f)) c.in-Err-Collision.field-0-is
-        (subst (λ (date : ℤ). Comes g.D.Digester.address date c.args.bytes.now (Err c.in-Err-Collision.field-0)) (to_z-of_z w64 c.args.epoch c.ranges.epoch) c.in-Err-Collision.ensures) in
+    (subst (λ (date : ℤ). Comes g.D.Digester.address date c.args.bytes.now (Err c.in-Err-Collision.field-0)) (to_z-of_z w64 c.args.epoch c.ranges.epoch) c.in-Err-Collision.ensures) in
     record {
       written = collision_line c.in-Err-Collision.clash;
       wanted = Collision came.0.0 c.in-Err-Collision.clash came.0.1 came.1 refl;
