@@ -1,5 +1,5 @@
 -- A call that had no memory to read its words.
-use Rattle.std.proofs.Common.{◌≡◌, refl, inl, inr, ℕ, ℤ, List, [], Option, Some, None, arith}
+use Rattle.std.proofs.Common.{refl, inr, ℕ, ℤ, List, [], Option, Some, None, arith}
 use Rattle.wire_io.specs.Moves.{LosesAtMost}
 use Rattle.doltrun.specs.Endings.{EndsBy, SinkTells, SourceTells}
 use Rattle.doltrun.specs.Headline.{most_taken}

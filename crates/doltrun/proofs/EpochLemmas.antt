@@ -5,7 +5,7 @@ use Rattle.std.proofs.lemmas.Int.{ints}
 use Rattle.std.specs.Prelude.{◌≤ℤ◌, ◌<◌, ◌^◌, FitsSigned, IfSome, codes, option_and_then, option_map}
 use Rattle.clap.specs.Walk.{is_empty}
 use Rattle.clap.specs.Words.{Text, fault_of, first_of, matches_of}
-use Rattle.doltrun.specs.Words.{epoch_asked, epoch_named, epoch_of, form, form_in, form_named, form_of, line, mode_named, number, run_of, seed_of}
+use Rattle.doltrun.specs.Words.{epoch_asked, epoch_of, form, form_in, form_of, line, mode_named, number, run_of, seed_of}
 use Rattle.doltrun.specs.declared.words.Form.{Form}
 use Rattle.doltrun.specs.declared.words.Mode.{Mode}
 use Rattle.doltrun.specs.declared.words.Mode.TheVariants.{Ordered, Threads, Replay, Load}

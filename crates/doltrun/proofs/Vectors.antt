@@ -1,5 +1,5 @@
 -- Worked lists of words.
-use Rattle.std.proofs.Common.{◌≡◌, refl, codes, ℤ, pos, List, [], ◌∷◌, ◌++◌, Option, Some, None}
+use Rattle.std.proofs.Common.{◌≡◌, refl, codes, ℤ, pos, [], ◌∷◌, ◌++◌, Option, Some, None}
 use Rattle.clap.specs.Words.{Text}
 use Rattle.clap.proofs.OnLiterals.{clap_on_literals}
 use Rattle.doltrun.specs.Words.{form, form_of}

@@ -1,11 +1,10 @@
-use Rattle.std.proofs.Common.{refl, sym, ◌∙◌, ap, codes, true, List, [], Option, None, if◌then◌else◌, ◌≡◌}
+use Rattle.std.proofs.Common.{refl, sym, ◌∙◌, ap, codes, List, [], None, if◌then◌else◌, ◌≡◌}
 use Rattle.clap.specs.Kinds.{Kinds}
 use Rattle.clap.specs.Walk.{is_empty}
-use Rattle.clap.specs.Words.{App, Row, Text, app_of, fault_of, first_value, found_of, is_simple, is_simple_and_free, matches_of, rows_of}
+use Rattle.clap.specs.Words.{App, Row, Text, fault_of, first_value, found_of, is_simple, is_simple_and_free, matches_of, rows_of}
 use Rattle.clap.specs.declared.parser.matches.Found.{Found}
 use Rattle.clap.proofs.WalkLemmas.{first_value-rows}
 use Rattle.doltrun.specs.Words.{form, form_in, form_named, line, spelled}
-use Rattle.doltrun.specs.declared.words.Form.{Form}
 use Rattle.doltrun.proofs.words.read_words.Goals as goal
 
 -- what the values are named by is what the rows are
