@@ -1,12 +1,12 @@
 -- From the bytes that were read to the whole input.
-use Rattle.std.proofs.Common.{◌≡◌, ◌≢◌, inl, inr, refl, sym, ◌∙◌, ap, subst, ℕ, ◌<◌, ◌≤◌, Bool, true, false, nat_lt, List, [], ◌++◌, length, Option, Some, None, Result, Ok, Err, arith, if◌then◌else◌}
+use Rattle.std.proofs.Common.{◌≡◌, ◌≢◌, inl, inr, refl, sym, ◌∙◌, ap, subst, ℕ, ℤ, ◌<◌, ◌≤◌, Bool, true, false, nat_lt, List, [], ◌++◌, length, Option, Some, None, Result, Ok, Err, arith, if◌then◌else◌}
 use Rattle.std.specs.Io.KnownBytes.{Appends, Consumes, IsAtEnd}
 use Rattle.std.proofs.lemmas.List.{append-nil, length-append}
 use Rattle.std.proofs.lemmas.Bool.Decides.{nat_tests}
 use Rattle.script_text.specs.Input.{bad, lines_of, most_bytes, no_script, script, script_from}
 use Rattle.script_text.specs.declared.faults.BadScript.{BadScript}
 use Rattle.script_text.specs.declared.scripts.Script.{Script}
-use Rattle.doltrun.specs.Headline.{HasScript, WritesAnswer, fault_line, is_form}
+use Rattle.doltrun.specs.Headline.{HasScript, WritesAnswer, fault_line}
 use Rattle.doltrun.specs.Stops.{Answer, Answers, AnswersAll, AnswersPart, Collides, Collision, FallsShort, Fault, Faults, IsToWrite, IsTold, IsWanted, StopsThere, WritesCollision, WritesFault}
 use Rattle.doltrun.specs.declared.status.Status.{Status}
 use Rattle.doltrun.specs.declared.status.Status.TheVariants as status
@@ -52,8 +52,8 @@ ended told left bytes read taken is =
       | false ↦ λ test. let short : length bytes ≤ 16777216 = grind (arith, nat_tests) in taken.ended short
     ] refl
 
-pub answers_whole : (address : List ℕ → List ℕ) (told left old new : Option (List ℕ)) (bytes : List ℕ) → IsRead told left bytes → AnswersAll address bytes old new → WritesAnswer address told left old new
-answers_whole address told left old new bytes read all = record {
+pub answers_whole : (address : List ℕ → List ℕ) (epoch : ℤ) (told left old new : Option (List ℕ)) (bytes : List ℕ) → IsRead told left bytes → AnswersAll address epoch bytes old new → WritesAnswer address epoch told left old new
+answers_whole address epoch told left old new bytes read all = record {
   read = script bytes;
   script = whole_script told left bytes read;
   ended = ended told left bytes all.answers.script read all.answers.reads;
@@ -72,8 +72,8 @@ faults_whole told left old new bytes read wrote = record { bad = wrote.0; breaks
 told_script : (told left : Option (List ℕ)) (bytes : List ℕ) (read : Script) → IsRead told left bytes → script bytes ≡ Ok read → HasScript told (Ok read)
 told_script told left bytes read taken is = subst (λ (r : Result Script BadScript). HasScript told r) is (whole_script told left bytes taken)
 
-pub collides_whole : (address : List ℕ → List ℕ) (told left old new : Option (List ℕ)) (bytes : List ℕ) → IsRead told left bytes → WritesCollision address (Some bytes) old new → WritesCollision address told old new
-collides_whole address told left old new bytes read wrote = record {
+pub collides_whole : (address : List ℕ → List ℕ) (epoch : ℤ) (told left old new : Option (List ℕ)) (bytes : List ℕ) → IsRead told left bytes → WritesCollision address epoch (Some bytes) old new → WritesCollision address epoch told old new
+collides_whole address epoch told left old new bytes read wrote = record {
   script = wrote.script;
   reads = told_script told left bytes wrote.script read wrote.reads;
   clash = wrote.clash;
@@ -81,17 +81,17 @@ collides_whole address told left old new bytes read wrote = record {
   writes = wrote.writes;
 }
 
-wanted_whole : (address : List ℕ → List ℕ) (words : List (List ℕ)) (told left : Option (List ℕ)) (bytes written : List ℕ) → is_form words ≡ true → IsRead told left bytes
-    → IsWanted address bytes written → IsToWrite address words told written
-wanted_whole address words told left bytes written form read (Answer answer) = Answers (script bytes) form (whole_script told left bytes read) answer
-wanted_whole address words told left bytes written form read (Fault bad is line) = Faults bad form (told_fault told left bytes bad read is) line
-wanted_whole address words told left bytes written form read (Collision said clash is opens line) = Collides said clash form (told_script told left bytes said read is) opens line
+wanted_whole : (address : List ℕ → List ℕ) (epoch : ℤ) (told left : Option (List ℕ)) (bytes written : List ℕ) → IsRead told left bytes
+    → IsWanted address epoch bytes written → IsToWrite address epoch told written
+wanted_whole address epoch told left bytes written read (Answer answer) = Answers (script bytes) (whole_script told left bytes read) answer
+wanted_whole address epoch told left bytes written read (Fault bad is line) = Faults bad (told_fault told left bytes bad read is) line
+wanted_whole address epoch told left bytes written read (Collision said clash is opens line) = Collides said clash (told_script told left bytes said read is) opens line
 
-pub falls_whole : (address : List ℕ → List ℕ) (words : List (List ℕ)) (told left old new : Option (List ℕ)) (bytes : List ℕ) (room : ℕ) → is_form words ≡ true → IsRead told left bytes
-    → AnswersPart address bytes old new room → FallsShort address words told old new room
-falls_whole address words told left old new bytes room form read part = record {
+pub falls_whole : (address : List ℕ → List ℕ) (epoch : ℤ) (told left old new : Option (List ℕ)) (bytes : List ℕ) (room : ℕ) → IsRead told left bytes
+    → AnswersPart address epoch bytes old new room → FallsShort address epoch told old new room
+falls_whole address epoch told left old new bytes room read part = record {
   written = part.written;
-  wanted = wanted_whole address words told left bytes part.written form read part.wanted;
+  wanted = wanted_whole address epoch told left bytes part.written read part.wanted;
   wider = part.wider;
   writes = part.writes;
 }

@@ -1,6 +1,5 @@
 -- What the program reads and writes.
-use Rattle.std.specs.Prelude.{◌≡◌, ℕ, pos, ◌+◌, Bool, false, List, [], ◌∷◌, ◌++◌, map, codes, String, string_bytes, Option, Some, None, Result, Ok}
-use Rattle.std.specs.Str.{bytes_eq}
+use Rattle.std.specs.Prelude.{◌≡◌, ℕ, ℤ, ◌+◌, List, ◌++◌, codes, Option, Some, None, Result, Ok}
 use Rattle.std.specs.Fmt.{decimal}
 use Rattle.std.specs.Io.KnownBytes.{Appends, IsAtEnd}
 use Rattle.chunk_store.specs.declared.faults.Clash.{Clash}
@@ -15,16 +14,6 @@ use Rattle.plain_sessions.specs.Narrowing.{narrowed}
 use Rattle.plain_sessions.specs.Output.{IsPlainRun}
 use Rattle.run_laws.specs.Orders.{IsTextOrder}
 use Rattle.serving.specs.Running as running
-
--- the bytes of the words
-abbrev pub spelled : {A : Type 0} → List (String A) → List (List ℕ)
-spelled words = map (λ word. string_bytes word) words
-
--- the words that the program takes: the one word `ordered`
-abbrev pub is_form : List (List ℕ) → Bool
-is_form [] = false
-is_form (word ∷ []) = bytes_eq word (codes "ordered")
-is_form (word ∷ next ∷ words) = false
 
 abbrev pub usage_line : List ℕ
 usage_line = codes "usage: doltrun ordered|threads|replay [--epoch N] | load --seed N [--epoch N]\n"
@@ -46,15 +35,15 @@ abbrev pub HasScript : Option (List ℕ) → Result Script BadScript → Type 0
 HasScript None read = Unit {0}
 HasScript (Some input) read = script input ≡ read
 
--- The text that was written is that of a run which is the plain machine's run of the script, along the order and with
+-- The text that was written is that of a run which is the plain machine's run of the script with this epoch, along the order and with
 -- the wants of memory and collisions that the text shows, where a command that doesn't run yet is refused by its text alone; the order is the
 -- script's own; each collision is one of two byte strings of that address; and whatever run has this text has the same sessions, printed
 -- replies, wants of memory, collisions and order.
-pub record IsAnswer (address : List ℕ → List ℕ) (read : Result Script BadScript) (written : List ℕ) : Type 0 where
+pub record IsAnswer (address : List ℕ → List ℕ) (epoch : ℤ) (read : Result Script BadScript) (written : List ℕ) : Type 0 where
   pub script : Script
   pub run : RunText
   pub reads : read ≡ Ok script
-  pub runs : IsPlainRun (narrowed running.runs) address (pos 0) script run
+  pub runs : IsPlainRun (narrowed running.runs) address epoch script run
   pub truly : AllTellTruly address run.replies
   pub ordered : IsTextOrder script run.order
   pub shown : IsShown run
@@ -62,10 +51,10 @@ pub record IsAnswer (address : List ℕ → List ℕ) (read : Result Script BadS
   pub alone : (other : RunText) → IsShown other → text other ≡ written → IsSameShown run other
 
 -- the whole input was read, and the whole answer to its script was appended
-pub record WritesAnswer (address : List ℕ → List ℕ) (told left old new : Option (List ℕ)) : Type 0 where
+pub record WritesAnswer (address : List ℕ → List ℕ) (epoch : ℤ) (told left old new : Option (List ℕ)) : Type 0 where
   pub read : Result Script BadScript
   pub script : HasScript told read
   pub ended : IsAtEnd left
   pub written : List ℕ
-  pub answers : IsAnswer address read written
+  pub answers : IsAnswer address epoch read written
   pub writes : Appends old new written

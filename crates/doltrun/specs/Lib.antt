@@ -3,3 +3,4 @@ pub mod Endings
 pub mod Headline
 pub mod Statuses
 pub mod Stops
+pub mod Words

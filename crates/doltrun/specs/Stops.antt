@@ -1,5 +1,5 @@
 -- What the program writes where it doesn't answer.
-use Rattle.std.specs.Prelude.{◌≡◌, ◌⊎◌, ℕ, pos, ◌<◌, true, false, List, length, Option, Some, None, Result, Ok, Err}
+use Rattle.std.specs.Prelude.{◌≡◌, ◌⊎◌, ℕ, ℤ, ◌<◌, List, length, Option, Some, None, Result, Ok, Err}
 use Rattle.std.specs.Io.KnownBytes.{Appends}
 use Rattle.script_text.specs.Input.{script}
 use Rattle.script_text.specs.declared.faults.BadScript.{BadScript}
@@ -7,7 +7,7 @@ use Rattle.chunk_store.specs.declared.faults.Clash.{Clash}
 use Rattle.script_text.specs.declared.scripts.Script.{Script}
 use Rattle.wire_io.specs.Moves.{AppendsFront}
 use Rattle.shared_db.specs.Opening.{IsOpeningClash}
-use Rattle.doltrun.specs.Headline.{HasScript, IsAnswer, collision_line, fault_line, is_form, usage_line}
+use Rattle.doltrun.specs.Headline.{HasScript, IsAnswer, collision_line, fault_line}
 use Rattle.doltrun.specs.declared.answering.NoAnswer.{NoAnswer}
 use Rattle.doltrun.specs.declared.answering.NoAnswer.TheVariants as fault
 use Rattle.doltrun.specs.declared.status.Status.{Status}
@@ -20,33 +20,32 @@ pub record WritesFault (told old new : Option (List ℕ)) : Type 0 where
   pub writes : Appends old new (fault_line bad)
 
 -- the script was read, and the two chunks that a database is opened with, which have one address, were appended
-pub record WritesCollision (address : List ℕ → List ℕ) (told old new : Option (List ℕ)) : Type 0 where
+pub record WritesCollision (address : List ℕ → List ℕ) (epoch : ℤ) (told old new : Option (List ℕ)) : Type 0 where
   pub script : Script
   pub reads : HasScript told (Ok script)
   pub clash : Clash
-  pub opens : IsOpeningClash address (pos 0) clash
+  pub opens : IsOpeningClash address epoch clash
   pub writes : Appends old new (collision_line clash)
 
 -- a text that is written whole where the sink doesn't fail
-pub data IsToWrite (address : List ℕ → List ℕ) (words : List (List ℕ)) (told : Option (List ℕ)) (written : List ℕ) : Type 0 where
-  Answers : (read : Result Script BadScript) → is_form words ≡ true → HasScript told read → IsAnswer address read written → IsToWrite address words told written
-  Faults : (bad : BadScript) → is_form words ≡ true → HasScript told (Err bad) → written ≡ fault_line bad → IsToWrite address words told written
-  Collides : (script : Script) (clash : Clash) → is_form words ≡ true → HasScript told (Ok script) → IsOpeningClash address (pos 0) clash → written ≡ collision_line clash → IsToWrite address words told written
-  Uses : is_form words ≡ false → written ≡ usage_line → IsToWrite address words told written
+pub data IsToWrite (address : List ℕ → List ℕ) (epoch : ℤ) (told : Option (List ℕ)) (written : List ℕ) : Type 0 where
+  Answers : (read : Result Script BadScript) → HasScript told read → IsAnswer address epoch read written → IsToWrite address epoch told written
+  Faults : (bad : BadScript) → HasScript told (Err bad) → written ≡ fault_line bad → IsToWrite address epoch told written
+  Collides : (script : Script) (clash : Clash) → HasScript told (Ok script) → IsOpeningClash address epoch clash → written ≡ collision_line clash → IsToWrite address epoch told written
 
 -- a part of such a text was appended, and the sink promised no room for the whole of it
-pub record FallsShort (address : List ℕ → List ℕ) (words : List (List ℕ)) (told old new : Option (List ℕ)) (room : ℕ) : Type 0 where
+pub record FallsShort (address : List ℕ → List ℕ) (epoch : ℤ) (told old new : Option (List ℕ)) (room : ℕ) : Type 0 where
   pub written : List ℕ
-  pub wanted : IsToWrite address words told written
+  pub wanted : IsToWrite address epoch told written
   pub wider : room < length written
   pub writes : AppendsFront old new written
 
 -- what bytes come to: the answer to their script, or the fault of it
-abbrev pub Comes : (List ℕ → List ℕ) → List ℕ → Result (List ℕ) NoAnswer → Type 0
-Comes address bytes (Ok written) = IsAnswer address (script bytes) written
-Comes address bytes (Err fault.Memory) = Unit {0}
-Comes address bytes (Err (fault.Bad bad)) = script bytes ≡ Err bad
-Comes address bytes (Err (fault.Collision clash)) = ((read : Script) × (script bytes ≡ Ok read)) × IsOpeningClash address (pos 0) clash
+abbrev pub Comes : (List ℕ → List ℕ) → ℤ → List ℕ → Result (List ℕ) NoAnswer → Type 0
+Comes address epoch bytes (Ok written) = IsAnswer address epoch (script bytes) written
+Comes address epoch bytes (Err fault.Memory) = Unit {0}
+Comes address epoch bytes (Err (fault.Bad bad)) = script bytes ≡ Err bad
+Comes address epoch bytes (Err (fault.Collision clash)) = ((read : Script) × (script bytes ≡ Ok read)) × IsOpeningClash address epoch clash
 
 -- the told input has a line that breaks a rule
 abbrev pub IsTold : Option (List ℕ) → BadScript → Type 0
@@ -58,20 +57,20 @@ abbrev pub StopsThere : Status → Type 0
 StopsThere result = (result ≡ status.Script) ⊎ (result ≡ status.Read) ⊎ (result ≡ status.Write) ⊎ (result ≡ status.Memory)
 
 -- the answer to the script of these bytes was appended
-pub record AnswersAll (address : List ℕ → List ℕ) (bytes : List ℕ) (old new : Option (List ℕ)) : Type 0 where
+pub record AnswersAll (address : List ℕ → List ℕ) (epoch : ℤ) (bytes : List ℕ) (old new : Option (List ℕ)) : Type 0 where
   pub written : List ℕ
-  pub answers : IsAnswer address (script bytes) written
+  pub answers : IsAnswer address epoch (script bytes) written
   pub writes : Appends old new written
 
 -- what these bytes come to: an answer, a fault, or a collision
-pub data IsWanted (address : List ℕ → List ℕ) (bytes written : List ℕ) : Type 0 where
-  Answer : IsAnswer address (script bytes) written → IsWanted address bytes written
-  Fault : (bad : BadScript) → script bytes ≡ Err bad → written ≡ fault_line bad → IsWanted address bytes written
-  Collision : (read : Script) (clash : Clash) → script bytes ≡ Ok read → IsOpeningClash address (pos 0) clash → written ≡ collision_line clash → IsWanted address bytes written
+pub data IsWanted (address : List ℕ → List ℕ) (epoch : ℤ) (bytes written : List ℕ) : Type 0 where
+  Answer : IsAnswer address epoch (script bytes) written → IsWanted address epoch bytes written
+  Fault : (bad : BadScript) → script bytes ≡ Err bad → written ≡ fault_line bad → IsWanted address epoch bytes written
+  Collision : (read : Script) (clash : Clash) → script bytes ≡ Ok read → IsOpeningClash address epoch clash → written ≡ collision_line clash → IsWanted address epoch bytes written
 
 -- a part was appended of it
-pub record AnswersPart (address : List ℕ → List ℕ) (bytes : List ℕ) (old new : Option (List ℕ)) (room : ℕ) : Type 0 where
+pub record AnswersPart (address : List ℕ → List ℕ) (epoch : ℤ) (bytes : List ℕ) (old new : Option (List ℕ)) (room : ℕ) : Type 0 where
   pub written : List ℕ
-  pub wanted : IsWanted address bytes written
+  pub wanted : IsWanted address epoch bytes written
   pub wider : room < length written
   pub writes : AppendsFront old new written

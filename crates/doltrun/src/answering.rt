@@ -1,4 +1,4 @@
-ghost use Rattle.std.specs.Prelude.{◌≡◌, IfOk, string_bytes};
+ghost use Rattle.std.specs.Prelude.{◌≡◌, ◌≤ℤ◌, IfOk, pos, string_bytes};
 ghost use Rattle.doltrun.specs.Headline.{collision_line, fault_line};
 ghost use Rattle.doltrun.specs.Stops.{Comes};
 
@@ -58,16 +58,18 @@ impl From<PutFault> for NoAnswer {
     }
 }
 
-/// The text that answers the script in these bytes.
+/// The text that answers the script in these bytes. Commits bear the epoch as their date.
 pub fn answer<D: Digester, P: Pacer>(
     alloc: Global,
     pacer: &P,
+    epoch: i64,
     bytes: &[u8],
 ) -> Result<Blob, NoAnswer>
-    ensures { Comes D.address bytes.now result }
+    requires { pos 0 ≤ℤ epoch }
+    ensures { Comes D.address epoch bytes.now result }
 {
     let script = read_script(alloc, bytes, false)?;
-    let run = run_script::<D, P>(alloc, pacer, script, 0)?;
+    let run = run_script::<D, P>(alloc, pacer, script, epoch)?;
     one_reading();
     Ok(print_output(alloc, &run)?)
 }

@@ -5,6 +5,7 @@
 #![tactic(auto)]
 
 mod answering;
+mod numerals;
 mod status;
 #[cfg(test)]
 mod tests;
@@ -19,9 +20,10 @@ use std::process::ExitCode;
 use std::rt::Env;
 pub use top::{run, run_with};
 use wire_io::{NoPace, StdSink, StdSource};
+pub use words::{Form, Mode};
 
 fn main(rt: HostRuntime) -> ExitCode {
-    let Ok(words) = read_words(&rt) else {
+    let Ok(words) = given_words(&rt) else {
         return ExitCode::from(Status::Memory.number());
     };
     let mut input = StdSource::new(rt.stdin());
@@ -38,7 +40,7 @@ fn main(rt: HostRuntime) -> ExitCode {
 }
 
 /// The words behind the program's name. Where one isn't text there are none, which is no form either.
-fn read_words<R: Env + Alloc>(rt: &R) -> io::Result<Vec<String<R::A>, R::A>> {
+fn given_words<R: Env + Alloc>(rt: &R) -> io::Result<Vec<String<R::A>, R::A>> {
     match env::args(rt) {
         Ok(words) => Ok(words.skip(1).collect(rt.alloc())?),
         Err(error) if error.kind() == ErrorKind::InvalidData => Ok(Vec::new(rt.alloc())),

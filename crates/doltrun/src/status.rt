@@ -6,7 +6,7 @@ ghost use Rattle.doltrun.specs.Statuses.{number_of};
 pub enum Status {
     /// The run's text was written.
     Done,
-    /// The words are none of the program's forms; the usage line was written.
+    /// The words ask for no run; the usage line was written.
     Usage,
     /// A line of the script breaks a rule; the line and the rule were written.
     Script,
@@ -14,7 +14,7 @@ pub enum Status {
     Read,
     /// The sink failed. It holds a part of what was to be written.
     Write,
-    /// There was no memory for the input, the run's room or the text. Nothing was written.
+    /// There was no memory for the words, the input, the run's room or the text. Nothing was written.
     Memory,
     /// The two chunks that a database is opened with have one address; it and both byte strings were written.
     Collision,

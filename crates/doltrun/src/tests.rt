@@ -12,27 +12,32 @@ const ROOM: usize = 4_194_304;
 const USAGE_LINE: &[u8] =
     b"usage: doltrun ordered|threads|replay [--epoch N] | load --seed N [--epoch N]\n";
 
-/// The status of a run over memory, and what it wrote.
+fn words_of(alloc: Global, line: &str) -> Result<Vec<String>, AllocError> {
+    let mut words = Vec::new(alloc);
+    for word in line.split_whitespace() {
+        words.push(String::from_str(alloc, word)?)?;
+    }
+    Ok(words)
+}
+
+/// The status of a run over memory, and what it wrote. The words stand in one line.
 fn ended<R: Threads + Wait + Sync>(
     rt: &R,
     alloc: Global,
-    word: Option<&str>,
+    words: &str,
     script: &[u8],
 ) -> Result<(Status, Vec<u8>), AllocError> {
-    ended_at_pace(rt, alloc, word, script, &NoPace)
+    ended_at_pace(rt, alloc, words, script, &NoPace)
 }
 
 fn ended_at_pace<R: Threads + Wait + Sync, P: Pacer>(
     rt: &R,
     alloc: Global,
-    word: Option<&str>,
+    words: &str,
     script: &[u8],
     pacer: &P,
 ) -> Result<(Status, Vec<u8>), AllocError> {
-    let mut words = Vec::new(alloc);
-    if let Some(word) = word {
-        words.push(String::from_str(alloc, word)?)?;
-    }
+    let words = words_of(alloc, words)?;
     let mut input = MemorySource::steady(Vec::from_slice(alloc, script)?);
     let mut output = MemorySink::steady(alloc, ROOM)?;
     let status = run(rt, alloc, words.as_slice(), &mut input, &mut output, pacer);
@@ -63,7 +68,7 @@ fn a_table_is_made_filled_and_shown_by_rising_key(rt: HostRuntime) -> Result<(),
     let pacer = Calls {
         digits: AtomicU64::new(0),
     };
-    let (status, written) = ended_at_pace(&rt, rt.alloc(), Some("ordered"), script, &pacer)?;
+    let (status, written) = ended_at_pace(&rt, rt.alloc(), "ordered", script, &pacer)?;
     assert_eq!(rt; status, Status::Done);
     assert_eq!(rt; pacer.digits.load(Ordering::SeqCst), 1_002_003);
     let wanted = b"session alice\n1 ok\n2 ok 2\n3 rows 2\nid,name\n1,'ada'\n2,'bob'
@@ -75,7 +80,7 @@ branch main gj1enah2hu7oj7neve7uiuqo5geo87mk 8lo6ctq3d8k9atalppe3numo8qqm2goa 9s
 
 #[test]
 fn an_empty_input_has_an_order_without_moments_and_a_branch(rt: HostRuntime) -> Result<(), Fail> {
-    let (status, written) = ended(&rt, rt.alloc(), Some("ordered"), b"")?;
+    let (status, written) = ended(&rt, rt.alloc(), "ordered", b"")?;
     assert_eq!(rt; status, Status::Done);
     let wanted = b"order
 branch main gj1enah2hu7oj7neve7uiuqo5geo87mk 9srqt76ersimhc5b156ea1tnkcjnq9it 9srqt76ersimhc5b156ea1tnkcjnq9it\n";
@@ -91,7 +96,7 @@ fn refusals_are_told_each_by_its_number_and_text(rt: HostRuntime) -> Result<(), 
 @a SELECT * FROM u;
 @a DELETE FROM t;
 ";
-    let (status, written) = ended(&rt, rt.alloc(), Some("ordered"), script)?;
+    let (status, written) = ended(&rt, rt.alloc(), "ordered", script)?;
     assert_eq!(rt; status, Status::Done);
     let wanted = b"session a
 1 ok
@@ -108,37 +113,78 @@ branch main gj1enah2hu7oj7neve7uiuqo5geo87mk 1ofqoa6ch04j1tm93q1d2t0er4ecrtd3 9s
 
 #[test]
 fn a_line_without_its_semicolon_is_told(rt: HostRuntime) -> Result<(), Fail> {
-    let (status, written) = ended(&rt, rt.alloc(), Some("ordered"), b"@a SELECT 1")?;
+    let (status, written) = ended(&rt, rt.alloc(), "ordered", b"@a SELECT 1")?;
     assert_eq!(rt; status, Status::Script);
     assert_eq!(rt; written.as_slice(), b"script line 1 rule 3\n".as_slice());
     Ok(())
 }
 
+const STATUSES: &str = "0 ordered
+0 --epoch=5 ordered
+0 ordered --epoch 5
+0 --epoch 5 -- ordered
+0 ordered --
+0 ordered --epoch 9223372036854775807
+1 ordered --epoch 5 --epoch 6
+1 ordered --epoch -1
+1 ordered --epoch 9223372036854775808
+1 ordered --epoch 05
+1 ordered --seed 1
+1 load
+1 load --seed 7
+1 load --seed 1 --seed 1
+1 threads
+1 threads x
+1 replay --epoch=5
+1 turbo
+1 --help
+1 -- --epoch=5 ordered
+1 ";
+
+/// Whether a run with these words has the status, and tells the usage where that is 1.
+fn ends_so<R: Threads + Wait + Sync>(
+    rt: &R,
+    alloc: Global,
+    status: &str,
+    words: &str,
+) -> Result<bool, AllocError> {
+    let (found, written) = ended(rt, alloc, words, b"")?;
+    let told = written.as_slice() == USAGE_LINE;
+    Ok(match found {
+        Status::Done => status == "0" && !told,
+        Status::Usage => status == "1" && told,
+        _ => false,
+    })
+}
+
 #[test]
-fn another_word_is_answered_by_the_usage(rt: HostRuntime) -> Result<(), Fail> {
-    let (status, written) = ended(&rt, rt.alloc(), Some("turbo"), b"")?;
-    assert_eq!(rt; status.number(), 1);
-    assert_eq!(rt; written.as_slice(), USAGE_LINE);
+fn words_have_their_statuses(rt: HostRuntime) -> Result<(), Fail> {
+    for line in STATUSES.lines() {
+        let (status, words) = line.split_once(' ').unwrap_or((line, ""));
+        assert!(rt; ends_so(&rt, rt.alloc(), status, words)?, "{line}");
+    }
     Ok(())
 }
 
 #[test]
-fn no_word_is_answered_by_the_usage(rt: HostRuntime) -> Result<(), Fail> {
-    let (status, written) = ended(&rt, rt.alloc(), None, b"")?;
-    assert_eq!(rt; status.number(), 1);
-    assert_eq!(rt; written.as_slice(), USAGE_LINE);
+fn the_epoch_is_the_date_of_commits(rt: HostRuntime) -> Result<(), Fail> {
+    let script = b"@a SELECT date FROM dolt_log;\n";
+    let (status, written) = ended(&rt, rt.alloc(), "--epoch=5 ordered", script)?;
+    assert_eq!(rt; status, Status::Done);
+    let wanted = b"session a\n1 rows 1\ndate\n5\norder a/1
+branch main 1si6gvhb109a3pgthpi9ii85i0lij22v 9srqt76ersimhc5b156ea1tnkcjnq9it 9srqt76ersimhc5b156ea1tnkcjnq9it\n";
+    assert_eq!(rt; written.as_slice(), wanted.as_slice());
     Ok(())
 }
 
-/// The status of a run of the one form over these ends.
+/// The status of a run of `ordered` over these ends.
 fn ended_over<R: Threads + Wait + Sync>(
     rt: &R,
     alloc: Global,
     input: &mut MemorySource,
     output: &mut MemorySink,
 ) -> Result<Status, AllocError> {
-    let mut words = Vec::new(alloc);
-    words.push(String::from_str(alloc, "ordered")?)?;
+    let words = words_of(alloc, "ordered")?;
     Ok(run(rt, alloc, words.as_slice(), input, output, &NoPace))
 }
 
@@ -179,14 +225,13 @@ impl Digester for OneForAll {
     }
 }
 
-/// The status of a run of the one form over memory, where all bytes have one address, and what it wrote.
+/// The status of a run of `ordered` over memory, where all bytes have one address, and what it wrote.
 fn ended_alike<R: Threads + Wait + Sync>(
     rt: &R,
     alloc: Global,
     script: &[u8],
 ) -> Result<(Status, Vec<u8>), AllocError> {
-    let mut words = Vec::new(alloc);
-    words.push(String::from_str(alloc, "ordered")?)?;
+    let words = words_of(alloc, "ordered")?;
     let mut input = MemorySource::steady(Vec::from_slice(alloc, script)?);
     let mut output = MemorySink::steady(alloc, ROOM)?;
     let status = run_with::<OneForAll, R, MemorySource, MemorySink, NoPace>(
@@ -236,8 +281,7 @@ impl Digester for ByFirst {
 fn a_collision_in_a_statement_is_its_reply(rt: HostRuntime) -> Result<(), Fail> {
     let alloc = rt.alloc();
     let script = b"@a CREATE TABLE t (id BIGINT PRIMARY KEY);\n@a SELECT * FROM t;\n";
-    let mut words = Vec::new(alloc);
-    words.push(String::from_str(alloc, "ordered")?)?;
+    let words = words_of(alloc, "ordered")?;
     let mut input = MemorySource::steady(Vec::from_slice(alloc, script)?);
     let mut output = MemorySink::steady(alloc, ROOM)?;
     let status = ended_by_first(&rt, alloc, words.as_slice(), &mut input, &mut output);

@@ -1,9 +1,10 @@
 ghost use Rattle.chunk_store.specs.Digests.{cut_address};
-ghost use Rattle.doltrun.specs.Endings.{IsEnding};
-ghost use Rattle.doltrun.specs.Headline.{spelled};
+ghost use Rattle.std.specs.Prelude.{◌≤ℤ◌, pos};
+ghost use Rattle.doltrun.specs.Endings.{IsEnding, IsRun};
+ghost use Rattle.doltrun.specs.Words.{spelled};
 
 use crate::status::Status;
-use crate::words::{USAGE, has_form};
+use crate::words::{USAGE, epoch_to_run};
 use crate::writing::{write_answer, write_last};
 use chunk_store::Sha512Cut;
 use std::alloc::Global;
@@ -19,7 +20,7 @@ const MOST_TAKEN: usize = 16_777_217;
 /// `output` what each answered, the order of the moments, and the branches that they leave. `words` are the command line without the program's
 /// name.
 ///
-/// The text is built whole before its first byte is written.
+/// `ordered` is the one mode that runs. Commits bear the date of `--epoch`. The text is built whole before its first byte is written.
 pub fn run<R: Threads + Wait + Sync, S: Source, K: Sink, P: Pacer>(
     rt: &R,
     alloc: Global,
@@ -58,11 +59,25 @@ fn run_alone<D: Digester, S: Source, K: Sink, P: Pacer>(
 ) -> Status
     ensures { IsEnding D.address (spelled words.now) (record { left = S.left; faults = S.faults; steady = S.steady }) (record { held = K.held; faults = K.faults; room = K.room }) input.old input.new output.old output.new result }
 {
-    if !has_form(words) {
-        return write_last(output, USAGE, Status::Usage);
+    match epoch_to_run(alloc, words) {
+        Ok(Some(epoch)) => run_input::<D, S, K, P>(alloc, epoch, input, output, pacer),
+        Ok(None) => write_last(output, USAGE, Status::Usage),
+        Err(_) => Status::Memory,
     }
+}
+
+fn run_input<D: Digester, S: Source, K: Sink, P: Pacer>(
+    alloc: Global,
+    epoch: i64,
+    input: &mut S,
+    output: &mut K,
+    pacer: &P,
+) -> Status
+    requires { pos 0 ≤ℤ epoch }
+    ensures { IsRun D.address epoch (record { left = S.left; faults = S.faults; steady = S.steady }) (record { held = K.held; faults = K.faults; room = K.room }) input.old input.new output.old output.new result }
+{
     match read_up_to(alloc, input, MOST_TAKEN) {
-        Ok(bytes) => write_answer::<D, K, P>(alloc, pacer, bytes.as_slice(), output),
+        Ok(bytes) => write_answer::<D, K, P>(alloc, pacer, epoch, bytes.as_slice(), output),
         Err(ReadStop::Failed) => Status::Read,
         Err(ReadStop::Memory) => Status::Memory,
     }

@@ -1,16 +1,137 @@
-ghost use Rattle.std.specs.Prelude.{◌≡◌};
-ghost use Rattle.doltrun.specs.Headline.{is_form, spelled};
+ghost use Rattle.std.specs.Prelude.{◌≡◌, IfOk, codes, option_map};
+ghost use Rattle.clap.specs.Words.{app_of, first_value, found_of};
+ghost use Rattle.doltrun.specs.Words.{epoch_asked, epoch_named, epoch_of, form, form_named, form_of, line, mode_named, run_of, seed_of, spelled};
+
+use crate::numerals::number_in;
+use clap::error::ErrorKind;
+use clap::{Arg, ArgMatches, Command};
+use std::alloc::{AllocError, Global};
 
 /// The line that tells the forms.
 pub const USAGE: &[u8] =
     b"usage: doltrun ordered|threads|replay [--epoch N] | load --seed N [--epoch N]\n";
 
-/// Whether the words, without the program's name, are one of the program's forms.
-pub fn has_form(words: &[String]) -> bool
-    ensures { result ≡ is_form (spelled words.now) }
+/// What the program is to do.
+#[derive(Clone, Copy, Debug, PartialEq, Eq)]
+pub enum Mode {
+    /// Run a script's statements in the order of its lines.
+    Ordered,
+    /// Run each session in a thread of its own.
+    Threads,
+    /// Run a script's statements in the order that it gives.
+    Replay,
+    /// Run a workload that is made from a seed.
+    Load,
+}
+
+/// What the words ask for.
+#[derive(Clone, Copy, Debug, PartialEq, Eq)]
+pub struct Form {
+    pub mode: Mode,
+    /// The date of every commit.
+    pub epoch: i64,
+    /// What `load` makes its workload from; no other mode has one.
+    pub seed: Option<u64>,
+}
+
+/// The epoch of the run that the words ask for; `None` where they are no form, or one that doesn't run yet.
+pub fn epoch_to_run(alloc: Global, words: &[String]) -> Result<Option<i64>, AllocError>
+    ensures { IfOk result (λ epoch. epoch ≡ epoch_asked (spelled words.now)) }
 {
-    match words {
-        [word] => word.as_str() == "ordered",
-        _ => false,
+    match read_words(alloc, words)? {
+        Some(asked) => Ok(run_in(asked.mode, asked.epoch)),
+        None => Ok(None),
+    }
+}
+
+fn run_in(mode: Mode, epoch: i64) -> Option<i64>
+    ensures { result ≡ run_of mode epoch }
+{
+    match mode {
+        Mode::Ordered => Some(epoch),
+        Mode::Threads | Mode::Replay | Mode::Load => None,
+    }
+}
+
+/// What the words, without the program's name, ask for; `None` where they are none of the program's forms.
+pub fn read_words<'a>(alloc: Global, words: &'a [String]) -> Result<Option<Form>, AllocError>
+    ensures { IfOk result (λ read. read ≡ form (spelled words.entry.now)) }
+{
+    match command(alloc)?.try_get_matches_from(words) {
+        Ok(matches) => Ok(form_in(&matches)),
+        Err(error) => match error.kind() {
+            ErrorKind::OutOfMemory => Err(AllocError),
+            _ => Ok(None),
+        },
+    }
+}
+
+fn command<'a>(alloc: Global) -> Result<Command<'a>, AllocError>
+    ensures { IfOk result (λ command. app_of command ≡ line) }
+{
+    let mode = Arg::new(alloc, "mode").required(true);
+    let epoch = Arg::new(alloc, "epoch").long("epoch");
+    let seed = Arg::new(alloc, "seed").long("seed");
+    Command::new(alloc, "doltrun")
+        .no_binary_name(true)
+        .disable_help_flag(true)
+        .disable_version_flag(true)
+        .arg(mode)?
+        .arg(epoch)?
+        .arg(seed)
+}
+
+fn form_in(matches: &ArgMatches) -> Option<Form>
+    ensures { result ≡ form_named (first_value (found_of matches.now) (codes "mode"))
+        (first_value (found_of matches.now) (codes "epoch"))
+        (first_value (found_of matches.now) (codes "seed")) }
+{
+    let mode = mode_in(matches.get_str("mode")?)?;
+    form_for(mode, matches.get_str("epoch"), matches.get_str("seed"))
+}
+
+fn form_for(mode: Mode, epoch: Option<&str>, seed: Option<&str>) -> Option<Form>
+    ensures { result ≡ form_of mode (option_map (λ text. text.now) epoch.entry) (option_map (λ text. text.now) seed.entry) }
+{
+    let epoch = epoch_or_zero(epoch)?;
+    let seed = seed_for(mode, seed)?;
+    Some(Form { mode, epoch, seed })
+}
+
+fn mode_in(text: &str) -> Option<Mode>
+    ensures { result ≡ mode_named text.now }
+{
+    match text {
+        "ordered" => Some(Mode::Ordered),
+        "threads" => Some(Mode::Threads),
+        "replay" => Some(Mode::Replay),
+        "load" => Some(Mode::Load),
+        _ => None,
+    }
+}
+
+fn epoch_or_zero(epoch: Option<&str>) -> Option<i64>
+    ensures { result ≡ epoch_of (option_map (λ text. text.now) epoch.entry) }
+{
+    match epoch {
+        None => Some(0),
+        Some(text) => epoch_in(text),
+    }
+}
+
+fn epoch_in(text: &str) -> Option<i64>
+    ensures { result ≡ epoch_named text.now }
+{
+    i64::try_from(number_in(text)?).ok()
+}
+
+fn seed_for(mode: Mode, seed: Option<&str>) -> Option<Option<u64>>
+    ensures { result ≡ seed_of mode (option_map (λ text. text.now) seed.entry) }
+{
+    match (mode, seed) {
+        (Mode::Load, None) => None,
+        (Mode::Load, Some(text)) => Some(Some(number_in(text)?)),
+        (_, None) => Some(None),
+        (_, Some(_)) => None,
     }
 }

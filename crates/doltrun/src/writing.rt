@@ -1,4 +1,4 @@
-ghost use Rattle.std.specs.Prelude.{◌≡◌, ◌≢◌, ◌<◌, ◌≤◌, Err, Some, length};
+ghost use Rattle.std.specs.Prelude.{◌≡◌, ◌≢◌, ◌<◌, ◌≤◌, ◌≤ℤ◌, Err, Some, length, pos};
 ghost use Rattle.std.specs.Io.KnownBytes.{Appends};
 ghost use Rattle.wire_io.specs.Causes.{Rose};
 ghost use Rattle.wire_io.specs.Moves.{AppendsFront};
@@ -19,22 +19,24 @@ use wire_io::{Pacer, Sink, write_whole};
 pub fn write_answer<D: Digester, K: Sink, P: Pacer>(
     alloc: Global,
     pacer: &P,
+    epoch: i64,
     bytes: &[u8],
     output: &mut K,
 ) -> Status
-    ensures done { result ≡ Status.Done → AnswersAll D.address bytes.now (K.held output.old) (K.held output.new) }
+    requires { pos 0 ≤ℤ epoch }
+    ensures done { result ≡ Status.Done → AnswersAll D.address epoch bytes.now (K.held output.old) (K.held output.new) }
     ensures script { result ≡ Status.Script
         → (bad : BadScript) × (script bytes.now ≡ Err bad) × Appends (K.held output.old) (K.held output.new) (fault_line bad) }
-    ensures collision { result ≡ Status.Collision → WritesCollision D.address (Some bytes.now) (K.held output.old) (K.held output.new) }
+    ensures collision { result ≡ Status.Collision → WritesCollision D.address epoch (Some bytes.now) (K.held output.old) (K.held output.new) }
     ensures faulty { (bad : BadScript) → script bytes.now ≡ Err bad → (result ≢ Status.Done) × (result ≢ Status.Collision) }
-    ensures part { result ≡ Status.Write → AnswersPart D.address bytes.now (K.held output.old) (K.held output.new) (K.room output.old) }
+    ensures part { result ≡ Status.Write → AnswersPart D.address epoch bytes.now (K.held output.old) (K.held output.new) (K.room output.old) }
     ensures rose { result ≡ Status.Write → Rose (K.faults output.old) (K.faults output.new) }
     ensures later { K.faults output.old ≤ K.faults output.new }
     ensures memory { result ≡ Status.Memory → output.new ≡ output.old }
     ensures words { result ≢ Status.Usage }
     ensures source { result ≢ Status.Read }
 {
-    match answer::<D, P>(alloc, pacer, bytes) {
+    match answer::<D, P>(alloc, pacer, epoch, bytes) {
         Ok(text) => write_last(output, text.as_slice(), Status::Done),
         Err(NoAnswer::Bad(bad)) => write_fault(alloc, bad, output),
         Err(NoAnswer::Collision(clash)) => write_clash(alloc, &clash, output),

@@ -1,0 +1,61 @@
+-- An epoch that words ask for is a date: it isn't negative, and 64 bits hold it.
+use Rattle.std.proofs.Common.{◌≡◌, refl, subst, sym, ℕ, ℤ, pos, Bool, true, false, nat_lt, List, Option, Some, None, arith, w64, if◌then◌else◌}
+use Rattle.std.proofs.lemmas.Bool.Decides.{nat_tests}
+use Rattle.std.proofs.lemmas.Int.{ints}
+use Rattle.std.specs.Prelude.{◌≤ℤ◌, ◌<◌, ◌^◌, FitsSigned, IfSome, codes, option_and_then, option_map}
+use Rattle.clap.specs.Walk.{is_empty}
+use Rattle.clap.specs.Words.{Text, fault_of, first_of, matches_of}
+use Rattle.doltrun.specs.Words.{epoch_asked, epoch_of, form, form_in, form_of, line, mode_named, number, run_of, seed_of}
+use Rattle.doltrun.specs.declared.words.Form.{Form}
+use Rattle.doltrun.specs.declared.words.Mode.{Mode}
+use Rattle.doltrun.specs.declared.words.Mode.TheVariants.{Ordered, Threads, Replay, Load}
+
+abbrev IsDate : ℤ → Type 0
+IsDate epoch = (pos 0 ≤ℤ epoch) × FitsSigned w64 epoch
+
+named_below : (epoch : ℕ) (test : Bool) → nat_lt epoch (2 ^ 63) ≡ test → IfSome (if test then Some (pos epoch) else None) IsDate
+named_below epoch true is = let below : epoch < 2 ^ 63 = grind (arith, nat_tests) in (omega (arith, ints), record { sfits = below })
+named_below epoch false is = tt
+
+named : (found : Option ℕ) → IfSome (option_and_then (λ epoch. if nat_lt epoch (2 ^ 63) then Some (pos epoch) else None) found) IsDate
+named None = tt
+named (Some epoch) = named_below epoch (nat_lt epoch (2 ^ 63)) refl
+
+epoch_dated : (text : Option Text) → IfSome (epoch_of text) IsDate
+epoch_dated None = (omega (arith, ints), record { sfits = omega arith })
+epoch_dated (Some text) = named (number text)
+
+with_seed : (mode : Mode) (epoch : ℤ) (seed : Option (Option ℕ)) → IsDate epoch → IfSome (option_map (λ given. record { mode = mode; epoch = epoch; seed = given }) seed) (λ (asked : Form). IsDate asked.epoch)
+with_seed mode epoch None date = tt
+with_seed mode epoch (Some given) date = date
+
+with_epoch : (mode : Mode) (epoch : Option ℤ) (seed : Option Text) → IfSome epoch IsDate
+    → IfSome (option_and_then (λ date. option_map (λ given. record { mode = mode; epoch = date; seed = given }) (seed_of mode seed)) epoch) (λ (asked : Form). IsDate asked.epoch)
+with_epoch mode None seed date = tt
+with_epoch mode (Some epoch) seed date = with_seed mode epoch (seed_of mode seed) date
+
+with_mode : (mode : Option Mode) (epoch seed : Option Text) → IfSome (option_and_then (λ named. form_of named epoch seed) mode) (λ (asked : Form). IsDate asked.epoch)
+with_mode None epoch seed = tt
+with_mode (Some mode) epoch seed = with_epoch mode (epoch_of epoch) seed (epoch_dated epoch)
+
+taken : (asked : Option Form) (test : Bool) → IfSome asked (λ (asked : Form). IsDate asked.epoch) → IfSome (if test then asked else None) (λ (asked : Form). IsDate asked.epoch)
+taken asked true date = date
+taken asked false date = tt
+
+form_dated : (words : List Text) → IfSome (form words) (λ (asked : Form). IsDate asked.epoch)
+form_dated words =
+    let rows = matches_of line words in
+    taken (form_in rows) (is_empty (fault_of line words)) (with_mode (option_and_then mode_named (first_of (codes "mode") rows)) (first_of (codes "epoch") rows) (first_of (codes "seed") rows))
+
+in_mode : (mode : Mode) (epoch : ℤ) → IsDate epoch → IfSome (run_of mode epoch) IsDate
+in_mode Ordered epoch date = date
+in_mode Threads epoch date = tt
+in_mode Replay epoch date = tt
+in_mode Load epoch date = tt
+
+of_form : (asked : Option Form) → IfSome asked (λ (asked : Form). IsDate asked.epoch) → IfSome (option_and_then (λ (asked : Form). run_of asked.mode asked.epoch) asked) IsDate
+of_form None date = tt
+of_form (Some asked) date = in_mode asked.mode asked.epoch date
+
+pub asked_dated : (words : List Text) (epoch : ℤ) → Some epoch ≡ epoch_asked words → (pos 0 ≤ℤ epoch) × FitsSigned w64 epoch
+asked_dated words epoch is = subst (λ (o : Option ℤ). IfSome o IsDate) (sym is) (of_form (form words) (form_dated words))

@@ -1,0 +1,92 @@
+-- What the words of the command line ask for.
+use Rattle.std.specs.Prelude.{ℕ, ℤ, pos, ◌==◌, ◌&&◌, ◌||◌, Bool, true, false, not, nat_lt, ◌^◌, if◌then◌else◌, List, [], ◌∷◌, map, codes, String, string_bytes, Option, Some, None, option_and_then, option_map}
+use Rattle.std.specs.Char.{is_ascii_digit}
+use Rattle.std.specs.List.{list_all}
+use Rattle.std.specs.Str.{bytes_eq}
+use Rattle.std.specs.Str.Parse.{digits_value}
+use Rattle.clap.specs.Words.{App, Row, Rule, Text, fault_of, first_of, matches_of, new_rule}
+use Rattle.clap.specs.Simple.{new_shape}
+use Rattle.clap.specs.Walk.{is_empty}
+use Rattle.doltrun.specs.declared.words.Form.{Form}
+use Rattle.doltrun.specs.declared.words.Mode.{Mode}
+use Rattle.doltrun.specs.declared.words.Mode.TheVariants.{Ordered, Threads, Replay, Load}
+
+-- the bytes of the words
+abbrev pub spelled : {A : Type 0} → List (String A) → List Text
+spelled words = map (λ word. string_bytes word) words
+
+-- ---- numbers
+
+-- decimal digits, and no zero before another digit
+abbrev pub is_numeral : Text → Bool
+is_numeral [] = false
+is_numeral (first ∷ rest) = list_all is_ascii_digit (first ∷ rest) && (not (first == 48) || is_empty rest)
+
+-- the number from 0 to 2^64 - 1 that the text is
+abbrev pub number : Text → Option ℕ
+number text = if is_numeral text && nat_lt (digits_value 10 text) (2 ^ 64) then Some (digits_value 10 text) else None
+
+-- ---- how the words are cut: as those of a command with a mode and two options that take a value
+
+abbrev pub mode_rule : Rule
+mode_rule = record (new_rule (codes "mode")) { required = true }
+
+abbrev pub option_rule : Text → Rule
+option_rule name = record (new_rule name) { long = Some name }
+
+abbrev pub line : App
+line = record {
+  top = record (new_shape (codes "doltrun")) {
+    rules = mode_rule ∷ option_rule (codes "epoch") ∷ option_rule (codes "seed") ∷ [];
+    no_binary_name = true;
+    disable_help_flag = true;
+    disable_version_flag = true;
+  };
+  subs = [];
+}
+
+-- ---- what they ask for
+
+abbrev pub mode_named : Text → Option Mode
+mode_named text = if bytes_eq text (codes "ordered") then Some Ordered
+    else (if bytes_eq text (codes "threads") then Some Threads
+    else (if bytes_eq text (codes "replay") then Some Replay
+    else (if bytes_eq text (codes "load") then Some Load else None)))
+
+-- an epoch is a number below 2^63
+abbrev pub epoch_named : Text → Option ℤ
+epoch_named text = option_and_then (λ epoch. if nat_lt epoch (2 ^ 63) then Some (pos epoch) else None) (number text)
+
+abbrev pub epoch_of : Option Text → Option ℤ
+epoch_of None = Some (pos 0)
+epoch_of (Some text) = epoch_named text
+
+-- `load` has a seed, and no other mode has one
+abbrev pub seed_of : Mode → Option Text → Option (Option ℕ)
+seed_of Load None = None
+seed_of Load (Some text) = option_map (λ seed. Some seed) (number text)
+seed_of _ None = Some None
+seed_of _ (Some text) = None
+
+abbrev pub form_of : Mode → Option Text → Option Text → Option Form
+form_of mode epoch seed = option_and_then (λ date. option_map (λ given. record { mode = mode; epoch = date; seed = given }) (seed_of mode seed)) (epoch_of epoch)
+
+-- of the mode's word, and the values of the two options
+abbrev pub form_named : Option Text → Option Text → Option Text → Option Form
+form_named mode epoch seed = option_and_then (λ named. form_of named epoch seed) (option_and_then mode_named mode)
+
+abbrev pub form_in : List Row → Option Form
+form_in rows = form_named (first_of (codes "mode") rows) (first_of (codes "epoch") rows) (first_of (codes "seed") rows)
+
+-- the form that the words are, if the command takes them
+abbrev pub form : List Text → Option Form
+form words = if is_empty (fault_of line words) then form_in (matches_of line words) else None
+
+-- the epoch of a run in this mode; only `ordered` runs
+abbrev pub run_of : Mode → ℤ → Option ℤ
+run_of Ordered epoch = Some epoch
+run_of _ epoch = None
+
+-- the epoch of the run that the words ask for
+abbrev pub epoch_asked : List Text → Option ℤ
+epoch_asked words = option_and_then (λ (asked : Form). run_of asked.mode asked.epoch) (form words)
