@@ -21,6 +21,7 @@ use Rattle.script_text.specs.declared.replies.Reply.{Reply}
 use Rattle.script_text.specs.declared.replies.Reply.TheVariants as print
 use Rattle.script_text.specs.declared.scripts.Moment.{Moment}
 use Rattle.sql_procedures.specs.declared.requests.CommitRequest.{CommitRequest}
+use Rattle.sql_procedures.specs.declared.requests.MergeRequest.{MergeRequest}
 use Rattle.table_root.specs.declared.heads.Head.{Head}
 use Rattle.table_root.specs.declared.heads.Look.{Look}
 use Rattle.plain_sessions.specs.Branching.{to_commit}
@@ -85,7 +86,7 @@ pub course_refused : (outcome : Outcome Worked) (number : ℕ) → IsVerdict (So
 course_refused (Ok made) number is = absurd is
 course_refused (Err other) number is = ap (λ (n : ℕ). Err n) (sym is)
 
-ending_in : Ending → Outcome Worked → Ending
+abbrev ending_in : Ending → Outcome Worked → Ending
 ending_in other (Ok (Closes ending)) = ending
 ending_in other (Ok (Answers reply own)) = other
 ending_in other (Err number) = other
@@ -101,18 +102,35 @@ pub committing : (p : plain.Session) (t : Transaction) (request : CommitRequest)
 unfolding worked
 committing p t request ending is = committing_by (to_commit (own_root t) request t.own) request.message ending is
 
+-- ---- what is planned
+
+module _ (address : List ℕ → List ℕ) (epoch e : ℤ) (e_is : e ≡ epoch) (look : Look) (p : plain.Session) (t : Transaction) (shared : Shared) (present : BranchState)
+    (asked : Work) (ending : Ending) (work_is : worked p t asked ≡ Ok (Closes ending)) (result : Result Plan PutFault) where
+  abbrev pub IsPlannedAt : ℤ → Ending → Type 0
+  IsPlannedAt date call = IfOk result (λ plan. PlanIs address look shared.commits plan (closed address date shared.commits p t present call))
+
+  pub commit_planned : (request : CommitRequest) → asked ≡ work.Commit request
+      → ((own : BranchState) → worked p t (work.Commit request) ≡ Ok (Closes (Committing own request.message)) → IsPlannedAt e (Committing own request.message)) → IsPlannedAt epoch ending
+  commit_planned request is planned =
+      let said : worked p t (work.Commit request) ≡ Ok (Closes ending) = ap (worked p t) (sym is) ∙ work_is in
+      let so = committing p t request ending said in
+      subst (λ (date : ℤ). IsPlannedAt date ending) e_is (subst (IsPlannedAt e) (sym so.1) (planned so.0 (said ∙ ap (λ (call : Ending). Ok (Closes call)) so.1)))
+
+  pub merge_planned : (request : MergeRequest) → asked ≡ work.Merge request → ((call : Ending) → worked p t (work.Merge request) ≡ Ok (Closes call) → IsPlannedAt e call) → IsPlannedAt epoch ending
+  merge_planned request is planned = subst (λ (date : ℤ). IsPlannedAt date ending) e_is (planned ending (ap (worked p t) (sym is) ∙ work_is))
+
 -- ---- a session that has only looked
 
-module _ {D : Type 0} {old new : Session D} (as : IsAsBefore old new) where
+module _ {D : Type 0} {old new : Session D} (looked : IsAsBefore old new) where
   pub as_it_was : IsAsBefore new old
   as_it_was = record {
-    same = λ i. record (sym as.same i) { draft = old.draft };
-    chunks = sym as.chunks;
-    segments = sym as.segments;
+    same = λ i. record (sym looked.same i) { draft = old.draft };
+    chunks = sym looked.chunks;
+    segments = sym looked.segments;
   }
 
   pub still_stands : (address : List ℕ → List ℕ) (p : plain.Session) → SessionStands address old p → SessionStands address new p
-  still_stands address p stands = subst (λ (s : Session D). SessionStands address s p) (sym as.same) (record {
+  still_stands address p stands = subst (λ (s : Session D). SessionStands address s p) (sym looked.same) (record {
     name = stands.name;
     number = stands.number;
     branch = stands.branch;
@@ -120,14 +138,14 @@ module _ {D : Type 0} {old new : Session D} (as : IsAsBefore old new) where
     allow = stands.allow;
     force = stands.force;
     position = stands.position;
-    transaction = subst (λ (draft : DraftParts). StartStands address draft old.start old.own p.transaction) (sym as.chunks) stands.transaction;
-    named = subst (IsNamed address) (sym as.chunks) stands.named;
-    plain_own = subst (λ (draft : DraftParts). HasNoCommit draft.own) (sym as.chunks) stands.plain_own;
+    transaction = subst (λ (draft : DraftParts). StartStands address draft old.start old.own p.transaction) (sym looked.chunks) stands.transaction;
+    named = subst (IsNamed address) (sym looked.chunks) stands.named;
+    plain_own = subst (λ (draft : DraftParts). HasNoCommit draft.own) (sym looked.chunks) stands.plain_own;
     committer = stands.committer;
   })
 
   still_later : (chunks : List Chunk) → Lists old.draft.chunks.base chunks → Lists new.draft.chunks.base chunks
-  still_later chunks later = subst (λ (draft : DraftParts). Lists draft.base chunks) (sym as.chunks) later
+  still_later chunks later = subst (λ (draft : DraftParts). Lists draft.base chunks) (sym looked.chunks) later
 
   pub still_before : (address : List ℕ → List ℕ) (parts : Parts) (p : plain.Session) (shared : Shared) → IsBefore address old parts p shared → IsBefore address new parts p shared
   still_before address parts p shared before = record {
@@ -293,6 +311,7 @@ module _ {D : Type 0} (follow : StatesFollow) (address : List ℕ → List ℕ) 
 -- ---- the moment of the decision
 
 same_awaiting : (p : plain.Session) (t u : Transaction) (at : plain.Place) (asked : Work) → worked (awaiting p u at) t asked ≡ worked p t asked
+unfolding worked
 same_awaiting p t u at asked = same_work (awaiting p u at) t u asked ∙ sym (same_work p t u asked)
 
 module _ (address : List ℕ → List ℕ) (epoch : ℤ) where

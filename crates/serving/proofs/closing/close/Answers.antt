@@ -14,8 +14,8 @@ use Rattle.serving.proofs.closing.close.Goals as goal
 pub look-requires : goal.look-requires
 look-requires g c = may_look g.D.Digester.address c.args.session.now c.args.db.now.parts c.requires.closing.0 c.requires.closing.3 c.requires.closing.4
 
-pub plan_closing-plan-requires-clause-decides : goal.plan_closing-plan-requires-clause-decides
-plan_closing-plan-requires-clause-decides g c κs within =
+pub plan_closing-requires-clause-decides : goal.plan_closing-requires-clause-decides
+plan_closing-requires-clause-decides g c κs within =
     let looks : Looks c.args.session.now c.args.db.now.parts c.in_ok-look.look =
     record { branch = c.in_ok-look.ensures.branch; there = c.in_ok-look.ensures.there; heads = c.in_ok-look.ensures.heads; chunks = c.in_ok-look.ensures.chunks } in
     let held = c.requires.closing in

@@ -32,3 +32,6 @@ returns-in-Refused-clause-went g c = λ parts p t shared has.
     refused_started g.D.Digester.address c.args.epoch c.args.session.now parts c.args.db.now.parts p t shared has c.args.asked.now c.in-Refused.number c.due.result c.after_start.result
     (subst (λ course. IsCourse course c.args.asked.now (worked (within p t) t c.args.asked.now)) c.in-Refused.is (c.requires.course (within p t) t has.stands refl)) c.due.ensures.due
     c.after_start.ensures.reply
+
+pub returns-in-Stays-clause-went : goal.returns-in-Stays-clause-went
+returns-in-Stays-clause-went g c = c.stay_started.ensures.went c.args.epoch
