@@ -1,10 +1,9 @@
 -- Calls that may have a decision of their own: from what the code's steps hand over to what the statement is served with.
-use Rattle.std.proofs.Common.{◌≡◌, ◌≢◌, refl, ◌∙◌, sym, ap, subst, ◌⊎◌, inl, inr, ℕ, ◌+◌, ℤ, Bool, true, false, List, [], ◌∷◌, ◌++◌, Option, Some, None, Ok, Err, IfOk, IfErr, OnOk, is_some, not, option_map, slice_get, if◌then◌else◌}
+use Rattle.std.proofs.Common.{◌≡◌, refl, ◌∙◌, sym, ap, subst, ◌⊎◌, inl, inr, ℕ, ◌+◌, ℤ, Bool, true, false, List, [], ◌∷◌, ◌++◌, Option, Some, None, Ok, Err, IfOk, IfErr, OnOk, is_some, not, option_map, slice_get, if◌then◌else◌}
 use Rattle.std.specs.Prelude.{Result}
 use Rattle.std.specs.Arc.{arc_value}
 use Rattle.std.specs.Option.{option_and_then, option_map_or}
 use Rattle.std.proofs.lemmas.List.{append_assoc}
-use Rattle.std.proofs.lemmas.Option.{same_Some}
 use Rattle.chunk_store.specs.Chunks.{AreNamed, Chunk, IsSingle, Lists, bytes_at}
 use Rattle.chunk_store.specs.Clashes.{IsCause}
 use Rattle.chunk_store.specs.Drafts.{DraftParts, IsNamed}
@@ -16,19 +15,18 @@ use Rattle.expr_eval.specs.Binding.{Outcome, and_then}
 use Rattle.plain_sql.specs.Lists.{unless}
 use Rattle.tuple_codec.specs.declared.records.BranchRecord.{BranchRecord}
 use Rattle.script_text.specs.Collisions.{IsFault, TellsTruly}
-use Rattle.script_text.specs.Output.{Shortage, AtOnce, shortage}
+use Rattle.script_text.specs.Output.{Shortage, shortage}
 use Rattle.script_text.specs.declared.replies.Reply.{Reply}
 use Rattle.script_text.specs.declared.replies.Reply.TheVariants as print
 use Rattle.script_text.specs.declared.scripts.Moment.{Moment}
 use Rattle.sql_procedures.specs.declared.requests.CommitRequest.{CommitRequest}
 use Rattle.sql_procedures.specs.declared.requests.MergeRequest.{MergeRequest}
-use Rattle.table_root.specs.declared.heads.Head.{Head}
 use Rattle.table_root.specs.declared.heads.Look.{Look}
 use Rattle.plain_sessions.specs.Branching.{to_commit}
 use Rattle.plain_sessions.specs.CommitRule.{decide}
 use Rattle.plain_sessions.specs.Merging.{Worked, Answers, Closes, Ending, Committing, Forwarding, Joining}
 use Rattle.plain_sessions.specs.Moments as machine
-use Rattle.plain_sessions.specs.Moments.{After, Past, Still, alone_by, closed, commit_of, committed_as, decided_closing, forwarded, if_answered, if_closing, is_in_transaction, merged_as, moment_in, moment_of, past, settled, start_of, takes_start, unless_moved, with_change}
+use Rattle.plain_sessions.specs.Moments.{Past, Still, alone_by, closed, commit_of, committed_as, decided_closing, forwarded, if_answered, if_closing, is_in_transaction, merged_as, moment_in, moment_of, past, settled, start_of, takes_start, unless_moved, with_change}
 use Rattle.plain_sessions.specs.Records.{BranchState, Shared, commit_on, is_same_state, state_of}
 use Rattle.plain_sessions.specs.Replies.{is_refusal, refused}
 use Rattle.plain_sessions.specs.Runs.{awaiting}
@@ -42,7 +40,7 @@ use Rattle.plain_sessions.specs.declared.commands.Work.TheVariants as work
 use Rattle.run_laws.specs.Turns.{InOneTurn, InTwoTurns}
 use Rattle.session_laws.specs.Changes.{Parts, StateStands}
 use Rattle.session_laws.specs.Commits.{HasNoCommit}
-use Rattle.session_laws.specs.Laws.{StatesFollow, head_in, with_record}
+use Rattle.session_laws.specs.Laws.{StatesFollow, with_record}
 use Rattle.session_laws.specs.Transactions.{IsLookOf, StartStands}
 use Rattle.session_state.specs.Standing.{SessionStands}
 use Rattle.session_state.specs.declared.sessions.Session.{Session}

@@ -100,8 +100,7 @@ fn calls(asked: &Command) -> bool
     }
 }
 
-/// Whether the work is a call that has no decision of its own.
-pub(crate) fn is_call(asked: &Work) -> bool
+fn is_call(asked: &Work) -> bool
     ensures { result ≡ is_call asked.now }
 {
     match asked {

@@ -1,4 +1,4 @@
-use Rattle.std.proofs.Common.{ap, sym, w64}
+use Rattle.std.proofs.Common.{w64}
 use Rattle.std.proofs.lemmas.Int.{to_z-of_z}
 use Rattle.serving.proofs.ClosingLemmas.{commit_planned, merge_planned}
 use Rattle.serving.proofs.closing.plan_closing.Goals as goal

@@ -11,10 +11,14 @@ merge_local-reply-requires-clause-stands g c κs within_κs =
 
 pub end_answered-requires-clause-answered : goal.end_answered-requires-clause-answered
 end_answered-requires-clause-answered g c κs within_κs =
-    let held = c.requires.started in
-    (held.0, held.1, c.args.asked.now, held.3,
-    has_answered g.D.Digester.address c.args.session.now c.merge_local-reply.new.session held.0 c.args.db.now.parts held.1 held.2 held.3 c.merge_local-reply.result held.4 c.merge_local-reply.ensures.base
-    c.args.asked.now (c.merge_local-reply.ensures.alone (within held.1 held.2) held.4.stands refl))
+    let held = c.requires.started in (
+      held.0,
+      held.1,
+      c.args.asked.now,
+      held.3,
+      has_answered g.D.Digester.address c.args.session.now c.merge_local-reply.new.session held.0 c.args.db.now.parts held.1 held.2 held.3 c.merge_local-reply.result held.4 c.merge_local-reply.ensures.base
+          c.args.asked.now (c.merge_local-reply.ensures.alone (within held.1 held.2) held.4.stands refl),
+    )
 
 pub returns-clause-went : goal.returns-clause-went
 returns-clause-went g c = λ epoch parts p t shared has.

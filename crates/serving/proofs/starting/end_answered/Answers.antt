@@ -4,9 +4,14 @@ use Rattle.serving.proofs.starting.end_answered.Goals as goal
 
 pub end_started-requires-clause-worked : goal.end_started-requires-clause-worked
 end_started-requires-clause-worked g c κs within_κs =
-    let held = c.requires.answered in
-    (held.0, held.1, held.2, held.3, worked_well g.D.Digester.address c.args.session.now held.0 c.args.db.now.parts held.1 held.2 held.3 c.args.reply held.4
-    (sym c.is_refusal.ensures ∙ c.if-is_refusal.false))
+    let held = c.requires.answered in (
+      held.0,
+      held.1,
+      held.2,
+      held.3,
+      worked_well g.D.Digester.address c.args.session.now held.0 c.args.db.now.parts held.1 held.2 held.3 c.args.reply held.4
+          (sym c.is_refusal.ensures ∙ c.if-is_refusal.false),
+    )
 
 pub returns-then-is_refusal-clause-answered : goal.returns-then-is_refusal-clause-answered
 returns-then-is_refusal-clause-answered g c = λ epoch parts p asked shared has.
