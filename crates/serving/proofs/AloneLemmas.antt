@@ -7,13 +7,13 @@ use Rattle.script_text.specs.Output.{Shortage, AtOnce, AfterStart, Clashes}
 use Rattle.script_text.specs.declared.replies.Reply.{Reply}
 use Rattle.plain_sessions.specs.Merging.{Worked, Answers, Closes}
 use Rattle.plain_sessions.specs.Moments.{alone, alone_by, ends_by_set, effect_alone, if_answered, past, takes_start}
+use Rattle.plain_sessions.specs.Replies.{refused}
 use Rattle.plain_sessions.specs.Sessions as plain
 use Rattle.plain_sessions.specs.Sessions.{Before, Place, Said, Transaction, is_before_statement, is_changed}
 use Rattle.plain_sessions.specs.Statements.{worked}
 use Rattle.plain_sessions.specs.declared.commands.Command.{Command}
 use Rattle.plain_sessions.specs.declared.commands.Command.TheVariants as command
 use Rattle.plain_sessions.specs.declared.commands.Work.{Work}
-use Rattle.serving.specs.Running.{is_in_place}
 use Rattle.serving.specs.Steps.{IsStillAt}
 
 -- whoever says it is the same session
@@ -42,27 +42,26 @@ stays_working : (p : plain.Session) (work : Work) (transaction : Option Transact
 stays_working p work None = stays_none p
 stays_working p work (Some t) = stays_answered p t (worked p t work)
 
-stays_alone : (p : plain.Session) (asked : Command) → is_in_place asked ≡ true → Stays p (effect_alone p asked)
-stays_alone p (command.Faulty refusal) runs = stays p p _ (itself p)
-stays_alone p command.Begin runs = stays_none p
-stays_alone p command.CommitAll runs = stays_if p (is_changed p) None _ (stays_none p) (stays p _ _ (record { number = refl; branch = refl }))
-stays_alone p command.Rollback runs = stays p _ _ (record { number = refl; branch = refl })
-stays_alone p (command.Switch setting) runs =
+stays_alone : (p : plain.Session) (asked : Command) → Stays p (effect_alone p asked)
+stays_alone p (command.Faulty refusal) = stays p p _ (itself p)
+stays_alone p command.Begin = stays_none p
+stays_alone p command.CommitAll = stays_if p (is_changed p) None _ (stays_none p) (stays p _ _ (record { number = refl; branch = refl }))
+stays_alone p command.Rollback = stays p _ _ (record { number = refl; branch = refl })
+stays_alone p (command.Switch setting) =
     stays_if p (ends_by_set p setting.variable setting.on) _ _
     (stays_if p (is_changed p) None _ (stays_none p) (stays p _ _ (record { number = refl; branch = refl })))
     (stays p _ _ (record { number = refl; branch = refl }))
-stays_alone p (command.Say list) runs = stays p p _ (itself p)
-stays_alone p (command.Data work) runs = stays_working p work p.transaction
-stays_alone p (command.OnBranches request) runs = absurd (cc)
-stays_alone p (command.Checkout request) runs = absurd (cc)
+stays_alone p (command.Say list) = stays p p _ (itself p)
+stays_alone p (command.Data work) = stays_working p work p.transaction
+stays_alone p (command.OnBranches request) = stays_none p
+stays_alone p (command.Checkout request) = stays_if p (is_changed p) (Some (p, refused 9006)) None (stays p p _ (itself p)) (stays_none p)
 
 -- a statement answered without a moment leaves the session where it was
-pub still_alone : (answer : Option Shortage) (p : plain.Session) (asked : Command) → is_in_place asked ≡ true → (said : plain.Session) (reply : Reply)
-    → alone_by answer p asked ≡ Some (said, reply) → IsStillAt p said
-still_alone None p asked runs = stays_alone p asked runs
-still_alone (Some AtOnce) p asked runs = stays p p _ (itself p)
-still_alone (Some AfterStart) p asked runs = stays_none p
-still_alone (Some (Clashes clash)) p asked runs = stays_if p (takes_start p asked) None _ (stays_none p) (stays p p _ (itself p))
+pub still_alone : (answer : Option Shortage) (p : plain.Session) (asked : Command) (said : plain.Session) (reply : Reply) → alone_by answer p asked ≡ Some (said, reply) → IsStillAt p said
+still_alone None p asked = stays_alone p asked
+still_alone (Some AtOnce) p asked = stays p p _ (itself p)
+still_alone (Some AfterStart) p asked = stays_none p
+still_alone (Some (Clashes clash)) p asked = stays_if p (takes_start p asked) None _ (stays_none p) (stays p p _ (itself p))
 
 -- before a statement it is the answer to that
 pub alone_before : (answer : Option Shortage) (p : plain.Session) (asked : Command) (said : Said) → p.place ≡ Before → alone_by answer p asked ≡ Some said

@@ -25,13 +25,12 @@ use Rattle.session_state.specs.declared.sessions.Place.TheVariants as place
 use Rattle.session_state.specs.declared.sessions.Session.{Session}
 use Rattle.session_txn.specs.Answering.{AnswersAlone}
 use Rattle.shared_db.specs.Shared.{noted}
-use Rattle.serving.specs.Running.{is_in_place}
 use Rattle.serving.specs.Serving.{IsBefore, Serves}
 use Rattle.serving.specs.Steps.{Answered, ComesTo, Decided, IsStillAt, after_start, fault_reply, number_at}
 use Rattle.serving.proofs.AloneLemmas.{alone_before, still_alone}
 use Rattle.serving.proofs.MomentLemmas.{begun_at, decided_as, in_one_turn, in_two_turns, turn_at, verdict_said}
 use Rattle.serving.proofs.StateLemmas.{stands_noted}
-use Rattle.serving.proofs.WorkLemmas.{Came, IsAnswer, Kept, answers_work, came, is_decided, is_over, kept_after, opposite, refused_after, stays_open, waits_for_start}
+use Rattle.serving.proofs.WorkLemmas.{Came, Kept, came, is_decided, is_over, kept_after, never_answered, refused_after, stays_open, waits_for_start}
 
 pub same_number : (at : Place) (statement : ℕ) (there : plain.Place) → IsAt at statement there → number_at at ≡ statement
 same_number (place.Before number) statement there is = is.0
@@ -71,16 +70,16 @@ module _ {D : Type 0} (address : List ℕ → List ℕ) (epoch : ℤ) (old sessi
   still_later : session.draft.chunks.base ≡ old.draft.chunks.base → (new : List Chunk) → Lists parts.chunks new → Lists session.draft.chunks.base new
   still_later base new grown = λ k bytes listed. grown k bytes (before.later k bytes (subst (λ (cs : List Chunk). Lists cs old.draft.chunks.base) (sym base) (λ j b l. l) k bytes listed))
 
-  pub alone_answered : (asked : Command) (reply : Reply) → is_in_place asked ≡ true → AnswersAlone address p asked session reply → session.draft.chunks.base ≡ old.draft.chunks.base
+  pub alone_answered : (asked : Command) (reply : Reply) → AnswersAlone address p asked session reply → session.draft.chunks.base ≡ old.draft.chunks.base
       → Answered address epoch p asked shared parts parts session reply
-  alone_answered asked reply runs alone base = record {
+  alone_answered asked reply alone base = record {
     said = alone.after;
     last = shared;
     turns = [];
     is = alone_before (shortage reply) p asked (alone.after, reply) before.before alone.is;
     follows = refl;
     session_stands = alone.stands;
-    still = still_alone (shortage reply) p asked runs alone.after reply alone.is;
+    still = still_alone (shortage reply) p asked alone.after reply alone.is;
     state_stands = before.state_stands;
     places = refl;
     later = still_later base parts.chunks (λ k bytes listed. listed);
@@ -191,13 +190,13 @@ module _ {D : Type 0} (address : List ℕ → List ℕ) (epoch : ℤ) (old sessi
 
   -- ---- database statements that took their start
 
-  module _ (t : Transaction) (asked : Work) (after : plain.Session) (reply : Reply) (none : p.transaction ≡ None) (is : taken shared p ≡ Some t) (runs : is_in_place (command.Data asked) ≡ true)
+  module _ (t : Transaction) (asked : Work) (after : plain.Session) (reply : Reply) (none : p.transaction ≡ None) (is : taken shared p ≡ Some t)
       (here : Came p t asked after reply) (later : Lists session.draft.chunks.base parts.chunks) where
     pub refused_answered : is_refusal reply ≡ true → SessionStands address session p
         → Answered address epoch p (command.Data asked) shared parts (noted p.number p.statement parts) session (after_start reply)
     refused_answered refusal stands =
         started_answered (command.Data asked) p (after_start reply)
-        (refused_after address epoch shared p t asked after reply (λ own work_is. opposite (is_refusal reply) refusal (subst IsAnswer work_is (answers_work p t asked runs)))
+        (refused_after address epoch shared p t asked after reply (never_answered p t asked reply refusal)
         before.before none is here)
         stands (record { number = refl; branch = refl }) later
 
@@ -217,16 +216,16 @@ module _ {D : Type 0} (address : List ℕ → List ℕ) (epoch : ℤ) (old sessi
 
   -- ---- what the code's steps hand over
 
-  pub faulted_answered : (fault : PutFault) (asked : Command) → is_in_place asked ≡ true → takes_start p asked ≡ false → SessionStands address session p → session.draft.chunks.base ≡ old.draft.chunks.base
+  pub faulted_answered : (fault : PutFault) (asked : Command) → takes_start p asked ≡ false → SessionStands address session p → session.draft.chunks.base ≡ old.draft.chunks.base
       → Answered address epoch p asked shared parts parts session (fault_reply fault)
-  faulted_answered fault asked runs starts stands base =
-      alone_answered asked (fault_reply fault) runs (record { after = p; is = short_alone fault p asked starts; stands = stands }) base
+  faulted_answered fault asked starts stands base =
+      alone_answered asked (fault_reply fault) (record { after = p; is = short_alone fault p asked starts; stands = stands }) base
 
-  pub faulted_as : (fault : PutFault) (asked : Command) (new : Parts) (reply : Reply) → is_in_place asked ≡ true → takes_start p asked ≡ false → SessionStands address session p
+  pub faulted_as : (fault : PutFault) (asked : Command) (new : Parts) (reply : Reply) → takes_start p asked ≡ false → SessionStands address session p
       → session.draft.chunks.base ≡ old.draft.chunks.base → new ≡ parts → reply ≡ fault_reply fault → Answered address epoch p asked shared parts new session reply
-  faulted_as fault asked new reply runs starts stands base same is =
+  faulted_as fault asked new reply starts stands base same is =
       subst (λ (q : Parts). Answered address epoch p asked shared parts q session reply) (sym same)
-      (subst (λ (r : Reply). Answered address epoch p asked shared parts parts session r) (sym is) (faulted_answered fault asked runs starts stands base))
+      (subst (λ (r : Reply). Answered address epoch p asked shared parts parts session r) (sym is) (faulted_answered fault asked starts stands base))
 
 pub decided_truly : (address : List ℕ → List ℕ) (p : plain.Session) (t : Transaction) (shared : Shared) (old new : Parts) (reply : Reply) → Decided address p t shared old new reply → TellsTruly address reply
 decided_truly address p t shared old new reply d = by d.verdict d.comes where

@@ -1,7 +1,7 @@
 -- From a statement's answer to the statement that was served.
-use Rattle.std.proofs.Common.{◌≡◌, refl, ◌∙◌, sym, ap, subst, ℕ, ◌+◌, ℤ, Bool, true, false, List, [], Option, Some, None, not, ◌&&◌}
+use Rattle.std.proofs.Common.{◌≡◌, refl, ◌∙◌, sym, ap, subst, ℕ, ◌+◌, ℤ, Bool, true, false, List, [], Option, Some, None, ◌&&◌}
 use Rattle.std.specs.Option.{option_map_or}
-use Rattle.std.proofs.lemmas.Bool.{and_parts, not-true, not-false}
+use Rattle.std.proofs.lemmas.Bool.{and_parts, not-false}
 use Rattle.std.proofs.lemmas.List.{append-nil}
 use Rattle.script_text.specs.Output.{AtOnce}
 use Rattle.script_text.specs.declared.replies.Reply.{Reply}
@@ -15,16 +15,12 @@ use Rattle.plain_sessions.specs.declared.commands.Command.TheVariants as command
 use Rattle.session_laws.specs.Changes.{Parts}
 use Rattle.session_state.specs.declared.sessions.Place.TheVariants as place
 use Rattle.session_state.specs.declared.sessions.Session.{Session}
-use Rattle.session_txn.specs.Naming.{names_system}
 use Rattle.sql_ast.specs.declared.statements.Setting.{Setting}
-use Rattle.serving.specs.Running.{is_alone, is_in_place, runs_in_place}
+use Rattle.serving.specs.Running.{is_alone}
 use Rattle.serving.specs.Serving.{IsBefore, Serves}
 use Rattle.serving.specs.Steps.{Answered, number_at}
 use Rattle.serving.proofs.AloneLemmas.{alone_before}
 use Rattle.serving.proofs.AnswerLemmas.{serves}
-
-pub is_stored : (asked : Command) → runs_in_place asked ≡ true → names_system asked ≡ false
-is_stored asked is = not-true (names_system asked) (and_parts (is_in_place asked) (not (names_system asked)) is).1
 
 -- what has changed is open
 open_of : (p : plain.Session) → is_changed p ≡ true → (t : Transaction) × (p.transaction ≡ Some t)

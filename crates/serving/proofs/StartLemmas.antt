@@ -15,6 +15,7 @@ use Rattle.script_text.specs.declared.replies.Reply.{Reply}
 use Rattle.script_text.specs.declared.replies.Reply.TheVariants as print
 use Rattle.table_root.specs.declared.heads.Look.{Look}
 use Rattle.script_text.specs.declared.scripts.Moment.{Moment}
+use Rattle.sql_procedures.specs.declared.requests.MergeRequest.TheVariants as merging
 use Rattle.plain_sessions.specs.Merging.{Worked, Answers, Closes}
 use Rattle.plain_sessions.specs.Moments.{Past, alone_by, decided, if_answered, past, takes_start}
 use Rattle.plain_sessions.specs.Records.{BranchState, Shared}
@@ -37,7 +38,7 @@ use Rattle.session_txn.specs.Answering.{AnswersAlone}
 use Rattle.shared_db.specs.Shared.{noted}
 use Rattle.serving.specs.Running.{is_alone, is_in_place}
 use Rattle.serving.specs.Serving.{IsBefore}
-use Rattle.serving.specs.Starting.{HasStarted, HasWorked, with_reply}
+use Rattle.serving.specs.Starting.{HasAnswered, HasStarted, HasWorked, with_reply}
 use Rattle.serving.specs.Steps.{Answered, ComesTo, Decided, after_start, fault_reply, number_at}
 use Rattle.serving.proofs.AnswerLemmas.{comes_places, over_stands, refused_answered, same_number, started_answered, well_started}
 use Rattle.serving.proofs.LookLemmas.{Looks, shows}
@@ -53,7 +54,7 @@ pub fault_came : (p : plain.Session) (t : Transaction) (asked : Work) (after : p
 fault_came p t asked after Memory = Starved refl
 fault_came p t asked after (Collision clash) = Met clash refl
 
-fault_refused : (fault : PutFault) → is_refusal (fault_reply fault) ≡ true
+pub fault_refused : (fault : PutFault) → is_refusal (fault_reply fault) ≡ true
 fault_refused Memory = refl
 fault_refused (Collision clash) = refl
 
@@ -91,7 +92,7 @@ module _ {D : Type 0} (address : List ℕ → List ℕ) (epoch : ℤ) (session :
   pub stays_answered : session.autocommit ≡ false → Answered address epoch p (command.Data asked) shared parts now session reply
   stays_answered off =
       at_now session reply (started_answered address epoch has.old session parts p shared has.before (command.Data asked) (within p held) reply
-      (well_started address epoch has.old session parts p shared has.before has.start asked (within p held) reply has.none has.taken_is has.runs done_so has.later (within p held) has.short
+      (well_started address epoch has.old session parts p shared has.before has.start asked (within p held) reply has.none has.taken_is done_so has.later (within p held) has.short
       (stays_open address epoch shared p has.start asked (within p held) reply has.none has.taken_is kept (sym has.stands.autocommit ∙ off)))
       has.stands (record { number = refl; branch = refl }) has.later)
 
@@ -99,7 +100,7 @@ module _ {D : Type 0} (address : List ℕ → List ℕ) (epoch : ℤ) (session :
   over_answered on unchanged =
       let ended = record session { start = None } in
       at_now ended reply (started_answered address epoch has.old ended parts p shared has.before (command.Data asked) p reply
-      (well_started address epoch has.old ended parts p shared has.before has.start asked (within p held) reply has.none has.taken_is has.runs done_so has.later p has.short
+      (well_started address epoch has.old ended parts p shared has.before has.start asked (within p held) reply has.none has.taken_is done_so has.later p has.short
       (is_over address epoch shared p has.start asked (within p held) reply has.none has.taken_is kept (sym has.stands.autocommit ∙ on) unchanged))
       over_now (record { number = refl; branch = refl }) has.later)
 
@@ -111,7 +112,7 @@ module _ {D : Type 0} (address : List ℕ → List ℕ) (epoch : ℤ) (session :
       subst (λ (q : Parts). Answered address epoch p (command.Data asked) shared parts q ended said) (sym same)
       (subst (λ (r : Reply). Answered address epoch p (command.Data asked) shared parts now ended r) (sym is)
       (at_now ended (after_start (fault_reply fault))
-      (refused_answered address epoch has.old ended parts p shared has.before has.start asked (within p held) (fault_reply fault) has.none has.taken_is has.runs
+      (refused_answered address epoch has.old ended parts p shared has.before has.start asked (within p held) (fault_reply fault) has.none has.taken_is
       (fault_came p has.start asked (within p held) fault) has.later (fault_refused fault) over_now)))
 
   -- ---- the decision
@@ -194,9 +195,10 @@ alone_within p t (command.Data (work.Change statement)) takes runs = refl
 alone_within p t (command.Data (work.Add tables)) takes runs = refl
 alone_within p t (command.Data (work.ResetTo reset)) takes runs = refl
 alone_within p t (command.Data (work.Commit request)) takes runs = absurd (cc)
-alone_within p t (command.Data (work.Merge request)) takes runs = absurd (cc)
-alone_within p t (command.Data (work.Resolve request)) takes runs = absurd (cc)
-alone_within p t (command.Data (work.Verify way)) takes runs = absurd (cc)
+alone_within p t (command.Data (work.Merge merging.Abort)) takes runs = refl
+alone_within p t (command.Data (work.Merge (merging.Merge request))) takes runs = absurd (cc)
+alone_within p t (command.Data (work.Resolve request)) takes runs = refl
+alone_within p t (command.Data (work.Verify way)) takes runs = refl
 alone_within p t (command.OnBranches request) takes runs = absurd (cc)
 alone_within p t (command.Checkout request) takes runs = absurd (cc)
 
@@ -216,71 +218,67 @@ came_over p after t asked reply (Some AtOnce) is = said_over p after (refused 1)
 came_over p after t asked reply (Some AfterStart) is = absurd (cc)
 came_over p after t asked reply (Some (Clashes clash)) is = said_over p after (print.Collided clash) reply (within p t) refl is
 
-module _ {D : Type 0} (address : List ℕ → List ℕ) (started session : Session D) (parts now : Parts) (p : plain.Session) (t : Transaction) (shared : Shared) (reply : Reply)
-    (has : HasStarted address started parts now p t shared) (base : session.draft.chunks.base ≡ started.draft.chunks.base) where
-  later_still : Lists session.draft.chunks.base parts.chunks
-  later_still = subst (λ (cs : List Chunk). Lists cs parts.chunks) (sym base) has.later
+-- ---- the session's own answer in the transaction that it started
 
-  dropped : (epoch : ℤ) (asked : Work) → is_in_place (command.Data asked) ≡ true → AnswersAlone address (within p t) (command.Data asked) session reply → is_refusal reply ≡ true
-      → Answered address epoch p (command.Data asked) shared parts now (record session { start = None }) (after_start reply)
-  dropped epoch asked runs alone refusal =
-      let ended = record session { start = None } in
-      let stands : SessionStands address ended p = subst (λ (q : plain.Session). SessionStands address ended q)
-      (came_over p alone.after t asked reply (shortage reply) alone.is ∙ over_same p has.none) (over_stands address session alone.after alone.stands) in
-      subst (λ (q : Parts). Answered address epoch p (command.Data asked) shared parts q ended (after_start reply)) (sym has.now_is)
-      (refused_answered address epoch has.old ended parts p shared has.before t asked alone.after reply has.none has.taken_is runs
-      (came p t asked alone.after reply runs alone.is) later_still refusal stands)
+pub has_answered : {D : Type 0} (address : List ℕ → List ℕ) (started session : Session D) (parts now : Parts) (p : plain.Session) (t : Transaction) (shared : Shared) (reply : Reply)
+    → HasStarted address started parts now p t shared → session.draft.chunks.base ≡ started.draft.chunks.base → (asked : Work) → AnswersAlone address (within p t) (command.Data asked) session reply
+    → HasAnswered address session parts now p asked shared reply
+has_answered address started session parts now p t shared reply has base asked alone = record { old = started; start = t; started = has; base = base; alone = alone }
+
+-- whatever the statement is, it is a database statement
+abbrev pub HasAnsweredAt : {D : Type 0} → (List ℕ → List ℕ) → Session D → Parts → Parts → plain.Session → Command → Shared → Reply → Type 0
+HasAnsweredAt address session parts now p asked shared reply = (work : Work) × (asked ≡ command.Data work) × HasAnswered address session parts now p work shared reply
+
+pub answered_in : {D : Type 0} (address : List ℕ → List ℕ) (started session : Session D) (parts now : Parts) (p : plain.Session) (t : Transaction) (shared : Shared) (reply : Reply)
+    → HasStarted address started parts now p t shared → session.draft.chunks.base ≡ started.draft.chunks.base → (asked : Command) → takes_start p asked ≡ true
+    → AnswersAlone address (within p t) asked session reply → HasAnsweredAt address session parts now p asked shared reply
+answered_in address started session parts now p t shared reply has base (command.Faulty refusal) takes alone = absurd (cc)
+answered_in address started session parts now p t shared reply has base command.Begin takes alone = absurd (cc)
+answered_in address started session parts now p t shared reply has base command.CommitAll takes alone = absurd (cc)
+answered_in address started session parts now p t shared reply has base command.Rollback takes alone = absurd (cc)
+answered_in address started session parts now p t shared reply has base (command.Switch setting) takes alone = absurd (cc)
+answered_in address started session parts now p t shared reply has base (command.Say list) takes alone = absurd (cc)
+answered_in address started session parts now p t shared reply has base (command.Data asked) takes alone =
+    (asked, refl, has_answered address started session parts now p t shared reply has base asked alone)
+answered_in address started session parts now p t shared reply has base (command.OnBranches request) takes alone = absurd (cc)
+answered_in address started session parts now p t shared reply has base (command.Checkout request) takes alone = absurd (cc)
+
+module _ {D : Type 0} (address : List ℕ → List ℕ) (session : Session D) (parts now : Parts) (p : plain.Session) (asked : Work) (shared : Shared) (reply : Reply)
+    (has : HasAnswered address session parts now p asked shared reply) where
+  later_still : Lists session.draft.chunks.base parts.chunks
+  later_still = subst (λ (cs : List Chunk). Lists cs parts.chunks) (sym has.base) has.started.later
+
+  came_so : Came p has.start asked has.alone.after reply
+  came_so = came p has.start asked has.alone.after reply has.alone.is
 
   -- a refusal drops the transaction
-  pub dropped_answered : (epoch : ℤ) (asked : Command) (said : Reply) → takes_start p asked ≡ true → is_in_place asked ≡ true → AnswersAlone address (within p t) asked session reply
-      → is_refusal reply ≡ true → said ≡ after_start reply → Answered address epoch p asked shared parts now (record session { start = None }) said
-  dropped_answered epoch asked said takes runs alone refusal is =
-      subst (λ (r : Reply). Answered address epoch p asked shared parts now (record session { start = None }) r) (sym is) (by asked takes runs alone) where
-        by : (asked : Command) → takes_start p asked ≡ true → is_in_place asked ≡ true → AnswersAlone address (within p t) asked session reply
-            → Answered address epoch p asked shared parts now (record session { start = None }) (after_start reply)
-        by (command.Faulty refusal) takes runs alone = absurd (cc)
-        by command.Begin takes runs alone = absurd (cc)
-        by command.CommitAll takes runs alone = absurd (cc)
-        by command.Rollback takes runs alone = absurd (cc)
-        by (command.Switch setting) takes runs alone = absurd (cc)
-        by (command.Say list) takes runs alone = absurd (cc)
-        by (command.Data work) takes runs alone = dropped epoch work runs alone refusal
-        by (command.OnBranches request) takes runs alone = absurd (cc)
-        by (command.Checkout request) takes runs alone = absurd (cc)
+  pub dropped_answered : (epoch : ℤ) (said : Reply) → is_refusal reply ≡ true → said ≡ after_start reply
+      → Answered address epoch p (command.Data asked) shared parts now (record session { start = None }) said
+  dropped_answered epoch said refusal is =
+      let ended = record session { start = None } in
+      let started = has.started in
+      let stands : SessionStands address ended p = subst (λ (q : plain.Session). SessionStands address ended q)
+      (came_over p has.alone.after has.start asked reply (shortage reply) has.alone.is ∙ over_same p started.none) (over_stands address session has.alone.after has.alone.stands) in
+      subst (λ (r : Reply). Answered address epoch p (command.Data asked) shared parts now ended r) (sym is)
+      (subst (λ (q : Parts). Answered address epoch p (command.Data asked) shared parts q ended (after_start reply)) (sym started.now_is)
+      (refused_answered address epoch started.old ended parts p shared started.before has.start asked has.alone.after reply started.none started.taken_is came_so later_still refusal stands))
 
-  -- this work was asked, and it was well
-  abbrev pub HasWorkedAt : Command → Type 0
-  HasWorkedAt asked = (work : Work) × (asked ≡ command.Data work) × HasWorked address session parts now p work shared reply
-
-  pub worked_well : (asked : Command) → takes_start p asked ≡ true → is_in_place asked ≡ true → AnswersAlone address (within p t) asked session reply
-      → is_refusal reply ≡ false → HasWorkedAt asked
-  worked_well (command.Faulty refusal) takes runs alone well = absurd (cc)
-  worked_well command.Begin takes runs alone well = absurd (cc)
-  worked_well command.CommitAll takes runs alone well = absurd (cc)
-  worked_well command.Rollback takes runs alone well = absurd (cc)
-  worked_well (command.Switch setting) takes runs alone well = absurd (cc)
-  worked_well (command.Say list) takes runs alone well = absurd (cc)
-  worked_well (command.Data asked) takes runs alone well =
-      let kept = kept_after address (pos 0) shared p t asked alone.after reply (came p t asked alone.after reply runs alone.is) well in (
-        asked,
-        refl,
-        record {
-          runs = runs;
-          old = has.old;
-          before = has.before;
-          none = has.none;
-          start = t;
-          taken_is = has.taken_is;
-          now_is = has.now_is;
-          own = kept.own;
-          is = kept.is;
-          short = kept.short;
-          stands = subst (λ (q : plain.Session). SessionStands address session q) kept.after_is alone.stands;
-          later = later_still;
-        },
-      )
-  worked_well (command.OnBranches request) takes runs alone well = absurd (cc)
-  worked_well (command.Checkout request) takes runs alone well = absurd (cc)
+  pub worked_well : is_refusal reply ≡ false → HasWorked address session parts now p asked shared reply
+  worked_well well =
+      let kept = kept_after address (pos 0) shared p has.start asked has.alone.after reply came_so well in
+      let started = has.started in record {
+        old = started.old;
+        before = started.before;
+        none = started.none;
+        start = has.start;
+        taken_is = started.taken_is;
+        now_is = started.now_is;
+        own = kept.own;
+        is = kept.is;
+        short = kept.short;
+        stands = subst (λ (q : plain.Session). SessionStands address session q) kept.after_is has.alone.stands;
+        later = later_still;
+      }
 
 -- the session took its start at this look
 pub has_started : {D : Type 0} (follow : StatesFollow) (address : List ℕ → List ℕ) (old session : Session D) (parts now : Parts) (look : Look) → Looks old parts look → (number : ℕ)

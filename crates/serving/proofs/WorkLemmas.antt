@@ -1,6 +1,6 @@
 -- A database statement outside a transaction: its start, and what it comes to in the transaction that it started.
 use Rattle.std.proofs.Common.{◌≡◌, refl, ◌∙◌, sym, ap, subst, ℕ, ℤ, Bool, true, false, not, List, Option, Some, None, Ok, Err, option_map, if◌then◌else◌}
-use Rattle.std.specs.Prelude.{is_some, ◌==◌, ◌≢◌}
+use Rattle.std.specs.Prelude.{is_some, ◌==◌, ◌≢◌, ◌&&◌, codes, []}
 use Rattle.std.specs.Option.{option_and_then}
 use Rattle.std.proofs.lemmas.Option.{same_Some}
 use Rattle.tuple_codec.specs.declared.answers.Answer.{Answer}
@@ -9,23 +9,29 @@ use Rattle.script_text.specs.Output.{Shortage, AtOnce, AfterStart, Clashes, shor
 use Rattle.chunk_store.specs.declared.faults.Clash.{Clash}
 use Rattle.script_text.specs.declared.replies.Reply.{Reply}
 use Rattle.script_text.specs.declared.replies.Reply.TheVariants as print
-use Rattle.schema_model.specs.PlainTables.{Conflict, PlainTable, Violation}
+use Rattle.schema_model.specs.PlainTables.{Conflict, PlainDatabase, PlainTable, Violation}
 use Rattle.plain_writes.specs.Writes.{Effect}
 use Rattle.plain_schemas.specs.Statements.{write_effect}
-use Rattle.plain_sql.specs.Lists.{or_refuse}
+use Rattle.plain_sql.specs.Lists.{or_refuse, unless}
 use Rattle.plain_sql.specs.Plans as plans
 use Rattle.sql_rules.specs.Writes.{is_below}
 use Rattle.sql_ast.specs.declared.statements.Delete.{Delete}
 use Rattle.sql_ast.specs.declared.statements.Write.TheVariants as write
 use Rattle.sql_ast.specs.declared.statements.Write.{Write}
-use Rattle.plain_sessions.specs.Merging.{Worked, Answers, Closes}
+use Rattle.plain_merge.specs.RootMerge.{MergedDatabase}
+use Rattle.schema_model.specs.PlainCommits.{is_ancestor}
+use Rattle.sql_procedures.specs.declared.requests.CommitRequest.{CommitRequest}
+use Rattle.sql_procedures.specs.declared.requests.MergeOf.{MergeOf}
+use Rattle.sql_procedures.specs.declared.requests.MergeRequest.{MergeRequest}
+use Rattle.sql_procedures.specs.declared.requests.MergeRequest.TheVariants as merging
+use Rattle.plain_sessions.specs.Merging.{Worked, Answers, Closes, Committing, Forwarding, Joining, has_changes, in_progress, is_clean, merge, merge_made, merge_message, merge_reply, merge_with, merged_with, resolve}
 use Rattle.plain_sessions.specs.Moments.{After, Past, Still, alone_by, answered, decided_closing, if_answered, moment_of, past, start_of, started}
-use Rattle.plain_sessions.specs.Records.{BranchState, Shared}
+use Rattle.plain_sessions.specs.Records.{BranchState, Shared, clean_at}
 use Rattle.plain_sessions.specs.Replies.{is_refusal, refused}
 use Rattle.plain_sessions.specs.Sessions as plain
 use Rattle.plain_sessions.specs.Sessions.{Before, Between, Said, is_before_statement, Transaction, is_changed_since, own_root, taken, with_own, within}
-use Rattle.plain_sessions.specs.Branching.{add, reset_to}
-use Rattle.plain_sessions.specs.Statements.{changed, changed_by, counted_or_done, or_of_rows, staged, worked, write_worked}
+use Rattle.plain_sessions.specs.Branching.{add, reset_to, to_commit}
+use Rattle.plain_sessions.specs.Statements.{changed, changed_by, counted_or_done, or_of_rows, resolve_worked, staged, worked, write_worked}
 use Rattle.plain_sessions.specs.SystemTables as system
 use Rattle.plain_sessions.specs.SystemTables.{delete_by, delete_conflicts, delete_entries, delete_violations, known}
 use Rattle.plain_sessions.specs.Branching as branching
@@ -35,14 +41,13 @@ use Rattle.plain_sessions.specs.declared.commands.Work.TheVariants as work
 use Rattle.plain_writes.specs.Violations.{table_in}
 use Rattle.run_laws.specs.Turns.{InOneTurn}
 use Rattle.run_laws.proofs.SeenLemmas.{start_short, start_waits}
-use Rattle.serving.specs.Running.{is_in_place}
 use Rattle.serving.specs.Steps.{after_start}
 use Rattle.serving.proofs.MomentLemmas.{in_one_turn, turn_at}
 
--- what is answered is no refusal, and no call closes the transaction
+-- what is answered is no refusal
 abbrev pub IsAnswer : Outcome Worked → Type 0
 IsAnswer (Ok (Answers reply own)) = is_refusal reply ≡ false
-IsAnswer (Ok (Closes call)) = ⊥
+IsAnswer (Ok (Closes call)) = Unit {0}
 IsAnswer (Err number) = Unit {0}
 
 answer_by : (own : BranchState) (outcome : Outcome Answer) → IsAnswer (and_then outcome (λ answer. Ok (Answers (print.Rows answer) own)))
@@ -97,27 +102,72 @@ staged_by : (outcome : Outcome BranchState) → IsAnswer (staged outcome)
 staged_by (Ok own) = refl
 staged_by (Err number) = tt
 
-pub answers_work : (p : plain.Session) (t : Transaction) (asked : Work) → is_in_place (Data asked) ≡ true → IsAnswer (worked p t asked)
-unfolding worked
-answers_work p t (work.Ask query) runs = answer_by t.own (plans.answer (known t) query)
-answers_work p t (work.Change statement) runs = write_by t.own statement
-answers_work p t (work.Add tables) runs = staged_by (add tables t.own)
-answers_work p t (work.ResetTo reset) runs = staged_by (reset_to (own_root t) reset t.own)
-answers_work p t (work.Commit request) runs = absurd (cc)
-answers_work p t (work.Merge request) runs = absurd (cc)
-answers_work p t (work.Resolve request) runs = absurd (cc)
-answers_work p t (work.Verify way) runs = absurd (cc)
+pub opposite : (a : Bool) → a ≡ true → a ≡ false → ⊥
+opposite a h g = let same : true ≡ false = sym h ∙ g in absurd (cc)
 
-same_work : (p : plain.Session) (t : Transaction) (asked : Work) → is_in_place (Data asked) ≡ true → worked (within p t) t asked ≡ worked p t asked
+answers_if : (test : Bool) (a b : Outcome Worked) → IsAnswer a → IsAnswer b → IsAnswer (if test then a else b)
+answers_if true a b left right = left
+answers_if false a b left right = right
+
+answers_unless : (wrong : Bool) (number : ℕ) (next : Outcome Worked) → IsAnswer next → IsAnswer (unless wrong number next)
+answers_unless true number next rest = tt
+answers_unless false number next rest = rest
+
+made_by : (p : plain.Session) (t : Transaction) (request : MergeOf) (other : List ℕ) (made : MergedDatabase) → IsAnswer (Ok (merge_made p t request other made))
+made_by p t request other made = by (is_clean made) where
+  by : (test : Bool) → IsAnswer (Ok (if test then Closes (Joining made.database other (merge_message p request)) else Answers (merge_reply [] 0 1 (codes "conflicts found")) (in_progress t.own other made)))
+  by true = tt
+  by false = refl
+
+merges_with : (p : plain.Session) (t : Transaction) (request : MergeOf) (other : List ℕ) → IsAnswer (merge_with p t request other)
+merges_with p t request other =
+    let made : Outcome Worked = and_then (merged_with t other) (λ merged. Ok (merge_made p t request other merged)) in
+    let joined : IsAnswer made = answers_then (merged_with t other) (λ merged. Ok (merge_made p t request other merged)) (made_by p t request other) in
+    answers_if (is_ancestor t.commits t.own.head other) (Ok (Answers (merge_reply [] 0 0 (codes "up to date")) t.own))
+    (if is_ancestor t.commits other t.own.head && not request.no_ff then Ok (Closes (Forwarding other)) else made) refl
+    (answers_if (is_ancestor t.commits other t.own.head && not request.no_ff) (Ok (Closes (Forwarding other))) made tt joined)
+
+merge_by : (p : plain.Session) (t : Transaction) (request : MergeRequest) → IsAnswer (merge p t request)
+merge_by p t merging.Abort = answers_unless (not (is_some t.own.merging)) 9012 (Ok (Answers (merge_reply [] 0 0 (codes "merge aborted")) (clean_at t.own.head (own_root t)))) refl
+merge_by p t (merging.Merge request) =
+    answers_then (or_refuse 9004 (branching.resolved t.heads t.commits request.name)) (λ other. unless (has_changes t) 9006 (merge_with p t request other)) (λ other.
+    answers_unless (has_changes t) 9006 (merge_with p t request other) (merges_with p t request other))
+
+resolved_by : (own : BranchState) (outcome : Outcome PlainDatabase) → IsAnswer (resolve_worked own outcome)
+resolved_by own (Ok database) = refl
+resolved_by own (Err number) = tt
+
+commit_by : (request : CommitRequest) (outcome : Outcome BranchState) → IsAnswer (and_then outcome (λ own. Ok (Closes (Committing own request.message))))
+commit_by request (Ok own) = tt
+commit_by request (Err number) = tt
+
+answers_work : (p : plain.Session) (t : Transaction) (asked : Work) → IsAnswer (worked p t asked)
 unfolding worked
-same_work p t (work.Ask query) runs = refl
-same_work p t (work.Change statement) runs = refl
-same_work p t (work.Add tables) runs = refl
-same_work p t (work.ResetTo reset) runs = refl
-same_work p t (work.Commit request) runs = absurd (cc)
-same_work p t (work.Merge request) runs = absurd (cc)
-same_work p t (work.Resolve request) runs = absurd (cc)
-same_work p t (work.Verify way) runs = absurd (cc)
+answers_work p t (work.Ask query) = answer_by t.own (plans.answer (known t) query)
+answers_work p t (work.Change statement) = write_by t.own statement
+answers_work p t (work.Add tables) = staged_by (add tables t.own)
+answers_work p t (work.ResetTo reset) = staged_by (reset_to (own_root t) reset t.own)
+answers_work p t (work.Commit request) = commit_by request (to_commit (own_root t) request t.own)
+answers_work p t (work.Merge request) = merge_by p t request
+answers_work p t (work.Resolve request) = resolved_by t.own (resolve request t.own.working)
+answers_work p t (work.Verify way) = refl
+
+-- a refusal is no answer of the work's
+pub never_answered : (p : plain.Session) (t : Transaction) (asked : Work) (reply : Reply) → is_refusal reply ≡ true → (own : BranchState) → worked p t asked ≢ Ok (Answers reply own)
+never_answered p t asked reply refusal own work_is = opposite (is_refusal reply) refusal (subst IsAnswer work_is (answers_work p t asked))
+
+-- what a statement comes to doesn't hang on where in a statement the session is
+pub same_work : (p : plain.Session) (t u : Transaction) (asked : Work) → worked (within p u) t asked ≡ worked p t asked
+unfolding worked
+same_work p t u (work.Ask query) = refl
+same_work p t u (work.Change statement) = refl
+same_work p t u (work.Add tables) = refl
+same_work p t u (work.ResetTo reset) = refl
+same_work p t u (work.Commit request) = refl
+same_work p t u (work.Merge merging.Abort) = refl
+same_work p t u (work.Merge (merging.Merge request)) = refl
+same_work p t u (work.Resolve request) = refl
+same_work p t u (work.Verify way) = refl
 
 -- ---- what it came to in the transaction that it started
 
@@ -136,20 +186,16 @@ came_by p t asked after reply (Ok (Closes call)) is short same = absurd (cc)
 came_by p t asked after reply (Err number) is short same =
     Faulted number is (sym (ap (λ (said : Said). said.1) (same_Some _ _ same))) short
 
-came_with : (p : plain.Session) (t : Transaction) (asked : Work) (after : plain.Session) (reply : Reply) → is_in_place (Data asked) ≡ true → (answer : Option Shortage)
+came_with : (p : plain.Session) (t : Transaction) (asked : Work) (after : plain.Session) (reply : Reply) (answer : Option Shortage)
     → shortage reply ≡ answer → alone_by answer (within p t) (Data asked) ≡ Some (after, reply) → Came p t asked after reply
-came_with p t asked after reply runs None short is =
-    came_by p t asked after reply (worked p t asked) refl short (sym (ap (if_answered (within p t) t) (same_work p t asked runs)) ∙ is)
-came_with p t asked after reply runs (Some AtOnce) short is = Starved (sym (ap (λ (said : Said). said.1) (same_Some _ _ is)))
-came_with p t asked after reply runs (Some AfterStart) short is = absurd (cc)
-came_with p t asked after reply runs (Some (Clashes clash)) short is = Met clash (sym (ap (λ (said : Said). said.1) (same_Some _ _ is)))
+came_with p t asked after reply None short is =
+    came_by p t asked after reply (worked p t asked) refl short (sym (ap (if_answered (within p t) t) (same_work p t t asked)) ∙ is)
+came_with p t asked after reply (Some AtOnce) short is = Starved (sym (ap (λ (said : Said). said.1) (same_Some _ _ is)))
+came_with p t asked after reply (Some AfterStart) short is = absurd (cc)
+came_with p t asked after reply (Some (Clashes clash)) short is = Met clash (sym (ap (λ (said : Said). said.1) (same_Some _ _ is)))
 
-pub came : (p : plain.Session) (t : Transaction) (asked : Work) (after : plain.Session) (reply : Reply) → is_in_place (Data asked) ≡ true
-    → alone_by (shortage reply) (within p t) (Data asked) ≡ Some (after, reply) → Came p t asked after reply
-came p t asked after reply runs is = came_with p t asked after reply runs (shortage reply) refl is
-
-pub opposite : (a : Bool) → a ≡ true → a ≡ false → ⊥
-opposite a h g = let same : true ≡ false = sym h ∙ g in absurd (cc)
+pub came : (p : plain.Session) (t : Transaction) (asked : Work) (after : plain.Session) (reply : Reply) → alone_by (shortage reply) (within p t) (Data asked) ≡ Some (after, reply) → Came p t asked after reply
+came p t asked after reply is = came_with p t asked after reply (shortage reply) refl is
 
 -- a refusal that is no want of memory
 not_starved : (number : ℕ) → shortage (print.Refused number) ≡ None → after_start (print.Refused number) ≡ print.Refused number

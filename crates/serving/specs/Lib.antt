@@ -1,6 +1,6 @@
 pub mod Ahead
 pub mod Branching
-pub mod Committing
+pub mod Closing
 pub mod Running
 pub mod Serving
 pub mod Starting

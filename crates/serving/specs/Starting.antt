@@ -1,5 +1,5 @@
 -- Between the start of a database statement and its answer.
-use Rattle.std.specs.Prelude.{◌≡◌, ℕ, true, List, None, Some, Ok}
+use Rattle.std.specs.Prelude.{◌≡◌, ℕ, List, None, Some, Ok}
 use Rattle.chunk_store.specs.Chunks.{Lists}
 use Rattle.script_text.specs.Output.{shortage}
 use Rattle.script_text.specs.declared.replies.Reply.{Reply}
@@ -14,8 +14,8 @@ use Rattle.plain_sessions.specs.declared.commands.Work.{Work}
 use Rattle.session_laws.specs.Changes.{Parts}
 use Rattle.session_state.specs.Standing.{SessionStands}
 use Rattle.session_state.specs.declared.sessions.Session.{Session}
+use Rattle.session_txn.specs.Answering.{AnswersAlone}
 use Rattle.shared_db.specs.Shared.{noted}
-use Rattle.serving.specs.Running.{is_in_place}
 use Rattle.serving.specs.Serving.{IsBefore}
 
 -- the session stood before its statement at these parts, outside a transaction; the start's moment is made, and it stands in this transaction
@@ -28,9 +28,16 @@ pub record HasStarted {D : Type 0} (address : List ℕ → List ℕ) (session : 
   pub stands : SessionStands address session (within p t)
   pub later : Lists session.draft.chunks.base parts.chunks
 
+-- in that transaction the session answered the work by itself
+pub record HasAnswered {D : Type 0} (address : List ℕ → List ℕ) (session : Session D) (parts now : Parts) (p : plain.Session) (asked : Work) (shared : Shared) (reply : Reply) : Type 0 where
+  pub old : Session D
+  pub start : plain.Transaction
+  pub started : HasStarted address old parts now p start shared
+  pub base : session.draft.chunks.base ≡ old.draft.chunks.base
+  pub alone : AnswersAlone address (within p start) (Data asked) session reply
+
 -- in that transaction the statement's work came to this reply, which no refusal is
 pub record HasWorked {D : Type 0} (address : List ℕ → List ℕ) (session : Session D) (parts now : Parts) (p : plain.Session) (asked : Work) (shared : Shared) (reply : Reply) : Type 0 where
-  pub runs : is_in_place (Data asked) ≡ true
   pub old : Session D
   pub before : IsBefore address old parts p shared
   pub none : p.transaction ≡ None

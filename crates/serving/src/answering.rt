@@ -12,15 +12,16 @@ ghost use Rattle.plain_sessions.specs.declared.commands.Command.{Command};
 ghost use Rattle.plain_sessions.specs.declared.commands.Command.TheVariants as command;
 ghost use Rattle.session_laws.specs.Changes.{Parts};
 ghost use Rattle.session_state.specs.Standing.{SessionStands};
+ghost use Rattle.session_txn.specs.Naming.{names_system};
 ghost use Rattle.session_txn.specs.Showing.{is_sound_reply};
 ghost use Rattle.shared_db.specs.Shared.{KeepsRoom};
-ghost use Rattle.serving.specs.Running.{is_alone, runs, runs_in_place};
+ghost use Rattle.serving.specs.Running.{is_alone, is_in_place, runs};
 ghost use Rattle.serving.specs.Serving.{IsBefore, Serves};
 ghost use Rattle.serving.specs.Steps.{Answered, number_at};
 
 use crate::beginning::begin_changed;
 use crate::branching::{change_branches, check_out};
-use crate::committing::commit;
+use crate::closing::serve_closing;
 use crate::places::{go_on, number_of};
 use crate::serving::{alone, begin_unchanged, commit_changed};
 use crate::starting::started;
@@ -31,6 +32,7 @@ use session_state::Session;
 use session_txn::ends_transaction;
 use shared_db::SharedDb;
 use sql_ast::Setting;
+use sql_procedures::MergeRequest;
 use std::alloc::Global;
 use tuple_codec::Digester;
 
@@ -60,7 +62,9 @@ pub fn serve<D: Digester>(
     match asked {
         Command::OnBranches(request) => change_branches(alloc, db, session, request),
         Command::Checkout(request) => check_out(alloc, db, session, request),
-        Command::Data(Work::Commit(request)) => commit(alloc, db, session, request, epoch),
+        Command::Data(work @ (Work::Commit(_) | Work::Merge(MergeRequest::Merge(_)))) => {
+            serve_closing(alloc, db, session, work, epoch)
+        }
         _ => serve_in_place(alloc, db, session, asked),
     }
 }
@@ -77,7 +81,8 @@ fn serve_in_place<D: Digester>(
     requires moments { 2 ≤ db.old.moments_room }
     requires segments { 2 ≤ db.old.segments_room }
     requires fit { IsFitCommand asked.now }
-    requires runs { runs_in_place asked.now ≡ true }
+    requires stored { names_system asked.now ≡ false }
+    requires call { is_in_place asked.now ≡ true }
     ensures served { (epoch : ℤ) (p : plain.Session) (shared : Shared) → IsBefore D.address session.old db.old.parts p shared
         → Serves D.address epoch p asked.now shared db.old.parts db.new.parts session.new result }
     ensures sound { is_sound_reply result ≡ true }
@@ -115,7 +120,8 @@ fn answer<D: Digester>(
     requires moments { 2 ≤ db.old.moments_room }
     requires segments { 2 ≤ db.old.segments_room }
     requires fit { IsFitCommand asked.now }
-    requires runs { runs_in_place asked.now ≡ true }
+    requires stored { names_system asked.now ≡ false }
+    requires call { is_in_place asked.now ≡ true }
     ensures answered { (epoch : ℤ) (p : plain.Session) (shared : Shared) → IsBefore D.address session.old db.old.parts p shared
         → Answered D.address epoch p asked.now shared db.old.parts db.new.parts session.new result }
     ensures sound { is_sound_reply result ≡ true }
@@ -149,8 +155,14 @@ fn is_alone_work<D: Digester>(session: &Session<D>, work: &Work) -> bool
     ensures { (p : plain.Session) → SessionStands D.address session.now p → result ≡ is_alone p (command.Data work.now) }
 {
     match work {
-        Work::Ask(_) | Work::Change(_) | Work::Add(_) | Work::ResetTo(_) => session.start.is_some(),
-        _ => false,
+        Work::Commit(_) | Work::Merge(MergeRequest::Merge(_)) => false,
+        Work::Ask(_)
+        | Work::Change(_)
+        | Work::Add(_)
+        | Work::ResetTo(_)
+        | Work::Merge(MergeRequest::Abort)
+        | Work::Resolve(_)
+        | Work::Verify(_) => session.start.is_some(),
     }
 }
 
@@ -174,7 +186,8 @@ fn at_moments<D: Digester>(
     requires moments { 2 ≤ db.old.moments_room }
     requires segments { 2 ≤ db.old.segments_room }
     requires fit { IsFitCommand asked.now }
-    requires runs { runs_in_place asked.now ≡ true }
+    requires stored { names_system asked.now ≡ false }
+    requires call { is_in_place asked.now ≡ true }
     ensures answered { (epoch : ℤ) (p : plain.Session) (shared : Shared) → IsBefore D.address session.old db.old.parts p shared → is_alone p asked.now ≡ false
         → Answered D.address epoch p asked.now shared db.old.parts db.new.parts session.new result }
     ensures sound { is_sound_reply result ≡ true }

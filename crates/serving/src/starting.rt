@@ -15,7 +15,7 @@ ghost use Rattle.session_txn.specs.Showing.{is_sound_reply};
 ghost use Rattle.shared_db.specs.Shared.{KeepsRoom};
 ghost use Rattle.serving.specs.Running.{is_in_place};
 ghost use Rattle.serving.specs.Serving.{IsBefore};
-ghost use Rattle.serving.specs.Starting.{HasStarted, HasWorked, with_reply};
+ghost use Rattle.serving.specs.Starting.{HasAnswered, HasStarted, HasWorked, with_reply};
 ghost use Rattle.serving.specs.Steps.{Answered, after_start};
 
 use crate::alone::answer_alone;
@@ -63,7 +63,7 @@ pub(crate) fn started<D: Digester>(
     }
 }
 
-/// Answers in the transaction that was started. A refusal drops it.
+/// Answers in the transaction that was started.
 fn answer_started<D: Digester>(
     alloc: Global,
     db: &mut SharedDb,
@@ -83,6 +83,27 @@ fn answer_started<D: Digester>(
     ensures room { KeepsRoom 1 db.old db.new }
 {
     let reply = answer_alone(alloc, session, asked);
+    end_answered(alloc, db, session, reply)
+}
+
+/// Ends what was answered in the transaction that was started. A refusal drops it.
+pub(crate) fn end_answered<D: Digester>(
+    alloc: Global,
+    db: &mut SharedDb,
+    session: &mut Session<D>,
+    reply: Reply,
+) -> Reply
+    requires answered { (parts : Parts) × (p : plain.Session) × (asked : Work) × (shared : Shared) × HasAnswered D.address session.old parts db.old.parts p asked shared reply }
+    requires sound { is_sound_reply reply ≡ true }
+    requires truly { TellsTruly D.address reply }
+    requires moments { 0 < db.old.moments_room }
+    requires segments { 0 < db.old.segments_room }
+    ensures answered { (epoch : ℤ) (parts : Parts) (p : plain.Session) (asked : Work) (shared : Shared) → HasAnswered D.address session.old parts db.old.parts p asked shared reply
+        → Answered D.address epoch p (command.Data asked) shared parts db.new.parts session.new result }
+    ensures sound { is_sound_reply result ≡ true }
+    ensures truly { TellsTruly D.address result }
+    ensures room { KeepsRoom 1 db.old db.new }
+{
     if is_refusal(&reply) {
         session.start = None;
         after_start(reply)

@@ -1,10 +1,7 @@
-use Rattle.serving.proofs.ServeLemmas.{commits, is_stored, switches}
+use Rattle.serving.proofs.ServeLemmas.{commits, switches}
 use Rattle.serving.proofs.answering.at_moments.Goals as goal
 
 -- src/answering.rt
-pub started-requires-clause-stored : goal.started-requires-clause-stored
-started-requires-clause-stored g c κs within = is_stored c.args.asked.now c.requires.runs
-
 pub returns-in-CommitAll-clause-answered : goal.returns-in-CommitAll-clause-answered
 returns-in-CommitAll-clause-answered g c =
     commits g.D.Digester.address c.args.session.now c.commit_changed.new.session c.args.db.now.parts c.commit_changed.new.db.parts c.commit_changed.result c.args.asked.now

@@ -9,4 +9,4 @@ pub returns-in-Err-clause-answered : goal.returns-in-Err-clause-answered
 returns-in-Err-clause-answered g c = λ epoch p t shared before transaction changed.
     subst (λ (s : Session _). Answered g.D.Digester.address epoch p command.Begin shared c.args.db.now.parts c.begin_anew.new.db.parts s c.reply_to.result) (sym c.in-Err.ensures.kept)
     (faulted_as g.D.Digester.address epoch c.args.session.now c.args.session.now c.args.db.now.parts p shared before
-    c.in-Err.fault command.Begin c.begin_anew.new.db.parts c.reply_to.result refl refl before.session_stands refl c.in-Err.ensures.same c.reply_to.ensures.reply)
+    c.in-Err.fault command.Begin c.begin_anew.new.db.parts c.reply_to.result refl before.session_stands refl c.in-Err.ensures.same c.reply_to.ensures.reply)

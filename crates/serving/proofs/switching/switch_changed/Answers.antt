@@ -20,4 +20,4 @@ returns-in-Ok-clause-truly g c =
 pub returns-in-Err-clause-answered : goal.returns-in-Err-clause-answered
 returns-in-Err-clause-answered g c = λ epoch p t shared before transaction changed ends.
     faulted_as g.D.Digester.address epoch c.args.session.now c.args.session.now c.args.db.now.parts p shared before
-    c.in-Err.fault (command.Switch c.args.setting.now) c.decide.new.db.parts c.reply_to.result refl refl before.session_stands refl c.in-Err.ensures.same c.reply_to.ensures.reply
+    c.in-Err.fault (command.Switch c.args.setting.now) c.decide.new.db.parts c.reply_to.result refl before.session_stands refl c.in-Err.ensures.same c.reply_to.ensures.reply
