@@ -10,10 +10,9 @@ use Rattle.script_text.specs.Shown.{IsSameShown, IsShown}
 use Rattle.script_text.specs.declared.faults.BadScript.{BadScript}
 use Rattle.script_text.specs.declared.outputs.RunText.{RunText}
 use Rattle.script_text.specs.declared.scripts.Script.{Script}
-use Rattle.plain_sessions.specs.Narrowing.{narrowed}
+use Rattle.plain_sessions.specs.Commands.{command}
 use Rattle.plain_sessions.specs.Output.{IsPlainRun}
 use Rattle.run_laws.specs.Orders.{IsTextOrder}
-use Rattle.serving.specs.Running as running
 
 abbrev pub usage_line : List ℕ
 usage_line = codes "usage: doltrun ordered|threads|replay [--epoch N] | load --seed N [--epoch N]\n"
@@ -36,14 +35,13 @@ HasScript None read = Unit {0}
 HasScript (Some input) read = script input ≡ read
 
 -- The text that was written is that of a run which is the plain machine's run of the script with this epoch, along the order and with
--- the wants of memory and collisions that the text shows, where a command that doesn't run yet is refused by its text alone; the order is the
--- script's own; each collision is one of two byte strings of that address; and whatever run has this text has the same sessions, printed
--- replies, wants of memory, collisions and order.
+-- the wants of memory and collisions that the text shows; the order is the script's own; each collision is one of two byte strings of that
+-- address; and whatever run has this text has the same sessions, printed replies, wants of memory, collisions and order.
 pub record IsAnswer (address : List ℕ → List ℕ) (epoch : ℤ) (read : Result Script BadScript) (written : List ℕ) : Type 0 where
   pub script : Script
   pub run : RunText
   pub reads : read ≡ Ok script
-  pub runs : IsPlainRun (narrowed running.runs) address epoch script run
+  pub runs : IsPlainRun command address epoch script run
   pub truly : AllTellTruly address run.replies
   pub ordered : IsTextOrder script run.order
   pub shown : IsShown run

@@ -15,7 +15,7 @@ use Rattle.script_text.specs.declared.outputs.RunText.{RunText}
 use Rattle.script_text.specs.declared.replies.Reply.{Reply}
 use Rattle.script_text.specs.declared.scripts.Moment.{Moment}
 use Rattle.script_text.specs.declared.scripts.Script.{Script}
-use Rattle.plain_sessions.specs.Narrowing.{narrowed}
+use Rattle.plain_sessions.specs.Commands.{command}
 use Rattle.plain_sessions.specs.Output.{IsPlainRun, as_address, shown_branch}
 use Rattle.plain_sessions.specs.Records.{Branch}
 use Rattle.plain_sessions.specs.Sessions as plain
@@ -25,7 +25,6 @@ use Rattle.run_laws.specs.Orders.{IsTextOrder, is_within}
 use Rattle.run_laws.proofs.ListLemmas.{all_weaker, both, join}
 use Rattle.session_laws.specs.Changes.{BranchStands, Paired}
 use Rattle.session_txn.specs.Showing.{is_sound_reply}
-use Rattle.serving.specs.Running.{runs}
 use Rattle.script_run.specs.Running.{IsRunningAt, IsSpeaker}
 use Rattle.script_run.specs.Scripts.{IsSoundScript}
 use Rattle.script_run.specs.declared.running.Running.{Running}
@@ -110,8 +109,8 @@ module _ {D : Type 0} (address : List ℕ → List ℕ) (epoch : ℤ) (script : 
       ∙ ap (λ (bs : List BranchLine). shows (replies_of ended.spoken) running.db.parts.moments bs)
       (lines ∙ branches_are address running.db.parts.chunks ended.shared.commits running.db.parts.branches ended.shared.branches ended.stands.branches)
 
-  pub is_plain : LinesAreRun → IsPlainRun (narrowed runs) address epoch script (shown_by address script running.db.parts.moments ended.shared ended.spoken)
-  is_plain laws = laws.plain (narrowed runs) address epoch script running.db.parts.moments ended.shared ended.spoken ended.run
+  pub is_plain : LinesAreRun → IsPlainRun command address epoch script (shown_by address script running.db.parts.moments ended.shared ended.spoken)
+  is_plain laws = laws.plain command address epoch script running.db.parts.moments ended.shared ended.spoken ended.run
 
   -- the session at a place has its speaker
   speaker_at : (place : ℕ) (p : plain.Session) (replies : List Reply) → slice_get ended.spoken place ≡ Some (p, replies)

@@ -8,7 +8,7 @@ use Rattle.script_text.specs.declared.replies.Reply.{Reply}
 use Rattle.script_text.specs.declared.scripts.Line.{Line}
 use Rattle.script_text.specs.declared.scripts.Moment.{Moment}
 use Rattle.script_text.specs.declared.scripts.Script.{Script}
-use Rattle.plain_sessions.specs.Narrowing.{narrowed}
+use Rattle.plain_sessions.specs.Commands.{command}
 use Rattle.plain_sessions.specs.Sessions as plain
 use Rattle.run_laws.specs.Laws.{LinesAreRun}
 use Rattle.run_laws.specs.Lines.{IsRunTo, answered_at}
@@ -17,7 +17,6 @@ use Rattle.run_laws.specs.Turns.{moments_of}
 use Rattle.session_state.specs.Standing.{IsAt}
 use Rattle.session_state.specs.declared.sessions.Place.{Place}
 use Rattle.session_state.specs.declared.sessions.Place.TheVariants as place
-use Rattle.serving.specs.Running.{runs}
 use Rattle.serving.specs.Steps.{number_at}
 use Rattle.script_run.specs.Running.{AreSpeakers, IsRunningAt, IsSpeaker, Speaks}
 use Rattle.script_run.specs.Scripts.{IsSoundScript, is_line_within}
@@ -76,7 +75,7 @@ module _ {D : Type 0} (address : List ℕ → List ℕ) (epoch : ℤ) (script : 
 module _ {D : Type 0} {address : List ℕ → List ℕ} {epoch : ℤ} {script : Script} {at : ℕ} {running : Running D} {line : Line} {speaker : Speaker D}
     (next : IsNext address epoch script at running line speaker) where
   said_so_far : length next.replies ≡ count_of line.session (take at script.lines)
-  said_so_far = (next.now.run.counted line.session next.p next.replies next.there).0 ∙ commands_counted (narrowed runs) line.session (take at script.lines)
+  said_so_far = (next.now.run.counted line.session next.p next.replies next.there).0 ∙ commands_counted command line.session (take at script.lines)
 
   pub may_number : number_at speaker.session.position + 1 < 2 ^ 32
   may_number =
@@ -104,7 +103,7 @@ module _ {D : Type 0} {address : List ℕ → List ℕ} {epoch : ℤ} {script : 
 
   -- the line was run
   pub run_further : (after : Running D) (last : Speaker D) → LinesAreRun
-      → (speaks : Speaks address epoch next.p (narrowed runs line.statement) next.now.shared running.db.parts after.db.parts speaker last)
+      → (speaks : Speaks address epoch next.p (command line.statement) next.now.shared running.db.parts after.db.parts speaker last)
       → after.speakers.items ≡ slice_set running.speakers.items line.session last → vec_capacity last.replies ≡ vec_capacity speaker.replies
       → running.db.moments_room ≤ after.db.moments_room + 2 → running.db.segments_room ≤ after.db.segments_room + 2
       → IsRunningAt address epoch script (at + 1) after
@@ -112,17 +111,17 @@ module _ {D : Type 0} {address : List ℕ → List ℕ} {epoch : ℤ} {script : 
     shared = speaks.serves.last;
     spoken = answered_at line.session (speaks.serves.after, speaks.reply) next.replies next.now.spoken;
     run =
-        let ran = laws.next (narrowed runs) address epoch script at running.db.parts.moments next.now.shared speaks.serves.last next.now.spoken line next.p next.replies speaks.serves.turns
+        let ran = laws.next command address epoch script at running.db.parts.moments next.now.shared speaks.serves.last next.now.spoken line next.p next.replies speaks.serves.turns
         (speaks.serves.after, speaks.reply) next.line_there next.there speaks.serves.is speaks.serves.follows next.now.run in
         let order : running.db.parts.moments ++ moments_of line.session speaks.serves.turns ≡ after.db.parts.moments
         = ap (λ n. running.db.parts.moments ++ moments_of n speaks.serves.turns) (sym next.is.number) ∙ sym speaks.serves.moments in
-        subst (λ (o : List Moment). IsRunTo (narrowed runs) address epoch script (at + 1) o speaks.serves.last
+        subst (λ (o : List Moment). IsRunTo command address epoch script (at + 1) o speaks.serves.last
         (answered_at line.session (speaks.serves.after, speaks.reply) next.replies next.now.spoken)) order ran;
     stands = speaks.serves.next.state_stands;
     speakers = subst (λ (all : List (Speaker D)). AreSpeakers address script.lines after.db.parts speaks.serves.last
         (answered_at line.session (speaks.serves.after, speaks.reply) next.replies next.now.spoken) all) (sym put)
         (speakers_next address epoch script.lines running.db.parts after.db.parts next.now.shared next.now.spoken running.speakers.items line.session next.p next.replies speaker last
-        (narrowed runs line.statement) next.now.speakers next.there next.found speaks kept);
+        (command line.statement) next.now.speakers next.there next.found speaks kept);
     moments_room = let room : 2 * length script.lines ≤ running.db.moments_room + 2 * at = next.now.moments_room in omega arith;
     segments_room = let room : 2 * length script.lines ≤ running.db.segments_room + 2 * at = next.now.segments_room in omega arith;
   }

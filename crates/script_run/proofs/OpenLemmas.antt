@@ -9,7 +9,7 @@ use Rattle.chunk_store.specs.Chunks.{Chunk, Lists}
 use Rattle.script_text.specs.declared.replies.Reply.{Reply}
 use Rattle.script_text.specs.declared.scripts.Moment.{Moment}
 use Rattle.script_text.specs.declared.scripts.Script.{Script}
-use Rattle.plain_sessions.specs.Narrowing.{narrowed}
+use Rattle.plain_sessions.specs.Commands.{command}
 use Rattle.plain_sessions.specs.Records.{opening}
 use Rattle.plain_sessions.specs.Sessions as plain
 use Rattle.plain_sessions.specs.Sessions.{new_session}
@@ -18,7 +18,6 @@ use Rattle.run_laws.specs.Lines.{IsRunTo, new_spoken}
 use Rattle.run_laws.specs.Orders.{count_of}
 use Rattle.run_laws.proofs.ListLemmas.{get_behind, get_front}
 use Rattle.session_laws.specs.Changes.{Parts, StateStands}
-use Rattle.serving.specs.Running.{runs}
 use Rattle.script_run.specs.Opening.{AreNew, IsNew, counts}
 use Rattle.script_run.specs.Running.{AreSpeakers, IsRunningAt, IsSpeaker}
 use Rattle.script_run.specs.Scripts.{IsSoundScript}
@@ -121,8 +120,8 @@ run_opened address epoch script running statements laws sound are opens none mom
     record {
       shared = opening address epoch script.names;
       spoken = new_spoken 0 script.names;
-      run = subst (λ (o : List Moment). IsRunTo (narrowed runs) address epoch script 0 o (opening address epoch script.names) (new_spoken 0 script.names)) (sym none)
-          (laws.first (narrowed runs) address epoch script);
+      run = subst (λ (o : List Moment). IsRunTo command address epoch script 0 o (opening address epoch script.names) (new_spoken 0 script.names)) (sym none)
+          (laws.first command address epoch script);
       stands = stands;
       speakers = speakers_are address epoch script running.db.parts running.speakers.items statements are stands new;
       moments_room = omega arith;

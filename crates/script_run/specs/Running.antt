@@ -5,7 +5,7 @@ use Rattle.script_text.specs.Collisions.{TellsTruly}
 use Rattle.script_text.specs.declared.replies.Reply.{Reply}
 use Rattle.script_text.specs.declared.scripts.Line.{Line}
 use Rattle.script_text.specs.declared.scripts.Script.{Script}
-use Rattle.plain_sessions.specs.Narrowing.{narrowed}
+use Rattle.plain_sessions.specs.Commands.{command}
 use Rattle.plain_sessions.specs.Records.{Shared}
 use Rattle.plain_sessions.specs.Sessions as plain
 use Rattle.plain_sessions.specs.declared.commands.Command.{Command}
@@ -13,7 +13,6 @@ use Rattle.run_laws.specs.Lines.{IsRunTo, Spoken}
 use Rattle.run_laws.specs.Orders.{count_of}
 use Rattle.session_laws.specs.Changes.{Parts, StateStands}
 use Rattle.session_txn.specs.Showing.{is_sound_reply}
-use Rattle.serving.specs.Running.{runs}
 use Rattle.serving.specs.Serving.{IsBefore, Serves}
 use Rattle.script_run.specs.declared.running.Running.{Running}
 use Rattle.script_run.specs.declared.running.Speaker.{Speaker}
@@ -46,7 +45,7 @@ pub record AreSpeakers {D : Type 0} (address : List ℕ → List ℕ) (lines : L
 pub record IsRunningAt {D : Type 0} (address : List ℕ → List ℕ) (epoch : ℤ) (script : Script) (count : ℕ) (running : Running D) : Type 0 where
   pub shared : Shared
   pub spoken : Spoken
-  pub run : IsRunTo (narrowed runs) address epoch script count running.db.parts.moments shared spoken
+  pub run : IsRunTo command address epoch script count running.db.parts.moments shared spoken
   pub stands : StateStands address running.db.parts shared
   pub speakers : AreSpeakers address script.lines running.db.parts shared spoken running.speakers.items
   pub moments_room : 2 * length script.lines ≤ running.db.moments_room + 2 * count

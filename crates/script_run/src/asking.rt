@@ -3,20 +3,18 @@
 ghost use Rattle.std.specs.Prelude.{◌≡◌, ◌<◌, ◌≤◌, ◌≤ℤ◌, ◌+◌, ◌^◌, pos, true, IfOk};
 ghost use Rattle.script_text.specs.Collisions.{TellsTruly};
 ghost use Rattle.plain_sessions.specs.Fitness.{IsFitCommand};
-ghost use Rattle.plain_sessions.specs.Narrowing.{narrowed, not_yet};
+ghost use Rattle.plain_sessions.specs.Commands.{command};
 ghost use Rattle.plain_sessions.specs.Records.{Shared};
 ghost use Rattle.plain_sessions.specs.Sessions as plain;
 ghost use Rattle.session_txn.specs.Showing.{is_sound_reply};
-ghost use Rattle.serving.specs.Running.{runs};
 ghost use Rattle.serving.specs.Serving.{IsBefore, Serves};
 ghost use Rattle.serving.specs.Steps.{number_at};
 
 use plain_sessions::{Command, read_command};
 use script_text::Reply;
-use serving::{pass_over, runs, serve};
+use serving::{pass_over, serve};
 use session_state::Session;
 use shared_db::SharedDb;
-use sql_ast::Refusal;
 use std::alloc::{AllocError, Global};
 use tuple_codec::{Boxed, Digester};
 
@@ -37,7 +35,7 @@ pub fn serve_text<D: Digester>(
     requires moments { 2 ≤ db.old.moments_room }
     requires segments { 2 ≤ db.old.segments_room }
     ensures served { (p : plain.Session) (shared : Shared) → IsBefore D.address session.old db.old.parts p shared
-        → Serves D.address epoch p (narrowed runs text.now) shared db.old.parts db.new.parts session.new result }
+        → Serves D.address epoch p (command text.now) shared db.old.parts db.new.parts session.new result }
     ensures sound { is_sound_reply result ≡ true }
     ensures truly { TellsTruly D.address result }
     ensures moments { db.old.moments_room ≤ db.new.moments_room + 2 }
@@ -49,31 +47,13 @@ pub fn serve_text<D: Digester>(
     }
 }
 
-/// What a text asks, where only these commands run. A text that is longer than a statement may be would be answered by want of memory; no
-/// script has one.
-#[tactic(auto, unfolding(plain_sessions::specs::Narrowing::narrowed))]
+/// What a text asks. A text that is longer than a statement may be would be answered by want of memory; no script has one.
 fn asked_by(alloc: Global, text: &[u8]) -> Result<Boxed<Command>, AllocError>
-    ensures is { IfOk result (λ asked. asked ≡ narrowed runs text.now) }
+    ensures is { IfOk result (λ asked. asked ≡ command text.now) }
     ensures fit { IfOk result IsFitCommand }
-    ensures runs { IfOk result (λ asked. runs asked ≡ true) }
 {
     if text.len() > MOST_BYTES {
         return Err(AllocError);
     }
-    let asked = read_command(alloc, text)?;
-    if runs(asked.get()) {
-        Ok(asked)
-    } else {
-        Boxed::new(alloc, not_yet())
-    }
-}
-
-/// A command that doesn't run is refused by its text alone.
-fn not_yet() -> Command
-    ensures { result ≡ not_yet }
-{
-    Command::Faulty(Refusal {
-        number: 9013,
-        at: 0,
-    })
+    read_command(alloc, text)
 }

@@ -3,12 +3,11 @@
 ghost use Rattle.std.specs.Prelude.{◌≡◌, ◌+◌, ◌<◌, ◌≤◌, ◌^◌, ◌≤ℤ◌, pos, map, length, vec_len, vec_capacity, IfOk, IfErr};
 ghost use Rattle.script_text.specs.Collisions.{AllTellTruly};
 ghost use Rattle.script_text.specs.Shown.{IsPrintable, IsShown};
-ghost use Rattle.plain_sessions.specs.Narrowing.{narrowed};
+ghost use Rattle.plain_sessions.specs.Commands.{command};
 ghost use Rattle.plain_sessions.specs.Output.{IsPlainRun};
 ghost use Rattle.plain_sessions.specs.Records.{Shared};
 ghost use Rattle.plain_sessions.specs.Sessions as plain;
 ghost use Rattle.run_laws.specs.Orders.{IsTextOrder};
-ghost use Rattle.serving.specs.Running.{runs};
 ghost use Rattle.serving.specs.Serving.{IsBefore};
 ghost use Rattle.serving.specs.Steps.{number_at};
 ghost use Rattle.shared_db.specs.Opening.{IsOpeningFault};
@@ -37,7 +36,7 @@ pub fn run_script<D: Digester, P: Pacer>(
 ) -> Result<RunText, PutFault>
     requires sound { IsSoundScript script }
     requires epoch { pos 0 ≤ℤ epoch }
-    ensures plain { IfOk result (λ run. IsPlainRun (narrowed runs) D.address epoch script run) }
+    ensures plain { IfOk result (λ run. IsPlainRun command D.address epoch script run) }
     ensures truly { IfOk result (λ run. AllTellTruly D.address run.replies) }
     ensures order { IfOk result (λ run. IsTextOrder script run.order) }
     ensures printable { IfOk result (λ run. IsPrintable run) }
@@ -119,7 +118,7 @@ fn speak<D: Digester, P: Pacer>(
     requires segments { 2 ≤ db.old.segments_room }
     requires room { vec_len speaker.old.replies < vec_capacity speaker.old.replies }
     ensures speaks { (p : plain.Session) (shared : Shared) → IsBefore D.address speaker.old.session db.old.parts p shared
-        → Speaks D.address epoch p (narrowed runs text.now) shared db.old.parts db.new.parts speaker.old speaker.new }
+        → Speaks D.address epoch p (command text.now) shared db.old.parts db.new.parts speaker.old speaker.new }
     ensures moments { db.old.moments_room ≤ db.new.moments_room + 2 }
     ensures segments { db.old.segments_room ≤ db.new.segments_room + 2 }
     ensures room { vec_capacity speaker.new.replies ≡ vec_capacity speaker.old.replies }

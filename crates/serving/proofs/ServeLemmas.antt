@@ -16,7 +16,7 @@ use Rattle.session_laws.specs.Changes.{Parts}
 use Rattle.session_state.specs.declared.sessions.Place.TheVariants as place
 use Rattle.session_state.specs.declared.sessions.Session.{Session}
 use Rattle.sql_ast.specs.declared.statements.Setting.{Setting}
-use Rattle.serving.specs.Running.{is_alone}
+use Rattle.serving.specs.Kinds.{is_alone}
 use Rattle.serving.specs.Serving.{IsBefore, Serves}
 use Rattle.serving.specs.Steps.{Answered, number_at}
 use Rattle.serving.proofs.AloneLemmas.{alone_before}

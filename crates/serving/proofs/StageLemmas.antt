@@ -11,7 +11,7 @@ use Rattle.session_state.specs.Standing.{IsInTransaction, SessionStands}
 use Rattle.session_state.specs.declared.sessions.Session.{Session}
 use Rattle.session_txn.specs.Answering.{is_local}
 use Rattle.session_txn.proofs.SessionLemmas.{in_transaction}
-use Rattle.serving.specs.Running.{calls, is_alone, is_call}
+use Rattle.serving.specs.Kinds.{calls, is_alone, is_call}
 
 pub is_then_local : (p : plain.Session) (asked : Command) → calls asked ≡ false → is_alone p asked ≡ true → is_local p asked ≡ true
 is_then_local p asked other alone = sym (ap (λ (call : Bool). (call && is_in_transaction p) || is_local p asked) other) ∙ alone

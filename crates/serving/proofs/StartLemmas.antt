@@ -36,7 +36,7 @@ use Rattle.session_state.specs.Standing.{SessionStands}
 use Rattle.session_state.specs.declared.sessions.Session.{Session}
 use Rattle.session_txn.specs.Answering.{AnswersAlone}
 use Rattle.shared_db.specs.Shared.{noted}
-use Rattle.serving.specs.Running.{is_alone, is_in_place}
+use Rattle.serving.specs.Kinds.{is_alone, is_in_place}
 use Rattle.serving.specs.Serving.{IsBefore}
 use Rattle.serving.specs.Starting.{HasAnswered, HasStarted, HasWorked, with_reply}
 use Rattle.serving.specs.Steps.{Answered, ComesTo, Decided, after_start, fault_reply, number_at}

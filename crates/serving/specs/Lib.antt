@@ -1,7 +1,7 @@
 pub mod Ahead
 pub mod Branching
 pub mod Closing
-pub mod Running
+pub mod Kinds
 pub mod Serving
 pub mod Starting
 pub mod Steps

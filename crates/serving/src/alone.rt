@@ -8,9 +8,8 @@ ghost use Rattle.plain_sessions.specs.Sessions as plain;
 ghost use Rattle.plain_sessions.specs.declared.commands.Command.TheVariants as command;
 ghost use Rattle.session_state.specs.Standing.{IsInTransaction, SessionStands};
 ghost use Rattle.session_txn.specs.Answering.{AnswersAlone};
-ghost use Rattle.session_txn.specs.Naming.{names_system};
 ghost use Rattle.session_txn.specs.Showing.{is_sound_reply};
-ghost use Rattle.serving.specs.Running.{calls, is_alone, is_call};
+ghost use Rattle.serving.specs.Kinds.{calls, is_alone, is_call};
 
 use branch_procs::branch_local;
 use merge_procs::merge_local;
@@ -30,7 +29,6 @@ pub(crate) fn answer_alone<D: Digester>(
 ) -> Reply
     requires stands { (p : plain.Session) × SessionStands D.address session.old p × (is_alone p asked.now ≡ true) }
     requires fit { IsFitCommand asked.now }
-    requires stored { names_system asked.now ≡ false }
     ensures alone { (p : plain.Session) → SessionStands D.address session.old p → is_alone p asked.now ≡ true
         → AnswersAlone D.address p asked.now session.new result }
     ensures sound { is_sound_reply result ≡ true }

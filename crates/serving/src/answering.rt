@@ -12,10 +12,9 @@ ghost use Rattle.plain_sessions.specs.declared.commands.Command.{Command};
 ghost use Rattle.plain_sessions.specs.declared.commands.Command.TheVariants as command;
 ghost use Rattle.session_laws.specs.Changes.{Parts};
 ghost use Rattle.session_state.specs.Standing.{SessionStands};
-ghost use Rattle.session_txn.specs.Naming.{names_system};
 ghost use Rattle.session_txn.specs.Showing.{is_sound_reply};
 ghost use Rattle.shared_db.specs.Shared.{KeepsRoom};
-ghost use Rattle.serving.specs.Running.{is_alone, is_in_place, runs};
+ghost use Rattle.serving.specs.Kinds.{is_alone, is_in_place};
 ghost use Rattle.serving.specs.Serving.{IsBefore, Serves};
 ghost use Rattle.serving.specs.Steps.{Answered, number_at};
 
@@ -51,7 +50,6 @@ pub fn serve<D: Digester>(
     requires segments { 2 ≤ db.old.segments_room }
     requires epoch { pos 0 ≤ℤ epoch }
     requires fit { IsFitCommand asked.now }
-    requires runs { runs asked.now ≡ true }
     ensures served { (p : plain.Session) (shared : Shared) → IsBefore D.address session.old db.old.parts p shared
         → Serves D.address epoch p asked.now shared db.old.parts db.new.parts session.new result }
     ensures sound { is_sound_reply result ≡ true }
@@ -81,7 +79,6 @@ fn serve_in_place<D: Digester>(
     requires moments { 2 ≤ db.old.moments_room }
     requires segments { 2 ≤ db.old.segments_room }
     requires fit { IsFitCommand asked.now }
-    requires stored { names_system asked.now ≡ false }
     requires call { is_in_place asked.now ≡ true }
     ensures served { (epoch : ℤ) (p : plain.Session) (shared : Shared) → IsBefore D.address session.old db.old.parts p shared
         → Serves D.address epoch p asked.now shared db.old.parts db.new.parts session.new result }
@@ -120,7 +117,6 @@ fn answer<D: Digester>(
     requires moments { 2 ≤ db.old.moments_room }
     requires segments { 2 ≤ db.old.segments_room }
     requires fit { IsFitCommand asked.now }
-    requires stored { names_system asked.now ≡ false }
     requires call { is_in_place asked.now ≡ true }
     ensures answered { (epoch : ℤ) (p : plain.Session) (shared : Shared) → IsBefore D.address session.old db.old.parts p shared
         → Answered D.address epoch p asked.now shared db.old.parts db.new.parts session.new result }
@@ -186,7 +182,6 @@ fn at_moments<D: Digester>(
     requires moments { 2 ≤ db.old.moments_room }
     requires segments { 2 ≤ db.old.segments_room }
     requires fit { IsFitCommand asked.now }
-    requires stored { names_system asked.now ≡ false }
     requires call { is_in_place asked.now ≡ true }
     ensures answered { (epoch : ℤ) (p : plain.Session) (shared : Shared) → IsBefore D.address session.old db.old.parts p shared → is_alone p asked.now ≡ false
         → Answered D.address epoch p asked.now shared db.old.parts db.new.parts session.new result }

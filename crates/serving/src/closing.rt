@@ -19,7 +19,7 @@ ghost use Rattle.shared_db.specs.Shared.{KeepsRoom};
 ghost use Rattle.merge_procs.specs.Steps.{merges};
 ghost use Rattle.serving.specs.Branching.{Went};
 ghost use Rattle.serving.specs.Closing.{ClosedAs, IsCourse};
-ghost use Rattle.serving.specs.Running.{may_close};
+ghost use Rattle.serving.specs.Kinds.{may_close};
 ghost use Rattle.serving.specs.Serving.{IsBefore, Serves};
 ghost use Rattle.serving.specs.Starting.{HasStarted};
 ghost use Rattle.serving.specs.Steps.{number_at};

@@ -8,7 +8,7 @@ ghost use Rattle.script_text.specs.Collisions.{IsFault};
 ghost use Rattle.session_state.specs.Standing.{IsInTransaction, SessionStands};
 ghost use Rattle.merge_procs.specs.Closing.{IsAsBefore};
 ghost use Rattle.serving.specs.Closing.{IsCourse};
-ghost use Rattle.serving.specs.Running.{may_close};
+ghost use Rattle.serving.specs.Kinds.{may_close};
 
 use branch_procs::commit_closes;
 use chunk_store::PutFault;

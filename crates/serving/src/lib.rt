@@ -11,10 +11,8 @@ mod courses;
 mod deciding;
 mod places;
 mod rows;
-mod running;
 mod serving;
 mod starting;
 mod switching;
 
 pub use answering::{pass_over, serve};
-pub use running::runs;

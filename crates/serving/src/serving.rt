@@ -7,10 +7,9 @@ ghost use Rattle.plain_sessions.specs.Records.{Shared};
 ghost use Rattle.plain_sessions.specs.Sessions as plain;
 ghost use Rattle.plain_sessions.specs.Sessions.{is_changed};
 ghost use Rattle.plain_sessions.specs.declared.commands.Command.TheVariants as command;
-ghost use Rattle.session_txn.specs.Naming.{names_system};
 ghost use Rattle.session_txn.specs.Showing.{is_sound_reply};
 ghost use Rattle.shared_db.specs.Shared.{KeepsRoom};
-ghost use Rattle.serving.specs.Running.{is_alone, is_in_place};
+ghost use Rattle.serving.specs.Kinds.{is_alone, is_in_place};
 ghost use Rattle.serving.specs.Serving.{IsBefore};
 ghost use Rattle.serving.specs.Steps.{Answered, fault_reply};
 
@@ -47,7 +46,6 @@ pub(crate) fn alone<D: Digester>(
 ) -> Reply
     requires before { (p : plain.Session) × (shared : Shared) × IsBefore D.address session.old db.now.parts p shared × (is_alone p asked.now ≡ true) }
     requires fit { IsFitCommand asked.now }
-    requires stored { names_system asked.now ≡ false }
     requires call { is_in_place asked.now ≡ true }
     ensures answered { (epoch : ℤ) (p : plain.Session) (shared : Shared) → IsBefore D.address session.old db.now.parts p shared → is_alone p asked.now ≡ true
         → Answered D.address epoch p asked.now shared db.now.parts db.now.parts session.new result }

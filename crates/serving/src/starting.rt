@@ -10,10 +10,9 @@ ghost use Rattle.plain_sessions.specs.Sessions as plain;
 ghost use Rattle.plain_sessions.specs.declared.commands.Command.TheVariants as command;
 ghost use Rattle.plain_sessions.specs.declared.commands.Work.{Work};
 ghost use Rattle.session_laws.specs.Changes.{Parts};
-ghost use Rattle.session_txn.specs.Naming.{names_system};
 ghost use Rattle.session_txn.specs.Showing.{is_sound_reply};
 ghost use Rattle.shared_db.specs.Shared.{KeepsRoom};
-ghost use Rattle.serving.specs.Running.{is_in_place};
+ghost use Rattle.serving.specs.Kinds.{is_in_place};
 ghost use Rattle.serving.specs.Serving.{IsBefore};
 ghost use Rattle.serving.specs.Starting.{HasAnswered, HasStarted, HasWorked, with_reply};
 ghost use Rattle.serving.specs.Steps.{Answered, after_start};
@@ -40,7 +39,6 @@ pub(crate) fn started<D: Digester>(
 ) -> Reply
     requires before { (p : plain.Session) × (shared : Shared) × IsBefore D.address session.old db.old.parts p shared × (takes_start p asked.now ≡ true) }
     requires fit { IsFitCommand asked.now }
-    requires stored { names_system asked.now ≡ false }
     requires call { is_in_place asked.now ≡ true }
     requires moments { 1 < db.old.moments_room }
     requires segments { 0 < db.old.segments_room }
@@ -72,7 +70,6 @@ fn answer_started<D: Digester>(
 ) -> Reply
     requires started { (parts : Parts) × (p : plain.Session) × (t : plain.Transaction) × (shared : Shared) × HasStarted D.address session.old parts db.old.parts p t shared × (takes_start p asked.now ≡ true) }
     requires fit { IsFitCommand asked.now }
-    requires stored { names_system asked.now ≡ false }
     requires call { is_in_place asked.now ≡ true }
     requires moments { 0 < db.old.moments_room }
     requires segments { 0 < db.old.segments_room }

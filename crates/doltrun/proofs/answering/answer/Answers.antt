@@ -2,9 +2,8 @@ use Rattle.std.proofs.Common.{ℤ, subst, w64}
 use Rattle.std.proofs.lemmas.Int.{to_z-of_z}
 use Rattle.std.proofs.lemmas.Result.{err_from_is_err_and}
 use Rattle.shared_db.specs.Opening.{IsOpeningFault}
-use Rattle.plain_sessions.specs.Narrowing.{narrowed}
+use Rattle.plain_sessions.specs.Commands.{command}
 use Rattle.plain_sessions.specs.Output.{IsPlainRun}
-use Rattle.serving.specs.Running as running
 use Rattle.doltrun.proofs.AnswerLemmas.{alone_by, comes_put, comes_script}
 use Rattle.doltrun.proofs.ScriptLemmas.{script_sound}
 use Rattle.doltrun.proofs.answering.answer.Goals as goal
@@ -28,7 +27,7 @@ returns g c = record {
   script = c.in_ok-script.script;
   run = c.in_ok-run.run';
   reads = c.in_ok-script.ensures;
-  runs = subst (λ (date : ℤ). IsPlainRun (narrowed running.runs) g.D.Digester.address date c.in_ok-script.script c.in_ok-run.run') (to_z-of_z w64 c.args.epoch c.ranges.epoch) c.in_ok-run.ensures.plain;
+  runs = subst (λ (date : ℤ). IsPlainRun command g.D.Digester.address date c.in_ok-script.script c.in_ok-run.run') (to_z-of_z w64 c.args.epoch c.ranges.epoch) c.in_ok-run.ensures.plain;
   truly = c.in_ok-run.ensures.truly;
   ordered = c.in_ok-run.ensures.order;
   shown = c.in_ok-run.ensures.shown;

@@ -1,7 +1,6 @@
 use Rattle.std.proofs.Common.{◌≡◌, List, ℕ, ℤ, length, refl, subst, arith, w64}
 use Rattle.std.proofs.lemmas.Int.{to_z-of_z}
-use Rattle.plain_sessions.specs.Narrowing.{narrowed}
-use Rattle.serving.specs.Running.{runs}
+use Rattle.plain_sessions.specs.Commands.{command}
 use Rattle.script_run.specs.Running.{Speaks}
 use Rattle.script_run.proofs.LineLemmas.{has_moments, has_room, has_segments, may_number, next_of, run_further, session_there}
 use Rattle.script_run.proofs.lines.run_line.Goals as goal
@@ -41,8 +40,8 @@ pub returns : goal.returns
 returns g c =
     let next = next_of g.D.Digester.address c.args.epoch c.args.script.now c.args.at c.args.running.now c.as_slice.result.now c.index-as_slice-at.result c.index_mut-speaker.result.now c.requires.sound c.requires.there c.as_slice.ensures c.index-as_slice-at.is c.requires.before c.index_mut-speaker.ensures.value in
     run_further next _ c.speak.new.speaker c.law_of_lines.ensures
-    (subst (λ (text : List ℕ). Speaks g.D.Digester.address c.args.epoch next.p (narrowed runs text) next.now.shared c.args.running.now.db.parts c.speak.new.db.parts c.index_mut-speaker.result.now c.speak.new.speaker)
+    (subst (λ (text : List ℕ). Speaks g.D.Digester.address c.args.epoch next.p (command text) next.now.shared c.args.running.now.db.parts c.speak.new.db.parts c.index_mut-speaker.result.now c.speak.new.speaker)
     c.as_slice-2.ensures
-    (subst (λ (e : ℤ). Speaks g.D.Digester.address e next.p (narrowed runs c.as_slice-2.result.now) next.now.shared c.args.running.now.db.parts c.speak.new.db.parts c.index_mut-speaker.result.now c.speak.new.speaker)
+    (subst (λ (e : ℤ). Speaks g.D.Digester.address e next.p (command c.as_slice-2.result.now) next.now.shared c.args.running.now.db.parts c.speak.new.db.parts c.index_mut-speaker.result.now c.speak.new.speaker)
     (to_z-of_z w64 c.args.epoch c.ranges.epoch) (c.speak.ensures.speaks next.p next.now.shared next.is.before)))
     refl c.speak.ensures.room c.speak.ensures.moments c.speak.ensures.segments

@@ -3,10 +3,9 @@ use Rattle.std.proofs.lemmas.Int.{to_z-of_z}
 use Rattle.script_text.specs.Collisions.{AllTellTruly}
 use Rattle.script_text.specs.Shown.{IsPrintable, IsShown}
 use Rattle.script_text.specs.declared.outputs.RunText.{RunText}
-use Rattle.plain_sessions.specs.Narrowing.{narrowed}
+use Rattle.plain_sessions.specs.Commands.{command}
 use Rattle.plain_sessions.specs.Output.{IsPlainRun}
 use Rattle.run_laws.specs.Orders.{IsTextOrder}
-use Rattle.serving.specs.Running.{runs}
 use Rattle.script_run.specs.Running.{IsRunningAt}
 use Rattle.script_run.proofs.EndLemmas.{is_in_order, is_plain, is_printable, is_shown, is_truly, shown_is}
 use Rattle.script_run.proofs.lines.run_script.Goals as goal
@@ -19,7 +18,7 @@ returns-clause-plain g c =
     let ended = subst (λ (e : ℤ). IsRunningAt g.D.Digester.address e c.args.script (length c.args.script.lines) c.run_lines.new.running) (to_z-of_z w64 c.args.epoch c.ranges.epoch) c.run_lines.ensures in
     let shown = shown_is g.D.Digester.address c.args.epoch c.args.script c.run_lines.new.running ended c.in_ok-replies.replies c.from_vec.result c.in_ok-branches.branches
     c.in_ok-replies.ensures (c.from_vec.ensures ∙ c.in_ok-order.ensures.items ∙ c.moments.ensures) c.in_ok-branches.ensures in
-    subst (λ (run : RunText). IsPlainRun (narrowed runs) g.D.Digester.address c.args.epoch c.args.script run) (sym shown)
+    subst (λ (run : RunText). IsPlainRun command g.D.Digester.address c.args.epoch c.args.script run) (sym shown)
     (is_plain g.D.Digester.address c.args.epoch c.args.script c.run_lines.new.running ended c.law_of_lines.ensures)
 
 pub returns-clause-truly : goal.returns-clause-truly

@@ -1,4 +1,4 @@
--- Which statements are served so far, and what a session answers by itself.
+-- Which kind of statement it is: what may have a decision of its own, and what a session answers by itself.
 use Rattle.std.specs.Prelude.{Bool, true, false, ◌&&◌, ◌||◌, not}
 use Rattle.sql_procedures.specs.declared.requests.MergeRequest.TheVariants as merging
 use Rattle.plain_sessions.specs.declared.commands.Command.{Command}
@@ -8,11 +8,6 @@ use Rattle.plain_sessions.specs.declared.commands.Work.TheVariants as work
 use Rattle.plain_sessions.specs.Moments.{is_in_transaction}
 use Rattle.plain_sessions.specs.Sessions as plain
 use Rattle.session_txn.specs.Answering.{is_local}
-use Rattle.session_txn.specs.Naming.{names_system}
-
--- all but what names a table of conflicts or of violations
-abbrev pub runs : Command → Bool
-runs asked = not (names_system asked)
 
 -- DOLT_COMMIT, and DOLT_MERGE of a name: these may have a decision of their own
 abbrev pub may_close : Work → Bool
