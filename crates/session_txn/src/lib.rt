@@ -3,10 +3,15 @@
 
 mod answering;
 mod committing;
+mod deleting;
+mod dropping;
+mod finding;
+mod laws;
 mod naming;
 mod planning;
 mod selecting;
 mod showing;
+mod tables;
 mod values;
 mod writing;
 
