@@ -134,30 +134,42 @@ module _ {A : Type 0} (entry : A → Entry) (tests : List Meaning) where
       let own : bytes_eq k k ≡ true = itself k in
       let here : left_by (k ∷ keys) (x ∷ xs) ≡ left_by keys xs = (λ i. cond (not (own i || is_among keys k)) (x ∷ left_by (k ∷ keys) xs) (left_by (k ∷ keys) xs)) ∙ passed k keys xs new in
       let size : length (left_by (k ∷ keys) (x ∷ xs)) ≡ length (left_by keys xs) = ap length here in
-      inr (k ∷ keys, (
-      (all_ok (chosen_key tests) (entry x) (map entry xs) (k ∷ []) keys (ap (λ (o : Outcome Bool). and_then o (λ chosen. Ok (key_if k chosen))) passed_so) chose),
-      (all_ok (entry_left tests (λ y. (entry y).row)) x xs [] (left_by keys xs) (ap (λ (o : Outcome Bool). and_then o (λ chosen. Ok (entry_if x chosen))) passed_so) left ∙ ok_same_by (sym here)),
-      omega (arith, count, size),
-      (λ l other.
-      let parts = and_parts (not (bytes_eq k l)) (list_all (λ y. not (bytes_eq (key_of entry y) l)) xs) other in
-      ap (λ (b : Bool). b || is_among keys l) (not_true (bytes_eq k l) parts.0) ∙ none l parts.1)))
+      inr (
+        k ∷ keys,
+        (
+          (all_ok (chosen_key tests) (entry x) (map entry xs) (k ∷ []) keys (ap (λ (o : Outcome Bool). and_then o (λ chosen. Ok (key_if k chosen))) passed_so) chose),
+          (all_ok (entry_left tests (λ y. (entry y).row)) x xs [] (left_by keys xs) (ap (λ (o : Outcome Bool). and_then o (λ chosen. Ok (entry_if x chosen))) passed_so) left ∙ ok_same_by (sym here)),
+          omega (arith, count, size),
+          (λ l other.
+              let parts = and_parts (not (bytes_eq k l)) (list_all (λ y. not (bytes_eq (key_of entry y) l)) xs) other in
+              ap (λ (b : Bool). b || is_among keys l) (not_true (bytes_eq k l) parts.0) ∙ none l parts.1),
+        ),
+      )
   one_chosen x xs false keys passed_so new chose left count none =
       let k = key_of entry x in
       let here : left_by keys (x ∷ xs) ≡ x ∷ left_by keys xs = ap (λ (b : Bool). cond (not b) (x ∷ left_by keys xs) (left_by keys xs)) (none k new) in
       let size : length (left_by keys (x ∷ xs)) ≡ suc (length (left_by keys xs)) = ap length here in
-      inr (keys, (
-      (all_ok (chosen_key tests) (entry x) (map entry xs) [] keys (ap (λ (o : Outcome Bool). and_then o (λ chosen. Ok (key_if k chosen))) passed_so) chose),
-      (all_ok (entry_left tests (λ y. (entry y).row)) x xs (x ∷ []) (left_by keys xs) (ap (λ (o : Outcome Bool). and_then o (λ chosen. Ok (entry_if x chosen))) passed_so) left ∙ ok_same_by (sym here)),
-      omega (arith, count, size),
-      (λ l other. none l (and_parts (not (bytes_eq k l)) (list_all (λ y. not (bytes_eq (key_of entry y) l)) xs) other).1)))
+      inr (
+        keys,
+        (
+          (all_ok (chosen_key tests) (entry x) (map entry xs) [] keys (ap (λ (o : Outcome Bool). and_then o (λ chosen. Ok (key_if k chosen))) passed_so) chose),
+          (all_ok (entry_left tests (λ y. (entry y).row)) x xs (x ∷ []) (left_by keys xs) (ap (λ (o : Outcome Bool). and_then o (λ chosen. Ok (entry_if x chosen))) passed_so) left ∙ ok_same_by (sym here)),
+          omega (arith, count, size),
+          (λ l other. none l (and_parts (not (bytes_eq k l)) (list_all (λ y. not (bytes_eq (key_of entry y) l)) xs) other).1),
+        ),
+      )
 
   by_pass : (x : A) (xs : List A) (o : Outcome Bool) → passes tests (entry x).row ≡ o → IsNew (key_of entry) (key_of entry x) xs → Chosen xs → Chosen (x ∷ xs)
-  by_pass x xs (Err number) is new rest = inl (number,
-      (all_first (chosen_key tests) (entry x) (map entry xs) number (ap (λ (o : Outcome Bool). and_then o (λ chosen. Ok (key_if (key_of entry x) chosen))) is)),
-      (all_first (entry_left tests (λ y. (entry y).row)) x xs number (ap (λ (o : Outcome Bool). and_then o (λ chosen. Ok (entry_if x chosen))) is)))
-  by_pass x xs (Ok b) is new (inl f) = inl (f.0,
-      (all_then (chosen_key tests) (entry x) (map entry xs) (key_if (key_of entry x) b) f.0 (ap (λ (o : Outcome Bool). and_then o (λ chosen. Ok (key_if (key_of entry x) chosen))) is) f.1),
-      (all_then (entry_left tests (λ y. (entry y).row)) x xs (entry_if x b) f.0 (ap (λ (o : Outcome Bool). and_then o (λ chosen. Ok (entry_if x chosen))) is) f.2))
+  by_pass x xs (Err number) is new rest = inl (
+    number,
+    (all_first (chosen_key tests) (entry x) (map entry xs) number (ap (λ (o : Outcome Bool). and_then o (λ chosen. Ok (key_if (key_of entry x) chosen))) is)),
+    (all_first (entry_left tests (λ y. (entry y).row)) x xs number (ap (λ (o : Outcome Bool). and_then o (λ chosen. Ok (entry_if x chosen))) is)),
+  )
+  by_pass x xs (Ok b) is new (inl f) = inl (
+    f.0,
+    (all_then (chosen_key tests) (entry x) (map entry xs) (key_if (key_of entry x) b) f.0 (ap (λ (o : Outcome Bool). and_then o (λ chosen. Ok (key_if (key_of entry x) chosen))) is) f.1),
+    (all_then (entry_left tests (λ y. (entry y).row)) x xs (entry_if x b) f.0 (ap (λ (o : Outcome Bool). and_then o (λ chosen. Ok (entry_if x chosen))) is) f.2),
+  )
   by_pass x xs (Ok b) is new (inr c) = one_chosen x xs b c.0 is new c.1.0 c.1.1 c.1.2 c.1.3
 
   pub choice : (xs : List A) → AreApart (key_of entry) xs → Chosen xs

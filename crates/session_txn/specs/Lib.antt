@@ -2,7 +2,6 @@ pub mod Answering
 pub mod Committing
 pub mod Deleting
 pub mod Finding
-pub mod Naming
 pub mod Planning
 pub mod Reading
 pub mod Showing

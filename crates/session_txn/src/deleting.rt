@@ -93,10 +93,7 @@ fn chosen_key(alloc: Global, tests: &[BoundExpr], entry: &Entry) -> Result<Seque
 {
     let mut keys = Sequence::new(alloc);
     if passes(alloc, tests, &entry.row)? {
-        keys.push(Blob::from_vec(Vec::from_slice(
-            alloc,
-            entry.key.as_slice(),
-        )?))?;
+        keys.push(Blob::from_vec(Vec::from_slice(alloc, entry.key.as_slice())?))?;
     }
     Ok(keys)
 }

@@ -7,7 +7,6 @@ mod deleting;
 mod dropping;
 mod finding;
 mod laws;
-mod naming;
 mod planning;
 mod selecting;
 mod showing;
@@ -17,6 +16,5 @@ mod writing;
 
 pub use answering::{ends_transaction, local};
 pub use committing::plan_commit;
-pub use naming::names_system;
 pub use planning::{finish, plan_begin};
 pub use showing::due;
