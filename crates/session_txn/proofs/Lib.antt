@@ -1,6 +1,9 @@
 pub mod AloneLemmas
 pub mod CommitLemmas
 pub mod CountLemmas
+pub mod DeleteLemmas
+pub mod DropLemmas
+pub mod FoundLemmas
 pub mod SelectLemmas
 pub mod SessionLemmas
 pub mod ShowLemmas

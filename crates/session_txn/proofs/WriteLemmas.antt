@@ -16,15 +16,12 @@ use Rattle.schema_model.specs.PlainTables.{PlainDatabase}
 use Rattle.sql_ast.specs.declared.statements.Write.{Write}
 use Rattle.expr_eval.specs.Binding.{Outcome}
 use Rattle.plain_writes.specs.Writes.{Effect}
-use Rattle.plain_schemas.specs.Statements.{write_effect}
-use Rattle.plain_sessions.specs.Statements.{changed, counted_or_done, or_of_rows, worked, write_worked}
+use Rattle.plain_sessions.specs.Statements.{changed, counted_or_done, worked}
 use Rattle.sql_write.specs.Growing.{is_data}
 use Rattle.sql_write.specs.Writing.{IsWritten, Writes}
 use Rattle.sql_write.specs.declared.faults.SqlFault.{SqlFault}
 use Rattle.sql_write.specs.declared.faults.SqlFault.TheVariants as fault
 use Rattle.sql_write.specs.declared.writing.Written.{Written}
-use Rattle.sql_ast.specs.declared.statements.Write.TheVariants as write
-use Rattle.sql_rules.specs.Writes.{is_below}
 use Rattle.script_text.specs.Output.{shortage}
 use Rattle.table_root.specs.declared.heads.Look.{Look}
 use Rattle.plain_sessions.specs.Moments.{is_in_transaction}
@@ -32,7 +29,6 @@ use Rattle.plain_sessions.specs.Records.{BranchState}
 use Rattle.plain_sessions.specs.Replies.{refused}
 use Rattle.plain_sessions.specs.Sessions as plain
 use Rattle.plain_sessions.specs.Sessions.{Said, Transaction, with_own, within}
-use Rattle.plain_sessions.specs.SystemTables.{behind, conflicts_front, delete_by, delete_conflicts, delete_violations, violations_front}
 use Rattle.plain_sessions.specs.declared.commands.Command.TheVariants as command
 use Rattle.plain_sessions.specs.declared.commands.Work.TheVariants as work
 use Rattle.session_laws.specs.Commits.{HasNoCommit}
@@ -42,9 +38,9 @@ use Rattle.session_laws.specs.Transactions.{StartStands, TransactionStands}
 use Rattle.session_state.specs.Standing.{SessionStands}
 use Rattle.session_state.specs.declared.sessions.Session.{Session}
 use Rattle.session_txn.specs.Answering.{AnswersAlone}
-use Rattle.session_txn.specs.Naming.{writes_system}
+use Rattle.session_txn.specs.Deleting.{turn_effect}
 use Rattle.session_txn.specs.Writing.{IsExcused, IsRefusedBy, Turns, written_reply}
-use Rattle.session_txn.proofs.CountLemmas.{reply_told}
+use Rattle.session_txn.proofs.DeleteLemmas.{IsWell, reply_turned, well_kept, write_turned}
 use Rattle.session_txn.proofs.AloneLemmas.{answers_due, answers_so, collides, starves, takes_none, worked_ill, worked_well}
 use Rattle.session_txn.proofs.SessionLemmas.{has_one, own_kept}
 use Rattle.session_txn.proofs.ShowLemmas.{due_truly}
@@ -52,21 +48,21 @@ use Rattle.session_txn.proofs.ShowLemmas.{due_truly}
 -- ---- the draft
 
 done_by : (address : List ℕ → List ℕ) (old new : Drafting) (before : Address) (tables : PlainDatabase) (w : Write) (written : Written) (outcome : Outcome Effect) (reply : Reply)
-    → write_effect tables w ≡ outcome → Writes address (chunks_of new.chunks) (Ok written) outcome → reply ≡ written_reply w written.rows → Grows is_data old new
-    → Turns address old new before written.root (write_effect tables w) reply
+    → turn_effect tables w ≡ outcome → Writes address (chunks_of new.chunks) (Ok written) outcome → reply ≡ written_reply w written.rows → Grows is_data old new
+    → Turns address old new before written.root (turn_effect tables w) reply
 done_by address old new before tables w written (Ok made) reply is wrote told grows = inl (record {
   made = made;
   is = is;
-  reply_is = told ∙ ap (written_reply w) wrote.rows ∙ sym (reply_told tables w made is);
+  reply_is = told ∙ ap (written_reply w) wrote.rows ∙ sym (reply_turned tables w made is);
   stands = wrote.root;
   grows = grows;
 })
 done_by address old new before tables w written (Err number) reply is wrote told grows = absurd wrote
 
 pub turned : (address : List ℕ → List ℕ) (old new : Drafting) (before : Address) (tables : PlainDatabase) (w : Write) (written : Written) (reply : Reply)
-    → Writes address (chunks_of new.chunks) (Ok written) (write_effect tables w) → reply ≡ written_reply w written.rows → Grows is_data old new
-    → Turns address old new before written.root (write_effect tables w) reply
-turned address old new before tables w written reply wrote told grows = done_by address old new before tables w written (write_effect tables w) reply refl wrote told grows
+    → Writes address (chunks_of new.chunks) (Ok written) (turn_effect tables w) → reply ≡ written_reply w written.rows → Grows is_data old new
+    → Turns address old new before written.root (turn_effect tables w) reply
+turned address old new before tables w written reply wrote told grows = done_by address old new before tables w written (turn_effect tables w) reply refl wrote told grows
 
 excused_by : (address : List ℕ → List ℕ) (chunks : Chunks) (f : SqlFault) (effect : Outcome Effect) (reply : Reply) → Writes address chunks (Err f) effect → IsRefusedBy f reply
     → IsExcused effect reply
@@ -133,27 +129,10 @@ no_commit_more own more none all k bytes there is = by_place (found_either own m
     by_place (inl here) = none k bytes here is
     by_place (inr here) = data_apart bytes (of_data more k bytes all here) is
 
-neither : (a b : Bool) → (a || b) ≡ false → (a ≡ false) × (b ≡ false)
-neither true b h = absurd (cc)
-neither false b h = (refl, h)
-
-by_rows : (own : BranchState) (w : Write) → writes_system w ≡ false → write_worked own w ≡ changed own (write_effect own.working w)
-by_rows own (write.Create create) h = refl
-by_rows own (write.Drop drop) h = refl
-by_rows own (write.Insert insert) h = refl
-by_rows own (write.Update update) h = refl
-by_rows own (write.Alter alter) h = refl
-by_rows own (write.Delete delete) h =
-    let none = neither (is_below conflicts_front delete.table) (is_below violations_front delete.table) h in
-    let conflicts = Some (delete_by (delete_conflicts own delete) own (behind conflicts_front delete.table)) in
-    let violations = Some (delete_by (delete_violations own delete) own (behind violations_front delete.table)) in
-    ap (λ (b : Bool). or_of_rows own delete (if b then conflicts else (if is_below violations_front delete.table then violations else None))) none.0
-    ∙ ap (λ (b : Bool). or_of_rows own delete (if b then violations else None)) none.1
-
-worked_write : (p : plain.Session) (t : Transaction) (w : Write) (outcome : Outcome Effect) → writes_system w ≡ false → write_effect t.own.working w ≡ outcome
+worked_write : (p : plain.Session) (t : Transaction) (w : Write) (outcome : Outcome Effect) → IsWell t.own.working → turn_effect t.own.working w ≡ outcome
     → worked p t (work.Change w) ≡ changed t.own outcome
 unfolding worked
-worked_write p t w outcome h is = by_rows t.own w h ∙ ap (changed t.own) is
+worked_write p t w outcome h is = write_turned t.own w h ∙ ap (changed t.own) is
 
 grown_by : (address : List ℕ → List ℕ) (old new : DraftParts) (start : Option Look) (own rec : BranchRecord) (found : Option Transaction) (t : Transaction) (state : BranchState)
     → TransactionsFollow → found ≡ Some t → Longer old new → StartStands address old start own found
@@ -210,8 +189,8 @@ unturned_stands address old d root p stands same back = record {
   committer = stands.committer;
 }
 
-excused : {D : Type 0} (address : List ℕ → List ℕ) (session : Session D) (p : plain.Session) (t : Transaction) (w : Write) (reply : Reply) → writes_system w ≡ false
-    → p.transaction ≡ Some t → SessionStands address session p → IsExcused (write_effect t.own.working w) reply → AnswersAlone address p (command.Data (work.Change w)) session reply
+excused : {D : Type 0} (address : List ℕ → List ℕ) (session : Session D) (p : plain.Session) (t : Transaction) (w : Write) (reply : Reply) → IsWell t.own.working
+    → p.transaction ≡ Some t → SessionStands address session p → IsExcused (turn_effect t.own.working w) reply → AnswersAlone address p (command.Data (work.Change w)) session reply
 excused address session p t w reply h there stands (inl refusal) =
     answers_due address session p p (command.Data (work.Change w)) (refused refusal.0) reply
     (worked_ill p t (work.Change w) refusal.0 there (worked_write p t w (Err refusal.0) h refusal.1)) refusal.2 stands stands
@@ -224,8 +203,8 @@ counted_told None = refl
 counted_told (Some rows) = refl
 
 changes_in : {D : Type 0} (address : List ℕ → List ℕ) (old : Session D) (d : Drafting) (root : Address) (p : plain.Session) (t : Transaction) (w : Write) (reply : Reply)
-    → DraftsFollow → DraftsGrow → RecordsFollow → TransactionsFollow → writes_system w ≡ false → p.transaction ≡ Some t → SessionStands address old p
-    → Turns address old.draft d old.own.working root (write_effect t.own.working w) reply
+    → DraftsFollow → DraftsGrow → RecordsFollow → TransactionsFollow → IsWell t.own.working → p.transaction ≡ Some t → SessionStands address old p
+    → Turns address old.draft d old.own.working root (turn_effect t.own.working w) reply
     → AnswersAlone address p (command.Data (work.Change w)) (at_root old root d) reply
 changes_in address old d root p t w reply drafts growth records follow h there stands (inl done) =
     let state : BranchState = record t.own { working = done.made.database } in
@@ -238,9 +217,11 @@ changes_in address old d root p t w reply drafts growth records follow h there s
     excused address (at_root old root d) p t w reply h there (unturned_stands address old d root p stands undone.chunks undone.root) undone.excused
 
 pub changes : {D : Type 0} (address : List ℕ → List ℕ) (old : Session D) (d : Drafting) (root : Address) (p : plain.Session) (w : Write) (reply : Reply)
-    → DraftsFollow → DraftsGrow → RecordsFollow → TransactionsFollow → writes_system w ≡ false → is_in_transaction p ≡ true → SessionStands address old p
-    → ((tables : PlainDatabase) → IsKeptAt address (chunks_of old.draft.chunks) old.own.working.0 tables → Turns address old.draft d old.own.working root (write_effect tables w) reply)
+    → DraftsFollow → DraftsGrow → RecordsFollow → TransactionsFollow → is_in_transaction p ≡ true → SessionStands address old p
+    → ((tables : PlainDatabase) → IsKeptAt address (chunks_of old.draft.chunks) old.own.working.0 tables → Turns address old.draft d old.own.working root (turn_effect tables w) reply)
     → AnswersAlone address p (command.Data (work.Change w)) (at_root old root d) reply
-changes address old d root p w reply drafts growth records follow h inside stands turns =
+changes address old d root p w reply drafts growth records follow inside stands turns =
     let found = has_one p.transaction inside in
-    changes_in address old d root p found.0 w reply drafts growth records follow h found.1 stands (turns found.0.own.working (own_kept address old p found.0 stands found.1))
+    let kept = own_kept address old p found.0 stands found.1 in
+    changes_in address old d root p found.0 w reply drafts growth records follow (well_kept address (chunks_of old.draft.chunks) old.own.working.0 found.0.own.working kept) found.1 stands
+    (turns found.0.own.working kept)

@@ -1,6 +1,7 @@
 pub mod Answering
 pub mod Committing
-pub mod Naming
+pub mod Deleting
+pub mod Finding
 pub mod Planning
 pub mod Reading
 pub mod Showing

@@ -1,6 +1,6 @@
 //! Statements that need no moment, or whose start was taken.
 
-ghost use Rattle.std.specs.Prelude.{◌≡◌, false, if◌then◌else◌, true};
+ghost use Rattle.std.specs.Prelude.{◌≡◌, if◌then◌else◌, true};
 ghost use Rattle.script_text.specs.Collisions.{TellsTruly};
 ghost use Rattle.script_text.specs.declared.replies.Reply.TheVariants.{Done};
 ghost use Rattle.plain_sessions.specs.Fitness.{IsFitCommand};
@@ -11,7 +11,6 @@ ghost use Rattle.plain_sessions.specs.Sessions.{over, with_variable};
 ghost use Rattle.plain_sessions.specs.declared.commands.Command.TheVariants as command;
 ghost use Rattle.session_state.specs.Standing.{SessionStands};
 ghost use Rattle.session_txn.specs.Answering.{AnswersAlone, is_local};
-ghost use Rattle.session_txn.specs.Naming.{names_system};
 ghost use Rattle.session_txn.specs.Showing.{IsDue, is_sound_reply};
 
 use crate::selecting::{ask, say};
@@ -29,7 +28,6 @@ use tuple_codec::Digester;
 pub fn local<D: Digester>(alloc: Global, session: &mut Session<D>, asked: &Command) -> Reply
     requires stands { (p : plain.Session) × SessionStands D.address session.old p × (is_local p asked.now ≡ true) }
     requires fit { IsFitCommand asked.now }
-    requires stored { names_system asked.now ≡ false }
     ensures alone { (p : plain.Session) → SessionStands D.address session.old p → is_local p asked.now ≡ true
         → AnswersAlone D.address p asked.now session.new result }
     ensures sound { is_sound_reply result ≡ true }
@@ -50,7 +48,6 @@ pub fn local<D: Digester>(alloc: Global, session: &mut Session<D>, asked: &Comma
 fn do_work<D: Digester>(alloc: Global, session: &mut Session<D>, work: &Work) -> Reply
     requires stands { (p : plain.Session) × SessionStands D.address session.old p × (is_local p (command.Data work.now) ≡ true) }
     requires fit { IsFitCommand (command.Data work.now) }
-    requires stored { names_system (command.Data work.now) ≡ false }
     ensures alone { (p : plain.Session) → SessionStands D.address session.old p → is_local p (command.Data work.now) ≡ true
         → AnswersAlone D.address p (command.Data work.now) session.new result }
     ensures sound { is_sound_reply result ≡ true }

@@ -3,15 +3,18 @@
 
 mod answering;
 mod committing;
-mod naming;
+mod deleting;
+mod dropping;
+mod finding;
+mod laws;
 mod planning;
 mod selecting;
 mod showing;
+mod tables;
 mod values;
 mod writing;
 
 pub use answering::{ends_transaction, local};
 pub use committing::plan_commit;
-pub use naming::names_system;
 pub use planning::{finish, plan_begin};
 pub use showing::due;

@@ -1,32 +1,35 @@
 //! Statements that write, in a transaction.
 
-ghost use Rattle.std.specs.Prelude.{◌≡◌, false, true};
+ghost use Rattle.std.specs.Prelude.{◌≡◌, true};
 ghost use Rattle.chunk_store.specs.Laws.{ChunksFollow, DraftsFollow, DraftsGrow};
-ghost use Rattle.chunk_store.specs.Drafts.{IsNamed, chunks_of};
+ghost use Rattle.chunk_store.specs.Drafts.{Grows, IsNamed, Longer, chunks_of};
 ghost use Rattle.constraint_scan.specs.Scanning.{HasKeptAt, IsKeptAt};
 ghost use Rattle.schema_model.specs.PlainTables.{PlainDatabase};
-ghost use Rattle.plain_schemas.specs.Statements.{write_effect};
 ghost use Rattle.script_text.specs.Collisions.{TellsTruly};
 ghost use Rattle.plain_sessions.specs.Moments.{is_in_transaction};
 ghost use Rattle.plain_sessions.specs.Sessions as plain;
 ghost use Rattle.plain_sessions.specs.declared.commands.Command.TheVariants as command;
 ghost use Rattle.plain_sessions.specs.declared.commands.Work.TheVariants as work;
+ghost use Rattle.sql_write.specs.Growing.{is_data};
+ghost use Rattle.sql_write.specs.Writing.{Writes};
 ghost use Rattle.table_root.specs.Standing.{DatabasesStand};
 ghost use Rattle.schema_laws.specs.Laws.{IsFit};
 ghost use Rattle.session_laws.specs.Laws.{RecordsFollow, TransactionsFollow};
 ghost use Rattle.session_state.specs.Standing.{IsInTransaction, SessionStands};
 ghost use Rattle.session_txn.specs.Answering.{AnswersAlone};
-ghost use Rattle.session_txn.specs.Naming.{writes_system};
+ghost use Rattle.session_txn.specs.Deleting.{delete_effect, list_named, turn_effect};
+ghost use Rattle.sql_ast.specs.declared.statements.Write.TheVariants as kind;
 ghost use Rattle.session_txn.specs.Showing.{is_sound_reply};
 ghost use Rattle.session_txn.specs.Writing.{IsRefusedBy, Turns, written_reply};
 
+use crate::deleting::{delete_entries, list_named};
 use crate::showing::due;
 use chunk_store::{Draft, law_of_chunks, law_of_drafts, law_of_growth};
 use script_text::Reply;
 use session_laws::{law_of_records, law_of_transactions};
 use session_state::Session;
-use sql_ast::Write;
-use sql_write::{SqlFault, write};
+use sql_ast::{Delete, Write};
+use sql_write::{SqlFault, Written, write};
 use std::alloc::Global;
 use table_root::law_of_databases;
 use tuple_codec::{Address, Digester};
@@ -39,7 +42,6 @@ pub(crate) fn change<D: Digester>(
 ) -> Reply
     requires stands { IsInTransaction D.address session.old }
     requires fit { IsFit statement.now }
-    requires stored { writes_system statement.now ≡ false }
     ensures alone { (p : plain.Session) → SessionStands D.address session.old p → is_in_transaction p ≡ true
         → AnswersAlone D.address p (command.Data (work.Change statement.now)) session.new result }
     ensures sound { is_sound_reply result ≡ true }
@@ -64,7 +66,7 @@ fn turn<D: Digester>(
     requires tables { HasKeptAt D.address (chunks_of draft.old.chunks) database.old.0 }
     requires fit { IsFit statement.now }
     ensures turns { (tables : PlainDatabase) → IsKeptAt D.address (chunks_of draft.old.chunks) database.old.0 tables
-        → Turns D.address draft.old draft.new database.old database.new (write_effect tables statement.now) result }
+        → Turns D.address draft.old draft.new database.old database.new (turn_effect tables statement.now) result }
     ensures sound { is_sound_reply result ≡ true }
     ensures truly { TellsTruly D.address result }
     ensures base { draft.new.chunks.base ≡ draft.old.chunks.base }
@@ -72,7 +74,7 @@ fn turn<D: Digester>(
     laws();
     let mark = draft.mark();
     let old = *database;
-    let result = write(alloc, draft, &old, statement);
+    let result = written(alloc, draft, &old, statement);
     draft.tell();
     match result {
         Ok(written) => {
@@ -83,6 +85,50 @@ fn turn<D: Digester>(
             draft.back_to(mark);
             refuse(fault)
         }
+    }
+}
+
+/// Does a statement, or gives its first refusal: a DELETE may take entries of a table's list.
+fn written<D: Digester>(
+    alloc: Global,
+    draft: &mut Draft<D>,
+    database: &Address,
+    statement: &Write,
+) -> Result<Written, SqlFault>
+    requires kept { HasKeptAt D.address (chunks_of draft.old.chunks) database.now.0 }
+    requires fit { IsFit statement.now }
+    ensures done { (contents : PlainDatabase) → IsKeptAt D.address (chunks_of draft.old.chunks) database.now.0 contents
+        → Writes D.address (chunks_of draft.new.chunks) result (turn_effect contents statement.now) }
+    ensures grows { Grows is_data draft.old draft.new }
+    ensures longer { Longer draft.old.chunks draft.new.chunks }
+{
+    laws();
+    match statement {
+        Write::Delete(delete) => deleted(alloc, draft, database, statement, delete),
+        _ => write(alloc, draft, database, statement),
+    }
+}
+
+/// Does a DELETE, on entries of a table's list or on a table's rows.
+fn deleted<D: Digester>(
+    alloc: Global,
+    draft: &mut Draft<D>,
+    database: &Address,
+    statement: &Write,
+    delete: &Delete,
+) -> Result<Written, SqlFault>
+    requires kept { HasKeptAt D.address (chunks_of draft.old.chunks) database.now.0 }
+    requires fit { IsFit statement.now }
+    requires asked { statement.now ≡ kind.Delete delete.now }
+    ensures done { (contents : PlainDatabase) → IsKeptAt D.address (chunks_of draft.old.chunks) database.now.0 contents
+        → Writes D.address (chunks_of draft.new.chunks) result (delete_effect contents delete.now (list_named delete.now.table)) }
+    ensures grows { Grows is_data draft.old draft.new }
+    ensures longer { Longer draft.old.chunks draft.new.chunks }
+{
+    laws();
+    match list_named(delete.table.as_slice()) {
+        Some((which, name)) => delete_entries(alloc, draft, database, which, name, delete),
+        None => write(alloc, draft, database, statement),
     }
 }
 

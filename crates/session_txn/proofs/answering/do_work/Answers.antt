@@ -3,7 +3,6 @@ use Rattle.plain_sessions.specs.Fitness.{IsFitCommand}
 use Rattle.plain_sessions.specs.declared.commands.Command.TheVariants as command
 use Rattle.plain_sessions.specs.declared.commands.Work.{Work}
 use Rattle.session_txn.specs.Answering.{AnswersAlone, is_local}
-use Rattle.session_txn.specs.Naming.{names_system}
 use Rattle.session_txn.proofs.SessionLemmas.{in_transaction}
 use Rattle.session_txn.proofs.answering.do_work.Goals as goal
 
@@ -19,9 +18,6 @@ change-requires-clause-stands g c κs within =
 
 pub change-requires-clause-fit : goal.change-requires-clause-fit
 change-requires-clause-fit g c κs within = subst (λ (w : Work). IsFitCommand (command.Data w)) c.in-Change.is c.requires.fit
-
-pub change-requires-clause-stored : goal.change-requires-clause-stored
-change-requires-clause-stored g c κs within = ap (λ (w : Work). names_system (command.Data w)) (sym c.in-Change.is) ∙ c.requires.stored
 
 pub returns-in-Ask-clause-alone : goal.returns-in-Ask-clause-alone
 returns-in-Ask-clause-alone g c = λ p stands local.

@@ -6,7 +6,6 @@ use Rattle.plain_sessions.specs.Replies.{refused_by}
 use Rattle.plain_sessions.specs.declared.commands.Command.{Command}
 use Rattle.plain_sessions.specs.declared.commands.Command.TheVariants as command
 use Rattle.session_txn.specs.Answering.{AnswersAlone, is_local}
-use Rattle.session_txn.specs.Naming.{names_system}
 use Rattle.session_txn.proofs.AloneLemmas.{answers_due}
 use Rattle.session_txn.proofs.SelectLemmas.{says}
 use Rattle.session_txn.proofs.SessionLemmas.{ends}
@@ -19,9 +18,6 @@ do_work-requires-clause-stands g c κs within =
 
 pub do_work-requires-clause-fit : goal.do_work-requires-clause-fit
 do_work-requires-clause-fit g c κs within = subst (λ (a : Command). IsFitCommand a) c.in-Data.is c.requires.fit
-
-pub do_work-requires-clause-stored : goal.do_work-requires-clause-stored
-do_work-requires-clause-stored g c κs within = ap names_system (sym c.in-Data.is) ∙ c.requires.stored
 
 pub returns-in-Faulty-clause-alone : goal.returns-in-Faulty-clause-alone
 returns-in-Faulty-clause-alone g c = λ p stands local.

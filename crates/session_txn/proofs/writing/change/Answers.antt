@@ -8,4 +8,4 @@ turn-reply-requires-clause-tables g c κs within = has_own g.D.Digester.address 
 pub returns-clause-alone : goal.returns-clause-alone
 returns-clause-alone g c = λ p stands inside.
     changes g.D.Digester.address c.args.session.now c.turn-reply.new.draft c.turn-reply.new.database p c.args.statement.now c.turn-reply.result
-    c.laws.ensures.drafts c.laws.ensures.growth c.laws.ensures.records c.laws.ensures.transactions c.requires.stored inside stands c.turn-reply.ensures.turns
+    c.laws.ensures.drafts c.laws.ensures.growth c.laws.ensures.records c.laws.ensures.transactions inside stands c.turn-reply.ensures.turns

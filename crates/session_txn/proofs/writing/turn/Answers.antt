@@ -1,22 +1,22 @@
 use Rattle.std.proofs.Common.{ap, ◌∙◌}
 use Rattle.chunk_store.specs.Drafts.{DraftParts}
-use Rattle.plain_schemas.specs.Statements.{write_effect}
+use Rattle.session_txn.specs.Deleting.{turn_effect}
 use Rattle.session_txn.proofs.WriteLemmas.{refuses_truly, turned, unturned}
 use Rattle.session_txn.proofs.writing.turn.Goals as goal
 
 pub returns-in-Ok-clause-turns : goal.returns-in-Ok-clause-turns
 returns-in-Ok-clause-turns g c = λ tables stands.
-    turned g.D.Digester.address c.args.draft.now c.write-result.new.draft c.args.database.now tables c.args.statement.now c.in-Ok.written c.written_reply.result
+    turned g.D.Digester.address c.args.draft.now c.written-result.new.draft c.args.database.now tables c.args.statement.now c.in-Ok.written c.written_reply.result
     (c.in-Ok.ensures.done tables stands) c.written_reply.ensures c.in-Ok.ensures.grows
 
 pub returns-in-Err-clause-turns : goal.returns-in-Err-clause-turns
 returns-in-Err-clause-turns g c = λ tables stands.
-    unturned g.D.Digester.address c.args.draft.now c.write-result.new.draft c.back_to.new.self c.args.database.now c.mark-mark.result.own c.in-Err.fault (write_effect tables c.args.statement.now)
+    unturned g.D.Digester.address c.args.draft.now c.written-result.new.draft c.back_to.new.self c.args.database.now c.mark-mark.result.own c.in-Err.fault (turn_effect tables c.args.statement.now)
     c.refuse.result c.laws.ensures.drafts (c.in-Err.ensures.done tables stands) c.refuse.ensures.due c.mark-mark.ensures c.in-Err.ensures.longer c.back_to.ensures.chunks
 
 pub returns-in-Err-clause-truly : goal.returns-in-Err-clause-truly
 returns-in-Err-clause-truly g c =
-    refuses_truly g.D.Digester.address c.args.draft.now.chunks c.write-result.new.draft.chunks c.in-Err.fault (write_effect c.requires.tables.0 c.args.statement.now) c.refuse.result
+    refuses_truly g.D.Digester.address c.args.draft.now.chunks c.written-result.new.draft.chunks c.in-Err.fault (turn_effect c.requires.tables.0 c.args.statement.now) c.refuse.result
     c.laws.ensures.chunks c.laws.ensures.drafts c.requires.named c.tell.ensures c.in-Err.ensures.longer (c.in-Err.ensures.done c.requires.tables.0 c.requires.tables.1) c.refuse.ensures.due
 
 pub returns-in-Ok-clause-base : goal.returns-in-Ok-clause-base

@@ -1,0 +1,42 @@
+//! The table that a statement names, found and read.
+
+ghost use Rattle.schema_model.specs.PlainTables.{PlainDatabase};
+ghost use Rattle.chunk_store.specs.Drafts.{chunks_of};
+ghost use Rattle.plain_writes.specs.Violations.{table_in};
+ghost use Rattle.constraint_scan.specs.Scanning.{HasKeptAt, IsKeptAt};
+ghost use Rattle.session_txn.specs.Finding.{Finds};
+
+use crate::tables::{read_tables, table_at, table_in};
+use chunk_store::Draft;
+use sql_write::SqlFault;
+use std::alloc::Global;
+use table_root::{NamedTable, Table};
+use tuple_codec::{Address, Digester};
+
+/// A table of a database, with the names and addresses of all of its tables.
+#[derive(Drop)]
+pub(crate) struct Found {
+    pub(crate) tables: Vec<NamedTable>,
+    pub(crate) table: Table,
+}
+
+/// The table of a name in the database at an address; refused with 1146 where there is none.
+pub(crate) fn find<D: Digester>(
+    alloc: Global,
+    draft: &Draft<D>,
+    database: &Address,
+    name: &[u8],
+) -> Result<Found, SqlFault>
+    requires { HasKeptAt D.address (chunks_of draft.now.chunks) database.now.0 }
+    ensures { (contents : PlainDatabase) → IsKeptAt D.address (chunks_of draft.now.chunks) database.now.0 contents
+        → Finds D.address (chunks_of draft.now.chunks) database.now.0 name.now contents result (table_in contents name.now) }
+{
+    let tables = read_tables(alloc, draft, database)?;
+    match table_in(tables.as_slice(), name) {
+        Some(address) => {
+            let table = table_at(alloc, draft, &address)?;
+            Ok(Found { tables, table })
+        }
+        None => Err(SqlFault::Refused(1146)),
+    }
+}

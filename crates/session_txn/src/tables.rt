@@ -1,0 +1,140 @@
+//! The tables of a database that a draft keeps: read, found by name, and put into the database.
+
+ghost use Rattle.std.specs.Prelude.{◌≡◌, IfErr, IfOk};
+ghost use Rattle.schema_model.specs.PlainTables.{PlainDatabase, PlainTable};
+ghost use Rattle.chunk_store.specs.Clashes.{IsReason};
+ghost use Rattle.chunk_store.specs.Drafts.{Grows, chunks_of};
+ghost use Rattle.table_root.specs.Standing.{IsTableAt, IsTableOf};
+ghost use Rattle.plain_writes.specs.Writes.{replaced};
+ghost use Rattle.constraint_scan.specs.Scanning.{HasKeptAt, IsKeptAt, IsReadAt};
+ghost use Rattle.sql_write.specs.Growing.{is_data};
+ghost use Rattle.sql_write.specs.Putting.{AreListed, AreListedAt, MayReplace, MayStand, address_in, readdress, readdressed};
+
+use crate::laws::laws_of_growth;
+use chunk_store::{Draft, PutFault};
+use std::alloc::{AllocError, Global};
+use table_root::{NamedTable, Table, read_database, read_table, write_database, write_table};
+use tuple_codec::{Address, Digester};
+
+/// The names and addresses of the tables of the database at an address, by rising name.
+pub(crate) fn read_tables<D: Digester>(
+    alloc: Global,
+    draft: &Draft<D>,
+    database: &Address,
+) -> Result<Vec<NamedTable>, AllocError>
+    requires { HasKeptAt D.address (chunks_of draft.now.chunks) database.now.0 }
+    ensures { (contents : PlainDatabase) → IsKeptAt D.address (chunks_of draft.now.chunks) database.now.0 contents
+        → IfOk result (λ tables. AreListedAt D.address (chunks_of draft.now.chunks) database.now.0 tables.items contents) }
+{
+    laws_of_growth();
+    read_database(alloc, draft, database)
+}
+
+/// The address of the table of a name.
+pub(crate) fn table_in(tables: &[NamedTable], name: &[u8]) -> Option<Address>
+    ensures { result ≡ address_in tables.now name.now }
+{
+    for named in tables {
+        if named.name.as_slice() == name {
+            return Some(named.table);
+        }
+    }
+    None
+}
+
+/// The table at an address: its schema, and the roots of its trees.
+pub(crate) fn table_at<D: Digester>(
+    alloc: Global,
+    draft: &Draft<D>,
+    address: &Address,
+) -> Result<Table, AllocError>
+    requires { (contents : PlainTable) × IsTableAt D.address (chunks_of draft.now.chunks) address.now.0 contents }
+    ensures { (contents : PlainTable) → IsTableAt D.address (chunks_of draft.now.chunks) address.now.0 contents
+        → IfOk result (λ table. IsTableOf D.address (chunks_of draft.now.chunks) table contents) }
+{
+    laws_of_growth();
+    read_table(alloc, draft, address)
+}
+
+/// Puts an address under a name, in place of that which stood there.
+fn readdressed(
+    alloc: Global,
+    tables: Vec<NamedTable>,
+    name: &[u8],
+    table: Address,
+) -> Result<Vec<NamedTable>, AllocError>
+    ensures { IfOk result (λ made. made.items ≡ readdressed name.now table tables.items) }
+{
+    let mut made = Vec::with_capacity(alloc, tables.len())?;
+    for named in tables {
+        made.push(readdress(named, name, table))?;
+    }
+    Ok(made)
+}
+
+fn readdress(named: NamedTable, name: &[u8], table: Address) -> NamedTable
+    ensures { result ≡ readdress name.now table named }
+{
+    if named.name.as_slice() == name {
+        NamedTable {
+            name: named.name,
+            table,
+        }
+    } else {
+        named
+    }
+}
+
+/// Writes a database that these tables are.
+pub(crate) fn put_database<D: Digester>(
+    alloc: Global,
+    draft: &mut Draft<D>,
+    tables: &[NamedTable],
+) -> Result<Address, PutFault>
+    requires { (database : PlainDatabase) × AreListed D.address (chunks_of draft.old.chunks) tables.now database }
+    ensures stands { (database : PlainDatabase) → AreListed D.address (chunks_of draft.old.chunks) tables.now database
+        → IfOk result (λ at. IsReadAt D.address (chunks_of draft.new.chunks) at.0 database) }
+    ensures grows { Grows is_data draft.old draft.new }
+    ensures cause { IfErr result (IsReason D.address (chunks_of draft.new.chunks)) }
+{
+    laws_of_growth();
+    let at = write_database(alloc, draft, tables)?;
+    Ok(at)
+}
+
+/// Writes a table.
+pub(crate) fn keep_table<D: Digester>(
+    alloc: Global,
+    draft: &mut Draft<D>,
+    table: &Table,
+) -> Result<Address, PutFault>
+    requires { (contents : PlainTable) × MayStand D.address (chunks_of draft.old.chunks) table.now contents }
+    ensures stands { (contents : PlainTable) → MayStand D.address (chunks_of draft.old.chunks) table.now contents
+        → IfOk result (λ at. IsTableAt D.address (chunks_of draft.new.chunks) at.0 contents) }
+    ensures grows { Grows is_data draft.old draft.new }
+    ensures cause { IfErr result (IsReason D.address (chunks_of draft.new.chunks)) }
+{
+    laws_of_growth();
+    let at = write_table(alloc, draft, table)?;
+    Ok(at)
+}
+
+/// Writes a table, and the database in which it stands in place of the one of this name: the new database's address.
+pub(crate) fn put_table<D: Digester>(
+    alloc: Global,
+    draft: &mut Draft<D>,
+    tables: Vec<NamedTable>,
+    name: &[u8],
+    table: &Table,
+) -> Result<Address, PutFault>
+    requires { (database : PlainDatabase) × (contents : PlainTable) × MayReplace D.address (chunks_of draft.old.chunks) tables.items table.now database contents }
+    ensures stands { (database : PlainDatabase) (contents : PlainTable) → MayReplace D.address (chunks_of draft.old.chunks) tables.items table.now database contents
+        → IfOk result (λ at. IsReadAt D.address (chunks_of draft.new.chunks) at.0 (replaced name.now contents database)) }
+    ensures grows { Grows is_data draft.old draft.new }
+    ensures cause { IfErr result (IsReason D.address (chunks_of draft.new.chunks)) }
+{
+    laws_of_growth();
+    let address = keep_table(alloc, draft, table)?;
+    let made = readdressed(alloc, tables, name, address)?;
+    put_database(alloc, draft, made.as_slice())
+}
