@@ -1,6 +1,6 @@
 -- DELETE of entries by their keys leaves those that no test chooses.
-use Rattle.std.proofs.Common.{◌≡◌, ◌+◌, ◌-◌, refl, sym, ap, ◌∙◌, subst, arith, ℕ, suc, Bool, true, false, cond, not, ◌||◌, nat_cmp, is_lt, List, [], ◌∷◌, ◌++◌, Option, None, Some, Ok, Err, ◌⊎◌, inl, inr, filter, fold, length, map, bytes_eq, if◌then◌else◌, append_assoc, append-nil, unwrap_or, take, drop}
-use Rattle.std.specs.Cmp.Lexicographic.{bytes_decides, slice_cmp}
+use Rattle.std.proofs.Common.{◌≡◌, ◌+◌, ◌-◌, refl, sym, ap, ◌∙◌, subst, arith, ℕ, suc, Bool, true, false, cond, not, ◌||◌, is_lt, List, [], ◌∷◌, ◌++◌, Option, None, Some, Ok, Err, ◌⊎◌, inl, inr, filter, fold, length, map, bytes_eq, if◌then◌else◌, append_assoc, append-nil, unwrap_or, take, drop}
+use Rattle.std.specs.Cmp.Lexicographic.{bytes_decides}
 use Rattle.std.specs.List.{AllByRecursion, find, list_all, list_any}
 use Rattle.std.specs.Option.{option_map}
 use Rattle.std.proofs.lemmas.Bool.{and_from, and_parts}
@@ -15,13 +15,13 @@ use Rattle.plain_sessions.specs.Branching.{put_table, table_cmp, without_table}
 use Rattle.plain_sessions.specs.Merging.{Worked, Answers}
 use Rattle.plain_sessions.specs.Records.{BranchState}
 use Rattle.plain_sessions.specs.Replies.{counted}
-use Rattle.plain_sessions.specs.Statements.{changed, changed_by, counted_or_done, or_of_rows, write_worked}
+use Rattle.plain_sessions.specs.Statements.{changed, counted_or_done, or_of_rows, write_worked}
 use Rattle.plain_sessions.specs.SystemTables as plain
-use Rattle.plain_sessions.specs.SystemTables.{behind, conflict_columns, conflict_row, conflicts_front, delete_by, delete_conflicts, delete_violations, entries_left, entry_if, entry_left, tests_on, violation_columns, violation_row, violations_front, with_table}
+use Rattle.plain_sessions.specs.SystemTables.{behind, conflict_columns, conflict_row, conflicts_front, delete_by, delete_conflicts, delete_violations, entries_left, entry_if, entry_left, tests_on, violation_columns, violation_row, violations_front}
 use Rattle.plain_sql.specs.Answers.{Meaning, passes}
 use Rattle.plain_sql.specs.Lists.{all_of, or_refuse, placed}
 use Rattle.plain_writes.specs.Violations.{is_called, table_in}
-use Rattle.plain_writes.specs.Writes.{Effect, replaced, replaced_in}
+use Rattle.plain_writes.specs.Writes.{Effect, replaced}
 use Rattle.schema_model.specs.PlainTables.{Conflict, NamedTable, PlainDatabase, PlainTable, Violation, conflict_item, rises, violation_item}
 use Rattle.schema_model.specs.WrittenForms.{table_address}
 use Rattle.sql_ast.specs.declared.statements.Delete.{Delete}

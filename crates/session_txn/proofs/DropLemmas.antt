@@ -1,5 +1,5 @@
 -- A table without some of its violations stands, and keeps the limits.
-use Rattle.std.proofs.Common.{◌≡◌, refl, sym, ap, ◌∙◌, subst, ℕ, Bool, true, false, cond, not, ◌&&◌, nat_le, List, [], ◌∷◌, None, filter, length, map}
+use Rattle.std.proofs.Common.{◌≡◌, refl, sym, ap, ◌∙◌, subst, ℕ, Bool, true, false, cond, not, nat_le, List, [], ◌∷◌, None, filter, length, map}
 use Rattle.std.specs.List.{list_all}
 use Rattle.std.proofs.lemmas.Bool.{and_from, and_parts}
 use Rattle.chunk_store.specs.Chunks.{Chunks, Extends}

@@ -1,8 +1,7 @@
 -- A table that is found, and what is put in its place.
-use Rattle.std.proofs.Common.{◌≡◌, refl, sym, ap, ◌∙◌, subst, ℕ, true, List, Option, Some, None, Ok, Err, nat_le}
+use Rattle.std.proofs.Common.{◌≡◌, refl, ℕ, true, List, Option, Some, None, Ok}
 use Rattle.chunk_store.specs.Chunks.{Chunks, Extends}
-use Rattle.constraint_scan.specs.Scanning.{IsKeptAt, IsReadAt}
-use Rattle.schema_model.specs.Limits.{is_database_within_limits, is_table_within_limits}
+use Rattle.schema_model.specs.Limits.{is_database_within_limits}
 use Rattle.schema_model.specs.PlainTables.{PlainDatabase, PlainTable}
 use Rattle.sql_write.specs.Putting.{MayReplace}
 use Rattle.sql_write.proofs.TableLemmas.{kept_listed, listed_later}
@@ -11,7 +10,6 @@ use Rattle.table_root.specs.declared.records.Table.{Table}
 use Rattle.write_laws.specs.Laws.{IsKept}
 use Rattle.write_laws.proofs.DatabaseLemmas.{found_kept, replaced_kept}
 use Rattle.plain_writes.specs.Writes.{replaced}
-use Rattle.plain_writes.specs.Violations.{table_in}
 use Rattle.system_tables.specs.declared.entries.Listed.{Listed}
 use Rattle.session_txn.specs.Deleting.{without_entries}
 use Rattle.session_txn.specs.Finding.{Finds, IsFound}

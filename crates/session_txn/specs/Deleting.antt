@@ -1,5 +1,5 @@
 -- DELETE of a table's conflicts or of its recorded violations, as an effect on a database.
-use Rattle.std.specs.Prelude.{ℕ, not, if◌then◌else◌, Bool, List, [], ◌∷◌, ◌++◌, filter, length, map, Option, None, Some, Ok}
+use Rattle.std.specs.Prelude.{ℕ, not, if◌then◌else◌, Bool, List, [], ◌∷◌, ◌++◌, filter, length, Option, None, Some, Ok}
 use Rattle.conflict_tables.specs.Conflicts as conflicts
 use Rattle.conflict_tables.specs.Conflicts.{is_among}
 use Rattle.expr_eval.specs.Binding.{Outcome, and_then}

@@ -1,15 +1,14 @@
 -- Violations read from the items of their tree.
-use Rattle.std.proofs.Common.{◌≡◌, ◌≤◌, ◌<◌, ◌^◌, ◌+◌, ◌-◌, refl, sym, ap, ◌∙◌, subst, ℕ, suc, true, ◌&&◌, not, nat_le, nat_lt, List, [], ◌∷◌, ◌++◌, length, map, drop, take, min, slice_index_or, arith, append_assoc, append-nil}
+use Rattle.std.proofs.Common.{◌≡◌, ◌≤◌, ◌<◌, ◌^◌, ◌+◌, ◌-◌, refl, sym, ap, ◌∙◌, subst, ℕ, suc, true, not, nat_le, nat_lt, List, [], ◌∷◌, ◌++◌, length, map, drop, take, min, slice_index_or, arith, append_assoc, append-nil}
 use Rattle.std.specs.List.{list_all}
 use Rattle.std.specs.Ordering.{is_eq}
 use Rattle.std.proofs.lemmas.Bool.{and_from, and_parts, le-leb, ltb-true}
-use Rattle.std.proofs.lemmas.Bool.Decides.{nat_tests}
 use Rattle.std.proofs.lemmas.List.Sums.{count_by-le-length}
 use Rattle.chunk_store.specs.Chunks.{Chunks}
 use Rattle.chunk_store.specs.Standing.{IsTree}
 use Rattle.plain_sessions.specs.SystemTables.{kind_text, violation_row}
 use Rattle.prolly_tree.specs.Lists.{from_key, pair_of}
-use Rattle.schema_model.specs.PlainTables.{PlainTable, Violation, body_bytes, is_row, is_row_at, is_violation, key_types, primary_key, violation_item, violation_items}
+use Rattle.schema_model.specs.PlainTables.{PlainTable, Violation, is_row, is_row_at, is_violation, key_types, primary_key, violation_item, violation_items}
 use Rattle.schema_model.specs.Schemas.{is_name, is_schema}
 use Rattle.schema_model.specs.declared.schemas.Schema.{Schema}
 use Rattle.schema_model.proofs.FitLemmas.{key_types_fit}
@@ -25,9 +24,8 @@ use Rattle.tuple_codec.specs.Texts.{char_count, is_continuation, is_utf8}
 use Rattle.tuple_codec.specs.declared.values.SqlType.TheVariants as kind
 use Rattle.tuple_codec.specs.declared.values.Value.{Value}
 use Rattle.tuple_codec.specs.declared.values.Value.TheVariants as cell
-use Rattle.system_tables.specs.Entries.{IsListed, IsListedKey, entries_of, listed_types, violation_entry}
+use Rattle.system_tables.specs.Entries.{IsListed, IsListedKey, listed_types, violation_entry}
 use Rattle.system_tables.specs.declared.entries.Entry.{Entry}
-use Rattle.system_tables.specs.declared.entries.Listed.TheVariants as listed
 use lib.Seq.{drop-append_seam}
 
 -- ---- its parts

@@ -9,7 +9,7 @@ use Rattle.plain_sessions.specs.SystemTables.{conflict_row, number, number_colum
 use Rattle.plain_sql.specs.declared.sources.Known.{Known}
 use Rattle.plain_sql.specs.declared.sources.NamedType.{NamedType}
 use Rattle.schema_model.specs.PlainTables as contents
-use Rattle.schema_model.specs.PlainTables.{Conflict, PlainDatabase, PlainTable, Violation, body_bytes, is_conflict, is_violation, key_types, violation_item}
+use Rattle.schema_model.specs.PlainTables.{Conflict, PlainDatabase, PlainTable, Violation, body_bytes, is_conflict, is_violation, key_types}
 use Rattle.schema_model.specs.declared.schemas.Column.{Column}
 use Rattle.schema_model.specs.declared.schemas.Schema.{Schema}
 use Rattle.table_root.specs.Standing.{IsTableAt}

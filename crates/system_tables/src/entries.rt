@@ -7,7 +7,7 @@ use std::alloc::{AllocError, Global};
 use tuple_codec::{Blob, Row, Sequence};
 
 /// Which of a table's lists.
-#[derive(Clone, Copy, Debug, PartialEq, Eq, Drop)]
+#[derive(Clone, Copy, Debug, PartialEq, Eq)]
 pub enum Listed {
     Conflicts,
     Violations,

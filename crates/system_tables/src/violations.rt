@@ -1,13 +1,13 @@
 //! The recorded violations of a table as rows: the kind, the row that breaks the constraint, and the constraint's name.
 
-ghost use Rattle.std.specs.Prelude.{◌≡◌, ◌++◌, ◌∷◌, [], ℕ, IfOk, List, OnOk, drop, length, true};
+ghost use Rattle.std.specs.Prelude.{◌≡◌, ◌++◌, ◌∷◌, [], ℕ, IfOk, List, true};
 ghost use Rattle.chunk_store.specs.Drafts.{chunks_of};
 ghost use Rattle.conflict_tables.specs.Conflicts.{IsSomeTable};
 ghost use Rattle.plain_sessions.specs.SystemTables as plain;
 ghost use Rattle.schema_model.specs.PlainTables.{PlainTable, Violation};
 ghost use Rattle.schema_model.specs.Schemas.{is_schema};
 ghost use Rattle.table_root.specs.Standing.{IsTableOf};
-ghost use Rattle.tuple_codec.specs.KeyBytes.{key_bytes, key_cell};
+ghost use Rattle.tuple_codec.specs.KeyBytes.{key_bytes};
 ghost use Rattle.tuple_codec.specs.Limits.{are_types};
 ghost use Rattle.tuple_codec.specs.Rows.{Cells};
 ghost use Rattle.tuple_codec.specs.declared.values.Value.TheVariants as cell;

@@ -1,4 +1,4 @@
-use Rattle.std.proofs.Common.{◌∙◌, ap, refl, subst, sym}
+use Rattle.std.proofs.Common.{◌∙◌, ap, subst, sym}
 use Rattle.plain_sessions.specs.Fitness.{IsFitCommand}
 use Rattle.plain_sessions.specs.declared.commands.Command.TheVariants as command
 use Rattle.plain_sessions.specs.declared.commands.Work.{Work}

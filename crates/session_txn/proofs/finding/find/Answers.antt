@@ -1,4 +1,4 @@
-use Rattle.std.proofs.Common.{List, Option, None, Some, Ok, refl, sym, ap, ◌∙◌, subst}
+use Rattle.std.proofs.Common.{List, Option, Ok, refl, sym, ap, ◌∙◌, subst}
 use Rattle.schema_model.specs.PlainTables.{PlainTable}
 use Rattle.chunk_store.specs.Drafts.{chunks_of}
 use Rattle.table_root.specs.declared.records.NamedTable.{NamedTable}

@@ -1,4 +1,4 @@
-use Rattle.std.proofs.Common.{get_or, sym, ap, ◌∙◌, ◌∷◌, ◌++◌, [], List, None, subst}
+use Rattle.std.proofs.Common.{get_or, sym, ap, ◌∙◌, ◌∷◌, ◌++◌, [], None, subst}
 use Rattle.conflict_tables.specs.declared.entries.ConflictEntry.{ConflictEntry}
 use Rattle.schema_model.specs.PlainTables.{Conflict}
 use Rattle.system_tables.specs.Entries.{IsConflictOf}

@@ -1,4 +1,4 @@
-use Rattle.std.proofs.Common.{◌≡◌, IfOk}
+use Rattle.std.proofs.Common.{◌≡◌}
 use Rattle.std.proofs.lemmas.Result.{IfOk-weaker}
 use Rattle.plain_sql.specs.declared.sources.Known.{Known}
 use Rattle.system_tables.specs.Entries.{counts_of, counts_shown}

@@ -1,8 +1,6 @@
-use Rattle.std.proofs.Common.{◌≡◌, ◌∷◌, [], ◌++◌, List, map}
-use Rattle.plain_sessions.specs.SystemTables.{conflicts, conflicts_of, constraint_violations}
+use Rattle.std.proofs.Common.{◌∷◌, [], ◌++◌, List, map}
 use Rattle.plain_sql.specs.declared.sources.Known.{Known}
 use Rattle.system_tables.specs.Entries.{counts_shown, list_shown}
-use Rattle.system_tables.specs.Known.{entry_tables_of, named_read}
 use Rattle.system_tables.specs.declared.entries.Listed.TheVariants as listed
 use Rattle.system_tables.proofs.SourceLemmas.{more_read, on_ok_more}
 use Rattle.system_tables.proofs.listing.push_all.Goals as goal

@@ -1,5 +1,4 @@
 use Rattle.std.proofs.Common.{◌∙◌, refl, sym}
-use Rattle.chunk_store.specs.Drafts.{chunks_of}
 use Rattle.system_tables.proofs.SessionLemmas.{working_kept}
 use Rattle.system_tables.proofs.SourceLemmas.{none_added}
 use Rattle.system_tables.proofs.listing.push_entries.Goals as goal

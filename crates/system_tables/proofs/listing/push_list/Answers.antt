@@ -1,4 +1,4 @@
-use Rattle.std.proofs.Common.{◌≡◌, ◌∙◌, ◌∷◌, [], ◌++◌, List, ap, sym, subst, OnOk}
+use Rattle.std.proofs.Common.{◌≡◌, ◌∙◌, ◌++◌, List, ap, sym, subst, OnOk}
 use Rattle.schema_model.specs.PlainTables.{NamedTable}
 use Rattle.sql_select.specs.Sources.{is_read}
 use Rattle.sql_select.specs.declared.sources.NamedAnswer.{NamedAnswer}

@@ -3,7 +3,7 @@ use Rattle.chunk_store.specs.Drafts.{chunks_of}
 use Rattle.prolly_tree.specs.Walks.{scan_rest}
 use Rattle.schema_model.specs.PlainTables.{violation_item}
 use Rattle.system_tables.specs.declared.entries.Entry.{Entry}
-use Rattle.system_tables.proofs.ViolationLemmas.{IsReading, begins, first, over, own_fit, own_tree, schema_is, shown_of}
+use Rattle.system_tables.proofs.ViolationLemmas.{IsReading, begins, first, over, own_fit, own_tree, shown_of}
 use Rattle.system_tables.proofs.violations.violation_entries.Goals as goal
 
 pub scan_from-requires-clause-tree : goal.scan_from-requires-clause-tree

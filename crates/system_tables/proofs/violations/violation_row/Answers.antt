@@ -1,4 +1,4 @@
-use Rattle.std.proofs.Common.{◌≡◌, ◌∙◌, ◌∷◌, ◌++◌, [], IfOk, List, ap, sym, subst, true}
+use Rattle.std.proofs.Common.{◌≡◌, ◌∙◌, ◌∷◌, ◌++◌, [], List, ap, sym, subst, true}
 use Rattle.std.proofs.lemmas.Result.{IfOk-weaker}
 use Rattle.plain_sessions.specs.SystemTables as plain
 use Rattle.tuple_codec.specs.KeyBytes.{key_bytes}
@@ -7,8 +7,7 @@ use Rattle.tuple_codec.specs.Rows.{Cells}
 use Rattle.tuple_codec.specs.declared.values.SqlType.{SqlType}
 use Rattle.tuple_codec.specs.declared.values.Value.{Value}
 use Rattle.tuple_codec.specs.declared.values.Value.TheVariants as cell
-use Rattle.schema_model.specs.PlainTables.{Violation}
-use Rattle.system_tables.specs.Entries.{IsListed, IsListedKey}
+use Rattle.system_tables.specs.Entries.{IsListedKey}
 use Rattle.system_tables.proofs.ViolationLemmas.{kind_is, listed_key, row_is, shown_is, types_fit}
 use Rattle.system_tables.proofs.violations.violation_row.Goals as goal
 
