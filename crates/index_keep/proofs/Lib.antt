@@ -9,4 +9,3 @@ mod StandLemmas
 mod TableLemmas
 mod MakingLemmas
 mod ReadLemmas
-mod SampleLemmas

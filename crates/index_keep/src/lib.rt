@@ -16,6 +16,3 @@ pub use entries::sort_edits;
 pub use indexes::indexes_of;
 pub use laws::law_of_index_lists;
 pub use tables::apply_with_indexes;
-
-#[cfg(test)]
-mod tests;

@@ -2,7 +2,6 @@ pub mod Records
 pub mod Replies
 pub mod Sessions
 pub mod Commands
-pub mod Narrowing
 pub mod Fitness
 pub mod CommitRule
 pub mod Branching

@@ -85,8 +85,7 @@ run_along address epoch answers order state =
 
 -- ---- a script's run
 
--- what a session's statements ask, in the script's order. What a text asks is an argument: `command`, or a narrower reading where not
--- every command runs yet
+-- what a session's statements ask, in the script's order. What a text asks is an argument; the program's is `command`
 abbrev pub commands_of : (List ℕ → Command) → ℕ → List Line → List Command
 commands_of reads place [] = []
 commands_of reads place (line ∷ lines) =

@@ -13,8 +13,6 @@ mod names;
 mod parts;
 mod projecting;
 mod same;
-#[cfg(test)]
-mod tests;
 
 pub use faults::SchemaFault;
 pub use merging::merge;

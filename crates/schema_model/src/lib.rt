@@ -15,8 +15,6 @@ mod reading;
 mod rules;
 mod schemas;
 mod sizes;
-#[cfg(test)]
-mod tests;
 mod types;
 mod writing;
 
