@@ -1,27 +1,133 @@
--- What bytes come to where a step of the answer failed.
-use Rattle.std.proofs.Common.{◌≡◌, ℕ, ℤ, List, Ok, Err, sym, ◌∙◌}
+-- What bytes come to where a step of the answer failed, and that a text tells one run or one stop alone.
+use Rattle.std.proofs.Common.{◌≡◌, Bool, ℕ, ℤ, List, Result, Ok, Err, refl, true, ap₂, subst, sym, ◌∙◌}
 use Rattle.chunk_store.specs.declared.faults.PutFault.{PutFault}
 use Rattle.chunk_store.specs.declared.faults.PutFault.TheVariants as put
 use Rattle.script_text.specs.Input.{script}
-use Rattle.script_text.specs.Output.{text}
+use Rattle.script_text.specs.Output.{stop_text, text}
 use Rattle.script_text.specs.Reading.{Gives}
-use Rattle.script_text.specs.Shown.{HasOneReading, IsSameShown, IsShown}
+use Rattle.script_text.specs.Shown.{HasOneReading, HasOneStop, IsSameShown, IsSameStop, IsShown, IsShownStop}
 use Rattle.script_text.specs.declared.faults.ScriptFault.{ScriptFault}
 use Rattle.script_text.specs.declared.faults.ScriptFault.TheVariants as bad
 use Rattle.script_text.specs.declared.outputs.RunText.{RunText}
+use Rattle.script_text.specs.declared.outputs.StopText.{StopText}
 use Rattle.script_text.specs.declared.scripts.Script.{Script}
+use Rattle.std.specs.Io.KnownBytes.{Appends}
+use Rattle.std.specs.Prelude.{Option, Some, length, ◌<◌}
+use Rattle.wire_io.specs.Moves.{AppendsFront}
+use Rattle.script_run.specs.Following.{IsStoppedAt, ReplaysAs}
+use Rattle.script_run.specs.declared.following.Replayed.{Replayed}
+use Rattle.script_run.specs.declared.following.Replayed.TheVariants as replayed
 use Rattle.shared_db.specs.Opening.{IsOpeningFault}
 use Rattle.doltrun.specs.Answers.{of_put, of_script}
-use Rattle.doltrun.specs.Stops.{Comes}
+use Rattle.doltrun.specs.Stops.{AnswersPart, Comes, ComesOf, Stop, StopsAt, WritesStop}
+use Rattle.doltrun.specs.declared.answering.NoAnswer.{NoAnswer}
+use Rattle.doltrun.specs.declared.answering.NoAnswer.TheVariants as fault
+use Rattle.doltrun.specs.declared.words.ScriptRun.{ScriptRun}
 
-pub comes_script : (address : List ℕ → List ℕ) (epoch : ℤ) (bytes : List ℕ) (fault : ScriptFault) → Gives {X = Script} (Err fault) (script bytes) → Comes address epoch bytes (Err (of_script fault))
-comes_script address epoch bytes bad.Memory h = tt
-comes_script address epoch bytes (bad.Bad line) h = h
+pub comes_script : (address : List ℕ → List ℕ) (asked : ScriptRun) (bytes : List ℕ) (fault : ScriptFault) → Gives {X = Script} (Err fault) (script bytes asked.with_order) → Comes address asked bytes (Err (of_script fault))
+comes_script address asked bytes bad.Memory h = tt
+comes_script address asked bytes (bad.Bad line) h = h
 
-pub comes_put : (address : List ℕ → List ℕ) (epoch : ℤ) (bytes : List ℕ) (read : Script) (fault : PutFault) → script bytes ≡ Ok read → IsOpeningFault address epoch fault → Comes address epoch bytes (Err (of_put fault))
-comes_put address epoch bytes read put.Memory is opens = tt
-comes_put address epoch bytes read (put.Collision clash) is opens = ((read, is), opens)
+pub comes_put : (address : List ℕ → List ℕ) (asked : ScriptRun) (read : Script) (fault : PutFault) → IsOpeningFault address asked.epoch fault → ComesOf address asked read (Err (of_put fault))
+comes_put address asked read put.Memory opens = tt
+comes_put address asked read (put.Collision clash) opens = opens
+
+-- what a script comes to, the bytes come to that it was read of
+pub comes_of : (address : List ℕ → List ℕ) (asked : ScriptRun) (bytes : List ℕ) (read : Script) (result : Result (List ℕ) NoAnswer) → script bytes asked.with_order ≡ Ok read
+    → ComesOf address asked read result → Comes address asked bytes result
+comes_of address asked bytes read (Ok written) is came = record {
+  script = came.script;
+  run = came.run;
+  reads = is ∙ came.reads;
+  runs = came.runs;
+  truly = came.truly;
+  ordered = came.ordered;
+  shown = came.shown;
+  prints = came.prints;
+  alone = came.alone;
+}
+comes_of address asked bytes read (Err fault.Memory) is came = tt
+comes_of address asked bytes read (Err (fault.Bad line)) is came = absurd came
+comes_of address asked bytes read (Err (fault.Stopped written)) is came = record {
+  in_order = came.0;
+  read = read;
+  reads = is;
+  stop = came.1.0;
+  stops = came.1.1;
+  alone = came.1.2;
+  is = came.1.3;
+}
+comes_of address asked bytes read (Err (fault.Collision clash)) is came = ((read, is), came)
 
 -- a text shows one run alone
 pub alone_by : HasOneReading → (run other : RunText) (written : List ℕ) → IsShown run → written ≡ text run → IsShown other → text other ≡ written → IsSameShown run other
 alone_by one run other written shown prints other_shown same = one run other shown other_shown (sym prints ∙ sym same)
+
+-- and one stop alone
+pub stop_alone_by : HasOneStop → (address : List ℕ → List ℕ) (epoch : ℤ) (read : Script) (stop other : StopText) → IsStoppedAt address epoch read stop → IsShownStop other → other.names ≡ read.names
+    → stop_text other ≡ stop_text stop → IsSameStop stop other
+stop_alone_by one address epoch read stop other stops shown names same = one stop other stops.shown shown (stops.names ∙ sym names) (sym same)
+
+run_is : (asked : ScriptRun) (with_order : Bool) (epoch : ℤ) → asked.with_order ≡ with_order → epoch ≡ asked.epoch → record { with_order = with_order; epoch = epoch } ≡ asked
+run_is asked with_order epoch chosen date = ap₂ (λ (b : Bool) (e : ℤ). let made : ScriptRun = record { with_order = b; epoch = e } in made) (sym chosen) date
+
+-- in the order chosen, and with the epoch asked
+pub comes_in : (address : List ℕ → List ℕ) (asked : ScriptRun) (with_order : Bool) (epoch : ℤ) (bytes : List ℕ) (read : Script) (result : Result (List ℕ) NoAnswer)
+    → asked.with_order ≡ with_order → epoch ≡ asked.epoch → script bytes asked.with_order ≡ Ok read
+    → ComesOf address (record { with_order = with_order; epoch = epoch }) read result → Comes address asked bytes result
+comes_in address asked with_order epoch bytes read result chosen date is came =
+    comes_of address asked bytes read result is (subst (λ (run : ScriptRun). ComesOf address run read result) (run_is asked with_order epoch chosen date) came)
+
+-- a run that was led along its order
+pub run_comes : (address : List ℕ → List ℕ) (epoch date : ℤ) (read : Script) (replay : Replayed) (run : RunText) (written : List ℕ) → HasOneReading → date ≡ epoch
+    → replay ≡ replayed.Run run → ReplaysAs address date read replay → written ≡ text run
+    → ComesOf address (record { with_order = true; epoch = epoch }) read (Ok written)
+run_comes address epoch date read replay run written one same is came prints =
+    let there = subst (λ (e : ℤ). ReplaysAs address e read (replayed.Run run)) same (subst (λ (r : Replayed). ReplaysAs address date read r) is came) in
+    record {
+      script = read;
+      run = run;
+      reads = refl;
+      runs = there.plain;
+      truly = there.truly;
+      ordered = there.order;
+      shown = there.shown;
+      prints = prints;
+      alone = λ other shown same. alone_by one run other written there.shown prints shown same;
+    }
+
+-- and one that stopped
+pub stop_comes : (address : List ℕ → List ℕ) (epoch date : ℤ) (read : Script) (replay : Replayed) (stop : StopText) (written : List ℕ) → HasOneStop → date ≡ epoch
+    → replay ≡ replayed.Stop stop → ReplaysAs address date read replay → written ≡ stop_text stop
+    → ComesOf address (record { with_order = true; epoch = epoch }) read (Err (fault.Stopped written))
+stop_comes address epoch date read replay stop written one same is came prints =
+    let there = subst (λ (e : ℤ). ReplaysAs address e read (replayed.Stop stop)) same (subst (λ (r : Replayed). ReplaysAs address date read r) is came) in
+    (refl, (stop, there, λ other shown names alike. stop_alone_by one address epoch read stop other there shown names alike, prints))
+
+stopped_at : (address : List ℕ → List ℕ) (asked : ScriptRun) (bytes : List ℕ) (why : NoAnswer) (written : List ℕ) → why ≡ fault.Stopped written
+    → Comes address asked bytes (Err why) → StopsAt address asked bytes written
+stopped_at address asked bytes why written is came = subst (λ (f : NoAnswer). Comes address asked bytes (Err f)) is came
+
+-- the text of a stop was appended, or a part of it
+pub stop_written : (address : List ℕ → List ℕ) (asked : ScriptRun) (bytes : List ℕ) (why : NoAnswer) (written lent : List ℕ) (old new : Option (List ℕ)) → why ≡ fault.Stopped written
+    → Comes address asked bytes (Err why) → lent ≡ written → Appends old new lent → WritesStop address asked (Some bytes) old new
+stop_written address asked bytes why written lent old new is came same writes =
+    let there = stopped_at address asked bytes why written is came in
+    record {
+      in_order = there.in_order;
+      script = there.read;
+      reads = there.reads;
+      stop = there.stop;
+      stops = there.stops;
+      alone = there.alone;
+      writes = subst (λ (text : List ℕ). Appends old new text) (same ∙ there.is) writes;
+    }
+
+pub stop_part : (address : List ℕ → List ℕ) (asked : ScriptRun) (bytes : List ℕ) (why : NoAnswer) (written lent : List ℕ) (old new : Option (List ℕ)) (room : ℕ) → why ≡ fault.Stopped written
+    → Comes address asked bytes (Err why) → lent ≡ written → room < length lent → AppendsFront old new lent → AnswersPart address asked bytes old new room
+stop_part address asked bytes why written lent old new room is came same wider writes = record {
+  written = lent;
+  wanted = Stop (subst (λ (text : List ℕ). StopsAt address asked bytes text) (sym same) (stopped_at address asked bytes why written is came));
+  wider = wider;
+  writes = writes;
+}

@@ -1,15 +1,16 @@
 -- A call that had no memory to read its words.
-use Rattle.std.proofs.Common.{refl, inr, ℕ, ℤ, List, [], Option, Some, None, arith}
+use Rattle.std.proofs.Common.{refl, inr, ℕ, List, [], Option, Some, None, arith}
 use Rattle.wire_io.specs.Moves.{LosesAtMost}
 use Rattle.doltrun.specs.Endings.{EndsBy, SinkTells, SourceTells}
 use Rattle.doltrun.specs.Headline.{most_taken}
+use Rattle.doltrun.specs.declared.words.ScriptRun.{ScriptRun}
 use Rattle.doltrun.specs.declared.status.Status.TheVariants as status
 
 nothing_taken : (told : Option (List ℕ)) → LosesAtMost most_taken told told
 nothing_taken None = record { taken = []; bound = omega arith; consumes = tt }
 nothing_taken (Some input) = record { taken = []; bound = omega arith; consumes = refl }
 
-pub without_memory : {S K : Type 0} (asked : Option ℤ) (address : List ℕ → List ℕ) (source : SourceTells S) (sink : SinkTells K) (input : S) (output : K)
+pub without_memory : {S K : Type 0} (asked : Option ScriptRun) (address : List ℕ → List ℕ) (source : SourceTells S) (sink : SinkTells K) (input : S) (output : K)
     → EndsBy asked address source sink input input output output status.Memory
 without_memory None address source sink input output = record {
   ends = inr (inr refl);
@@ -21,11 +22,12 @@ without_memory None address source sink input output = record {
   memory = λ is. refl;
   counts = omega arith;
 }
-without_memory (Some epoch) address source sink input output = record {
+without_memory (Some asked) address source sink input output = record {
   done = λ is. absurd (cc);
   usage = λ is. absurd (cc);
   script = λ is. absurd (cc);
   faulty = λ bad told. inr (inr (inr refl));
+  order = λ is. absurd (cc);
   collision = λ is. absurd (cc);
   failed = λ is. absurd (cc);
   steady = λ steady is. absurd (cc);

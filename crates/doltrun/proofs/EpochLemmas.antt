@@ -1,20 +1,35 @@
--- An epoch that words ask for is a date: it isn't negative, and 64 bits hold it.
-use Rattle.std.proofs.Common.{◌≡◌, refl, subst, sym, ℕ, ℤ, pos, Bool, true, false, nat_lt, List, Option, Some, None, arith, w64, if◌then◌else◌}
+-- An epoch that words ask for is a date, and 64 bits hold a date.
+use Rattle.std.proofs.Common.{◌≡◌, refl, subst, sym, ℕ, ℤ, pos, negsuc, Bool, true, false, nat_lt, List, Option, Some, None, arith, of_z, to_z, w64, if◌then◌else◌}
 use Rattle.std.proofs.lemmas.Bool.Decides.{nat_tests}
-use Rattle.std.proofs.lemmas.Int.{ints}
+use Rattle.std.proofs.lemmas.Int.{ints, to_z-of_z}
 use Rattle.std.specs.Prelude.{◌≤ℤ◌, ◌<◌, ◌^◌, FitsSigned, IfSome, codes, option_and_then, option_map}
 use Rattle.clap.specs.Walk.{is_empty}
 use Rattle.clap.specs.Words.{Text, fault_of, first_of, matches_of}
-use Rattle.doltrun.specs.Words.{epoch_asked, epoch_of, form, form_in, form_of, line, mode_named, number, run_of, seed_of}
+use Rattle.script_text.specs.Numerals.{number}
+use Rattle.plain_sessions.specs.StateLimits.{is_date}
+use Rattle.doltrun.specs.Words.{epoch_of, form, form_in, form_of, line, mode_named, run_asked, run_of, seed_of}
 use Rattle.doltrun.specs.declared.words.Form.{Form}
 use Rattle.doltrun.specs.declared.words.Mode.{Mode}
 use Rattle.doltrun.specs.declared.words.Mode.TheVariants.{Ordered, Threads, Replay, Load}
+use Rattle.doltrun.specs.declared.words.ScriptRun.{ScriptRun}
 
 abbrev IsDate : ℤ → Type 0
-IsDate epoch = (pos 0 ≤ℤ epoch) × FitsSigned w64 epoch
+IsDate epoch = is_date epoch ≡ true
+
+pub date_fits : (epoch : ℤ) → IsDate epoch → FitsSigned w64 epoch
+date_fits (pos seconds) is = let below : seconds < 2 ^ 63 = grind (arith, nat_tests) in record { sfits = below }
+date_fits (negsuc seconds) is = absurd (cc)
+
+pub date_later : (epoch : ℤ) → IsDate epoch → pos 0 ≤ℤ epoch
+date_later (pos seconds) is = omega (arith, ints)
+date_later (negsuc seconds) is = absurd (cc)
+
+-- as it is handed on
+pub date_handed : (epoch : ℤ) → IsDate epoch → pos 0 ≤ℤ to_z w64 (of_z w64 epoch)
+date_handed epoch is = subst (λ (z : ℤ). pos 0 ≤ℤ z) (sym (to_z-of_z w64 epoch (date_fits epoch is))) (date_later epoch is)
 
 named_below : (epoch : ℕ) (test : Bool) → nat_lt epoch (2 ^ 63) ≡ test → IfSome (if test then Some (pos epoch) else None) IsDate
-named_below epoch true is = let below : epoch < 2 ^ 63 = grind (arith, nat_tests) in (omega (arith, ints), record { sfits = below })
+named_below epoch true is = is
 named_below epoch false is = tt
 
 named : (found : Option ℕ) → IfSome (option_and_then (λ epoch. if nat_lt epoch (2 ^ 63) then Some (pos epoch) else None) found) IsDate
@@ -22,7 +37,7 @@ named None = tt
 named (Some epoch) = named_below epoch (nat_lt epoch (2 ^ 63)) refl
 
 epoch_dated : (text : Option Text) → IfSome (epoch_of text) IsDate
-epoch_dated None = (omega (arith, ints), record { sfits = omega arith })
+epoch_dated None = refl
 epoch_dated (Some text) = named (number text)
 
 with_seed : (mode : Mode) (epoch : ℤ) (seed : Option (Option ℕ)) → IsDate epoch → IfSome (option_map (λ given. record { mode = mode; epoch = epoch; seed = given }) seed) (λ (asked : Form). IsDate asked.epoch)
@@ -47,15 +62,16 @@ form_dated words =
     let rows = matches_of line words in
     taken (form_in rows) (is_empty (fault_of line words)) (with_mode (option_and_then mode_named (first_of (codes "mode") rows)) (first_of (codes "epoch") rows) (first_of (codes "seed") rows))
 
-in_mode : (mode : Mode) (epoch : ℤ) → IsDate epoch → IfSome (run_of mode epoch) IsDate
+in_mode : (mode : Mode) (epoch : ℤ) → IsDate epoch → IfSome (run_of mode epoch) (λ (asked : ScriptRun). IsDate asked.epoch)
 in_mode Ordered epoch date = date
 in_mode Threads epoch date = tt
-in_mode Replay epoch date = tt
+in_mode Replay epoch date = date
 in_mode Load epoch date = tt
 
-of_form : (asked : Option Form) → IfSome asked (λ (asked : Form). IsDate asked.epoch) → IfSome (option_and_then (λ (asked : Form). run_of asked.mode asked.epoch) asked) IsDate
+of_form : (asked : Option Form) → IfSome asked (λ (asked : Form). IsDate asked.epoch)
+    → IfSome (option_and_then (λ (asked : Form). run_of asked.mode asked.epoch) asked) (λ (asked : ScriptRun). IsDate asked.epoch)
 of_form None date = tt
 of_form (Some asked) date = in_mode asked.mode asked.epoch date
 
-pub asked_dated : (words : List Text) (epoch : ℤ) → Some epoch ≡ epoch_asked words → (pos 0 ≤ℤ epoch) × FitsSigned w64 epoch
-asked_dated words epoch is = subst (λ (o : Option ℤ). IfSome o IsDate) (sym is) (of_form (form words) (form_dated words))
+pub asked_dated : (words : List Text) (asked : ScriptRun) → Some asked ≡ run_asked words → is_date asked.epoch ≡ true
+asked_dated words asked is = subst (λ (o : Option ScriptRun). IfSome o (λ (asked : ScriptRun). IsDate asked.epoch)) (sym is) (of_form (form words) (form_dated words))

@@ -2,7 +2,6 @@ pub mod AnswerLemmas
 pub mod EndingLemmas
 pub mod EpochLemmas
 pub mod ListLemmas
-pub mod NumeralLemmas
 pub mod ScriptLemmas
 pub mod TopLemmas
 mod Vectors

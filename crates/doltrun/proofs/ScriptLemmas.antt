@@ -1,5 +1,5 @@
--- Every script that is read is sound.
-use Rattle.std.proofs.Common.{◌≡◌, refl, sym, ◌∙◌, ap, subst, ℕ, suc, ◌+◌, ◌<◌, ◌≤◌, true, false, ◌==◌, ◌&&◌, not, is_none, nat_lt, nat_le, List, [], ◌∷◌, ◌++◌, length, drop, Some, None, Ok, Err, arith, if◌then◌else◌, cond}
+-- Every script that is read is sound, and has an order where one is asked.
+use Rattle.std.proofs.Common.{◌≡◌, ◌≢◌, refl, sym, ◌∙◌, ap, subst, ℕ, suc, ◌+◌, ◌<◌, ◌≤◌, true, false, ◌==◌, ◌&&◌, not, is_none, nat_lt, nat_le, List, [], ◌∷◌, ◌++◌, length, drop, Bool, Option, Some, None, Ok, Err, arith, if◌then◌else◌, cond}
 use Rattle.std.specs.Prelude.{unwrap_or, codes, nat_eq, take_while}
 use Rattle.std.specs.Str.{bytes_eq}
 use Rattle.std.specs.Option.{option_map, option_map_or}
@@ -8,9 +8,10 @@ use Rattle.std.proofs.lemmas.List.{length_push}
 use Rattle.std.proofs.lemmas.List.Sums.{take_while-cons}
 use Rattle.std.proofs.lemmas.Bool.Decides.{nat_tests}
 use Rattle.tuple_codec.specs.Texts.{is_utf8}
-use Rattle.script_text.specs.Input.{Parts, add_line, add_statement, and_then, bad, is_name, is_name_byte, is_one_too_many, is_skipped, lines_of, most_bytes, most_statement_bytes, most_statements, no_script, parts_after, parts_of, script, script_from, statement_in, with_statement}
+use Rattle.script_text.specs.Input.{Parts, add_line, add_statement, and_then, bad, is_name, is_name_byte, is_one_too_many, is_skipped, items_of, lines_of, most_bytes, most_statement_bytes, most_statements, no_script, ordered_by, ordered_from, parts_after, parts_of, script, script_from, script_in, statement_in, with_statement}
 use Rattle.script_text.specs.Shown.{is_shown_name}
 use Rattle.script_text.specs.declared.scripts.Line.{Line}
+use Rattle.script_text.specs.declared.scripts.OrderItem.{OrderItem}
 use Rattle.script_text.specs.declared.scripts.Script.{Script}
 use Rattle.script_run.specs.Scripts.{IsSoundScript, is_line_within}
 use Rattle.doltrun.proofs.ListLemmas.{both, join, all_weaker, all_append}
@@ -108,55 +109,87 @@ statement_sound read parts name room sound =
           }
     ] refl
 
-not_bad : {X : Type 0} (line rule : ℕ) (x : X) {P : Type 0} → bad line rule ≡ Ok x → P
-not_bad line rule x h = absurd (cc)
+-- a sound script with more statements and the same order
+abbrev IsGrown : Script → Script → Type 0
+IsGrown read next = IsSoundScript next × (next.order ≡ read.order)
 
-added : (number : ℕ) (read : Script) (parts : Parts) (next : Script) → is_shown_name parts.name ≡ true → IsSoundScript read → add_statement number read parts ≡ Ok next → IsSoundScript next
+added : (number : ℕ) (read : Script) (parts : Parts) (next : Script) → is_shown_name parts.name ≡ true → IsSoundScript read → add_statement number read parts ≡ Ok next → IsGrown read next
 added number read parts next name sound h =
     elim (nat_lt most_statement_bytes (length parts.statement)) as (λ test. (if test then bad number 4 else (
     if is_one_too_many read.names parts.name then bad number 5 else (
     if nat_le most_statements (length read.lines) then bad number 6 else
-    Ok (with_statement read parts)))) ≡ Ok next → IsSoundScript next) [
+    Ok (with_statement read parts)))) ≡ Ok next → IsGrown read next) [
       | true ↦ λ e. absurd (cc)
       | false ↦ elim (is_one_too_many read.names parts.name) as (λ test. (if test then bad number 5 else (
           if nat_le most_statements (length read.lines) then bad number 6 else
-          Ok (with_statement read parts))) ≡ Ok next → IsSoundScript next) [
+          Ok (with_statement read parts))) ≡ Ok next → IsGrown read next) [
             | true ↦ λ e. absurd (cc)
-            | false ↦ λ e. elim (nat_le most_statements (length read.lines)) as (λ test. nat_le most_statements (length read.lines) ≡ test → (if test then bad number 6 else Ok (with_statement read parts)) ≡ Ok next → IsSoundScript next) [
+            | false ↦ λ e. elim (nat_le most_statements (length read.lines)) as (λ test. nat_le most_statements (length read.lines) ≡ test → (if test then bad number 6 else Ok (with_statement read parts)) ≡ Ok next → IsGrown read next) [
               | true ↦ λ room f. absurd (cc)
-              | false ↦ λ room f. let made : with_statement read parts ≡ next = cc in subst (λ (s : Script). IsSoundScript s) made (statement_sound read parts name room sound)
+              | false ↦ λ room f. let made : with_statement read parts ≡ next = cc in subst (λ (s : Script). IsGrown read s) made (statement_sound read parts name room sound, refl)
             ] refl e
           ]
     ] h
 
-line_added : (number : ℕ) (read : Script) (line : List ℕ) (next : Script) → IsSoundScript read → add_line number read line ≡ Ok next → IsSoundScript next
+line_added : (number : ℕ) (read : Script) (line : List ℕ) (next : Script) → IsSoundScript read → add_line number read line ≡ Ok next → IsGrown read next
 line_added number read line next sound h =
-    elim (not (is_utf8 line)) as (λ test. (if test then bad number 2 else (if is_skipped line then Ok read else option_map_or (add_statement number read) (parts_of line) (bad number 3))) ≡ Ok next → IsSoundScript next) [
+    elim (not (is_utf8 line)) as (λ test. (if test then bad number 2 else (if is_skipped line then Ok read else option_map_or (add_statement number read) (parts_of line) (bad number 3))) ≡ Ok next → IsGrown read next) [
       | true ↦ λ e. absurd (cc)
-      | false ↦ elim (is_skipped line) as (λ test. (if test then Ok read else option_map_or (add_statement number read) (parts_of line) (bad number 3)) ≡ Ok next → IsSoundScript next) [
-        | true ↦ λ e. let same : read ≡ next = cc in subst (λ (s : Script). IsSoundScript s) same sound
-        | false ↦ λ e. elim (parts_of line) as (λ found. parts_of line ≡ found → option_map_or (add_statement number read) found (bad number 3) ≡ Ok next → IsSoundScript next) [
+      | false ↦ elim (is_skipped line) as (λ test. (if test then Ok read else option_map_or (add_statement number read) (parts_of line) (bad number 3)) ≡ Ok next → IsGrown read next) [
+        | true ↦ λ e. let same : read ≡ next = cc in subst (λ (s : Script). IsGrown read s) same (sound, refl)
+        | false ↦ λ e. elim (parts_of line) as (λ found. parts_of line ≡ found → option_map_or (add_statement number read) found (bad number 3) ≡ Ok next → IsGrown read next) [
           | None ↦ λ _ f. absurd (cc)
           | Some parts ↦ λ found f. added number read parts next (named line parts found) sound f
         ] refl e
       ]
     ] h
 
-read_from : (number : ℕ) (read : Script) (lines : List (List ℕ)) (next : Script) → IsSoundScript read → script_from number read lines ≡ Ok next → IsSoundScript next
-read_from number read [] next sound h = let same : read ≡ next = cc in subst (λ (s : Script). IsSoundScript s) same sound
+read_from : (number : ℕ) (read : Script) (lines : List (List ℕ)) (next : Script) → IsSoundScript read → script_from number read lines ≡ Ok next → IsGrown read next
+read_from number read [] next sound h = let same : read ≡ next = cc in subst (λ (s : Script). IsGrown read s) same (sound, refl)
 read_from number read (line ∷ lines) next sound h =
-    elim (add_line number read line) as (λ r. add_line number read line ≡ r → and_then (λ more. script_from (number + 1) more lines) r ≡ Ok next → IsSoundScript next) [
-      | Ok more ↦ λ one rest. read_from (number + 1) more lines next (line_added number read line more sound one) rest
+    elim (add_line number read line) as (λ r. add_line number read line ≡ r → and_then (λ more. script_from (number + 1) more lines) r ≡ Ok next → IsGrown read next) [
+      | Ok more ↦ λ one rest.
+          let first = line_added number read line more sound one in
+          let last = read_from (number + 1) more lines next first.0 rest in
+          (last.0, last.1 ∙ first.1)
       | Err fault ↦ λ one rest. absurd (cc)
     ] refl h
 
-empty_sound : IsSoundScript no_script
+empty_sound : (order : Option (List OrderItem)) → IsSoundScript (record { names = []; lines = []; order = order })
 unfolding IsDistinct
-empty_sound = record { names = refl; distinct = tt; sessions = refl; few = omega arith }
+empty_sound order = record { names = refl; distinct = tt; sessions = refl; few = omega arith }
 
-pub script_sound : (bytes : List ℕ) (read : Script) → script bytes ≡ Ok read → IsSoundScript read
-script_sound bytes read h =
-    elim (nat_lt most_bytes (length bytes)) as (λ test. (if test then bad 0 1 else script_from 1 no_script (lines_of bytes)) ≡ Ok read → IsSoundScript read) [
+ordered_read : (number : ℕ) (lines : List (List ℕ)) (read : Script) → ordered_from number lines ≡ Ok read → IsSoundScript read × (read.order ≢ None)
+ordered_read number [] read h = absurd (cc)
+ordered_read number (line ∷ lines) read h =
+    elim (not (is_utf8 line)) as (λ test. (if test then bad number 2 else (
+    if is_skipped line then ordered_from (number + 1) lines else
+    option_map_or (λ items. script_from (number + 1) (ordered_by items) lines) (items_of line) (bad number 7))) ≡ Ok read → IsSoundScript read × (read.order ≢ None)) [
       | true ↦ λ e. absurd (cc)
-      | false ↦ λ e. read_from 1 no_script (lines_of bytes) read empty_sound e
+      | false ↦ elim (is_skipped line) as (λ test. (if test then ordered_from (number + 1) lines else
+          option_map_or (λ items. script_from (number + 1) (ordered_by items) lines) (items_of line) (bad number 7)) ≡ Ok read → IsSoundScript read × (read.order ≢ None)) [
+            | true ↦ λ e. ordered_read (number + 1) lines read e
+            | false ↦ λ e. elim (items_of line) as (λ found. option_map_or (λ items. script_from (number + 1) (ordered_by items) lines) found (bad number 7) ≡ Ok read
+                → IsSoundScript read × (read.order ≢ None)) [
+                  | None ↦ λ f. absurd (cc)
+                  | Some items ↦ λ f.
+                      let grown = read_from (number + 1) (ordered_by items) lines read (empty_sound (Some items)) f in
+                      (grown.0, λ lacks. let differ : Some items ≡ None = sym grown.1 ∙ lacks in absurd (cc))
+                ] e
+          ]
     ] h
+
+in_lines : (bytes : List ℕ) (with_order : Bool) (read : Script) → script bytes with_order ≡ Ok read → script_in with_order (lines_of bytes) ≡ Ok read
+in_lines bytes with_order read h =
+    elim (nat_lt most_bytes (length bytes)) as (λ test. (if test then bad 0 1 else script_in with_order (lines_of bytes)) ≡ Ok read → script_in with_order (lines_of bytes) ≡ Ok read) [
+      | true ↦ λ e. absurd (cc)
+      | false ↦ λ e. e
+    ] h
+
+pub script_sound : (bytes : List ℕ) (with_order : Bool) (read : Script) → script bytes with_order ≡ Ok read → IsSoundScript read
+script_sound bytes true read h = (ordered_read 1 (lines_of bytes) read (in_lines bytes true read h)).0
+script_sound bytes false read h = (read_from 1 no_script (lines_of bytes) read (empty_sound None) (in_lines bytes false read h)).0
+
+pub script_ordered : (bytes : List ℕ) (with_order : Bool) (read : Script) → with_order ≡ true → script bytes with_order ≡ Ok read → read.order ≢ None
+script_ordered bytes true read chosen h = (ordered_read 1 (lines_of bytes) read (in_lines bytes true read h)).1
+script_ordered bytes false read chosen h = absurd (cc)

@@ -1,12 +1,13 @@
 -- How a call of the program ends.
-use Rattle.std.specs.Prelude.{◌≡◌, ◌≢◌, ◌⊎◌, ℕ, ℤ, ◌<◌, ◌≤◌, Bool, true, List, length, Option, Some, None}
+use Rattle.std.specs.Prelude.{◌≡◌, ◌≢◌, ◌⊎◌, ℕ, ◌<◌, ◌≤◌, Bool, true, List, length, Option, Some, None}
 use Rattle.std.specs.Io.KnownBytes.{Appends}
 use Rattle.wire_io.specs.Causes.{Rose}
 use Rattle.wire_io.specs.Moves.{AppendsFront, LosesAtMost}
 use Rattle.script_text.specs.declared.faults.BadScript.{BadScript}
 use Rattle.doltrun.specs.Headline.{WritesAnswer, most_taken, usage_line}
-use Rattle.doltrun.specs.Stops.{FallsShort, IsTold, StopsThere, WritesCollision, WritesFault}
-use Rattle.doltrun.specs.Words.{epoch_asked}
+use Rattle.doltrun.specs.Stops.{FallsShort, IsTold, StopsThere, WritesCollision, WritesFault, WritesStop}
+use Rattle.doltrun.specs.Words.{run_asked}
+use Rattle.doltrun.specs.declared.words.ScriptRun.{ScriptRun}
 use Rattle.doltrun.specs.declared.status.Status.{Status}
 use Rattle.doltrun.specs.declared.status.Status.TheVariants as status
 
@@ -33,30 +34,32 @@ pub record IsUsage {S K : Type 0} (sink : SinkTells K) (input read : S) (output 
   pub memory : result ≡ status.Memory → wrote ≡ output
   pub counts : sink.faults output ≤ sink.faults wrote
 
--- A run with this epoch ended so, over a source and a sink that were these before it and are these after it.
-pub record IsRun {S K : Type 0} (address : List ℕ → List ℕ) (epoch : ℤ) (source : SourceTells S) (sink : SinkTells K) (input read : S) (output wrote : K) (result : Status) : Type 0 where
+-- A run that was asked for ended so, over a source and a sink that were these before it and are these after it.
+pub record IsRun {S K : Type 0} (address : List ℕ → List ℕ) (asked : ScriptRun) (source : SourceTells S) (sink : SinkTells K) (input read : S) (output wrote : K) (result : Status) : Type 0 where
   -- the whole input was read, and what was appended is the text of the plain machine's run of its script
-  pub done : result ≡ status.Done → WritesAnswer address epoch (source.left input) (source.left read) (sink.held output) (sink.held wrote)
+  pub done : result ≡ status.Done → WritesAnswer address asked (source.left input) (source.left read) (sink.held output) (sink.held wrote)
   pub usage : result ≢ status.Usage
   -- a script that breaks a rule is told by its first line that does, and the least rule
-  pub script : result ≡ status.Script → WritesFault (source.left input) (sink.held output) (sink.held wrote)
-  pub faulty : (bad : BadScript) → IsTold (source.left input) bad → StopsThere result
+  pub script : result ≡ status.Script → WritesFault asked (source.left input) (sink.held output) (sink.held wrote)
+  pub faulty : (bad : BadScript) → IsTold (source.left input) asked.with_order bad → StopsThere result
+  -- a given order that can't be followed is told by the first such item
+  pub order : result ≡ status.Order → WritesStop address asked (source.left input) (sink.held output) (sink.held wrote)
   -- the two chunks that a database is opened with, where they have one address
-  pub collision : result ≡ status.Collision → WritesCollision address epoch (source.left input) (sink.held output) (sink.held wrote)
+  pub collision : result ≡ status.Collision → WritesCollision address asked (source.left input) (sink.held output) (sink.held wrote)
   -- the source or the sink failed, and counted it in this call
   pub failed : result ≡ status.Read → Rose (source.faults input) (source.faults read) × (wrote ≡ output)
   pub steady : source.steady input ≡ true → result ≢ status.Read
   pub write : result ≡ status.Write → Rose (sink.faults output) (sink.faults wrote)
-  pub part : result ≡ status.Write → FallsShort address epoch (source.left input) (sink.held output) (sink.held wrote) (sink.room output)
+  pub part : result ≡ status.Write → FallsShort address asked (source.left input) (sink.held output) (sink.held wrote) (sink.room output)
   pub memory : result ≡ status.Memory → wrote ≡ output
   pub taken : LosesAtMost most_taken (source.left input) (source.left read)
   pub counts : (source.faults input ≤ source.faults read) × (sink.faults output ≤ sink.faults wrote)
 
--- by the epoch of the run that the words ask for, if they ask for one
-abbrev pub EndsBy : {S K : Type 0} → Option ℤ → (List ℕ → List ℕ) → SourceTells S → SinkTells K → S → S → K → K → Status → Type 0
+-- by the run that the words ask for, if they ask for one
+abbrev pub EndsBy : {S K : Type 0} → Option ScriptRun → (List ℕ → List ℕ) → SourceTells S → SinkTells K → S → S → K → K → Status → Type 0
 EndsBy None address source sink input read output wrote result = IsUsage sink input read output wrote result
-EndsBy (Some epoch) address source sink input read output wrote result = IsRun address epoch source sink input read output wrote result
+EndsBy (Some asked) address source sink input read output wrote result = IsRun address asked source sink input read output wrote result
 
 -- A call with these words ended so.
 abbrev pub IsEnding : {S K : Type 0} → (List ℕ → List ℕ) → List (List ℕ) → SourceTells S → SinkTells K → S → S → K → K → Status → Type 0
-IsEnding address words = EndsBy (epoch_asked words) address
+IsEnding address words = EndsBy (run_asked words) address

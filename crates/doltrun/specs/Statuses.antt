@@ -1,7 +1,7 @@
 -- The statuses of the process.
 use Rattle.std.specs.Prelude.{ℕ}
 use Rattle.doltrun.specs.declared.status.Status.{Status}
-use Rattle.doltrun.specs.declared.status.Status.TheVariants.{Done, Usage, Script, Read, Write, Memory, Collision}
+use Rattle.doltrun.specs.declared.status.Status.TheVariants.{Done, Usage, Script, Read, Write, Memory, Order, Collision}
 
 abbrev pub number_of : Status → ℕ
 number_of Done = 0
@@ -10,4 +10,5 @@ number_of Script = 2
 number_of Read = 3
 number_of Write = 4
 number_of Memory = 5
+number_of Order = 6
 number_of Collision = 7

@@ -1,30 +1,18 @@
 -- What the words of the command line ask for.
-use Rattle.std.specs.Prelude.{ℕ, ℤ, pos, ◌==◌, ◌&&◌, ◌||◌, Bool, true, false, not, nat_lt, ◌^◌, if◌then◌else◌, List, [], ◌∷◌, map, codes, String, string_bytes, Option, Some, None, option_and_then, option_map}
-use Rattle.std.specs.Char.{is_ascii_digit}
-use Rattle.std.specs.List.{list_all}
+use Rattle.std.specs.Prelude.{ℕ, ℤ, pos, true, false, nat_lt, ◌^◌, if◌then◌else◌, List, [], ◌∷◌, map, codes, String, string_bytes, Option, Some, None, option_and_then, option_map}
 use Rattle.std.specs.Str.{bytes_eq}
-use Rattle.std.specs.Str.Parse.{digits_value}
 use Rattle.clap.specs.Words.{App, Row, Rule, Text, fault_of, first_of, matches_of, new_rule}
 use Rattle.clap.specs.Simple.{new_shape}
 use Rattle.clap.specs.Walk.{is_empty}
+use Rattle.script_text.specs.Numerals.{number}
 use Rattle.doltrun.specs.declared.words.Form.{Form}
 use Rattle.doltrun.specs.declared.words.Mode.{Mode}
 use Rattle.doltrun.specs.declared.words.Mode.TheVariants.{Ordered, Threads, Replay, Load}
+use Rattle.doltrun.specs.declared.words.ScriptRun.{ScriptRun}
 
 -- the bytes of the words
 abbrev pub spelled : {A : Type 0} → List (String A) → List Text
 spelled words = map (λ word. string_bytes word) words
-
--- ---- numbers
-
--- decimal digits, and no zero before another digit
-abbrev pub is_numeral : Text → Bool
-is_numeral [] = false
-is_numeral (first ∷ rest) = list_all is_ascii_digit (first ∷ rest) && (not (first == 48) || is_empty rest)
-
--- the number from 0 to 2^64 - 1 that the text is
-abbrev pub number : Text → Option ℕ
-number text = if is_numeral text && nat_lt (digits_value 10 text) (2 ^ 64) then Some (digits_value 10 text) else None
 
 -- ---- how the words are cut: as those of a command with a mode and two options that take a value
 
@@ -82,11 +70,13 @@ form_in rows = form_named (first_of (codes "mode") rows) (first_of (codes "epoch
 abbrev pub form : List Text → Option Form
 form words = if is_empty (fault_of line words) then form_in (matches_of line words) else None
 
--- the epoch of a run in this mode; only `ordered` runs
-abbrev pub run_of : Mode → ℤ → Option ℤ
-run_of Ordered epoch = Some epoch
-run_of _ epoch = None
+-- a run of a script in this mode; `threads` and `load` don't run yet
+abbrev pub run_of : Mode → ℤ → Option ScriptRun
+run_of Ordered epoch = Some (record { with_order = false; epoch = epoch })
+run_of Replay epoch = Some (record { with_order = true; epoch = epoch })
+run_of Threads epoch = None
+run_of Load epoch = None
 
--- the epoch of the run that the words ask for
-abbrev pub epoch_asked : List Text → Option ℤ
-epoch_asked words = option_and_then (λ (asked : Form). run_of asked.mode asked.epoch) (form words)
+-- the run that the words ask for
+abbrev pub run_asked : List Text → Option ScriptRun
+run_asked words = option_and_then (λ (asked : Form). run_of asked.mode asked.epoch) (form words)

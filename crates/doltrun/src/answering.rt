@@ -1,10 +1,16 @@
-ghost use Rattle.std.specs.Prelude.{◌≡◌, ◌≤ℤ◌, IfOk, pos, string_bytes};
+ghost use Rattle.std.specs.Prelude.{◌≡◌, ◌≢◌, ◌≤ℤ◌, IfOk, None, pos, false, true, string_bytes};
+ghost use Rattle.plain_sessions.specs.StateLimits.{is_date};
 ghost use Rattle.doltrun.specs.Headline.{collision_line, fault_line};
-ghost use Rattle.doltrun.specs.Stops.{Comes};
+ghost use Rattle.script_run.specs.Scripts.{IsSoundScript};
+ghost use Rattle.doltrun.specs.Stops.{Comes, ComesOf};
 
+use crate::words::ScriptRun;
 use chunk_store::{Clash, PutFault};
-use script_run::run_script;
-use script_text::{BadScript, ScriptFault, one_reading, print_output, push_clash, read_script};
+use script_run::{Replayed, replay_script, run_script};
+use script_text::{
+    BadScript, Script, ScriptFault, one_reading, one_stop, print_output, print_stop, push_clash,
+    read_script,
+};
 use std::alloc::{AllocError, Global};
 use tuple_codec::{Blob, Digester};
 use wire_io::Pacer;
@@ -15,6 +21,8 @@ pub enum NoAnswer {
     Memory,
     /// A line breaks a rule of scripts.
     Bad(BadScript),
+    /// The order that it gives can't be followed; the text that tells where.
+    Stopped(Blob),
     /// The two chunks that a database is opened with have one address.
     Collision(Clash),
 }
@@ -58,20 +66,60 @@ impl From<PutFault> for NoAnswer {
     }
 }
 
-/// The text that answers the script in these bytes. Commits bear the epoch as their date.
+/// The text that answers the script in these bytes, in the order of its lines or in the one that it gives. Commits bear the epoch as their date.
 pub fn answer<D: Digester, P: Pacer>(
     alloc: Global,
     pacer: &P,
-    epoch: i64,
+    asked: ScriptRun,
     bytes: &[u8],
 ) -> Result<Blob, NoAnswer>
-    requires { pos 0 ≤ℤ epoch }
-    ensures { Comes D.address epoch bytes.now result }
+    requires { is_date asked.epoch ≡ true }
+    ensures { Comes D.address asked bytes.now result }
 {
-    let script = read_script(alloc, bytes, false)?;
+    let script = read_script(alloc, bytes, asked.with_order)?;
+    if asked.with_order {
+        answer_in_given_order::<D, P>(alloc, pacer, script, asked.epoch)
+    } else {
+        answer_in_text_order::<D, P>(alloc, pacer, script, asked.epoch)
+    }
+}
+
+fn answer_in_text_order<D: Digester, P: Pacer>(
+    alloc: Global,
+    pacer: &P,
+    script: Script,
+    epoch: i64,
+) -> Result<Blob, NoAnswer>
+    requires sound { IsSoundScript script }
+    requires epoch { pos 0 ≤ℤ epoch }
+    ensures { ComesOf D.address (record { with_order = false; epoch = epoch }) script result }
+{
     let run = run_script::<D, P>(alloc, pacer, script, epoch)?;
     one_reading();
     Ok(print_output(alloc, &run)?)
+}
+
+fn answer_in_given_order<D: Digester, P: Pacer>(
+    alloc: Global,
+    pacer: &P,
+    script: Script,
+    epoch: i64,
+) -> Result<Blob, NoAnswer>
+    requires sound { IsSoundScript script }
+    requires ordered { script.order ≢ None }
+    requires epoch { pos 0 ≤ℤ epoch }
+    ensures { ComesOf D.address (record { with_order = true; epoch = epoch }) script result }
+{
+    match replay_script::<D, P>(alloc, pacer, script, epoch)? {
+        Replayed::Run(run) => {
+            one_reading();
+            Ok(print_output(alloc, &run)?)
+        }
+        Replayed::Stop(stop) => {
+            one_stop();
+            Err(NoAnswer::Stopped(print_stop(alloc, &stop)?))
+        }
+    }
 }
 
 /// The line that tells the rule that a script breaks.

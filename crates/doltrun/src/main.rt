@@ -1,11 +1,10 @@
-//! The program `doltrun`: it reads a script of SQL statements from standard input, runs them one after another, and writes what
+//! The program `doltrun`: it reads a script of SQL statements from standard input, runs them in the order of its lines or in one that it gives, and writes what
 //! each answered, the order of the moments at which they met the database, and the addresses that each branch has at the end.
 //!
 //! What it promises stands on `run`, which takes any source and sink. `main` gives it the standard streams.
 #![tactic(auto)]
 
 mod answering;
-mod numerals;
 mod status;
 #[cfg(test)]
 mod tests;
@@ -20,7 +19,7 @@ use std::process::ExitCode;
 use std::rt::Env;
 pub use top::{run, run_with};
 use wire_io::{NoPace, StdSink, StdSource};
-pub use words::{Form, Mode};
+pub use words::{Form, Mode, ScriptRun};
 
 fn main(rt: HostRuntime) -> ExitCode {
     let Ok(words) = given_words(&rt) else {

@@ -16,6 +16,8 @@ pub enum Status {
     Write,
     /// There was no memory for the words, the input, the run's room or the text. Nothing was written.
     Memory,
+    /// The given order can't be followed; the item and what was answered before it by no rule were written.
+    Order,
     /// The two chunks that a database is opened with have one address; it and both byte strings were written.
     Collision,
 }
@@ -32,6 +34,7 @@ impl Status {
             Status::Read => 3,
             Status::Write => 4,
             Status::Memory => 5,
+            Status::Order => 6,
             Status::Collision => 7,
         }
     }

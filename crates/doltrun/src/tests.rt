@@ -119,6 +119,15 @@ fn a_line_without_its_semicolon_is_told(rt: HostRuntime) -> Result<(), Fail> {
     Ok(())
 }
 
+#[test]
+fn an_order_that_ends_too_early_is_told(rt: HostRuntime) -> Result<(), Fail> {
+    let script = b"order a/1\n@a CREATE TABLE t (id BIGINT PRIMARY KEY);\n";
+    let (status, written) = ended(&rt, rt.alloc(), "replay", script)?;
+    assert_eq!(rt; status, Status::Order);
+    assert_eq!(rt; written.as_slice(), b"order item 2\nrefused\n".as_slice());
+    Ok(())
+}
+
 const STATUSES: &str = "0 ordered
 0 --epoch=5 ordered
 0 ordered --epoch 5
@@ -135,7 +144,7 @@ const STATUSES: &str = "0 ordered
 1 load --seed 1 --seed 1
 1 threads
 1 threads x
-1 replay --epoch=5
+1 threads --epoch=5
 1 turbo
 1 --help
 1 -- --epoch=5 ordered

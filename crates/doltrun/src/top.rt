@@ -1,10 +1,11 @@
 ghost use Rattle.chunk_store.specs.Digests.{cut_address};
-ghost use Rattle.std.specs.Prelude.{◌≤ℤ◌, pos};
+ghost use Rattle.std.specs.Prelude.{◌≡◌, true};
+ghost use Rattle.plain_sessions.specs.StateLimits.{is_date};
 ghost use Rattle.doltrun.specs.Endings.{IsEnding, IsRun};
 ghost use Rattle.doltrun.specs.Words.{spelled};
 
 use crate::status::Status;
-use crate::words::{USAGE, epoch_to_run};
+use crate::words::{ScriptRun, USAGE, run_to_do};
 use crate::writing::{write_answer, write_last};
 use chunk_store::Sha512Cut;
 use std::alloc::Global;
@@ -16,11 +17,11 @@ use wire_io::{Pacer, ReadStop, Sink, Source, read_up_to};
 /// One byte above the longest script.
 const MOST_TAKEN: usize = 16_777_217;
 
-/// Reads a script from `input`, runs its statements one after another in the text's order, each by its session, and writes to
-/// `output` what each answered, the order of the moments, and the branches that they leave. `words` are the command line without the program's
+/// Reads a script from `input`, runs its statements, in the text's order or in the order of moments that the script gives, each by its session, and
+/// writes to `output` what each answered, the order of the moments, and the branches that they leave. `words` are the command line without the program's
 /// name.
 ///
-/// `ordered` is the one mode that runs. Commits bear the date of `--epoch`. The text is built whole before its first byte is written.
+/// `ordered` and `replay` are the modes that run. Commits bear the date of `--epoch`. The text is built whole before its first byte is written.
 pub fn run<R: Threads + Wait + Sync, S: Source, K: Sink, P: Pacer>(
     rt: &R,
     alloc: Global,
@@ -59,8 +60,8 @@ fn run_alone<D: Digester, S: Source, K: Sink, P: Pacer>(
 ) -> Status
     ensures { IsEnding D.address (spelled words.now) (record { left = S.left; faults = S.faults; steady = S.steady }) (record { held = K.held; faults = K.faults; room = K.room }) input.old input.new output.old output.new result }
 {
-    match epoch_to_run(alloc, words) {
-        Ok(Some(epoch)) => run_input::<D, S, K, P>(alloc, epoch, input, output, pacer),
+    match run_to_do(alloc, words) {
+        Ok(Some(asked)) => run_input::<D, S, K, P>(alloc, asked, input, output, pacer),
         Ok(None) => write_last(output, USAGE, Status::Usage),
         Err(_) => Status::Memory,
     }
@@ -68,16 +69,16 @@ fn run_alone<D: Digester, S: Source, K: Sink, P: Pacer>(
 
 fn run_input<D: Digester, S: Source, K: Sink, P: Pacer>(
     alloc: Global,
-    epoch: i64,
+    asked: ScriptRun,
     input: &mut S,
     output: &mut K,
     pacer: &P,
 ) -> Status
-    requires { pos 0 ≤ℤ epoch }
-    ensures { IsRun D.address epoch (record { left = S.left; faults = S.faults; steady = S.steady }) (record { held = K.held; faults = K.faults; room = K.room }) input.old input.new output.old output.new result }
+    requires { is_date asked.epoch ≡ true }
+    ensures { IsRun D.address asked (record { left = S.left; faults = S.faults; steady = S.steady }) (record { held = K.held; faults = K.faults; room = K.room }) input.old input.new output.old output.new result }
 {
     match read_up_to(alloc, input, MOST_TAKEN) {
-        Ok(bytes) => write_answer::<D, K, P>(alloc, pacer, epoch, bytes.as_slice(), output),
+        Ok(bytes) => write_answer::<D, K, P>(alloc, pacer, asked, bytes.as_slice(), output),
         Err(ReadStop::Failed) => Status::Read,
         Err(ReadStop::Memory) => Status::Memory,
     }

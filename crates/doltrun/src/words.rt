@@ -1,10 +1,10 @@
 ghost use Rattle.std.specs.Prelude.{◌≡◌, IfOk, codes, option_map};
 ghost use Rattle.clap.specs.Words.{app_of, first_value, found_of};
-ghost use Rattle.doltrun.specs.Words.{epoch_asked, epoch_named, epoch_of, form, form_named, form_of, line, mode_named, run_of, seed_of, spelled};
+ghost use Rattle.doltrun.specs.Words.{epoch_named, epoch_of, form, form_named, form_of, line, mode_named, run_asked, run_of, seed_of, spelled};
 
-use crate::numerals::number_in;
 use clap::error::ErrorKind;
 use clap::{Arg, ArgMatches, Command};
+use script_text::number_in;
 use std::alloc::{AllocError, Global};
 
 /// The line that tells the forms.
@@ -34,9 +34,18 @@ pub struct Form {
     pub seed: Option<u64>,
 }
 
-/// The epoch of the run that the words ask for; `None` where they are no form, or one that doesn't run yet.
-pub fn epoch_to_run(alloc: Global, words: &[String]) -> Result<Option<i64>, AllocError>
-    ensures { IfOk result (λ epoch. epoch ≡ epoch_asked (spelled words.now)) }
+/// A run of the script that the input has.
+#[derive(Clone, Copy, Debug, PartialEq, Eq)]
+pub struct ScriptRun {
+    /// Whether the script gives the order of its moments.
+    pub with_order: bool,
+    /// The date of every commit.
+    pub epoch: i64,
+}
+
+/// The run that the words ask for; `None` where they are no form, or one that doesn't run yet.
+pub fn run_to_do(alloc: Global, words: &[String]) -> Result<Option<ScriptRun>, AllocError>
+    ensures { IfOk result (λ run. run ≡ run_asked (spelled words.now)) }
 {
     match read_words(alloc, words)? {
         Some(asked) => Ok(run_in(asked.mode, asked.epoch)),
@@ -44,12 +53,19 @@ pub fn epoch_to_run(alloc: Global, words: &[String]) -> Result<Option<i64>, Allo
     }
 }
 
-fn run_in(mode: Mode, epoch: i64) -> Option<i64>
+fn run_in(mode: Mode, epoch: i64) -> Option<ScriptRun>
     ensures { result ≡ run_of mode epoch }
 {
     match mode {
-        Mode::Ordered => Some(epoch),
-        Mode::Threads | Mode::Replay | Mode::Load => None,
+        Mode::Ordered => Some(ScriptRun {
+            with_order: false,
+            epoch,
+        }),
+        Mode::Replay => Some(ScriptRun {
+            with_order: true,
+            epoch,
+        }),
+        Mode::Threads | Mode::Load => None,
     }
 }
 

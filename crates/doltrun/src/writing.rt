@@ -1,14 +1,16 @@
-ghost use Rattle.std.specs.Prelude.{◌≡◌, ◌≢◌, ◌<◌, ◌≤◌, ◌≤ℤ◌, Err, Some, length, pos};
+ghost use Rattle.std.specs.Prelude.{◌≡◌, ◌≢◌, ◌<◌, ◌≤◌, Err, Some, length, true};
+ghost use Rattle.plain_sessions.specs.StateLimits.{is_date};
 ghost use Rattle.std.specs.Io.KnownBytes.{Appends};
 ghost use Rattle.wire_io.specs.Causes.{Rose};
 ghost use Rattle.wire_io.specs.Moves.{AppendsFront};
 ghost use Rattle.script_text.specs.Input.{script};
 ghost use Rattle.script_text.specs.declared.faults.BadScript.{BadScript};
 ghost use Rattle.doltrun.specs.Headline.{collision_line, fault_line};
-ghost use Rattle.doltrun.specs.Stops.{AnswersAll, AnswersPart, WritesCollision};
+ghost use Rattle.doltrun.specs.Stops.{AnswersAll, AnswersPart, WritesCollision, WritesStop};
 
 use crate::answering::{NoAnswer, answer, collision_text, fault_text};
 use crate::status::Status;
+use crate::words::ScriptRun;
 use chunk_store::Clash;
 use script_text::BadScript;
 use std::alloc::Global;
@@ -19,26 +21,28 @@ use wire_io::{Pacer, Sink, write_whole};
 pub fn write_answer<D: Digester, K: Sink, P: Pacer>(
     alloc: Global,
     pacer: &P,
-    epoch: i64,
+    asked: ScriptRun,
     bytes: &[u8],
     output: &mut K,
 ) -> Status
-    requires { pos 0 ≤ℤ epoch }
-    ensures done { result ≡ Status.Done → AnswersAll D.address epoch bytes.now (K.held output.old) (K.held output.new) }
+    requires { is_date asked.epoch ≡ true }
+    ensures done { result ≡ Status.Done → AnswersAll D.address asked bytes.now (K.held output.old) (K.held output.new) }
     ensures script { result ≡ Status.Script
-        → (bad : BadScript) × (script bytes.now ≡ Err bad) × Appends (K.held output.old) (K.held output.new) (fault_line bad) }
-    ensures collision { result ≡ Status.Collision → WritesCollision D.address epoch (Some bytes.now) (K.held output.old) (K.held output.new) }
-    ensures faulty { (bad : BadScript) → script bytes.now ≡ Err bad → (result ≢ Status.Done) × (result ≢ Status.Collision) }
-    ensures part { result ≡ Status.Write → AnswersPart D.address epoch bytes.now (K.held output.old) (K.held output.new) (K.room output.old) }
+        → (bad : BadScript) × (script bytes.now asked.with_order ≡ Err bad) × Appends (K.held output.old) (K.held output.new) (fault_line bad) }
+    ensures order { result ≡ Status.Order → WritesStop D.address asked (Some bytes.now) (K.held output.old) (K.held output.new) }
+    ensures collision { result ≡ Status.Collision → WritesCollision D.address asked (Some bytes.now) (K.held output.old) (K.held output.new) }
+    ensures faulty { (bad : BadScript) → script bytes.now asked.with_order ≡ Err bad → (result ≢ Status.Done) × (result ≢ Status.Order) × (result ≢ Status.Collision) }
+    ensures part { result ≡ Status.Write → AnswersPart D.address asked bytes.now (K.held output.old) (K.held output.new) (K.room output.old) }
     ensures rose { result ≡ Status.Write → Rose (K.faults output.old) (K.faults output.new) }
     ensures later { K.faults output.old ≤ K.faults output.new }
     ensures memory { result ≡ Status.Memory → output.new ≡ output.old }
     ensures words { result ≢ Status.Usage }
     ensures source { result ≢ Status.Read }
 {
-    match answer::<D, P>(alloc, pacer, epoch, bytes) {
+    match answer::<D, P>(alloc, pacer, asked, bytes) {
         Ok(text) => write_last(output, text.as_slice(), Status::Done),
         Err(NoAnswer::Bad(bad)) => write_fault(alloc, bad, output),
+        Err(NoAnswer::Stopped(text)) => write_last(output, text.as_slice(), Status::Order),
         Err(NoAnswer::Collision(clash)) => write_clash(alloc, &clash, output),
         Err(NoAnswer::Memory) => Status::Memory,
     }
@@ -53,7 +57,7 @@ fn write_fault<K: Sink>(alloc: Global, bad: BadScript, output: &mut K) -> Status
     ensures memory { result ≡ Status.Memory → output.new ≡ output.old }
     ensures words { result ≢ Status.Usage }
     ensures source { result ≢ Status.Read }
-    ensures done { (result ≢ Status.Done) × (result ≢ Status.Collision) }
+    ensures done { (result ≢ Status.Done) × (result ≢ Status.Order) × (result ≢ Status.Collision) }
 {
     match fault_text(alloc, bad) {
         Ok(text) => write_last(output, text.as_bytes(), Status::Script),
@@ -70,7 +74,7 @@ fn write_clash<K: Sink>(alloc: Global, clash: &Clash, output: &mut K) -> Status
     ensures memory { result ≡ Status.Memory → output.new ≡ output.old }
     ensures words { result ≢ Status.Usage }
     ensures source { result ≢ Status.Read }
-    ensures done { (result ≢ Status.Done) × (result ≢ Status.Script) }
+    ensures done { (result ≢ Status.Done) × (result ≢ Status.Order) × (result ≢ Status.Script) }
 {
     match collision_text(alloc, clash) {
         Ok(text) => write_last(output, text.as_slice(), Status::Collision),

@@ -1,8 +1,10 @@
 -- Orders of moments against the lines of a script.
-use Rattle.std.specs.Prelude.{◌≡◌, ℕ, suc, ◌+◌, ◌-◌, ◌*◌, ◌≤◌, ◌==◌, Bool, true, ◌&&◌, List, [], ◌∷◌, length, nat_lt, nat_le, if◌then◌else◌}
+use Rattle.std.specs.Prelude.{◌≡◌, ℕ, suc, ◌+◌, ◌-◌, ◌*◌, ◌≤◌, ◌==◌, Bool, true, ◌&&◌, List, [], ◌∷◌, length, map, nat_lt, nat_le, unwrap_or, Option, None, Some, if◌then◌else◌}
 use Rattle.std.specs.List.{list_all}
 use Rattle.script_text.specs.declared.scripts.Line.{Line}
+use Rattle.script_text.specs.Input.{place_of}
 use Rattle.script_text.specs.declared.scripts.Moment.{Moment}
+use Rattle.script_text.specs.declared.scripts.OrderItem.{OrderItem}
 use Rattle.script_text.specs.declared.scripts.Script.{Script}
 
 -- the line of a session's statement by its number, counted from `at`
@@ -42,3 +44,20 @@ pub record IsOrderTo (script : Script) (count : ℕ) (order : List Moment) : Typ
   pub within : list_all (is_within script) order ≡ true
   -- at most a start and a decision a line
   pub short : length order ≤ 2 * count
+
+-- ---- a given order
+
+-- the moment that an item asks for; one that names no session of the script asks for a moment of a session that isn't there
+abbrev pub asked_moment : List (List ℕ) → OrderItem → Moment
+asked_moment names item = record { session = unwrap_or (place_of names item.name) (length names); statement = item.statement }
+
+abbrev pub asked_moments : List (List ℕ) → Option (List OrderItem) → List Moment
+asked_moments names None = []
+asked_moments names (Some items) = map (asked_moment names) items
+
+-- the moments for which the script's order line asks
+abbrev pub asked_order : Script → List Moment
+asked_order script = asked_moments script.names script.order
+
+abbrev pub IsGivenOrder : Script → List Moment → Type 0
+IsGivenOrder script order = order ≡ asked_order script

@@ -17,6 +17,11 @@ sum_push xs x =
     let one : 0 + x ≡ x = omega arith in
     sum_by-append (λ (n : ℕ). n) xs (x ∷ []) ∙ ap (λ n. sum xs + n) one
 
+pub sum_cons : (x : ℕ) (xs : List ℕ) → sum (x ∷ xs) ≡ x + sum xs
+sum_cons x xs =
+    let one : 0 + x ≡ x = omega arith in
+    sum_by-append (λ (n : ℕ). n) (x ∷ []) xs ∙ ap (λ n. n + sum xs) one
+
 none_counted : (sessions : ℕ) → sum (counts sessions []) ≡ 0
 none_counted zero = refl
 none_counted (suc sessions) =

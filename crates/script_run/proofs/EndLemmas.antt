@@ -86,10 +86,10 @@ said_by (speaker ∷ speakers) (one ∷ spoken) many each =
     ap (λ (first : List Reply). first ∷ map (λ (other : Speaker _). other.replies.items) speakers) (each 0 one.0 one.1 speaker refl refl)
     ∙ ap (λ (more : List (List Reply)). one.1 ∷ more) (said_by speakers spoken rest (λ place p replies other h g. each (suc place) p replies other h g))
 
-printable_reply : (reply : Reply) → is_sound_reply reply ≡ true → is_printable_reply reply ≡ true
+pub printable_reply : (reply : Reply) → is_sound_reply reply ≡ true → is_printable_reply reply ≡ true
 printable_reply reply h = (both (is_printable_reply reply) (is_shown_reply reply) h).0
 
-shown_reply : (reply : Reply) → is_sound_reply reply ≡ true → is_shown_reply reply ≡ true
+pub shown_reply : (reply : Reply) → is_sound_reply reply ≡ true → is_shown_reply reply ≡ true
 shown_reply reply h = (both (is_printable_reply reply) (is_shown_reply reply) h).1
 
 module _ {D : Type 0} (address : List ℕ → List ℕ) (epoch : ℤ) (script : Script) (running : Running D) (ended : IsRunningAt address epoch script (length script.lines) running) where

@@ -1,5 +1,9 @@
 pub mod CountLemmas
 pub mod EndLemmas
+pub mod FollowLemmas
+pub mod GoingLemmas
 pub mod LineLemmas
 pub mod OpenLemmas
+pub mod PlayerLemmas
+pub mod ReplayLemmas
 pub mod SpeakerLemmas

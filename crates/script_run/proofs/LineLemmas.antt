@@ -25,7 +25,7 @@ use Rattle.script_run.specs.declared.running.Speaker.{Speaker}
 use Rattle.script_run.proofs.CountLemmas.{commands_counted, count_most, count_rises}
 use Rattle.script_run.proofs.SpeakerLemmas.{all_at, speakers_next, there_at}
 
-number_is : (position : Place) (statement : ℕ) (there : plain.Place) → IsAt position statement there → number_at position ≡ statement
+pub number_is : (position : Place) (statement : ℕ) (there : plain.Place) → IsAt position statement there → number_at position ≡ statement
 number_is (place.Before number) statement there is = is.0
 number_is (place.Between number) statement there is = is.0
 

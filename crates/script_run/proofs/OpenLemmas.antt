@@ -40,7 +40,7 @@ new_at place (first ∷ names) (suc at) name h =
     let more : place + 1 + at ≡ place + suc at = omega arith in
     new_at (place + 1) names at name h ∙ ap (λ n. Some (new_session n name, [])) more
 
-no_chunks : (own chunks : List Chunk) → own ≡ [] → Lists own chunks
+pub no_chunks : (own chunks : List Chunk) → own ≡ [] → Lists own chunks
 no_chunks own chunks none = subst (λ (cs : List Chunk). Lists cs chunks) (sym none) (λ k bytes listed. absurd listed)
 
 abbrev pub Each : {D : Type 0} → (List ℕ → List ℕ) → List (List ℕ) → List ℕ → List (Speaker D) → Type 0

@@ -18,7 +18,7 @@ use Rattle.session_txn.specs.Showing.{is_sound_reply}
 use Rattle.script_run.specs.Running.{AreSpeakers, IsSpeaker, Speaks}
 use Rattle.script_run.specs.declared.running.Speaker.{Speaker}
 
-truly_behind : (address : List ℕ → List ℕ) (replies : List Reply) (reply : Reply) → AllByRecursion (TellsTruly address) replies → TellsTruly address reply
+pub truly_behind : (address : List ℕ → List ℕ) (replies : List Reply) (reply : Reply) → AllByRecursion (TellsTruly address) replies → TellsTruly address reply
     → AllByRecursion (TellsTruly address) (replies ++ reply ∷ [])
 truly_behind address [] reply all one = (one, tt)
 truly_behind address (first ∷ replies) reply all one = (all.0, truly_behind address replies reply all.1 one)

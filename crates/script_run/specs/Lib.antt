@@ -1,3 +1,4 @@
+pub mod Following
 pub mod Opening
 pub mod Running
 pub mod Scripts

@@ -10,9 +10,10 @@ ghost use Rattle.session_txn.specs.Showing.{is_sound_reply};
 ghost use Rattle.serving.specs.Serving.{IsBefore, Serves};
 ghost use Rattle.serving.specs.Steps.{number_at};
 
+use chunk_store::PutFault;
 use plain_sessions::{Command, read_command};
 use script_text::Reply;
-use serving::{pass_over, serve};
+use serving::{answer_fault, serve};
 use session_state::Session;
 use shared_db::SharedDb;
 use std::alloc::{AllocError, Global};
@@ -43,12 +44,12 @@ pub fn serve_text<D: Digester>(
 {
     match asked_by(alloc, text) {
         Ok(asked) => serve(alloc, db, session, asked.get(), epoch),
-        Err(_) => pass_over(session),
+        Err(_) => answer_fault(session, PutFault::Memory),
     }
 }
 
 /// What a text asks. A text that is longer than a statement may be would be answered by want of memory; no script has one.
-fn asked_by(alloc: Global, text: &[u8]) -> Result<Boxed<Command>, AllocError>
+pub(crate) fn asked_by(alloc: Global, text: &[u8]) -> Result<Boxed<Command>, AllocError>
     ensures is { IfOk result (λ asked. asked ≡ command text.now) }
     ensures fit { IfOk result IsFitCommand }
 {

@@ -2,8 +2,12 @@
 #![tactic(auto)]
 
 mod asking;
+mod following;
+mod going;
 mod lines;
 mod opening;
+mod players;
 mod running;
 
+pub use following::{Replayed, replay_script};
 pub use lines::run_script;

@@ -129,7 +129,7 @@ fn speak<D: Digester, P: Pacer>(
     speaker.replies.push_reserved(reply);
 }
 
-fn number_of(place: Place) -> u32
+pub(crate) fn number_of(place: Place) -> u32
     ensures { result ≡ number_at place }
 {
     match place {

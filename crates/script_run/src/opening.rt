@@ -35,7 +35,7 @@ pub fn open<D: Digester>(alloc: Global, script: &Script, epoch: i64) -> Result<R
 }
 
 /// How many of the lines each session has.
-fn counts(alloc: Global, lines: &[Line], sessions: usize) -> Result<Vec<u32>, AllocError>
+pub(crate) fn counts(alloc: Global, lines: &[Line], sessions: usize) -> Result<Vec<u32>, AllocError>
     requires { length lines.now < 2 ^ 32 }
     ensures { IfOk result (λ all. all.items ≡ counts sessions lines.now) }
 {
@@ -76,7 +76,7 @@ fn new_speakers<D: Digester>(
     Ok(speakers)
 }
 
-fn new_speaker<D: Digester>(
+pub(crate) fn new_speaker<D: Digester>(
     alloc: Global,
     name: &Text,
     place: usize,

@@ -25,17 +25,18 @@ one_hex a b all each e =
     let same : Ok a ≡ Ok b = sym (decode_of-encode_lower a (below_at a all)) ∙ ap decode_of e ∙ decode_of-encode_lower b (below_at b each) in
     cc
 
-digit_passes : (p : ℕ → Bool) (table : List ℕ) (place : ℕ) → p 0 ≡ true → list_all p table ≡ true → p (slice_index table place) ≡ true
-digit_passes p [] place zero_passes all = zero_passes
-digit_passes p (digit ∷ table) zero zero_passes all = (and_parts _ _ all).0
-digit_passes p (digit ∷ table) (suc place) zero_passes all = digit_passes p table place zero_passes (and_parts _ _ all).1
+-- what holds of zero and of each byte holds at each place, also behind the last byte
+pub passes_at : (p : ℕ → Bool) (bytes : List ℕ) (place : ℕ) → p 0 ≡ true → list_all p bytes ≡ true → p (slice_index bytes place) ≡ true
+passes_at p [] place zero_passes all = zero_passes
+passes_at p (byte ∷ bytes) zero zero_passes all = (and_parts _ _ all).0
+passes_at p (byte ∷ bytes) (suc place) zero_passes all = passes_at p bytes place zero_passes (and_parts _ _ all).1
 
 -- what holds of each digit holds of a hex text
 hex_passes : (p : ℕ → Bool) (table bytes : List ℕ) → p 0 ≡ true → list_all p table ≡ true → list_all p (encode_with table bytes) ≡ true
 unfolding encode_with
 hex_passes p table [] zero_passes all = refl
 hex_passes p table (byte ∷ bytes) zero_passes all =
-    and_from _ _ (digit_passes p table (byte / 16) zero_passes all) (and_from _ _ (digit_passes p table (byte % 16) zero_passes all) (hex_passes p table bytes zero_passes all))
+    and_from _ _ (passes_at p table (byte / 16) zero_passes all) (and_from _ _ (passes_at p table (byte % 16) zero_passes all) (hex_passes p table bytes zero_passes all))
 
 pub all_hex : (p : ℕ → Bool) (bytes : List ℕ) → p 0 ≡ true → list_all p lower_digits ≡ true → list_all p (encode_lower bytes) ≡ true
 all_hex p bytes zero_passes all = hex_passes p lower_digits bytes zero_passes all

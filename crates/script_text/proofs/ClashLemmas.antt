@@ -40,7 +40,7 @@ clash_in_line clash =
     ap is_one_line (clash_more clash)
     ∙ line_append (address_text clash.address.0) (32 ∷ (encode_lower clash.first ++ (32 ∷ encode_lower clash.second))) (all_letters (λ byte. not (byte == 10)) letter_in_line clash.address.0) first
 
-same_clash : (a b : Clash) → a.address.0 ≡ b.address.0 → a.first ≡ b.first → a.second ≡ b.second → a ≡ b
+pub same_clash : (a b : Clash) → a.address.0 ≡ b.address.0 → a.first ≡ b.first → a.second ≡ b.second → a ≡ b
 same_clash a b p q r = λ i. record { address = record { 0 = p i }; first = q i; second = r i }
 
 pub record IsShownClash (clash : Clash) : Type 0 where

@@ -1,7 +1,9 @@
 pub mod BlankLemmas
 pub mod LineLemmas
+mod NumeralLemmas
 pub mod SessionLemmas
 mod Vectors
+mod ScriptVectors
 mod ShownVectors
 mod TextParts
 mod LineParts
@@ -9,3 +11,4 @@ mod ByteLemmas
 pub mod ClashLemmas
 mod ReplyParts
 mod RunParts
+mod StopParts

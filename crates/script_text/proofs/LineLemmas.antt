@@ -23,13 +23,13 @@ uncut p [] all = refl
 uncut p (byte ∷ bytes) all = let parts = passed (p byte) (position_or_len p bytes) (length bytes) all in
     slice_split-cons_no p byte bytes parts.0 ∙ ap (onto_first byte) (uncut p bytes parts.1)
 
-cut_none : (p : ℕ → Bool) (bytes : List ℕ) → position p bytes ≡ None → slice_split p bytes ≡ bytes ∷ []
+pub cut_none : (p : ℕ → Bool) (bytes : List ℕ) → position p bytes ≡ None → slice_split p bytes ≡ bytes ∷ []
 cut_none p bytes none =
     let not_less = missed (nat_lt (position_or_len p bytes) (length bytes)) (position_or_len p bytes) none in
     let most = prefix_len-le-length (λ byte. not (p byte)) bytes in
     uncut p bytes (grind (arith, nat_tests, not_less, most))
 
-cut_some : (p : ℕ → Bool) (bytes : List ℕ) (end : ℕ) → position p bytes ≡ Some end → slice_split p bytes ≡ take end bytes ∷ slice_split p (drop (end + 1) bytes)
+pub cut_some : (p : ℕ → Bool) (bytes : List ℕ) (end : ℕ) → position p bytes ≡ Some end → slice_split p bytes ≡ take end bytes ∷ slice_split p (drop (end + 1) bytes)
 cut_some p bytes end some =
     let parts = found (nat_lt (position_or_len p bytes) (length bytes)) (position_or_len p bytes) end some in
     let within : position_or_len p bytes < length bytes = grind (arith, nat_tests, parts.0) in

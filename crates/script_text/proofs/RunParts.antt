@@ -42,7 +42,7 @@ replies_part number (reply ∷ a) (other ∷ b) x y all each ends stops e =
     let more = replies_part (number + 1) a b x y (and_parts _ _ all).1 (and_parts _ _ each).1 ends stops first.rest in
     record { same = record { texts = ap₂ ◌∷◌ first.same.text more.same.texts; wants = ap₂ ◌∷◌ first.same.want more.same.wants }; rest = more.rest }
 
-abbrev wants_in : List (List Reply) → List (List (Option Shortage))
+abbrev pub wants_in : List (List Reply) → List (List (Option Shortage))
 wants_in replies = map (λ session. map shortage session) replies
 
 pub record ReadSessions (names others : List (List ℕ)) (a b : List (List Reply)) (x y : List ℕ) : Type 0 where
@@ -110,7 +110,7 @@ name_at [] place all = refl
 name_at (name ∷ names) zero all = (and_parts _ _ (and_parts _ _ all).0).1
 name_at (name ∷ names) (suc place) all = name_at names place (and_parts _ _ all).1
 
-bytes_eq_same : (a b : List ℕ) → a ≡ b → bytes_eq a b ≡ true
+pub bytes_eq_same : (a b : List ℕ) → a ≡ b → bytes_eq a b ≡ true
 bytes_eq_same a b same = grind (arith, bytes_eq-Decides a b)
 
 not_apart : (names : List (List ℕ)) (i j : ℕ) → IsDistinct bytes_eq names → i < j → j < length names → slice_index_or names i [] ≡ slice_index_or names j [] → ⊥
@@ -130,7 +130,7 @@ moment_more : (names : List (List ℕ)) (moment : Moment) (order : List Moment) 
     → flat_map (moment_text names) (moment ∷ order) ++ x ≡ 32 ∷ (slice_index_or names moment.session [] ++ (47 ∷ moment_end names moment order x))
 moment_more names moment order x = simp append_assoc
 
-at_slash : (x : List ℕ) → Stops is_name_byte (47 ∷ x)
+pub at_slash : (x : List ℕ) → Stops is_name_byte (47 ∷ x)
 at_slash x = record { byte = 47; rest = x; is = refl; stops = refl }
 
 after_moment : (names : List (List ℕ)) (order : List Moment) (x : List ℕ) → Stops is_digit (flat_map (moment_text names) order ++ (10 ∷ x))

@@ -1,8 +1,9 @@
--- Runs that can be read back: the law of one reading speaks of them.
-use Rattle.std.proofs.Common.{refl, codes, replicate, [], ◌∷◌}
+-- Runs and stops that can be read back: the laws speak of them.
+use Rattle.std.proofs.Common.{refl, codes, replicate, [], ◌∷◌, arith}
 use Rattle.std.specs.List.{IsDistinct}
-use Rattle.script_text.specs.Shown.{IsShown}
+use Rattle.script_text.specs.Shown.{IsShown, IsShownStop}
 use Rattle.script_text.specs.declared.outputs.RunText.{RunText}
+use Rattle.script_text.specs.declared.outputs.StopText.{StopText}
 use Rattle.script_text.specs.declared.replies.Reply.TheVariants.{Done, Count, Rows, Refused, Syntax, Collided}
 use Rattle.tuple_codec.specs.declared.values.SqlType.TheVariants as kind
 use Rattle.tuple_codec.specs.declared.values.Value.TheVariants as cell
@@ -24,3 +25,10 @@ shown = record { names = refl; distinct = ((refl, tt), (tt, tt)); lists = refl; 
 no_session : IsShown (record { names = []; replies = []; order = []; branches = [] })
 unfolding IsDistinct
 no_session = record { names = refl; distinct = tt; lists = refl; replies = refl; moments = refl }
+
+stop : StopText
+stop = record { item = 12; names = run.names; replies = run.replies }
+
+shown_stop : IsShownStop stop
+unfolding run stop IsDistinct
+shown_stop = record { item = omega arith; names = refl; distinct = ((refl, tt), (tt, tt)); lists = refl; replies = refl; few = refl }

@@ -1,11 +1,14 @@
 -- The script that bytes hold, or the first line that breaks a rule with the least rule broken there.
-use Rattle.std.specs.Prelude.{ℕ, Bool, ◌==◌, ◌&&◌, ◌||◌, ◌+◌, ◌-◌, List, [], ◌∷◌, ◌++◌, length, take, drop, take_while, nat_le, nat_lt, not, codes, position, unwrap_or, is_none, slice_index, Option, Some, None, Result, Ok, Err, if◌then◌else◌}
+use Rattle.std.specs.Prelude.{ℕ, Bool, true, false, ◌==◌, ◌&&◌, ◌||◌, ◌+◌, ◌-◌, List, [], ◌∷◌, ◌++◌, length, take, drop, take_while, nat_le, nat_lt, not, codes, position, unwrap_or, is_none, slice_index, Option, Some, None, Result, Ok, Err, if◌then◌else◌}
 use Rattle.std.specs.Str.{bytes_eq}
-use Rattle.std.specs.Option.{option_map, option_map_or}
+use Rattle.std.specs.Str.Parse.{digits_value}
+use Rattle.std.specs.Option.{option_and_then, option_map, option_map_or}
 use Rattle.std.specs.List.{slice_split, list_all, starts_with}
 use Rattle.std.specs.Prelude.{nat_eq}
 use Rattle.tuple_codec.specs.Texts.{is_utf8}
 use Rattle.script_text.specs.declared.faults.BadScript.{BadScript}
+use Rattle.script_text.specs.Numerals.{is_numeral}
+use Rattle.script_text.specs.declared.scripts.OrderItem.{OrderItem}
 use Rattle.script_text.specs.declared.scripts.Script.{Script}
 
 -- the limits of a script
@@ -140,6 +143,49 @@ script_from number read (line ∷ lines) = and_then (λ more. script_from (numbe
 abbrev pub no_script : Script
 no_script = record { names = []; lines = []; order = None }
 
--- the script of an input
-abbrev pub script : List ℕ → Result Script BadScript
-script bytes = if nat_lt most_bytes (length bytes) then bad 0 1 else script_from 1 no_script (lines_of bytes)
+-- ---- a given order
+
+-- the number of an item's statement: one to five digits
+abbrev pub statement_number : List ℕ → Option ℕ
+statement_number digits = if is_numeral digits && nat_le (length digits) 5 then Some (digits_value 10 digits) else None
+
+-- a name, `/` and a number
+abbrev pub item_after : List ℕ → List ℕ → Option OrderItem
+item_after name rest =
+    if is_name name && starts_with nat_eq rest (codes "/") then option_map (λ number. record { name = name; statement = number }) (statement_number (drop 1 rest)) else None
+
+abbrev pub item_in : List ℕ → Option OrderItem
+item_in piece = let name = take_while is_name_byte piece in item_after name (drop (length name) piece)
+
+abbrev pub items_in : List (List ℕ) → Option (List OrderItem)
+items_in [] = Some []
+items_in (piece ∷ pieces) = option_and_then (λ item. option_map (λ items. item ∷ items) (items_in pieces)) (item_in piece)
+
+-- the word, and an item behind each space
+abbrev pub items_behind : List (List ℕ) → Option (List OrderItem)
+items_behind [] = None
+items_behind (word ∷ pieces) = if bytes_eq word (codes "order") then items_in pieces else None
+
+-- the items of an order line, if the line is one
+abbrev pub items_of : List ℕ → Option (List OrderItem)
+items_of line = items_behind (slice_split (λ byte. byte == 32) line)
+
+-- no statement yet, and an order
+abbrev pub ordered_by : List OrderItem → Script
+ordered_by items = record no_script { order = Some items }
+
+-- the first line that isn't skipped is an order line, and the statements follow
+abbrev pub ordered_from : ℕ → List (List ℕ) → Result Script BadScript
+ordered_from number [] = bad number 7
+ordered_from number (line ∷ lines) =
+    if not (is_utf8 line) then bad number 2 else (
+    if is_skipped line then ordered_from (number + 1) lines else
+    option_map_or (λ items. script_from (number + 1) (ordered_by items) lines) (items_of line) (bad number 7))
+
+-- ---- the script of an input, with an order or without one
+abbrev pub script_in : Bool → List (List ℕ) → Result Script BadScript
+script_in true lines = ordered_from 1 lines
+script_in false lines = script_from 1 no_script lines
+
+abbrev pub script : List ℕ → Bool → Result Script BadScript
+script bytes with_order = if nat_lt most_bytes (length bytes) then bad 0 1 else script_in with_order (lines_of bytes)

@@ -1,5 +1,6 @@
 pub mod Input
 pub mod LineParts
+pub mod Numerals
 pub mod Output
 pub mod Reading
 pub mod Shown

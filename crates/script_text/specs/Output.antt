@@ -12,6 +12,7 @@ use Rattle.tuple_codec.specs.declared.values.Value.{Value}
 use Rattle.chunk_store.specs.declared.faults.Clash.{Clash}
 use Rattle.script_text.specs.declared.outputs.BranchLine.{BranchLine}
 use Rattle.script_text.specs.declared.outputs.RunText.{RunText}
+use Rattle.script_text.specs.declared.outputs.StopText.{StopText}
 use Rattle.script_text.specs.declared.replies.Reply.{Reply}
 use Rattle.script_text.specs.declared.replies.Reply.TheVariants.{Done, Count, Rows, Refused, Syntax, Collided}
 use Rattle.script_text.specs.declared.scripts.Moment.{Moment}
@@ -130,3 +131,29 @@ shortage (Collided clash) = Some (Clashes clash)
 -- which statements were answered so, by session and by the statement's number
 abbrev pub shortages_in : List (List Reply) → ℕ → ℕ → Option Shortage
 shortages_in replies session statement = option_and_then shortage (slice_get (slice_index_or replies session []) (statement - 1))
+
+-- ---- an order that can't be followed
+
+abbrev pub shortage_text : Shortage → List ℕ
+shortage_text AtOnce = codes "1"
+shortage_text AfterStart = codes "2"
+shortage_text (Clashes clash) =
+    codes "3:" ++ address_text clash.address.0 ++ codes ":" ++ encode_lower clash.first ++ codes ":" ++ encode_lower clash.second
+
+-- a statement that was answered so, by its session's name and its number
+abbrev pub refused_text : List ℕ → ℕ → Option Shortage → List ℕ
+refused_text name number None = []
+refused_text name number (Some short) = codes " " ++ name ++ codes "/" ++ decimal number ++ codes ":" ++ shortage_text short
+
+abbrev pub refused_texts : List ℕ → ℕ → List Reply → List ℕ
+refused_texts name number [] = []
+refused_texts name number (reply ∷ replies) = refused_text name number (shortage reply) ++ refused_texts name (number + 1) replies
+
+abbrev pub all_refused : List (List ℕ) → List (List Reply) → List ℕ
+all_refused [] replies = []
+all_refused names [] = []
+all_refused (name ∷ names) (replies ∷ more) = refused_texts name 1 replies ++ all_refused names more
+
+-- the item that can't be followed, and what was answered before it by no rule
+abbrev pub stop_text : StopText → List ℕ
+stop_text stop = codes "order item " ++ decimal stop.item ++ newline ++ codes "refused" ++ all_refused stop.names stop.replies ++ newline

@@ -1,5 +1,5 @@
 -- What can be printed, and what a text tells of the run that it was printed from.
-use Rattle.std.specs.Prelude.{◌≡◌, ℕ, Bool, true, false, ◌==◌, ◌&&◌, ◌^◌, List, [], ◌∷◌, length, map, is_some, nat_lt, not}
+use Rattle.std.specs.Prelude.{◌≡◌, ℕ, Bool, true, false, ◌==◌, ◌&&◌, ◌^◌, ◌<◌, List, [], ◌∷◌, length, map, is_some, nat_lt, not}
 use Rattle.std.specs.Str.{bytes_eq}
 use Rattle.std.specs.List.{list_all, IsDistinct}
 use Rattle.tuple_codec.specs.declared.answers.Answer.{Answer}
@@ -8,8 +8,9 @@ use Rattle.tuple_codec.specs.declared.values.SqlType.TheVariants as kind
 use Rattle.tuple_codec.specs.declared.values.Value.{Value}
 use Rattle.tuple_codec.specs.declared.values.Value.TheVariants as cell
 use Rattle.script_text.specs.Input.{is_name_byte, is_name}
-use Rattle.script_text.specs.Output.{reply_text, refusal_text, shortages_in, text}
+use Rattle.script_text.specs.Output.{reply_text, refusal_text, shortages_in, stop_text, text}
 use Rattle.script_text.specs.declared.outputs.RunText.{RunText}
+use Rattle.script_text.specs.declared.outputs.StopText.{StopText}
 use Rattle.script_text.specs.declared.replies.Reply.{Reply}
 use Rattle.script_text.specs.declared.replies.Reply.TheVariants.{Done, Count, Rows, Refused, Syntax, Collided}
 use Rattle.script_text.specs.declared.scripts.Moment.{Moment}
@@ -94,3 +95,21 @@ pub record IsSameShown (a b : RunText) : Type 0 where
 
 abbrev pub HasOneReading : Type 0
 HasOneReading = (a b : RunText) → IsShown a → IsShown b → text a ≡ text b → IsSameShown a b
+
+-- what a printed stop has, and by which its text is read back
+pub record IsShownStop (stop : StopText) : Type 0 where
+  pub item : stop.item < 2 ^ 64
+  pub names : list_all is_shown_name stop.names ≡ true
+  pub distinct : IsDistinct bytes_eq stop.names
+  pub lists : length stop.replies ≡ length stop.names
+  pub replies : list_all (list_all is_shown_reply) stop.replies ≡ true
+  pub few : list_all (λ session. nat_lt (length session) (2 ^ 32)) stop.replies ≡ true
+
+-- two stops of one text, of sessions with the same names, are at the same item, and the same statements before it were refused
+-- for want of memory or for a collision, with the same byte strings
+pub record IsSameStop (a b : StopText) : Type 0 where
+  pub item : a.item ≡ b.item
+  pub shortages : (session statement : ℕ) → shortages_in a.replies session statement ≡ shortages_in b.replies session statement
+
+abbrev pub HasOneStop : Type 0
+HasOneStop = (a b : StopText) → IsShownStop a → IsShownStop b → a.names ≡ b.names → stop_text a ≡ stop_text b → IsSameStop a b

@@ -2,12 +2,15 @@
 //!
 //! The crates above use two definitions: `Input.script`, the script that bytes hold or the first line that breaks a
 //! rule, and `Output.text`, the bytes that a run's replies, order and branches are printed as; `read_script` and
-//! `print_output` are these, and `one_reading` says that a text shows one run alone.
+//! `print_output` are these, and `one_reading` says that a text shows one run alone. `Output.stop_text`, `print_stop` and `one_stop`
+//! are the same of an order that can't be followed.
 #![tactic(auto)]
 
 mod blanks;
 mod faults;
 mod law;
+mod numerals;
+mod ordering;
 mod outputs;
 mod parts;
 mod printing;
@@ -15,14 +18,15 @@ mod reading;
 mod refusals;
 mod replies;
 mod scripts;
-#[cfg(test)]
-mod tests;
+mod stops;
 
 pub use faults::{BadScript, ScriptFault};
-pub use law::one_reading;
-pub use outputs::{BranchLine, RunText};
+pub use law::{one_reading, one_stop};
+pub use numerals::number_in;
+pub use outputs::{BranchLine, RunText, StopText};
 pub use printing::{print_output, push_clash};
 pub use reading::read_script;
 pub use refusals::refusal_words;
 pub use replies::Reply;
 pub use scripts::{Line, Moment, OrderItem, Script};
+pub use stops::print_stop;

@@ -18,3 +18,12 @@ pub struct RunText {
     pub order: Sequence<Moment>,
     pub branches: Sequence<BranchLine>,
 }
+
+/// Where a given order can't be followed: the item, counted from 1, or one past the last where a moment is left; and what each session answered
+/// before it.
+#[derive(Debug, Drop)]
+pub struct StopText {
+    pub item: u64,
+    pub names: Sequence<Text>,
+    pub replies: Sequence<Sequence<Reply>>,
+}

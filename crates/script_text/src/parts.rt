@@ -28,7 +28,8 @@ fn is_all_blank(line: &[u8]) -> bool
     line.iter().all(|byte| is_blank_byte(*byte))
 }
 
-fn begins_with(line: &[u8], mark: &[u8]) -> bool
+/// Whether a line begins with a mark.
+pub fn begins_with(line: &[u8], mark: &[u8]) -> bool
     ensures { result ≡ starts_with nat_eq line.now mark.now }
 {
     line.starts_with(mark)
@@ -48,7 +49,7 @@ pub fn read_parts(line: &[u8]) -> Option<LineParts<'_>>
 }
 
 /// The bytes of a name in front, and what follows them.
-fn split_name(bytes: &[u8]) -> (&[u8], &[u8])
+pub fn split_name(bytes: &[u8]) -> (&[u8], &[u8])
     ensures name { result.0.now ≡ take_while is_name_byte bytes.now }
     ensures rest { result.1.now ≡ drop (length (take_while is_name_byte bytes.now)) bytes.now }
 {
@@ -71,7 +72,8 @@ fn is_name_letter(byte: u8) -> bool
     byte.is_ascii_alphanumeric() || byte == b'_'
 }
 
-fn is_name_long(name: &[u8]) -> bool
+/// Whether a name has as many bytes as one may have.
+pub fn is_name_long(name: &[u8]) -> bool
     ensures { result ≡ is_name name.now }
 {
     !name.is_empty() && name.len() <= MOST_NAME_BYTES

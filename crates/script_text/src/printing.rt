@@ -1,6 +1,6 @@
 // Each function writes behind what `out` holds. Where memory was wanting, nothing is said of `out`.
 
-ghost use Rattle.std.specs.Prelude.{◌≡◌, ◌++◌, ◌∷◌, IfOk, OnOk, length};
+ghost use Rattle.std.specs.Prelude.{◌≡◌, ◌++◌, ◌∷◌, IfOk, OnOk};
 ghost use Rattle.std.specs.List.{flat_map, join_with_byte};
 ghost use Rattle.script_text.specs.Output.{answer_text, branch_line, clash_text, merging_text, moment_text, order_line, reply_lines, reply_text, row_lines, session_lines, text};
 ghost use Rattle.hex.specs.Hex.{encode_lower};
@@ -111,8 +111,8 @@ pub fn push_clash(alloc: Global, out: &mut Vec<u8>, clash: &Clash) -> Result<(),
     ensures { OnOk result (out.new.items ≡ out.old.items ++ clash_text clash.now) }
 {
     push_address(out, &clash.address)?;
-    push_hex(alloc, out, clash.first.as_slice())?;
-    push_hex(alloc, out, clash.second.as_slice())
+    push_hex(alloc, out, b' ', clash.first.as_slice())?;
+    push_hex(alloc, out, b' ', clash.second.as_slice())
 }
 
 /// Writes a space and an address.
@@ -123,11 +123,11 @@ fn push_address(out: &mut Vec<u8>, address: &Address) -> Result<(), AllocError>
     out.extend_from_slice(&address.text())
 }
 
-/// Writes a space and bytes in hex.
-fn push_hex(alloc: Global, out: &mut Vec<u8>, bytes: &[u8]) -> Result<(), AllocError>
-    ensures { OnOk result (out.new.items ≡ out.old.items ++ 32 ∷ encode_lower bytes.now) }
+/// Writes a mark and bytes in hex.
+pub fn push_hex(alloc: Global, out: &mut Vec<u8>, mark: u8, bytes: &[u8]) -> Result<(), AllocError>
+    ensures { OnOk result (out.new.items ≡ out.old.items ++ mark ∷ encode_lower bytes.now) }
 {
-    out.push(b' ')?;
+    out.push(mark)?;
     let digits = hex::encode(alloc, bytes)?;
     out.extend_from_slice(digits.as_bytes())
 }

@@ -1,12 +1,14 @@
-ghost use Rattle.std.specs.Prelude.{◌≡◌, ◌≤◌, ◌<◌, ◌∷◌, ◌==◌, false, length, position, unwrap_or, IfErr, IfOk, IfSome, OnOk};
-ghost use Rattle.script_text.specs.Input.{add_line, add_statement, bad, is_one_too_many, lines_of, most_bytes, most_sessions, no_script, place_of, script, script_from, with_name, with_statement, without_return};
+ghost use Rattle.std.specs.Prelude.{◌≡◌, ◌≤◌, ◌<◌, ◌+◌, ◌∷◌, ◌==◌, false, length, position, unwrap_or, IfErr, IfOk, IfSome, OnOk};
+ghost use Rattle.std.specs.Option.{option_map_or};
+ghost use Rattle.script_text.specs.Input.{add_line, add_statement, bad, is_one_too_many, items_of, lines_of, most_bytes, most_sessions, no_script, ordered_by, ordered_from, place_of, script, script_from, with_name, with_statement, without_return};
 ghost use Rattle.script_text.specs.LineParts.{lent_parts};
 ghost use Rattle.script_text.specs.Reading.{Gives};
 ghost use Rattle.script_text.specs.declared.faults.ScriptFault.TheVariants.{Bad, Memory};
 
 use crate::faults::{BadScript, ScriptFault};
+use crate::ordering::read_items;
 use crate::parts::{LineParts, read_parts, says_nothing};
-use crate::scripts::{Line, Script};
+use crate::scripts::{Line, OrderItem, Script};
 use std::alloc::Global;
 use tuple_codec::{Sequence, Text, is_text};
 
@@ -18,18 +20,19 @@ const MOST_SESSIONS: usize = 64;
 
 const MOST_STATEMENTS: usize = 20_000;
 
-/// The script that bytes hold, or the first line that breaks a rule with the least rule that it breaks.
-///
-/// An order line is not read yet.
+/// The script that bytes hold, or the first line that breaks a rule with the least rule that it breaks. With an order, the first line that
+/// isn't skipped is an order line: `order`, and behind each space an item `name/number`.
 pub fn read_script(alloc: Global, bytes: &[u8], with_order: bool) -> Result<Script, ScriptFault>
-    requires { with_order ≡ false }
-    ensures { Gives result (script bytes.now) }
+    ensures { Gives result (script bytes.now with_order) }
 {
-    let _ = with_order;
     if bytes.len() > MOST_BYTES {
         return Err(broken(0, 1));
     }
-    read_lines(alloc, bytes)
+    if with_order {
+        read_ordered(alloc, bytes)
+    } else {
+        read_lines(alloc, bytes, 1, empty_script(alloc))
+    }
 }
 
 fn broken(line: u32, rule: u8) -> ScriptFault
@@ -38,12 +41,14 @@ fn broken(line: u32, rule: u8) -> ScriptFault
     ScriptFault::Bad(BadScript { line, rule })
 }
 
-fn read_lines(alloc: Global, bytes: &[u8]) -> Result<Script, ScriptFault>
-    requires { length bytes.now ≤ most_bytes }
-    ensures { Gives result (script_from 1 no_script (lines_of bytes.now)) }
+/// What a script says with the lines of bytes, of which the first has this number.
+fn read_lines(alloc: Global, bytes: &[u8], number: u32, said: Script) -> Result<Script, ScriptFault>
+    requires few { length said.names ≤ most_sessions }
+    requires count { number + length bytes.now ≤ most_bytes + 1 }
+    ensures { Gives result (script_from number said (lines_of bytes.now)) }
 {
-    let mut said = empty_script(alloc);
-    let mut number: u32 = 1;
+    let mut said = said;
+    let mut number = number;
     let mut rest = bytes;
     'lines: while !rest.is_empty() {
         let (line, more) = next_line(rest);
@@ -52,6 +57,48 @@ fn read_lines(alloc: Global, bytes: &[u8]) -> Result<Script, ScriptFault>
         rest = more;
     }
     Ok(said)
+}
+
+/// The script whose first line, those aside that are skipped, is an order line.
+fn read_ordered(alloc: Global, bytes: &[u8]) -> Result<Script, ScriptFault>
+    requires { length bytes.now ≤ most_bytes }
+    ensures { Gives result (ordered_from 1 (lines_of bytes.now)) }
+{
+    let mut number: u32 = 1;
+    let mut rest = bytes;
+    'lines: while !rest.is_empty() {
+        let (line, more) = next_line(rest);
+        if !is_text(line) {
+            return Err(broken(number, 2));
+        }
+        if !says_nothing(line) {
+            return read_behind(alloc, line, number, more);
+        }
+        number += 1;
+        rest = more;
+    }
+    Err(broken(number, 7))
+}
+
+/// The script that an order line of this number begins, and that goes on with the lines of `rest`.
+fn read_behind(alloc: Global, line: &[u8], number: u32, rest: &[u8]) -> Result<Script, ScriptFault>
+    requires { number + length rest.now ≤ most_bytes }
+    ensures { Gives result (option_map_or (λ items. script_from (number + 1) (ordered_by items) (lines_of rest.now)) (items_of line.now) (bad number 7)) }
+{
+    match read_items(alloc, line)? {
+        Some(items) => read_lines(alloc, rest, number + 1, ordered_script(alloc, items)),
+        None => Err(broken(number, 7)),
+    }
+}
+
+fn ordered_script(alloc: Global, items: Sequence<OrderItem>) -> Script
+    ensures { result ≡ ordered_by items }
+{
+    Script {
+        names: Sequence::new(alloc),
+        lines: Sequence::new(alloc),
+        order: Some(items),
+    }
 }
 
 fn empty_script(alloc: Global) -> Script

@@ -1,5 +1,5 @@
 -- The heads and the record of a branch once a decision is settled.
-use Rattle.std.proofs.Common.{◌≡◌, refl, ◌∙◌, sym, ap, ℕ, Bool, true, false, ◌≤◌, ◌&&◌, List, [], ◌∷◌, ◌++◌, map, drop, length, find, Some, None, Option, option_map, if◌then◌else◌}
+use Rattle.std.proofs.Common.{◌≡◌, refl, ◌∙◌, sym, ap, ℕ, Bool, true, false, ◌≤◌, ◌&&◌, List, [], ◌∷◌, ◌++◌, map, drop, length, find, Some, Option, option_map, if◌then◌else◌}
 use Rattle.std.specs.Prelude.{bytes_eq}
 use Rattle.std.specs.Ordering.{nat_cmp, is_lt}
 use Rattle.std.specs.Cmp.Lexicographic.{slice_cmp}

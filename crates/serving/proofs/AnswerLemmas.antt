@@ -1,6 +1,5 @@
 -- What each kind of statement comes to.
-use Rattle.std.proofs.Common.{◌≡◌, refl, ◌∙◌, sym, ap, subst, ℕ, ◌+◌, ℤ, Bool, true, false, List, [], ◌∷◌, ◌++◌, Option, Some, None, Ok, Err, slice_get, if◌then◌else◌}
-use Rattle.std.proofs.lemmas.List.{append-nil}
+use Rattle.std.proofs.Common.{◌≡◌, refl, ◌∙◌, sym, ap, subst, ℕ, ℤ, Bool, true, false, List, Option, Some, None, Ok, Err, slice_get, if◌then◌else◌}
 use Rattle.chunk_store.specs.Chunks.{Chunk, Lists}
 use Rattle.chunk_store.specs.declared.faults.PutFault.{PutFault}
 use Rattle.chunk_store.specs.declared.faults.PutFault.TheVariants.{Memory, Collision}
@@ -9,28 +8,28 @@ use Rattle.script_text.specs.Collisions.{IsFault, TellsTruly}
 use Rattle.script_text.specs.Output.{Shortage, shortage}
 use Rattle.script_text.specs.declared.replies.Reply.{Reply}
 use Rattle.script_text.specs.declared.replies.Reply.TheVariants as print
-use Rattle.plain_sessions.specs.Moments.{Past, Still, alone_by, decided, moment_of, past, takes_start}
+use Rattle.plain_sessions.specs.Moments.{Past, alone_by, decided, moment_of, past, takes_start}
 use Rattle.plain_sessions.specs.Records.{BranchState, Shared}
 use Rattle.plain_sessions.specs.Replies.{done, is_refusal}
 use Rattle.plain_sessions.specs.Sessions as plain
-use Rattle.plain_sessions.specs.Sessions.{Before, Between, Transaction, is_changed, is_changed_since, over, taken, with_own, within}
+use Rattle.plain_sessions.specs.Sessions.{Before, Between, Transaction, is_changed, over, taken, with_own, within}
 use Rattle.plain_sessions.specs.declared.commands.Command.{Command}
 use Rattle.plain_sessions.specs.declared.commands.Command.TheVariants as command
 use Rattle.plain_sessions.specs.declared.commands.Work.{Work}
-use Rattle.run_laws.specs.Turns.{InOneTurn, moments_of}
-use Rattle.session_laws.specs.Changes.{Parts, StateStands}
+use Rattle.run_laws.specs.Turns.{InOneTurn}
+use Rattle.session_laws.specs.Changes.{Parts}
 use Rattle.session_state.specs.Standing.{IsAt, SessionStands}
 use Rattle.session_state.specs.declared.sessions.Place.{Place}
 use Rattle.session_state.specs.declared.sessions.Place.TheVariants as place
 use Rattle.session_state.specs.declared.sessions.Session.{Session}
-use Rattle.session_txn.specs.Answering.{AnswersAlone}
 use Rattle.shared_db.specs.Shared.{noted}
-use Rattle.serving.specs.Serving.{IsBefore, Serves}
-use Rattle.serving.specs.Steps.{Answered, ComesTo, Decided, IsStillAt, after_start, fault_reply, number_at}
-use Rattle.serving.proofs.AloneLemmas.{alone_before, still_alone}
-use Rattle.serving.proofs.MomentLemmas.{begun_at, decided_as, in_one_turn, in_two_turns, turn_at, verdict_said}
+use Rattle.serving.specs.Answering.{Answered}
+use Rattle.serving.specs.Branching.{Went}
+use Rattle.serving.specs.Serving.{IsBefore, turn_at}
+use Rattle.serving.specs.Steps.{ComesTo, Decided, IsStillAt, after_start, fault_reply, number_at}
+use Rattle.serving.proofs.MomentLemmas.{begun_at, decided_as, in_one_turn, verdict_said}
 use Rattle.serving.proofs.StateLemmas.{stands_noted}
-use Rattle.serving.proofs.WorkLemmas.{Came, Kept, came, is_decided, is_over, kept_after, never_answered, refused_after, stays_open, waits_for_start}
+use Rattle.serving.proofs.WorkLemmas.{Came, kept_after, never_answered, refused_after, stays_open, waits_for_start}
 
 pub same_number : (at : Place) (statement : ℕ) (there : plain.Place) → IsAt at statement there → number_at at ≡ statement
 same_number (place.Before number) statement there is = is.0
@@ -70,61 +69,22 @@ module _ {D : Type 0} (address : List ℕ → List ℕ) (epoch : ℤ) (old sessi
   still_later : session.draft.chunks.base ≡ old.draft.chunks.base → (new : List Chunk) → Lists parts.chunks new → Lists session.draft.chunks.base new
   still_later base new grown = λ k bytes listed. grown k bytes (before.later k bytes (subst (λ (cs : List Chunk). Lists cs old.draft.chunks.base) (sym base) (λ j b l. l) k bytes listed))
 
-  pub alone_answered : (asked : Command) (reply : Reply) → AnswersAlone address p asked session reply → session.draft.chunks.base ≡ old.draft.chunks.base
-      → Answered address epoch p asked shared parts parts session reply
-  alone_answered asked reply alone base = record {
-    said = alone.after;
-    last = shared;
-    turns = [];
-    is = alone_before (shortage reply) p asked (alone.after, reply) before.before alone.is;
-    follows = refl;
-    session_stands = alone.stands;
-    still = still_alone (shortage reply) p asked alone.after reply alone.is;
-    state_stands = before.state_stands;
-    places = refl;
-    later = still_later base parts.chunks (λ k bytes listed. listed);
-    grown = λ k bytes listed. listed;
-    moments = sym (append-nil parts.moments);
-    numbers = refl;
+  -- it stays on its branch
+  pub went_of : (asked : Command) (new : Parts) (reply : Reply) → Answered address epoch p asked shared parts new session reply → Went address epoch p asked shared parts new session reply
+  went_of asked new reply a = record {
+    said = a.said;
+    last = a.last;
+    is = a.is;
+    session_stands = a.session_stands;
+    number = a.still.number;
+    state_stands = a.state_stands;
+    placed = ap (λ (places : List (List ℕ)). slice_get places p.number) a.places ∙ before.placed ∙ ap Some (sym a.still.branch);
+    others = λ place apart. ap (λ (places : List (List ℕ)). slice_get places place) a.places;
+    later = a.later;
+    grown = a.grown;
+    moments = a.moments;
+    numbers = a.numbers;
   }
-
-  -- the session goes on to its next statement
-  pub serves : (asked : Command) (new : Parts) (reply : Reply) → Answered address epoch p asked shared parts new session reply
-      → Serves address epoch p asked shared parts new (record session { position = place.Before (number_at old.position + 1) }) reply
-  serves asked new reply a =
-      let after = (past p.statement (a.said, reply)).0 in
-      let stands : SessionStands address (record session { position = place.Before (number_at old.position + 1) }) after = record {
-        name = a.session_stands.name;
-        number = a.session_stands.number;
-        branch = a.session_stands.branch;
-        autocommit = a.session_stands.autocommit;
-        allow = a.session_stands.allow;
-        force = a.session_stands.force;
-        position = (ap (λ n. n + 1) (same_number old.position p.statement p.place before.session_stands.position), refl);
-        transaction = a.session_stands.transaction;
-        named = a.session_stands.named;
-        plain_own = a.session_stands.plain_own;
-        committer = a.session_stands.committer;
-      } in
-      record {
-        after = after;
-        last = a.last;
-        turns = a.turns;
-        is = a.is;
-        follows = a.follows;
-        next = record {
-          session_stands = stands;
-          before = refl;
-          state_stands = a.state_stands;
-          placed = ap (λ (places : List (List ℕ)). slice_get places a.said.number) a.places ∙ ap (slice_get shared.places) a.still.number ∙ before.placed ∙ ap Some (sym a.still.branch);
-          later = a.later;
-        };
-        moments = a.moments;
-        numbers = a.numbers;
-        number = a.still.number;
-        others = λ place apart. ap (λ (places : List (List ℕ)). slice_get places place) a.places;
-        grown = a.grown;
-      }
 
   -- a decision is the statement's one moment
   pub decided_answered : (asked : Command) (next : plain.Session) (t : Transaction) (new : Parts) (reply : Reply) → p.transaction ≡ Some t → (d : Decided address p t shared parts new reply)
@@ -137,11 +97,9 @@ module _ {D : Type 0} (address : List ℕ → List ℕ) (epoch : ℤ) (old sessi
       record {
         said = said;
         last = d.last;
-        turns = turn_at p shared d.last ∷ [];
         is = subst (λ (answer : Option Shortage). InOneTurn address epoch answer p asked (turn_at p shared d.last) (past p.statement (said, reply))) (sym short)
             (in_one_turn address epoch None shared d.last p asked (said, reply) before.before waits
             (moment ∙ made ∙ ap (λ (s : plain.Said). Some (d.last, Past s)) says));
-        follows = (refl, refl);
         session_stands = stands;
         still = still;
         state_stands = d.state_stands;
@@ -169,9 +127,7 @@ module _ {D : Type 0} (address : List ℕ → List ℕ) (epoch : ℤ) (old sessi
   started_answered asked said reply is stands still later = record {
     said = said;
     last = shared;
-    turns = turn_at p shared shared ∷ [];
     is = is;
-    follows = (refl, refl);
     session_stands = stands;
     still = still;
     state_stands = stands_noted address p.number p.statement parts shared before.state_stands;
@@ -213,19 +169,6 @@ module _ {D : Type 0} (address : List ℕ → List ℕ) (epoch : ℤ) (old sessi
         let now = within p (with_own kept.own t) in
         started_answered (command.Data asked) now reply (well_started now kept.short (stays_open address epoch shared p t asked after reply none is kept off))
         (subst (λ (q : plain.Session). SessionStands address session q) kept.after_is stands) (record { number = refl; branch = refl }) later
-
-  -- ---- what the code's steps hand over
-
-  pub faulted_answered : (fault : PutFault) (asked : Command) → takes_start p asked ≡ false → SessionStands address session p → session.draft.chunks.base ≡ old.draft.chunks.base
-      → Answered address epoch p asked shared parts parts session (fault_reply fault)
-  faulted_answered fault asked starts stands base =
-      alone_answered asked (fault_reply fault) (record { after = p; is = short_alone fault p asked starts; stands = stands }) base
-
-  pub faulted_as : (fault : PutFault) (asked : Command) (new : Parts) (reply : Reply) → takes_start p asked ≡ false → SessionStands address session p
-      → session.draft.chunks.base ≡ old.draft.chunks.base → new ≡ parts → reply ≡ fault_reply fault → Answered address epoch p asked shared parts new session reply
-  faulted_as fault asked new reply starts stands base same is =
-      subst (λ (q : Parts). Answered address epoch p asked shared parts q session reply) (sym same)
-      (subst (λ (r : Reply). Answered address epoch p asked shared parts parts session r) (sym is) (faulted_answered fault asked starts stands base))
 
 pub decided_truly : (address : List ℕ → List ℕ) (p : plain.Session) (t : Transaction) (shared : Shared) (old new : Parts) (reply : Reply) → Decided address p t shared old new reply → TellsTruly address reply
 decided_truly address p t shared old new reply d = by d.verdict d.comes where

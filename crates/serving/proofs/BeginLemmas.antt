@@ -1,21 +1,23 @@
 -- BEGIN where it decides on a transaction that changed something.
-use Rattle.std.proofs.Common.{◌≡◌, refl, ◌∙◌, sym, ap, subst, ◌⊎◌, inl, inr, ℕ, ℤ, true, List, [], ◌∷◌, map, Option, Some, None, Ok, Err}
+use Rattle.std.proofs.Common.{◌≡◌, refl, ◌∙◌, sym, ap, subst, ◌⊎◌, inl, inr, ℕ, ℤ, Bool, true, false, List, map, Option, Some, None, Ok, Err, IfOk}
+use Rattle.std.specs.Prelude.{Result}
 use Rattle.std.specs.Arc.{arc_value}
 use Rattle.std.specs.Option.{option_map, option_map_or}
 use Rattle.std.proofs.lemmas.Option.{same_Some}
 use Rattle.tuple_codec.specs.declared.records.BranchRecord.{BranchRecord}
 use Rattle.chunk_store.specs.Chunks.{Chunk, IsSingle, Listed, Lists}
 use Rattle.chunk_store.specs.Stores.{IsUnion, all_chunks}
+use Rattle.chunk_store.specs.declared.faults.PutFault.{PutFault}
 use Rattle.expr_eval.specs.Binding.{Outcome, and_then}
 use Rattle.script_text.specs.Output.{Shortage, shortage}
 use Rattle.script_text.specs.declared.replies.Reply.{Reply}
 use Rattle.table_root.specs.declared.heads.Look.{Look}
 use Rattle.plain_sessions.specs.CommitRule.{decide}
-use Rattle.plain_sessions.specs.Moments.{Past, past, ruled, without_commit}
+use Rattle.plain_sessions.specs.Moments.{past, without_commit}
 use Rattle.plain_sessions.specs.Records.{BranchState, Shared, state_of}
 use Rattle.plain_sessions.specs.Replies.{done, refused}
 use Rattle.plain_sessions.specs.Sessions as plain
-use Rattle.plain_sessions.specs.Sessions.{Said, Transaction, is_changed, over, taken, within}
+use Rattle.plain_sessions.specs.Sessions.{Transaction, is_changed, is_changed_since, over, taken, within}
 use Rattle.plain_sessions.specs.declared.commands.Command.TheVariants as command
 use Rattle.run_laws.specs.Turns.{InOneTurn}
 use Rattle.session_laws.specs.Changes.{Parts, StateStands}
@@ -24,20 +26,21 @@ use Rattle.session_laws.specs.Transactions.{IsLookOf}
 use Rattle.session_state.specs.Standing.{SessionStands}
 use Rattle.session_state.specs.declared.sessions.Session.{Session}
 use Rattle.session_txn.specs.Answering.{Decides}
-use Rattle.shared_db.specs.Plans.{PlanIs, brought}
+use Rattle.shared_db.specs.Plans.{PlanIs}
 use Rattle.shared_db.specs.Shared.{AreWith, IsSettled, changed_lines, record_at}
 use Rattle.shared_db.specs.declared.changes.Change.TheVariants.{Nothing, Record}
 use Rattle.shared_db.specs.declared.changes.Change.{Change}
 use Rattle.shared_db.specs.declared.changes.Plan.{Plan}
 use Rattle.serving.specs.Ahead.{with_head}
-use Rattle.serving.specs.Serving.{IsBefore}
-use Rattle.serving.specs.Steps.{Answered, ComesTo, Decided, IsStillAt, number_at}
+use Rattle.serving.specs.Answering.{Answered}
+use Rattle.serving.specs.Serving.{IsBefore, turn_at}
+use Rattle.serving.specs.Steps.{ComesTo, Decided, IsStillAt, number_at}
 use Rattle.serving.proofs.AheadLemmas.{heads_ahead, record_ahead}
 use Rattle.serving.proofs.AnswerLemmas.{comes_places, comes_short, over_stands, same_number}
 use Rattle.serving.proofs.DecisionLemmas.{sealed_in, settled_as, union_with}
 use Rattle.serving.proofs.LookLemmas.{Looks, Planned, decides, there_again}
-use Rattle.serving.proofs.MomentLemmas.{BegunAfter, begun_anew, in_one_turn, turn_at}
-use Rattle.serving.proofs.StateLemmas.{looks_at}
+use Rattle.serving.proofs.MomentLemmas.{BegunAfter, begun_anew, in_one_turn}
+use Rattle.serving.proofs.StateLemmas.{here_before, looks_at}
 
 module _ {D : Type 0} (address : List ℕ → List ℕ) (epoch : ℤ) (session : Session D) (parts new : Parts) (p : plain.Session) (t : Transaction) (shared : Shared) (reply : Reply) where
   -- the decision and the start are the statement's one moment
@@ -49,11 +52,9 @@ module _ {D : Type 0} (address : List ℕ → List ℕ) (epoch : ℤ) (session :
       record {
         said = said;
         last = d.last;
-        turns = turn_at p shared d.last ∷ [];
         is = subst (λ (answer : Option Shortage). InOneTurn address epoch answer p command.Begin (turn_at p shared d.last) (past p.statement (said, reply))) (sym short)
             (in_one_turn address epoch None shared d.last p command.Begin (said, reply) before refl
             (begun_anew address epoch shared d.last p t d.present reply d.verdict (said, reply) changed transaction d.there d.is d.comes after));
-        follows = (refl, refl);
         session_stands = stands;
         still = still;
         state_stands = d.state_stands;
@@ -91,7 +92,7 @@ module _ {D : Type 0} (follow : StatesFollow) (address : List ℕ → List ℕ) 
       subst (λ (r : Reply). Answered address epoch p command.Begin shared parts new (record old { start = None }) r) (sym said)
       (by (decide t.start way.0 t.own p.variables) refl (planned p t shared way.0 way.1)) where
         way : (present : BranchState) × Decides address old look p t shared present
-        way = decides follow address old parts look looks p t shared before transaction
+        way = decides follow address old parts look looks p t shared (here_before address old parts p shared before) transaction
 
         by : (verdict : Outcome BranchState) → decide t.start way.0 t.own p.variables ≡ verdict
             → PlanIs address look shared.commits plan (and_then verdict (λ state. Ok (without_commit done state))) → Answered address epoch p command.Begin shared parts new (record old { start = None }) plan.reply
@@ -135,7 +136,7 @@ module _ {D : Type 0} (follow : StatesFollow) (address : List ℕ → List ℕ) 
   well rec change_is next ahead p t shared before transaction =
       by (decide t.start way.0 t.own p.variables) refl (planned p t shared way.0 way.1) where
         way : (present : BranchState) × Decides address old look p t shared present
-        way = decides follow address old parts look looks p t shared before transaction
+        way = decides follow address old parts look looks p t shared (here_before address old parts p shared before) transaction
 
         lines : new.branches ≡ with_record look.branch rec parts.branches
         lines = settled.branches ∙ ap (λ (c : Change). changed_lines look.branch c parts.branches) change_is
@@ -192,3 +193,30 @@ module _ {D : Type 0} (follow : StatesFollow) (address : List ℕ → List ℕ) 
       subst (λ (r : Reply). Answered address epoch p command.Begin shared parts new session r) (sym said)
       (anew_answered address epoch session parts new p t shared plan.reply before.before transaction changed d (within p begun.0) after begun.2 (record { number = refl; branch = refl })
       (subst (λ (cs : List Chunk). Lists cs new.chunks) (sym base) (same_chunks (all_chunks next.store) new.chunks ahead.chunks settled.chunks)))
+
+-- what has changed is open
+pub changed_open : (p : plain.Session) → is_changed p ≡ true → (t : Transaction) × (p.transaction ≡ Some t)
+changed_open p changed = by p.transaction changed where
+  by : (o : Option Transaction) → option_map_or is_changed_since o false ≡ true → (t : Transaction) × (o ≡ Some t)
+  by None is = absurd (cc)
+  by (Some t) is = (t, refl)
+
+module _ {D : Type 0} (address : List ℕ → List ℕ) (old session : Session D) (parts new : Parts) (changed : Bool) (tells : (p : plain.Session) → SessionStands address old p → changed ≡ is_changed p) where
+  -- BEGIN where something has changed
+  pub anew_begun : changed ≡ true → (result : Result Reply PutFault)
+      → IfOk result (λ reply. (epoch : ℤ) (p : plain.Session) (t : Transaction) (shared : Shared) → IsBefore address old parts p shared → p.transaction ≡ Some t → is_changed p ≡ true
+      → Answered address epoch p command.Begin shared parts new session reply)
+      → IfOk result (λ reply. (epoch : ℤ) (p : plain.Session) (shared : Shared) → IsBefore address old parts p shared → Answered address epoch p command.Begin shared parts new session reply)
+  anew_begun is (Ok reply) answered = λ epoch p shared before.
+      let more : is_changed p ≡ true = sym (tells p before.session_stands) ∙ is in
+      let held = changed_open p more in
+      answered epoch p held.0 shared before held.1 more
+  anew_begun is (Err fault) answered = tt
+
+  -- and where nothing has
+  pub unchanged_begun : changed ≡ false → (result : Result Reply PutFault)
+      → IfOk result (λ reply. (epoch : ℤ) (p : plain.Session) (shared : Shared) → IsBefore address old parts p shared → is_changed p ≡ false
+      → Answered address epoch p command.Begin shared parts new session reply)
+      → IfOk result (λ reply. (epoch : ℤ) (p : plain.Session) (shared : Shared) → IsBefore address old parts p shared → Answered address epoch p command.Begin shared parts new session reply)
+  unchanged_begun is (Ok reply) answered = λ epoch p shared before. answered epoch p shared before (sym (tells p before.session_stands) ∙ is)
+  unchanged_begun is (Err fault) answered = tt

@@ -1,6 +1,5 @@
 -- Steps on the list of branches, from the shared database's step to the machine's moment.
 use Rattle.std.proofs.Common.{◌≡◌, ◌≢◌, refl, ◌∙◌, sym, ap, subst, ℕ, ◌+◌, ℤ, Bool, true, false, List, [], ◌∷◌, ◌++◌, Option, Some, None, Ok, Err, set, slice_get, if◌then◌else◌}
-use Rattle.std.proofs.lemmas.List.{append-nil}
 use Rattle.std.proofs.lemmas.Option.{same_Some}
 use Rattle.chunk_store.specs.Chunks.{Chunk, Lists}
 use Rattle.expr_eval.specs.Binding.{Outcome}
@@ -28,16 +27,15 @@ use Rattle.session_state.specs.Standing.{SessionStands}
 use Rattle.session_state.specs.declared.sessions.Place.TheVariants as place
 use Rattle.session_state.specs.declared.sessions.Session.{Session}
 use Rattle.session_txn.specs.Showing.{is_sound_reply}
-use Rattle.shared_db.specs.Stepping.{Ends, IsPlaced, IsPlainStep, IsStepped, StepsFollow, number_of, places_after, plain_step, step_of_branch, step_of_checkout}
+use Rattle.shared_db.specs.Stepping.{Ends, IsPlainStep, IsStepped, StepsFollow, number_of, places_after, plain_step, step_of_branch, step_of_checkout}
 use Rattle.shared_db.specs.declared.changes.BranchReply.{BranchReply}
 use Rattle.shared_db.specs.declared.changes.BranchReply.TheVariants as ended
 use Rattle.shared_db.specs.declared.changes.BranchStep.{BranchStep}
 use Rattle.serving.specs.Branching.{Went, step_reply}
-use Rattle.serving.specs.Serving.{IsBefore, Serves}
+use Rattle.serving.specs.Serving.{IsBefore, MeetsOnce, turn_at}
 use Rattle.serving.specs.Steps.{number_at}
-use Rattle.serving.proofs.AloneLemmas.{alone_before}
 use Rattle.serving.proofs.AnswerLemmas.{same_number}
-use Rattle.serving.proofs.MomentLemmas.{in_one_turn, turn_at}
+use Rattle.serving.proofs.MomentLemmas.{in_one_turn}
 use Rattle.serving.proofs.StateLemmas.{stands_noted}
 
 -- ---- what is answered
@@ -103,9 +101,7 @@ module _ {D : Type 0} (address : List ℕ → List ℕ) (epoch : ℤ) (old sessi
           record {
             said = next;
             last = left;
-            turns = turn_at p shared left ∷ [];
             is = answered_so left (next, good) (ap (step_reply row) so ∙ follows.row_is) (ap (λ (a : BranchReply). shortage (step_reply row a)) so) moment;
-            follows = (refl, refl);
             session_stands = follows.done so;
             number = follows.number_is;
             state_stands = stands;
@@ -125,9 +121,7 @@ module _ {D : Type 0} (address : List ℕ → List ℕ) (epoch : ℤ) (old sessi
           record {
             said = p;
             last = shared;
-            turns = turn_at p shared shared ∷ [];
             is = answered_so shared (p, refused n) refusal.reply refusal.short moment;
-            follows = (refl, refl);
             session_stands = subst (λ (s : Session D). SessionStands address s p) (sym (follows.same refusal.not_done)) before.session_stands;
             number = refl;
             state_stands = subst (λ (q : Parts). StateStands address q shared) (sym (steps.same refusal.not_done)) (stands_noted address old.number number parts shared before.state_stands);
@@ -147,28 +141,6 @@ module _ {D : Type 0} (address : List ℕ → List ℕ) (epoch : ℤ) (old sessi
           by : (outcome : Outcome Shared) → plain_step shared p taken ≡ outcome → Ends address outcome answer new → Went address epoch p asked shared parts new session (step_reply row answer)
           by (Ok left) is ends = went_on left (moment ∙ ap (λ (o : Outcome Shared). Some (stepped shared p (next, good) o)) is) ends.0 ends.1
           by (Err n) is ends = stayed n (moment ∙ ap (λ (o : Outcome Shared). Some (stepped shared p (next, good) o)) is) ends
-
--- ---- without a step
-
-module _ {D : Type 0} (address : List ℕ → List ℕ) (epoch : ℤ) (session : Session D) (parts : Parts) (p : plain.Session) (shared : Shared) (before : IsBefore address session parts p shared) where
-  -- the session answers by itself, and stays where it is
-  pub went_nowhere : (asked : Command) (reply : Reply) → alone_by (shortage reply) p asked ≡ Some (p, reply) → Went address epoch p asked shared parts parts session reply
-  went_nowhere asked reply is = record {
-    said = p;
-    last = shared;
-    turns = [];
-    is = alone_before (shortage reply) p asked (p, reply) before.before is;
-    follows = refl;
-    session_stands = before.session_stands;
-    number = refl;
-    state_stands = before.state_stands;
-    placed = before.placed;
-    others = λ at other. refl;
-    later = before.later;
-    grown = λ k bytes listed. listed;
-    moments = sym (append-nil parts.moments);
-    numbers = refl;
-  }
 
 -- ---- what is asked of the step
 
@@ -273,41 +245,41 @@ module _ {D : Type 0} (follow : StepsFollow) (address : List ℕ → List ℕ) (
 
 -- ---- to the next statement
 
+-- before its next statement the session stands on the branch that it is on then
+pub next_stands : {D : Type 0} (address : List ℕ → List ℕ) (session : Session D) (number : ℕ) (new : Parts) (said : plain.Session) (reply : Reply) (p : plain.Session) (last : Shared)
+    → number ≡ p.statement → SessionStands address session said → StateStands address new last → slice_get last.places said.number ≡ Some said.branch → Lists session.draft.chunks.base new.chunks
+    → IsBefore address (record session { position = place.Before (number + 1) }) new (past p.statement (said, reply)).0 last
+next_stands address session number new said reply p last statement stands state placed later = record {
+  session_stands = record {
+    name = stands.name;
+    number = stands.number;
+    branch = stands.branch;
+    autocommit = stands.autocommit;
+    allow = stands.allow;
+    force = stands.force;
+    position = (ap (λ n. n + 1) statement, refl);
+    transaction = stands.transaction;
+    named = stands.named;
+    plain_own = stands.plain_own;
+    committer = stands.committer;
+  };
+  before = refl;
+  state_stands = state;
+  placed = placed;
+  later = later;
+}
+
 pub gone_on : {D : Type 0} (address : List ℕ → List ℕ) (epoch : ℤ) (old session gone : Session D) (number : ℕ) (parts new : Parts) (asked : Command) (reply : Reply)
     → number ≡ number_at old.position → gone ≡ record session { position = place.Before (number + 1) } → (p : plain.Session) (shared : Shared) → IsBefore address old parts p shared
-    → Went address epoch p asked shared parts new session reply → Serves address epoch p asked shared parts new gone reply
+    → Went address epoch p asked shared parts new session reply → MeetsOnce address epoch p asked shared parts new gone reply
 gone_on {D = D} address epoch old session gone number parts new asked reply counted is p shared before w =
-    let after = (past p.statement (w.said, reply)).0 in
     let statement : number ≡ p.statement = counted ∙ same_number old.position p.statement p.place before.session_stands.position in
-    let stands : SessionStands address (record session { position = place.Before (number + 1) }) after = record {
-      name = w.session_stands.name;
-      number = w.session_stands.number;
-      branch = w.session_stands.branch;
-      autocommit = w.session_stands.autocommit;
-      allow = w.session_stands.allow;
-      force = w.session_stands.force;
-      position = (ap (λ n. n + 1) statement, refl);
-      transaction = w.session_stands.transaction;
-      named = w.session_stands.named;
-      plain_own = w.session_stands.plain_own;
-      committer = w.session_stands.committer;
-    } in
-    subst (λ (s : Session D). Serves address epoch p asked shared parts new s reply) (sym is) (record {
-      after = after;
-      last = w.last;
-      turns = w.turns;
+    let placed : slice_get w.last.places w.said.number ≡ Some w.said.branch = ap (slice_get w.last.places) w.number ∙ w.placed in
+    subst (λ (s : Session D). MeetsOnce address epoch p asked shared parts new s reply) (sym is) (record {
+      after = (past p.statement (w.said, reply)).0;
+      left = w.last;
       is = w.is;
-      follows = w.follows;
-      next = record {
-        session_stands = stands;
-        before = refl;
-        state_stands = w.state_stands;
-        placed = subst (λ (n : ℕ). slice_get w.last.places n ≡ Some w.said.branch) (sym w.number) w.placed;
-        later = w.later;
-      };
-      moments = w.moments;
-      numbers = w.numbers;
+      next = next_stands address session number new w.said reply p w.last statement w.session_stands w.state_stands placed w.later;
       number = w.number;
-      others = w.others;
-      grown = w.grown;
+      passes = record { moments = w.moments; numbers = w.numbers; others = w.others; grown = w.grown };
     })

@@ -1,9 +1,8 @@
 -- Calls that may have a decision of their own: from what the code's steps hand over to what the statement is served with.
-use Rattle.std.proofs.Common.{◌≡◌, refl, ◌∙◌, sym, ap, subst, ◌⊎◌, inl, inr, ℕ, ◌+◌, ℤ, Bool, true, false, List, [], ◌∷◌, ◌++◌, Option, Some, None, Ok, Err, IfOk, IfErr, OnOk, is_some, not, option_map, slice_get, if◌then◌else◌}
+use Rattle.std.proofs.Common.{◌≡◌, refl, ◌∙◌, sym, ap, subst, inl, inr, ℕ, ℤ, Bool, true, false, List, [], ◌∷◌, Option, Some, None, Ok, Err, IfOk, IfErr, OnOk, is_some, not, option_map, slice_get, if◌then◌else◌}
 use Rattle.std.specs.Prelude.{Result}
 use Rattle.std.specs.Arc.{arc_value}
 use Rattle.std.specs.Option.{option_and_then, option_map_or}
-use Rattle.std.proofs.lemmas.List.{append_assoc}
 use Rattle.chunk_store.specs.Chunks.{AreNamed, Chunk, IsSingle, Lists, bytes_at}
 use Rattle.chunk_store.specs.Clashes.{IsCause}
 use Rattle.chunk_store.specs.Drafts.{DraftParts, IsNamed}
@@ -18,7 +17,6 @@ use Rattle.script_text.specs.Collisions.{IsFault, TellsTruly}
 use Rattle.script_text.specs.Output.{Shortage, shortage}
 use Rattle.script_text.specs.declared.replies.Reply.{Reply}
 use Rattle.script_text.specs.declared.replies.Reply.TheVariants as print
-use Rattle.script_text.specs.declared.scripts.Moment.{Moment}
 use Rattle.sql_procedures.specs.declared.requests.CommitRequest.{CommitRequest}
 use Rattle.sql_procedures.specs.declared.requests.MergeRequest.{MergeRequest}
 use Rattle.table_root.specs.declared.heads.Look.{Look}
@@ -26,7 +24,7 @@ use Rattle.plain_sessions.specs.Branching.{to_commit}
 use Rattle.plain_sessions.specs.CommitRule.{decide}
 use Rattle.plain_sessions.specs.Merging.{Worked, Answers, Closes, Ending, Committing, Forwarding, Joining}
 use Rattle.plain_sessions.specs.Moments as machine
-use Rattle.plain_sessions.specs.Moments.{Past, Still, alone_by, closed, commit_of, committed_as, decided_closing, forwarded, if_answered, if_closing, is_in_transaction, merged_as, moment_in, moment_of, past, settled, start_of, takes_start, unless_moved, with_change}
+use Rattle.plain_sessions.specs.Moments.{Past, alone_by, closed, commit_of, committed_as, decided_closing, forwarded, if_answered, if_closing, is_in_transaction, merged_as, moment_in, moment_of, past, settled, start_of, unless_moved, with_change}
 use Rattle.plain_sessions.specs.Records.{BranchState, Shared, commit_on, is_same_state, state_of}
 use Rattle.plain_sessions.specs.Replies.{is_refusal, refused}
 use Rattle.plain_sessions.specs.Runs.{awaiting}
@@ -37,14 +35,14 @@ use Rattle.plain_sessions.specs.declared.commands.Command.{Command}
 use Rattle.plain_sessions.specs.declared.commands.Command.TheVariants.{Data}
 use Rattle.plain_sessions.specs.declared.commands.Work.{Work}
 use Rattle.plain_sessions.specs.declared.commands.Work.TheVariants as work
-use Rattle.run_laws.specs.Turns.{InOneTurn, InTwoTurns}
+use Rattle.run_laws.specs.Turns.{InOneTurn}
 use Rattle.session_laws.specs.Changes.{Parts, StateStands}
 use Rattle.session_laws.specs.Commits.{HasNoCommit}
 use Rattle.session_laws.specs.Laws.{StatesFollow, with_record}
 use Rattle.session_laws.specs.Transactions.{IsLookOf, StartStands}
 use Rattle.session_state.specs.Standing.{SessionStands}
 use Rattle.session_state.specs.declared.sessions.Session.{Session}
-use Rattle.session_txn.specs.Answering.{AnswersAlone, Decides}
+use Rattle.session_txn.specs.Answering.{Decides}
 use Rattle.session_txn.specs.Showing.{IsDue, is_sound_reply}
 use Rattle.session_txn.proofs.ShowLemmas.{plain_told}
 use Rattle.branch_procs.specs.Closing.{IsVerdict}
@@ -53,20 +51,22 @@ use Rattle.shared_db.specs.Plans.{PlanIs, brought}
 use Rattle.shared_db.specs.Shared.{AreWith, IsSettled, changed_lines, noted}
 use Rattle.shared_db.specs.declared.changes.Change.{Change}
 use Rattle.shared_db.specs.declared.changes.Plan.{Plan}
+use Rattle.serving.specs.Answering.{Concluded, HasMet, HasStartedTo}
 use Rattle.serving.specs.Branching.{Went}
 use Rattle.serving.specs.Closing.{ClosedAs, LeavesAs}
-use Rattle.serving.specs.Serving.{IsBefore}
+use Rattle.serving.specs.Kinds.{may_close}
+use Rattle.serving.specs.Serving.{Fails, IsBefore, IsBetween, IsHere, turn_at}
 use Rattle.serving.specs.Starting.{HasStarted}
-use Rattle.serving.specs.Steps.{Answered, after_start, fault_reply, number_at}
-use Rattle.serving.proofs.AnswerLemmas.{alone_answered, over_stands, same_number, short_alone, started_answered}
-use Rattle.serving.proofs.BranchLemmas.{went_nowhere}
+use Rattle.serving.specs.Steps.{after_start, fault_reply, number_at}
+use Rattle.serving.specs.declared.meeting.Met.{Met}
+use Rattle.serving.specs.declared.meeting.Pending.TheVariants as pending
+use Rattle.serving.proofs.AnswerLemmas.{over_stands, same_number, short_alone, started_answered, went_of}
 use Rattle.serving.proofs.DecisionLemmas.{brought_is, stands_still, union_with}
 use Rattle.serving.proofs.LookLemmas.{Looks, decides}
-use Rattle.serving.proofs.MomentLemmas.{both_at, in_one_turn, in_two_turns, turn_at}
+use Rattle.serving.proofs.MomentLemmas.{both_at, in_one_turn}
 use Rattle.serving.proofs.RuleLemmas.{refused_plainly}
 use Rattle.serving.proofs.StartLemmas.{fault_came, fault_refused, over_same}
-use Rattle.serving.proofs.StateLemmas.{stands_noted}
-use Rattle.serving.proofs.WorkLemmas.{Came, Faulted, Starved, never_answered, refused_after, same_work, start_is, waits_for_start}
+use Rattle.serving.proofs.WorkLemmas.{Came, Faulted, Starved, never_answered, refused_after, same_work, start_is}
 
 -- ---- how it goes on
 
@@ -266,24 +266,24 @@ module _ {D : Type 0} (follow : StatesFollow) (address : List ℕ → List ℕ) 
   module _ (planned : IsPlanned) where
     pub closed_ok : (new : Parts) (number : ℕ) → number ≡ number_at session.position → (result : Result Reply PutFault) → IfOk result (λ reply. reply ≡ plan.reply)
         → OnOk result (IsSettled session.number number look.branch plan.change (option_map arc_value plan.sealed) parts new) → OnOk result (IsSingle new.chunks)
-        → IfOk result (λ reply. (p : plain.Session) (t : Transaction) (ending : Ending) (shared : Shared) → IsBefore address session parts p shared → p.transaction ≡ Some t
+        → IfOk result (λ reply. (p : plain.Session) (t : Transaction) (ending : Ending) (shared : Shared) → IsHere address session parts p shared → p.transaction ≡ Some t
         → worked p t asked ≡ Ok (Closes ending) → ClosedAs address epoch p t ending shared parts new reply)
-    closed_ok new number is (Ok reply) said settled single = λ p t ending shared before transaction work_is.
-        let way = decides follow address session parts look looks p t shared before transaction in
-        let count : number ≡ p.statement = is ∙ same_number session.position p.statement p.place before.session_stands.position in
+    closed_ok new number is (Ok reply) said settled single = λ p t ending shared here transaction work_is.
+        let way = decides follow address session parts look looks p t shared here transaction in
+        let count : number ≡ p.statement = is ∙ same_number session.position p.statement p.place here.session_stands.position in
         let made : IsSettled p.number p.statement look.branch plan.change (option_map arc_value plan.sealed) parts new =
         subst (λ (n : ℕ). IsSettled p.number n look.branch plan.change (option_map arc_value plan.sealed) parts new) count
-        (subst (λ (n : ℕ). IsSettled n number look.branch plan.change (option_map arc_value plan.sealed) parts new) before.session_stands.number settled) in
+        (subst (λ (n : ℕ). IsSettled n number look.branch plan.change (option_map arc_value plan.sealed) parts new) here.session_stands.number settled) in
         subst (λ (r : Reply). ClosedAs address epoch p t ending shared parts new r) (sym said)
-        (closed_by address epoch shared p t way.0 ending follow parts new look plan _ refl way.1.present_is way.1.look_is way.1.branch looks.chunks before.state_stands
+        (closed_by address epoch shared p t way.0 ending follow parts new look plan _ refl way.1.present_is way.1.look_is way.1.branch looks.chunks here.state_stands
         (planned p t shared way.0 ending way.1 work_is) single made)
     closed_ok new number is (Err fault) said settled single = tt
 
-    module _ (p : plain.Session) (t : Transaction) (ending : Ending) (shared : Shared) (before : IsBefore address session parts p shared) (transaction : p.transaction ≡ Some t)
+    module _ (p : plain.Session) (t : Transaction) (ending : Ending) (shared : Shared) (here : IsHere address session parts p shared) (transaction : p.transaction ≡ Some t)
         (work_is : worked p t asked ≡ Ok (Closes ending)) where
       plan_plainly : IsPlainly address plan.reply
       plan_plainly =
-          let way = decides follow address session parts look looks p t shared before transaction in
+          let way = decides follow address session parts look looks p t shared here transaction in
           planned_plainly address epoch shared p t way.0 look plan _ (plainly_closed address epoch shared p t way.0 ending) (planned p t shared way.0 ending way.1 work_is)
 
       pub sound_ok : (result : Result Reply PutFault) → IfOk result (λ reply. reply ≡ plan.reply) → IfOk result (λ reply. is_sound_reply reply ≡ true)
@@ -298,9 +298,9 @@ module _ {D : Type 0} (follow : StatesFollow) (address : List ℕ → List ℕ) 
       fault_is chunks_follow (Ok reply) cause = tt
       fault_is chunks_follow (Err Memory) cause = tt
       fault_is chunks_follow (Err (Collision clash)) cause =
-          let way = decides follow address session parts look looks p t shared before transaction in
+          let way = decides follow address session parts look looks p t shared here transaction in
           record {
-            first = chunks_follow.is_named address parts.chunks clash.address.0 clash.first before.state_stands.named cause.is_held;
+            first = chunks_follow.is_named address parts.chunks clash.address.0 clash.first here.state_stands.named cause.is_held;
             second = chunks_follow.is_named address (brought plan) clash.address.0 clash.second
                 (named_by address epoch shared p t way.0 look plan _ (planned p t shared way.0 ending way.1 work_is)) cause.is_brought;
             differ = cause.differ;
@@ -329,25 +329,7 @@ module _ (address : List ℕ → List ℕ) (epoch : ℤ) where
       ∙ ap (settled address shared p (over p)) is
       ∙ settled_out shared last p outcome reply leaves
 
--- an answer that leaves the session where it was
-pub went_of : {D : Type 0} (address : List ℕ → List ℕ) (epoch : ℤ) (old session : Session D) (parts new : Parts) (p : plain.Session) (shared : Shared) (asked : Command) (reply : Reply)
-    → IsBefore address old parts p shared → Answered address epoch p asked shared parts new session reply → Went address epoch p asked shared parts new session reply
-went_of address epoch old session parts new p shared asked reply before a = record {
-  said = a.said;
-  last = a.last;
-  turns = a.turns;
-  is = a.is;
-  follows = a.follows;
-  session_stands = a.session_stands;
-  number = a.still.number;
-  state_stands = a.state_stands;
-  placed = ap (λ (all : List (List ℕ)). slice_get all p.number) a.places ∙ before.placed ∙ ap (λ (name : List ℕ). Some name) (sym a.still.branch);
-  others = λ at other. ap (λ (all : List (List ℕ)). slice_get all at) a.places;
-  later = a.later;
-  grown = a.grown;
-  moments = a.moments;
-  numbers = a.numbers;
-}
+-- ---- in the open transaction
 
 module _ {D : Type 0} (address : List ℕ → List ℕ) (epoch : ℤ) (session : Session D) (parts : Parts) (p : plain.Session) (shared : Shared) (before : IsBefore address session parts p shared)
     (t : Transaction) (transaction : p.transaction ≡ Some t) (asked : Work) where
@@ -355,7 +337,7 @@ module _ {D : Type 0} (address : List ℕ → List ℕ) (epoch : ℤ) (session :
   waits_open call work_is =
       ap (λ (o : Option Transaction). option_and_then (λ u. if_answered p u (worked p u asked)) o) transaction ∙ ap (if_answered p t) work_is
 
-  -- it was decided on in the open transaction
+  -- it was decided on
   pub closed_open : (ending : Ending) (new : Parts) (ended : Session D) (reply : Reply) → worked p t asked ≡ Ok (Closes ending)
       → ClosedAs address epoch p t ending shared parts new reply → ended ≡ record session { start = None }
       → Went address epoch p (Data asked) shared parts new ended reply
@@ -366,10 +348,8 @@ module _ {D : Type 0} (address : List ℕ → List ℕ) (epoch : ℤ) (session :
       subst (λ (s : Session D). Went address epoch p (Data asked) shared parts new s reply) (sym ended_is) (record {
         said = over p;
         last = c.last;
-        turns = turn_at p shared c.last ∷ [];
         is = subst (λ (want : Option Shortage). InOneTurn address epoch want p (Data asked) (turn_at p shared c.last) (past p.statement (over p, reply))) (sym c.short)
             (in_one_turn address epoch None shared c.last p (Data asked) (over p, reply) before.before (waits_open ending work_is) moment);
-        follows = (refl, refl);
         session_stands = over_stands address session p before.session_stands;
         number = refl;
         state_stands = c.state_stands;
@@ -381,30 +361,25 @@ module _ {D : Type 0} (address : List ℕ → List ℕ) (epoch : ℤ) (session :
         numbers = c.numbers;
       })
 
-  -- it was refused before its decision
-  pub refused_open : (number : ℕ) (reply : Reply) → worked p t asked ≡ Err number → IsDue 1 (print.Refused number) reply
-      → Went address epoch p (Data asked) shared parts parts session reply
-  refused_open number reply work_is due = went_nowhere address epoch session parts p shared before (Data asked) reply (by due) where
-    by : IsDue 1 (print.Refused number) reply → alone_by (shortage reply) p (Data asked) ≡ Some (p, reply)
-    by (inl plain) =
-        ap (λ (want : Option Shortage). alone_by want p (Data asked)) (ap shortage plain.1 ∙ plain_told (print.Refused number) plain.0)
-        ∙ ap (λ (o : Option Transaction). option_and_then (λ u. if_answered p u (worked p u asked)) o) transaction ∙ ap (if_answered p t) work_is
-        ∙ ap (λ (r : Reply). Some (p, r)) (sym plain.1)
-    by (inr starved) = ap (λ (r : Reply). alone_by (shortage r) p (Data asked)) starved ∙ ap (λ (r : Reply). Some (p, r)) (sym starved)
-
-  -- the session answered it by itself
-  pub stayed_open : (after : Session D) (reply : Reply) → AnswersAlone address p (Data asked) after reply → after.draft.chunks.base ≡ session.draft.chunks.base
-      → Went address epoch p (Data asked) shared parts parts after reply
-  stayed_open after reply alone base =
-      went_of address epoch session after parts parts p shared (Data asked) reply before (alone_answered address epoch session after parts p shared before (Data asked) reply alone base)
-
   -- memory or an address failed
-  pub faulted_open : (fault : PutFault) (new : Parts) (reply : Reply) → new ≡ parts → reply ≡ fault_reply fault → Went address epoch p (Data asked) shared parts new session reply
-  faulted_open fault new reply same is =
-      let starts : takes_start p (Data asked) ≡ false = ap (λ (o : Option Transaction). not (is_some o)) transaction in
-      subst (λ (q : Parts). Went address epoch p (Data asked) shared parts q session reply) (sym same)
-      (subst (λ (r : Reply). Went address epoch p (Data asked) shared parts parts session r) (sym is)
-      (went_nowhere address epoch session parts p shared before (Data asked) (fault_reply fault) (short_alone fault p (Data asked) starts)))
+  pub fails_open : (fault : PutFault) → Fails p (Data asked) fault
+  fails_open fault = short_alone fault p (Data asked) (ap (λ (o : Option Transaction). not (is_some o)) transaction)
+
+closes_by : (p : plain.Session) (t : Transaction) (outcome : Outcome Worked) → if_answered p t outcome ≡ None → (ending : Ending) × (outcome ≡ Ok (Closes ending))
+closes_by p t (Ok (Closes ending)) waits = (ending, refl)
+closes_by p t (Ok (Answers reply own)) waits = absurd (cc)
+closes_by p t (Err number) waits = absurd (cc)
+
+-- one that isn't answered by the session itself has its decision
+pub closes_open : (p : plain.Session) (t : Transaction) (asked : Work) → p.transaction ≡ Some t → alone_by None p (Data asked) ≡ None
+    → (ending : Ending) × (worked p t asked ≡ Ok (Closes ending))
+closes_open p t asked transaction waits =
+    closes_by p t (worked p t asked) (sym (ap (λ (o : Option Transaction). option_and_then (λ u. if_answered p u (worked p u asked)) o) transaction) ∙ waits)
+
+-- outside a transaction memory alone fails
+pub fails_outside : (p : plain.Session) (asked : Command) (fault : PutFault) → fault ≡ Memory → Fails p asked fault
+fails_outside p asked Memory is = refl
+fails_outside p asked (Collision clash) is = absurd (cc)
 
 -- ---- outside a transaction
 
@@ -413,16 +388,6 @@ module _ {D : Type 0} (address : List ℕ → List ℕ) (epoch : ℤ) (session :
   abbrev ended : Session D
   ended = record session { start = None }
 
-  -- the session stands before its decision in the transaction that it started
-  pub started_before : IsBefore address session now (within p t) shared
-  started_before = subst (λ (q : Parts). IsBefore address session q (within p t) shared) (sym has.now_is) (record {
-    session_stands = has.stands;
-    before = has.before.before;
-    state_stands = stands_noted address p.number p.statement parts shared has.before.state_stands;
-    placed = has.before.placed;
-    later = has.later;
-  })
-
   ended_stands : SessionStands address ended p
   ended_stands = subst (λ (q : plain.Session). SessionStands address ended q) (over_same p has.none) (over_stands address session (within p t) has.stands)
 
@@ -430,65 +395,91 @@ module _ {D : Type 0} (address : List ℕ → List ℕ) (epoch : ℤ) (session :
       → Went address epoch p (Data asked) shared parts now ended (after_start reply)
   refused_went after reply refusal came =
       subst (λ (q : Parts). Went address epoch p (Data asked) shared parts q ended (after_start reply)) (sym has.now_is)
-      (went_of address epoch has.old ended parts (noted p.number p.statement parts) p shared (Data asked) (after_start reply) has.before
+      (went_of address epoch has.old ended parts p shared has.before (Data asked) (noted p.number p.statement parts) (after_start reply)
       (started_answered address epoch has.old ended parts p shared has.before (Data asked) p (after_start reply)
       (refused_after address epoch shared p t asked after reply (never_answered p t asked reply refusal) has.before.before has.none has.taken_is came)
       ended_stands (record { number = refl; branch = refl }) has.later))
 
-  pub faulted_started : (fault : PutFault) (new : Parts) (said reply : Reply) → new ≡ now → said ≡ fault_reply fault → reply ≡ after_start said
-      → Went address epoch p (Data asked) shared parts new ended reply
-  faulted_started fault new said reply same said_is is =
-      subst (λ (q : Parts). Went address epoch p (Data asked) shared parts q ended reply) (sym same)
-      (subst (λ (r : Reply). Went address epoch p (Data asked) shared parts now ended r) (sym (is ∙ ap after_start said_is))
-      (refused_went p (fault_reply fault) (fault_refused fault) (fault_came p t asked p fault)))
+  -- it was dropped, and its transaction with it
+  abbrev DroppedWith : Session D → Reply → Type 0
+  DroppedWith dropped reply = Went address epoch p (Data asked) shared parts now dropped reply
 
-  pub refused_started : (number : ℕ) (said reply : Reply) → worked (within p t) t asked ≡ Err number → IsDue 1 (print.Refused number) said → reply ≡ after_start said
-      → Went address epoch p (Data asked) shared parts now ended reply
-  refused_started number said reply inside_is due is =
-      subst (λ (r : Reply). Went address epoch p (Data asked) shared parts now ended r) (sym is) (by due) where
-        by : IsDue 1 (print.Refused number) said → Went address epoch p (Data asked) shared parts now ended (after_start said)
-        by (inl plain) =
-            refused_went p said (ap is_refusal plain.1) (Faulted number (sym (same_work p t t asked) ∙ inside_is) plain.1 (ap shortage plain.1 ∙ plain_told (print.Refused number) plain.0))
-        by (inr starved) = refused_went p said (ap is_refusal starved) (Starved starved)
+  dropped_so : (dropped : Session D) (said reply : Reply) → dropped ≡ ended → reply ≡ after_start said → DroppedWith ended (after_start said) → DroppedWith dropped reply
+  dropped_so dropped said reply dropped_is is went =
+      subst (λ (s : Session D). DroppedWith s reply) (sym dropped_is) (subst (DroppedWith ended) (sym is) went)
 
-  -- it was decided on at its second moment
-  pub closed_started : (ending : Ending) (new : Parts) (reply : Reply) → worked (within p t) t asked ≡ Ok (Closes ending)
-      → ClosedAs address epoch (within p t) t ending shared now new reply → Went address epoch p (Data asked) shared parts new ended reply
-  closed_started call new reply inside_is c =
-      let work_is : worked p t asked ≡ Ok (Closes call) = sym (same_work p t t asked) ∙ inside_is in
-      let q = awaiting p t Closing in
-      let start : moment_of address epoch shared p (Data asked) ≡ Some (shared, Still t Closing) =
-      start_is address epoch shared p t asked has.none has.taken_is (Ok (Closes call)) work_is in
-      let decision : moment_in address epoch None shared q (Data asked) Closing ≡ Some (c.last, Past (over q, reply)) =
-      closing_moment address epoch shared c.last q t asked call c.present c.outcome reply refl (same_awaiting p t t Closing asked ∙ work_is) c.there c.is c.leaves in
-      let grown : Lists parts.chunks new.chunks = subst (λ (cs : List Chunk). Lists cs new.chunks) (ap (λ (q : Parts). q.chunks) has.now_is) c.chunks in
+  -- memory or an address failed behind the start
+  pub faulted_started : (fault : PutFault) (dropped : Session D) (said reply : Reply) → dropped ≡ ended → said ≡ fault_reply fault → reply ≡ after_start said → DroppedWith dropped reply
+  faulted_started fault dropped said reply dropped_is said_is is =
+      dropped_so dropped said reply dropped_is is
+      (subst (λ (r : Reply). DroppedWith ended (after_start r)) (sym said_is) (refused_went p (fault_reply fault) (fault_refused fault) (fault_came p t asked p fault)))
+
+  -- it was refused before its decision
+  pub refused_started : (number : ℕ) (dropped : Session D) (said reply : Reply) → worked (within p t) t asked ≡ Err number → IsDue 1 (print.Refused number) said → dropped ≡ ended
+      → reply ≡ after_start said → DroppedWith dropped reply
+  refused_started number dropped said reply inside_is due dropped_is is = dropped_so dropped said reply dropped_is is (by due) where
+    by : IsDue 1 (print.Refused number) said → DroppedWith ended (after_start said)
+    by (inl plain) =
+        refused_went p said (ap is_refusal plain.1) (Faulted number (sym (same_work p t t asked) ∙ inside_is) plain.1 (ap shortage plain.1 ∙ plain_told (print.Refused number) plain.0))
+    by (inr starved) = refused_went p said (ap is_refusal starved) (Starved starved)
+
+  -- its decision is to come
+  pub closing_to_come : (ending : Ending) → may_close asked ≡ true → worked (within p t) t asked ≡ Ok (Closes ending)
+      → HasStartedTo address epoch p (Data asked) shared parts now session pending.Closing
+  closing_to_come ending closes inside_is =
+      let work_is : worked p t asked ≡ Ok (Closes ending) = sym (same_work p t t asked) ∙ inside_is in
       record {
-        said = over p;
-        last = c.last;
-        turns = turn_at p shared shared ∷ turn_at p shared c.last ∷ [];
-        is = subst (λ (want : Option Shortage). InTwoTurns address epoch want p (Data asked) (turn_at p shared shared) (turn_at p shared c.last) (past p.statement (over p, reply))) (sym c.short)
-            (in_two_turns address epoch shared c.last p (Data asked) t Closing (over q, reply) has.before.before (waits_for_start address epoch shared p t asked has.none) start decision);
-        follows = (refl, (refl, refl));
-        session_stands = over_stands address session (within p t) has.stands;
-        number = refl;
-        state_stands = c.state_stands;
-        placed = ap (λ (all : List (List ℕ)). slice_get all p.number) c.places ∙ has.before.placed;
-        others = λ at other. ap (λ (all : List (List ℕ)). slice_get all at) c.places;
-        later = λ k bytes listed. grown k bytes (has.later k bytes listed);
-        grown = grown;
-        moments = c.moments
-            ∙ ap (λ (ms : List Moment). ms ++ record { session = p.number; statement = p.statement } ∷ []) (ap (λ (q : Parts). q.moments) has.now_is)
-            ∙ append_assoc parts.moments (record { session = p.number; statement = p.statement } ∷ []) (record { session = p.number; statement = p.statement } ∷ []);
-        numbers = c.numbers ∙ ap (λ (q : Parts). q.numbers) has.now_is;
+        work = asked;
+        asked_is = refl;
+        outside = has.none;
+        transaction = t;
+        place = Closing;
+        started = start_is address epoch shared p t asked has.none has.taken_is (Ok (Closes ending)) work_is;
+        awaits = (refl, closes, (ending, same_awaiting p t t Closing asked ∙ work_is));
+        session_stands = has.stands;
+        later = has.later;
+        new_is = has.now_is;
       }
 
--- what was handed on
-pub carried : {D : Type 0} (address : List ℕ → List ℕ) (epoch : ℤ) (p : plain.Session) (asked : Command) (shared : Shared) (old new other : Parts) (session ended : Session D) (reply said : Reply)
-    → new ≡ other → session ≡ ended → reply ≡ said → Went address epoch p asked shared old other ended said → Went address epoch p asked shared old new session reply
-carried {D = D} address epoch p asked shared old new other session ended reply said parts_is session_is reply_is went =
-    subst (λ (q : Parts). Went address epoch p asked shared old q session reply) (sym parts_is)
-    (subst (λ (s : Session D). Went address epoch p asked shared old other s reply) (sym session_is)
-    (subst (λ (r : Reply). Went address epoch p asked shared old other ended r) (sym reply_is) went))
+-- ---- the decision behind a start
+
+abbrev work_in : Work → Command → Work
+work_in other (Data asked) = asked
+work_in other command = other
+
+module _ {D : Type 0} (address : List ℕ → List ℕ) (epoch : ℤ) (session : Session D) (parts : Parts) (q : plain.Session) (asked : Command) (shared : Shared)
+    (between : IsBetween address session parts q asked pending.Closing shared) (work : Work) (asked_is : asked ≡ Data work) where
+  same_asked : between.work ≡ work
+  same_asked = ap (work_in work) (sym between.asked_is ∙ asked_is)
+
+  pub may_close_between : may_close work ≡ true
+  may_close_between = ap may_close (sym same_asked) ∙ between.awaits.1
+
+  pub closes_between : (ending : Ending) × (worked q between.transaction work ≡ Ok (Closes ending))
+  closes_between = (between.awaits.2.0, ap (worked q between.transaction) (sym same_asked) ∙ between.awaits.2.1)
+
+  -- it was decided on
+  pub concluded : (new : Parts) (left : Session D) (reply : Reply) → ClosedAs address epoch q between.transaction closes_between.0 shared parts new reply
+      → left ≡ record session { start = None } → Concluded address epoch q asked shared parts new left reply
+  concluded new left reply c left_is =
+      let moment : moment_in address epoch None shared q asked q.place ≡ Some (c.last, Past (over q, reply)) =
+      ap (moment_in address epoch None shared q asked) between.awaits.0
+      ∙ ap (λ (command : Command). moment_in address epoch None shared q command Closing) asked_is
+      ∙ closing_moment address epoch shared c.last q between.transaction work closes_between.0 c.present c.outcome reply between.has closes_between.1 c.there c.is c.leaves in
+      subst (λ (s : Session D). Concluded address epoch q asked shared parts new s reply) (sym left_is) (record {
+        said = over q;
+        last = c.last;
+        short = c.short;
+        is = moment;
+        session_stands = over_stands address session q between.here.session_stands;
+        still = record { number = refl; branch = refl };
+        state_stands = c.state_stands;
+        places = c.places;
+        later = λ k bytes listed. c.chunks k bytes (between.here.later k bytes listed);
+        grown = c.chunks;
+        moments = c.moments;
+        numbers = c.numbers;
+      })
 
 -- ---- whether the session is in a transaction
 
@@ -513,3 +504,18 @@ some_there None is = absurd (cc)
 pub none_there : (o : Option Transaction) → is_some o ≡ false → o ≡ None
 none_there None is = refl
 none_there (Some t) is = absurd (cc)
+
+module _ {D : Type 0} (address : List ℕ → List ℕ) (session : Session D) where
+  pub open_there : is_some session.start ≡ true → (p : plain.Session) → SessionStands address session p → (t : Transaction) × (p.transaction ≡ Some t)
+  open_there is p stands = some_there p.transaction (sym (inside address session p stands) ∙ is)
+
+  pub none_open : is_some session.start ≡ false → (p : plain.Session) → SessionStands address session p → p.transaction ≡ None
+  none_open is p stands = none_there p.transaction (sym (inside address session p stands) ∙ is)
+
+  -- outside a transaction the statement has met what it meets where none is open
+  pub met_outside : is_some session.start ≡ false → (epoch : ℤ) (after : Session D) (parts new : Parts) (asked : Work) (result : Result Met PutFault)
+      → IfOk result (λ met. (e : ℤ) (p : plain.Session) (shared : Shared) → IsBefore address session parts p shared → p.transaction ≡ None → HasMet address e p (Data asked) shared parts new after met)
+      → IfOk result (λ met. (p : plain.Session) (shared : Shared) → IsBefore address session parts p shared → alone_by None p (Data asked) ≡ None
+      → HasMet address epoch p (Data asked) shared parts new after met)
+  met_outside is epoch after parts new asked (Ok met) met_is = λ p shared before waits. met_is epoch p shared before (none_open is p before.session_stands)
+  met_outside is epoch after parts new asked (Err fault) met_is = tt

@@ -1,9 +1,8 @@
 -- A decision that was planned on a look and settled on the very state that was looked at.
-use Rattle.std.proofs.Common.{◌≡◌, refl, ◌∙◌, sym, ap, subst, ◌⊎◌, inl, inr, ℕ, Bool, true, false, List, [], ◌∷◌, ◌++◌, Option, Some, None, Ok, Err}
+use Rattle.std.proofs.Common.{◌≡◌, refl, ◌∙◌, sym, ap, subst, inl, ℕ, true, List, [], Option, Some, None, Ok, Err}
 use Rattle.std.specs.Option.{option_map, option_map_or}
 use Rattle.std.specs.Arc.{arc_value}
 use Rattle.std.proofs.lemmas.Option.{same_Some}
-use Rattle.schema_model.specs.PlainCommits.{Commits}
 use Rattle.chunk_store.specs.Chunks.{AreNamed, Chunk, IsSingle, Listed, Lists, bytes_at}
 use Rattle.chunk_store.specs.Clashes.{IsClash}
 use Rattle.chunk_store.specs.Laws.{ChunksFollow}
@@ -11,7 +10,6 @@ use Rattle.chunk_store.specs.Stores.{IsUnion, all_chunks}
 use Rattle.chunk_store.specs.declared.faults.Clash.{Clash}
 use Rattle.expr_eval.specs.Binding.{Outcome, and_then}
 use Rattle.script_text.specs.Collisions.{IsCollision}
-use Rattle.script_text.specs.declared.replies.Reply.{Reply}
 use Rattle.table_root.specs.declared.heads.Look.{Look}
 use Rattle.plain_sessions.specs.CommitRule.{decide}
 use Rattle.plain_sessions.specs.Moments.{ruled, with_change, without_commit}
@@ -22,12 +20,12 @@ use Rattle.session_laws.specs.Changes.{Parts, StateStands}
 use Rattle.session_laws.specs.Laws.{StatesFollow, with_record}
 use Rattle.session_laws.specs.Transactions.{IsLookOf}
 use Rattle.session_txn.specs.Showing.{is_sound_reply}
-use Rattle.shared_db.specs.Plans.{IsPlannedAs, IsRefusedBy, PlanIs, brought}
+use Rattle.shared_db.specs.Plans.{PlanIs, brought}
 use Rattle.shared_db.specs.Shared.{AreWith, IsSettled, changed_lines}
 use Rattle.shared_db.specs.declared.changes.Change.{Change}
 use Rattle.shared_db.specs.declared.changes.Plan.{Plan}
-use Rattle.serving.specs.Steps.{ComesTo, Decided}
-use Rattle.serving.proofs.RuleLemmas.{IsPlain, refused_plainly}
+use Rattle.serving.specs.Steps.{Decided}
+use Rattle.serving.proofs.RuleLemmas.{refused_plainly}
 
 abbrev pub sealed_in : {A : Type 0} → Option (List A) → List A
 sealed_in None = []

@@ -4,8 +4,11 @@ pub mod AnswerLemmas
 pub mod BeginLemmas
 pub mod BranchLemmas
 pub mod ClosingLemmas
+pub mod ComingLemmas
+pub mod ConcludeLemmas
 pub mod DecisionLemmas
 pub mod LookLemmas
+pub mod MeetLemmas
 pub mod MomentLemmas
 pub mod PointLemmas
 pub mod RuleLemmas

@@ -1,5 +1,5 @@
 -- A decision from its look to what was settled.
-use Rattle.std.proofs.Common.{◌≡◌, refl, ◌∙◌, sym, ap, subst, ℕ, ℤ, true, false, List, map, Option, Some, Ok, Err, IfOk, OnOk, IfErr}
+use Rattle.std.proofs.Common.{◌≡◌, ◌∙◌, sym, ap, subst, ℕ, ℤ, true, false, List, map, Some, Ok, Err, IfOk, OnOk, IfErr}
 use Rattle.std.specs.Prelude.{Result}
 use Rattle.std.specs.Arc.{arc_value}
 use Rattle.std.specs.Option.{option_map}
@@ -27,8 +27,9 @@ use Rattle.session_txn.specs.Showing.{is_sound_reply}
 use Rattle.shared_db.specs.Plans.{PlanIs, brought}
 use Rattle.shared_db.specs.Shared.{IsSettled, noted, record_at}
 use Rattle.shared_db.specs.declared.changes.Plan.{Plan}
-use Rattle.serving.specs.Serving.{IsBefore}
-use Rattle.serving.specs.Steps.{Answered, Decided, number_at}
+use Rattle.serving.specs.Serving.{IsBefore, IsHere}
+use Rattle.serving.specs.Answering.{Answered}
+use Rattle.serving.specs.Steps.{Decided, number_at}
 use Rattle.serving.proofs.AnswerLemmas.{begun_answered, same_number}
 use Rattle.serving.proofs.DecisionLemmas.{clash_met, planned_sound, settled_as}
 use Rattle.serving.proofs.StateLemmas.{looks_at, present_there}
@@ -47,18 +48,18 @@ module _ {D : Type 0} (follow : StatesFollow) (address : List ℕ → List ℕ) 
   pub shows : (shared : Shared) → StateStands address parts shared → IsLookOf address look shared
   shows shared stands = looks_at address parts shared look follow stands (there_again session parts look looks) looks.heads looks.chunks
 
-  pub decides : (p : plain.Session) (t : plain.Transaction) (shared : Shared) → IsBefore address session parts p shared → p.transaction ≡ Some t
+  pub decides : (p : plain.Session) (t : plain.Transaction) (shared : Shared) → IsHere address session parts p shared → p.transaction ≡ Some t
       → (present : BranchState) × Decides address session look p t shared present
-  decides p t shared before transaction =
-      let there = present_there address session parts p shared before in (
+  decides p t shared here transaction =
+      let there = present_there address session parts p shared here in (
         there.0,
         record {
-          session_stands = before.session_stands;
+          session_stands = here.session_stands;
           transaction = transaction;
-          look_is = shows shared before.state_stands;
-          branch = looks.branch ∙ before.session_stands.branch;
+          look_is = shows shared here.state_stands;
+          branch = looks.branch ∙ here.session_stands.branch;
           present_is = there.1;
-          later = subst (Lists session.draft.chunks.base) (sym looks.chunks) before.later;
+          later = subst (Lists session.draft.chunks.base) (sym looks.chunks) here.later;
         },
       )
 
@@ -69,22 +70,22 @@ module _ {D : Type 0} (follow : StatesFollow) (address : List ℕ → List ℕ) 
   module _ (plan : Plan) (planned : Planned plan) where
     pub decided_ok : (new : Parts) (number : ℕ) → number ≡ number_at session.position → (result : Result Reply PutFault) → IfOk result (λ reply. reply ≡ plan.reply)
         → OnOk result (IsSettled session.number number look.branch plan.change (option_map arc_value plan.sealed) parts new) → OnOk result (IsSingle new.chunks)
-        → IfOk result (λ reply. (p : plain.Session) (t : plain.Transaction) (shared : Shared) → IsBefore address session parts p shared → p.transaction ≡ Some t
+        → IfOk result (λ reply. (p : plain.Session) (t : plain.Transaction) (shared : Shared) → IsHere address session parts p shared → p.transaction ≡ Some t
         → Decided address p t shared parts new reply)
-    decided_ok new number is (Ok reply) said settled single = λ p t shared before transaction.
-        let way = decides p t shared before transaction in
-        let count : number ≡ p.statement = is ∙ same_number session.position p.statement p.place before.session_stands.position in
+    decided_ok new number is (Ok reply) said settled single = λ p t shared here transaction.
+        let way = decides p t shared here transaction in
+        let count : number ≡ p.statement = is ∙ same_number session.position p.statement p.place here.session_stands.position in
         let made : IsSettled p.number p.statement look.branch plan.change (option_map arc_value plan.sealed) parts new =
         subst (λ (n : ℕ). IsSettled p.number n look.branch plan.change (option_map arc_value plan.sealed) parts new) count
-        (subst (λ (n : ℕ). IsSettled n number look.branch plan.change (option_map arc_value plan.sealed) parts new) before.session_stands.number settled) in
+        (subst (λ (n : ℕ). IsSettled n number look.branch plan.change (option_map arc_value plan.sealed) parts new) here.session_stands.number settled) in
         subst (λ (r : Reply). Decided address p t shared parts new r) (sym said)
-        (settled_as follow address parts new p t shared way.0 look plan way.1.present_is way.1.look_is way.1.branch looks.chunks before.state_stands (planned p t shared way.0 way.1) single made)
+        (settled_as follow address parts new p t shared way.0 look plan way.1.present_is way.1.look_is way.1.branch looks.chunks here.state_stands (planned p t shared way.0 way.1) single made)
     decided_ok new number is (Err fault) said settled single = tt
 
-    module _ (p : plain.Session) (t : plain.Transaction) (shared : Shared) (before : IsBefore address session parts p shared) (transaction : p.transaction ≡ Some t) where
+    module _ (p : plain.Session) (t : plain.Transaction) (shared : Shared) (here : IsHere address session parts p shared) (transaction : p.transaction ≡ Some t) where
       pub sound_ok : (result : Result Reply PutFault) → IfOk result (λ reply. reply ≡ plan.reply) → IfOk result (λ reply. is_sound_reply reply ≡ true)
       sound_ok (Ok reply) said =
-          let way = decides p t shared before transaction in
+          let way = decides p t shared here transaction in
           ap is_sound_reply said ∙ planned_sound follow address parts parts p t shared way.0 look plan (planned p t shared way.0 way.1)
       sound_ok (Err fault) said = tt
 
@@ -92,8 +93,8 @@ module _ {D : Type 0} (follow : StatesFollow) (address : List ℕ → List ℕ) 
       fault_is chunks_follow (Ok reply) cause = tt
       fault_is chunks_follow (Err Memory) cause = tt
       fault_is chunks_follow (Err (Collision clash)) cause =
-          let way = decides p t shared before transaction in
-          clash_met follow address parts parts p t shared way.0 look plan chunks_follow clash before.state_stands (planned p t shared way.0 way.1) cause
+          let way = decides p t shared here transaction in
+          clash_met follow address parts parts p t shared way.0 look plan chunks_follow clash here.state_stands (planned p t shared way.0 way.1) cause
 
 module _ {D : Type 0} (follow : StatesFollow) (address : List ℕ → List ℕ) (epoch : ℤ) (old session : Session D) (parts : Parts) (look : Look) (looks : Looks old parts look) where
   -- BEGIN took its start at this look

@@ -1,25 +1,22 @@
 -- What the machine does at a session's moments.
-use Rattle.std.proofs.Common.{◌≡◌, refl, ◌∙◌, sym, ap, subst, ℕ, ℤ, Bool, true, false, List, Option, Some, None, Ok, Err, option_map, if◌then◌else◌}
+use Rattle.std.proofs.Common.{◌≡◌, refl, ◌∙◌, sym, ap, ℕ, ℤ, Bool, true, false, List, Option, Some, None, Ok, Err, option_map, if◌then◌else◌}
 use Rattle.std.specs.Option.{option_and_then}
 use Rattle.expr_eval.specs.Binding.{Outcome, and_then}
-use Rattle.script_text.specs.Output.{Shortage, shortage}
+use Rattle.script_text.specs.Output.{Shortage}
 use Rattle.script_text.specs.declared.replies.Reply.{Reply}
 use Rattle.plain_sessions.specs.CommitRule.{decide}
-use Rattle.plain_sessions.specs.Moments.{After, Past, Still, alone, alone_by, begin, begun, begun_after, changed_by, decided, moment_at, moment_by, moment_in, moment_of, past, past_moment, ruled, settled, with_both, without_commit}
+use Rattle.plain_sessions.specs.Moments.{After, Past, Still, alone, alone_by, begin, begun, begun_after, decided, moment_at, moment_by, moment_in, moment_of, past, past_moment, ruled, settled, with_both, without_commit}
 use Rattle.plain_sessions.specs.Records.{BranchState, Shared, state_of}
 use Rattle.plain_sessions.specs.Replies.{done, refused}
 use Rattle.plain_sessions.specs.Runs.{awaiting}
 use Rattle.plain_sessions.specs.Sessions as plain
 use Rattle.plain_sessions.specs.Sessions.{Before, Place, Said, Transaction, is_before_statement, is_changed, over, taken, within}
 use Rattle.plain_sessions.specs.declared.commands.Command.{Command}
-use Rattle.plain_sessions.specs.declared.commands.Command.TheVariants as command
-use Rattle.run_laws.specs.Turns.{InOneTurn, InTwoTurns, Turn}
+use Rattle.run_laws.specs.Turns.{InOneTurn, InTwoTurns}
+use Rattle.serving.specs.Serving.{turn_at}
 use Rattle.serving.specs.Steps.{ComesTo}
 
 -- ---- one moment, and two
-
-abbrev pub turn_at : plain.Session → Shared → Shared → Turn
-turn_at p found left = record { statement = p.statement; found = found; left = left }
 
 none_either : (test : Bool) (f : Said → Said) → option_map f (if test then None else None) ≡ None
 none_either true f = refl

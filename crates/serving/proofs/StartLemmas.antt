@@ -1,26 +1,22 @@
 -- A database statement outside a transaction, from its start to its answer.
-use Rattle.std.proofs.Common.{◌≡◌, refl, ◌∙◌, sym, ap, subst, ℕ, ℤ, true, false, List, [], ◌∷◌, ◌++◌, Option, Some, None, Ok, Err, is_some}
+use Rattle.std.proofs.Common.{◌≡◌, refl, ◌∙◌, sym, ap, subst, ℕ, ℤ, true, false, List, Option, Some, None, Ok, Err, is_some}
 use Rattle.std.specs.Prelude.{pos}
 use Rattle.std.proofs.lemmas.Bool.{not-true}
-use Rattle.std.proofs.lemmas.List.{append_assoc}
 use Rattle.std.proofs.lemmas.Option.{same_Some}
 use Rattle.chunk_store.specs.Chunks.{Chunk, Lists}
 use Rattle.chunk_store.specs.Stores.{all_chunks}
 use Rattle.chunk_store.specs.declared.faults.PutFault.{PutFault}
 use Rattle.chunk_store.specs.declared.faults.PutFault.TheVariants.{Memory, Collision}
 use Rattle.expr_eval.specs.Binding.{Outcome}
-use Rattle.script_text.specs.Collisions.{TellsTruly}
 use Rattle.script_text.specs.Output.{Shortage, AtOnce, AfterStart, Clashes, shortage}
 use Rattle.script_text.specs.declared.replies.Reply.{Reply}
 use Rattle.script_text.specs.declared.replies.Reply.TheVariants as print
 use Rattle.table_root.specs.declared.heads.Look.{Look}
-use Rattle.script_text.specs.declared.scripts.Moment.{Moment}
 use Rattle.sql_procedures.specs.declared.requests.MergeRequest.TheVariants as merging
 use Rattle.plain_sessions.specs.Merging.{Worked, Answers, Closes}
-use Rattle.plain_sessions.specs.Moments.{Past, alone_by, decided, if_answered, past, takes_start}
-use Rattle.plain_sessions.specs.Records.{BranchState, Shared}
+use Rattle.plain_sessions.specs.Moments.{alone_by, if_answered, takes_start}
+use Rattle.plain_sessions.specs.Records.{Shared}
 use Rattle.plain_sessions.specs.Replies.{is_refusal, refused}
-use Rattle.plain_sessions.specs.Runs.{awaiting}
 use Rattle.plain_sessions.specs.Sessions as plain
 use Rattle.plain_sessions.specs.Sessions.{Between, Said, Transaction, is_changed_since, over, taken, with_own, within}
 use Rattle.plain_sessions.specs.Statements.{worked}
@@ -28,23 +24,24 @@ use Rattle.plain_sessions.specs.declared.commands.Command.{Command}
 use Rattle.plain_sessions.specs.declared.commands.Command.TheVariants as command
 use Rattle.plain_sessions.specs.declared.commands.Work.{Work}
 use Rattle.plain_sessions.specs.declared.commands.Work.TheVariants as work
-use Rattle.run_laws.specs.Turns.{InTwoTurns}
 use Rattle.session_laws.specs.Changes.{Parts}
 use Rattle.session_laws.specs.Laws.{StatesFollow}
 use Rattle.session_laws.specs.Transactions.{IsLookOf}
 use Rattle.session_state.specs.Standing.{SessionStands}
 use Rattle.session_state.specs.declared.sessions.Session.{Session}
 use Rattle.session_txn.specs.Answering.{AnswersAlone}
+use Rattle.session_txn.specs.Showing.{is_sound_reply}
 use Rattle.shared_db.specs.Shared.{noted}
+use Rattle.serving.specs.Answering.{Answered, HasStartedTo}
+use Rattle.serving.specs.Branching.{Went}
 use Rattle.serving.specs.Kinds.{is_alone, is_in_place}
 use Rattle.serving.specs.Serving.{IsBefore}
-use Rattle.serving.specs.Starting.{HasAnswered, HasStarted, HasWorked, with_reply}
-use Rattle.serving.specs.Steps.{Answered, ComesTo, Decided, after_start, fault_reply, number_at}
-use Rattle.serving.proofs.AnswerLemmas.{comes_places, over_stands, refused_answered, same_number, started_answered, well_started}
+use Rattle.serving.specs.Starting.{HasAnswered, HasStarted, HasWorked}
+use Rattle.serving.specs.Steps.{after_start, fault_reply, number_at}
+use Rattle.serving.specs.declared.meeting.Pending.TheVariants as pending
+use Rattle.serving.proofs.AnswerLemmas.{over_stands, refused_answered, same_number, started_answered, well_started, went_of}
 use Rattle.serving.proofs.LookLemmas.{Looks, shows}
-use Rattle.serving.proofs.MomentLemmas.{decided_as, in_two_turns, turn_at, verdict_said}
-use Rattle.serving.proofs.StateLemmas.{stands_noted}
-use Rattle.serving.proofs.WorkLemmas.{Came, Done, Kept, Met, Starved, came, is_decided, is_over, kept_after, stays_open, waits_for_start}
+use Rattle.serving.proofs.WorkLemmas.{Came, Done, Kept, Met, Starved, came, is_decided, is_over, kept_after, stays_open}
 
 -- a session outside a transaction is the same where one is over
 pub over_same : (p : plain.Session) → p.transaction ≡ None → over p ≡ p
@@ -58,21 +55,9 @@ pub fault_refused : (fault : PutFault) → is_refusal (fault_reply fault) ≡ tr
 fault_refused Memory = refl
 fault_refused (Collision clash) = refl
 
--- before the decision the session stands in its transaction
-pub before_decision : {D : Type 0} (address : List ℕ → List ℕ) (session : Session D) (parts now : Parts) (p : plain.Session) (asked : Work) (shared : Shared) (reply : Reply)
-    (has : HasWorked address session parts now p asked shared reply) → IsBefore address session now (within p (with_own has.own has.start)) shared
-before_decision address session parts now p asked shared reply has =
-    subst (λ (q : Parts). IsBefore address session q (within p (with_own has.own has.start)) shared) (sym has.now_is) (record {
-      session_stands = has.stands;
-      before = has.before.before;
-      state_stands = stands_noted address p.number p.statement parts shared has.before.state_stands;
-      placed = has.before.placed;
-      later = has.later;
-    })
-
 module _ {D : Type 0} (address : List ℕ → List ℕ) (epoch : ℤ) (session : Session D) (parts now : Parts) (p : plain.Session) (asked : Work) (shared : Shared) (reply : Reply)
     (has : HasWorked address session parts now p asked shared reply) where
-  abbrev pub held : Transaction
+  abbrev held : Transaction
   held = with_own has.own has.start
 
   abbrev kept : Kept address epoch shared p has.start asked (within p held) reply
@@ -85,88 +70,43 @@ module _ {D : Type 0} (address : List ℕ → List ℕ) (epoch : ℤ) (session :
   over_now = subst (λ (q : plain.Session). SessionStands address (record session { start = None }) q) (over_same p has.none)
       (over_stands address session (within p held) has.stands)
 
-  at_now : (ended : Session D) (said : Reply) → Answered address epoch p (command.Data asked) shared parts (noted p.number p.statement parts) ended said
-      → Answered address epoch p (command.Data asked) shared parts now ended said
-  at_now ended said answered = subst (λ (q : Parts). Answered address epoch p (command.Data asked) shared parts q ended said) (sym has.now_is) answered
+  went_now : (ended : Session D) (said : Reply) → Answered address epoch p (command.Data asked) shared parts (noted p.number p.statement parts) ended said
+      → Went address epoch p (command.Data asked) shared parts now ended said
+  went_now ended said answered = subst (λ (q : Parts). Went address epoch p (command.Data asked) shared parts q ended said) (sym has.now_is)
+      (went_of address epoch has.old ended parts p shared has.before (command.Data asked) (noted p.number p.statement parts) said answered)
 
-  pub stays_answered : session.autocommit ≡ false → Answered address epoch p (command.Data asked) shared parts now session reply
+  pub stays_answered : session.autocommit ≡ false → Went address epoch p (command.Data asked) shared parts now session reply
   stays_answered off =
-      at_now session reply (started_answered address epoch has.old session parts p shared has.before (command.Data asked) (within p held) reply
+      went_now session reply (started_answered address epoch has.old session parts p shared has.before (command.Data asked) (within p held) reply
       (well_started address epoch has.old session parts p shared has.before has.start asked (within p held) reply has.none has.taken_is done_so has.later (within p held) has.short
       (stays_open address epoch shared p has.start asked (within p held) reply has.none has.taken_is kept (sym has.stands.autocommit ∙ off)))
       has.stands (record { number = refl; branch = refl }) has.later)
 
-  pub over_answered : session.autocommit ≡ true → is_changed_since held ≡ false → Answered address epoch p (command.Data asked) shared parts now (record session { start = None }) reply
+  pub over_answered : session.autocommit ≡ true → is_changed_since held ≡ false → Went address epoch p (command.Data asked) shared parts now (record session { start = None }) reply
   over_answered on unchanged =
       let ended = record session { start = None } in
-      at_now ended reply (started_answered address epoch has.old ended parts p shared has.before (command.Data asked) p reply
+      went_now ended reply (started_answered address epoch has.old ended parts p shared has.before (command.Data asked) p reply
       (well_started address epoch has.old ended parts p shared has.before has.start asked (within p held) reply has.none has.taken_is done_so has.later p has.short
       (is_over address epoch shared p has.start asked (within p held) reply has.none has.taken_is kept (sym has.stands.autocommit ∙ on) unchanged))
       over_now (record { number = refl; branch = refl }) has.later)
 
-  -- a fault of the decision: all but the start is as if nothing had been asked
-  pub fault_answered : (new : Parts) (fault : PutFault) (said : Reply) → new ≡ now → said ≡ after_start (fault_reply fault)
-      → Answered address epoch p (command.Data asked) shared parts new (record session { start = None }) said
-  fault_answered new fault said same is =
-      let ended = record session { start = None } in
-      subst (λ (q : Parts). Answered address epoch p (command.Data asked) shared parts q ended said) (sym same)
-      (subst (λ (r : Reply). Answered address epoch p (command.Data asked) shared parts now ended r) (sym is)
-      (at_now ended (after_start (fault_reply fault))
-      (refused_answered address epoch has.old ended parts p shared has.before has.start asked (within p held) (fault_reply fault) has.none has.taken_is
-      (fault_came p has.start asked (within p held) fault) has.later (fault_refused fault) over_now)))
-
-  -- ---- the decision
-
-  ends_so : (verdict : Outcome BranchState) (last : Shared) (decision : Reply) → ComesTo shared p.branch verdict last decision → (q : plain.Session) (next : plain.Session) → next ≡ over q
-      → verdict_said address epoch q next reply verdict ≡ (over q, with_reply reply decision)
-  ends_so (Ok state) last decision comes q next is = λ i. (is i, with_reply reply (sym comes.1 i))
-  ends_so (Err number) last decision comes q next is = λ i. (over q, with_reply reply (sym comes.1 i))
-
-  ends_short : (verdict : Outcome BranchState) (last : Shared) (decision : Reply) → ComesTo shared p.branch verdict last decision → shortage (with_reply reply decision) ≡ None
-  ends_short (Ok state) last decision comes = ap (λ (r : Reply). shortage (with_reply reply r)) comes.1 ∙ has.short
-  ends_short (Err number) last decision comes = ap (λ (r : Reply). shortage (with_reply reply r)) comes.1 ∙ comes.2
-
-  pub decided_answered : (new : Parts) (decision said : Reply) → session.autocommit ≡ true → is_changed_since held ≡ true → Decided address (within p held) held shared now new decision
-      → said ≡ with_reply reply decision → Answered address epoch p (command.Data asked) shared parts new (record session { start = None }) said
-  decided_answered new decision said on changed d is =
-      let at = Between reply in
-      let m : Moment = record { session = p.number; statement = p.statement } in
-      let q = awaiting p held at in
-      let last = d.last in
-      let ended = with_reply reply decision in
-      let short : shortage ended ≡ None = ends_short d.verdict last decision d.comes in
-      let made : decided address (over q) reply shared q ≡ Some (last, Past (over q, ended)) =
-      decided_as address epoch shared last q (over q) held d.present decision reply d.verdict refl d.there d.is d.comes
-      ∙ ap (λ (s : Said). Some (last, Past s)) (ends_so d.verdict last decision d.comes q (over q) refl) in
-      let two : InTwoTurns address epoch None p (command.Data asked) (turn_at p shared shared) (turn_at p shared last) (past p.statement (over q, ended)) =
-      in_two_turns address epoch shared last p (command.Data asked) held at (over q, ended) has.before.before (waits_for_start address epoch shared p has.start asked has.none)
-      (is_decided address epoch shared p has.start asked (within p held) reply has.none has.taken_is kept (sym has.stands.autocommit ∙ on) changed) made in
-      let listed : Lists parts.chunks new.chunks = subst (λ (cs : Parts). Lists cs.chunks new.chunks) has.now_is d.chunks in
-      subst (λ (r : Reply). Answered address epoch p (command.Data asked) shared parts new (record session { start = None }) r) (sym is) (record {
-        said = over p;
-        last = last;
-        turns = turn_at p shared shared ∷ turn_at p shared last ∷ [];
-        is = subst (λ (answer : Option Shortage). InTwoTurns address epoch answer p (command.Data asked) (turn_at p shared shared) (turn_at p shared last) (past p.statement (over p, ended))) (sym short) two;
-        follows = (refl, (refl, refl));
-        session_stands = over_stands address session (within p held) has.stands;
-        still = record { number = refl; branch = refl };
-        state_stands = d.state_stands;
-        places = comes_places shared last p.branch decision d.verdict d.comes;
-        later = λ k bytes there. listed k bytes (has.later k bytes there);
-        grown = listed;
-        moments = d.moments ∙ ap (λ (q : Parts). q.moments ++ m ∷ []) has.now_is ∙ append_assoc parts.moments (m ∷ []) (m ∷ []);
-        numbers = d.numbers ∙ ap (λ (q : Parts). q.numbers) has.now_is;
-      })
+  -- what it changed is to be decided on
+  pub waits_answered : session.autocommit ≡ true → is_changed_since held ≡ true → is_sound_reply reply ≡ true
+      → HasStartedTo address epoch p (command.Data asked) shared parts now session (pending.Between reply)
+  waits_answered on changed sound = record {
+    work = asked;
+    asked_is = refl;
+    outside = has.none;
+    transaction = held;
+    place = Between reply;
+    started = is_decided address epoch shared p has.start asked (within p held) reply has.none has.taken_is kept (sym has.stands.autocommit ∙ on) changed;
+    awaits = (refl, changed, has.short, sound);
+    session_stands = has.stands;
+    later = has.later;
+    new_is = has.now_is;
+  }
 
 -- ---- what the code's steps hand over
-
-pub with_reply_truly : (address : List ℕ → List ℕ) (reply decision : Reply) → TellsTruly address reply → TellsTruly address decision → TellsTruly address (with_reply reply decision)
-with_reply_truly address reply print.Done left right = left
-with_reply_truly address reply (print.Count rows) left right = right
-with_reply_truly address reply (print.Rows answer) left right = right
-with_reply_truly address reply (print.Refused number) left right = right
-with_reply_truly address reply (print.Syntax at) left right = right
-with_reply_truly address reply (print.Collided clash) left right = right
 
 none_there : {A : Type 0} (o : Option A) → is_some o ≡ false → o ≡ None
 none_there None is = refl
@@ -252,16 +192,18 @@ module _ {D : Type 0} (address : List ℕ → List ℕ) (session : Session D) (p
   came_so = came p has.start asked has.alone.after reply has.alone.is
 
   -- a refusal drops the transaction
-  pub dropped_answered : (epoch : ℤ) (said : Reply) → is_refusal reply ≡ true → said ≡ after_start reply
-      → Answered address epoch p (command.Data asked) shared parts now (record session { start = None }) said
-  dropped_answered epoch said refusal is =
+  pub dropped_answered : (epoch : ℤ) (gone : Session D) (said : Reply) → is_refusal reply ≡ true → gone ≡ record session { start = None } → said ≡ after_start reply
+      → Went address epoch p (command.Data asked) shared parts now gone said
+  dropped_answered epoch gone said refusal ended_is is =
       let ended = record session { start = None } in
       let started = has.started in
       let stands : SessionStands address ended p = subst (λ (q : plain.Session). SessionStands address ended q)
       (came_over p has.alone.after has.start asked reply (shortage reply) has.alone.is ∙ over_same p started.none) (over_stands address session has.alone.after has.alone.stands) in
-      subst (λ (r : Reply). Answered address epoch p (command.Data asked) shared parts now ended r) (sym is)
-      (subst (λ (q : Parts). Answered address epoch p (command.Data asked) shared parts q ended (after_start reply)) (sym started.now_is)
-      (refused_answered address epoch started.old ended parts p shared started.before has.start asked has.alone.after reply started.none started.taken_is came_so later_still refusal stands))
+      subst (λ (s : Session D). Went address epoch p (command.Data asked) shared parts now s said) (sym ended_is)
+      (subst (λ (r : Reply). Went address epoch p (command.Data asked) shared parts now ended r) (sym is)
+      (subst (λ (q : Parts). Went address epoch p (command.Data asked) shared parts q ended (after_start reply)) (sym started.now_is)
+      (went_of address epoch started.old ended parts p shared started.before (command.Data asked) (noted p.number p.statement parts) (after_start reply)
+      (refused_answered address epoch started.old ended parts p shared started.before has.start asked has.alone.after reply started.none started.taken_is came_so later_still refusal stands))))
 
   pub worked_well : is_refusal reply ≡ false → HasWorked address session parts now p asked shared reply
   worked_well well =

@@ -1,11 +1,10 @@
 -- The shared state before a statement, what is looked at, and what other chunks and moments leave of it.
-use Rattle.std.proofs.Common.{◌≡◌, ◌≢◌, refl, ◌∙◌, sym, ap, subst, ℕ, suc, zero, Bool, true, false, ◌&&◌, List, [], ◌∷◌, map, Option, Some, None, option_map, is_some, slice_get, if◌then◌else◌, bytes_eq, find}
+use Rattle.std.proofs.Common.{◌≡◌, ◌≢◌, refl, ◌∙◌, sym, ap, subst, ℕ, suc, zero, Bool, true, false, List, [], ◌∷◌, map, Option, Some, None, option_map, is_some, slice_get, if◌then◌else◌, bytes_eq, find}
 use Rattle.std.specs.List.{list_all}
 use Rattle.std.proofs.lemmas.Option.{same_Some}
-use Rattle.std.proofs.Math.Path.{fun_ext}
 use Rattle.tuple_codec.specs.declared.records.BranchRecord.{BranchRecord}
 use Rattle.schema_model.specs.PlainCommits.{Commits}
-use Rattle.chunk_store.specs.Chunks.{AreNamed, Chunk, Chunks, IsSingle, Lists, bytes_at}
+use Rattle.chunk_store.specs.Chunks.{Chunk}
 use Rattle.chunk_store.specs.Stores.{all_chunks}
 use Rattle.script_text.specs.declared.outputs.BranchLine.{BranchLine}
 use Rattle.table_root.specs.declared.heads.Look.{Look}
@@ -18,7 +17,7 @@ use Rattle.session_laws.specs.Transactions.{IsLookOf}
 use Rattle.session_state.specs.declared.sessions.Session.{Session}
 use Rattle.shared_db.specs.Shared.{is_line_of, noted, record_at}
 use Rattle.run_laws.proofs.ListLemmas.{both}
-use Rattle.serving.specs.Serving.{IsBefore}
+use Rattle.serving.specs.Serving.{IsBefore, IsHere}
 
 all_at : {A : Type 0} (p : A → Bool) (xs : List A) (i : ℕ) (x : A) → slice_get xs i ≡ Some x → list_all p xs ≡ true → p x ≡ true
 all_at p [] i x at all = absurd (cc)
@@ -48,18 +47,23 @@ module _ (address : List ℕ → List ℕ) (chunks : List Chunk) (commits : Comm
       ∙ ap (λ (other : List ℕ). is_some (option_map (λ (c : Branch). c.state) (if bytes_eq other name then Some b else find (is_branch name) branches))) stand.0.name
 
 module _ {D : Type 0} (address : List ℕ → List ℕ) (session : Session D) (parts : Parts) (p : plain.Session) (shared : Shared) where
+  -- before a statement it is here
+  pub here_before : IsBefore address session parts p shared → IsHere address session parts p shared
+  here_before before =
+      record { session_stands = before.session_stands; state_stands = before.state_stands; placed = before.placed; later = before.later }
+
   -- the session's branch is there
-  pub present_there : IsBefore address session parts p shared → (present : BranchState) × (state_of shared.branches p.branch ≡ Some present)
-  present_there before = is_there _ (all_at (is_branch_there shared) shared.places p.number p.branch before.placed before.state_stands.placed)
+  pub present_there : IsHere address session parts p shared → (present : BranchState) × (state_of shared.branches p.branch ≡ Some present)
+  present_there here = is_there _ (all_at (is_branch_there shared) shared.places p.number p.branch here.placed here.state_stands.placed)
 
-  pub record_there : IsBefore address session parts p shared → (rec : BranchRecord) × (record_at session.branch parts.branches ≡ Some rec)
-  record_there before =
-      let there = present_there before in
-      is_there _ (same_there address parts.chunks shared.commits session.branch parts.branches shared.branches before.state_stands.branches
-      ∙ ap (λ (name : List ℕ). is_some (state_of shared.branches name)) before.session_stands.branch ∙ ap (λ (o : Option BranchState). is_some o) there.1)
+  pub record_there : IsHere address session parts p shared → (rec : BranchRecord) × (record_at session.branch parts.branches ≡ Some rec)
+  record_there here =
+      let there = present_there here in
+      is_there _ (same_there address parts.chunks shared.commits session.branch parts.branches shared.branches here.state_stands.branches
+      ∙ ap (λ (name : List ℕ). is_some (state_of shared.branches name)) here.session_stands.branch ∙ ap (λ (o : Option BranchState). is_some o) there.1)
 
-  pub may_look : IsBefore address session parts p shared → record_at session.branch parts.branches ≢ None
-  may_look before none = let same : Some (record_there before).0 ≡ None = sym (record_there before).1 ∙ none in absurd (cc)
+  pub may_look : IsHere address session parts p shared → record_at session.branch parts.branches ≢ None
+  may_look here none = let same : Some (record_there here).0 ≡ None = sym (record_there here).1 ∙ none in absurd (cc)
 
 -- a look at these parts shows the state
 pub looks_at : (address : List ℕ → List ℕ) (parts : Parts) (shared : Shared) (look : Look) → StatesFollow → StateStands address parts shared

@@ -1,21 +1,22 @@
 -- SET autocommit where it ends a transaction that changed something.
-use Rattle.std.proofs.Common.{◌≡◌, refl, ◌∙◌, sym, ap, subst, ℕ, ℤ, Bool, true, false, ◌&&◌, not, List, Option, Some, None, Ok, Err, if◌then◌else◌, bytes_eq, codes}
+use Rattle.std.proofs.Common.{◌≡◌, refl, ◌∙◌, sym, ap, subst, ℕ, ℤ, Bool, true, ◌&&◌, not, List, Some, None, Ok, Err, if◌then◌else◌, bytes_eq, codes}
 use Rattle.expr_eval.specs.Binding.{Outcome}
 use Rattle.sql_ast.specs.declared.statements.Setting.{Setting}
 use Rattle.script_text.specs.declared.replies.Reply.{Reply}
-use Rattle.script_text.specs.declared.replies.Reply.TheVariants.{Done, Refused}
+use Rattle.script_text.specs.declared.replies.Reply.TheVariants.{Done}
 use Rattle.plain_sessions.specs.Moments.{effect_alone, ends_by_set}
 use Rattle.plain_sessions.specs.Records.{BranchState, Shared}
-use Rattle.plain_sessions.specs.Replies.{done, refused}
+use Rattle.plain_sessions.specs.Replies.{done}
 use Rattle.plain_sessions.specs.Sessions as plain
-use Rattle.plain_sessions.specs.Sessions.{Said, Transaction, Variables, is_autocommit, is_changed, over, with_variable}
+use Rattle.plain_sessions.specs.Sessions.{Transaction, Variables, is_autocommit, is_changed, over, with_variable}
 use Rattle.plain_sessions.specs.declared.commands.Command.TheVariants as command
 use Rattle.run_laws.proofs.ListLemmas.{both}
 use Rattle.session_laws.specs.Changes.{Parts}
 use Rattle.session_state.specs.Standing.{SessionStands}
 use Rattle.session_state.specs.declared.sessions.Session.{Session}
 use Rattle.serving.specs.Serving.{IsBefore}
-use Rattle.serving.specs.Steps.{Answered, ComesTo, Decided, IsStillAt, ended_with}
+use Rattle.serving.specs.Answering.{Answered}
+use Rattle.serving.specs.Steps.{ComesTo, Decided, IsStillAt, ended_with}
 use Rattle.serving.proofs.AnswerLemmas.{decided_answered, over_stands}
 use Rattle.serving.proofs.MomentLemmas.{verdict_said}
 

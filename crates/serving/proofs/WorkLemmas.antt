@@ -9,7 +9,7 @@ use Rattle.script_text.specs.Output.{Shortage, AtOnce, AfterStart, Clashes, shor
 use Rattle.chunk_store.specs.declared.faults.Clash.{Clash}
 use Rattle.script_text.specs.declared.replies.Reply.{Reply}
 use Rattle.script_text.specs.declared.replies.Reply.TheVariants as print
-use Rattle.schema_model.specs.PlainTables.{Conflict, PlainDatabase, PlainTable, Violation}
+use Rattle.schema_model.specs.PlainTables.{PlainDatabase, PlainTable}
 use Rattle.plain_writes.specs.Writes.{Effect}
 use Rattle.plain_schemas.specs.Statements.{write_effect}
 use Rattle.plain_sql.specs.Lists.{or_refuse, unless}
@@ -25,15 +25,15 @@ use Rattle.sql_procedures.specs.declared.requests.MergeOf.{MergeOf}
 use Rattle.sql_procedures.specs.declared.requests.MergeRequest.{MergeRequest}
 use Rattle.sql_procedures.specs.declared.requests.MergeRequest.TheVariants as merging
 use Rattle.plain_sessions.specs.Merging.{Worked, Answers, Closes, Committing, Forwarding, Joining, has_changes, in_progress, is_clean, merge, merge_made, merge_message, merge_reply, merge_with, merged_with, resolve}
-use Rattle.plain_sessions.specs.Moments.{After, Past, Still, alone_by, answered, decided_closing, if_answered, moment_of, past, start_of, started}
+use Rattle.plain_sessions.specs.Moments.{Past, Still, alone_by, answered, decided_closing, if_answered, moment_of, past, start_of, started}
 use Rattle.plain_sessions.specs.Records.{BranchState, Shared, clean_at}
-use Rattle.plain_sessions.specs.Replies.{is_refusal, refused}
+use Rattle.plain_sessions.specs.Replies.{is_refusal}
 use Rattle.plain_sessions.specs.Sessions as plain
 use Rattle.plain_sessions.specs.Sessions.{Before, Between, Said, is_before_statement, Transaction, is_changed_since, own_root, taken, with_own, within}
 use Rattle.plain_sessions.specs.Branching.{add, reset_to, to_commit}
-use Rattle.plain_sessions.specs.Statements.{changed, changed_by, counted_or_done, or_of_rows, resolve_worked, staged, worked, write_worked}
+use Rattle.plain_sessions.specs.Statements.{changed, counted_or_done, or_of_rows, resolve_worked, staged, worked, write_worked}
 use Rattle.plain_sessions.specs.SystemTables as system
-use Rattle.plain_sessions.specs.SystemTables.{delete_by, delete_conflicts, delete_entries, delete_violations, known}
+use Rattle.plain_sessions.specs.SystemTables.{delete_by, delete_conflicts, delete_violations, known}
 use Rattle.plain_sessions.specs.Branching as branching
 use Rattle.plain_sessions.specs.declared.commands.Command.TheVariants.{Data}
 use Rattle.plain_sessions.specs.declared.commands.Work.{Work}
@@ -42,7 +42,8 @@ use Rattle.plain_writes.specs.Violations.{table_in}
 use Rattle.run_laws.specs.Turns.{InOneTurn}
 use Rattle.run_laws.proofs.SeenLemmas.{start_short, start_waits}
 use Rattle.serving.specs.Steps.{after_start}
-use Rattle.serving.proofs.MomentLemmas.{in_one_turn, turn_at}
+use Rattle.serving.specs.Serving.{turn_at}
+use Rattle.serving.proofs.MomentLemmas.{in_one_turn}
 
 -- what is answered is no refusal
 abbrev pub IsAnswer : Outcome Worked → Type 0

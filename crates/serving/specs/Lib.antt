@@ -1,4 +1,5 @@
 pub mod Ahead
+pub mod Answering
 pub mod Branching
 pub mod Closing
 pub mod Kinds

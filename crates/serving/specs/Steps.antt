@@ -1,5 +1,5 @@
--- The steps of a statement: its answer before the session goes on to the next one, and the decision on an open transaction.
-use Rattle.std.specs.Prelude.{◌≡◌, ℕ, ◌==◌, ℤ, Bool, List, [], ◌∷◌, ◌++◌, None, Some, Ok, Err, if◌then◌else◌}
+-- Steps of a statement: the decision on an open transaction, and replies to faults.
+use Rattle.std.specs.Prelude.{◌≡◌, ℕ, ◌==◌, ◌≤◌, Bool, List, [], ◌∷◌, ◌++◌, None, Some, Ok, Err, if◌then◌else◌}
 use Rattle.chunk_store.specs.Chunks.{Lists}
 use Rattle.chunk_store.specs.declared.faults.PutFault.{PutFault}
 use Rattle.chunk_store.specs.declared.faults.PutFault.TheVariants.{Memory, Collision}
@@ -7,19 +7,15 @@ use Rattle.expr_eval.specs.Binding.{Outcome}
 use Rattle.script_text.specs.Output.{shortage}
 use Rattle.script_text.specs.declared.replies.Reply.{Reply}
 use Rattle.script_text.specs.declared.replies.Reply.TheVariants.{Collided, Done, Refused}
-use Rattle.script_text.specs.declared.scripts.Moment.{Moment}
 use Rattle.plain_sessions.specs.CommitRule.{decide}
-use Rattle.plain_sessions.specs.Moments.{past}
 use Rattle.plain_sessions.specs.Records.{BranchState, Shared, state_of, with_branch}
 use Rattle.plain_sessions.specs.Replies.{done, refused}
 use Rattle.plain_sessions.specs.Sessions as plain
-use Rattle.plain_sessions.specs.declared.commands.Command.{Command}
-use Rattle.run_laws.specs.Turns.{ServedIn, Turn, TurnsFollow, moments_of}
 use Rattle.session_laws.specs.Changes.{Parts, StateStands}
-use Rattle.session_state.specs.Standing.{SessionStands}
 use Rattle.session_state.specs.declared.sessions.Place.{Place}
 use Rattle.session_state.specs.declared.sessions.Place.TheVariants as place
 use Rattle.session_state.specs.declared.sessions.Session.{Session}
+use Rattle.shared_db.specs.Shared.{Db}
 
 -- the number of the statement before or in which a session is
 abbrev pub number_at : Place → ℕ
@@ -30,22 +26,6 @@ number_at (place.Between number) = number
 pub record IsStillAt (old new : plain.Session) : Type 0 where
   pub number : new.number ≡ old.number
   pub branch : new.branch ≡ old.branch
-
--- the plain session and the shared state after the answer, and the turns between; the session hasn't gone on yet
-pub record Answered {D : Type 0} (address : List ℕ → List ℕ) (epoch : ℤ) (p : plain.Session) (asked : Command) (shared : Shared) (old new : Parts) (session : Session D) (reply : Reply) : Type 0 where
-  pub said : plain.Session
-  pub last : Shared
-  pub turns : List Turn
-  pub is : ServedIn address epoch (shortage reply) p asked turns (past p.statement (said, reply))
-  pub follows : TurnsFollow shared turns last
-  pub session_stands : SessionStands address session said
-  pub still : IsStillAt p said
-  pub state_stands : StateStands address new last
-  pub places : last.places ≡ shared.places
-  pub later : Lists session.draft.chunks.base new.chunks
-  pub grown : Lists old.chunks new.chunks
-  pub moments : new.moments ≡ old.moments ++ moments_of p.number turns
-  pub numbers : new.numbers ≡ old.numbers
 
 -- what the rule's verdict leaves of the shared state, and what a COMMIT then answers
 abbrev pub ComesTo : Shared → List ℕ → Outcome BranchState → Shared → Reply → Type 0
@@ -64,6 +44,10 @@ pub record Decided (address : List ℕ → List ℕ) (p : plain.Session) (t : pl
   pub chunks : Lists old.chunks new.chunks
   pub moments : new.moments ≡ old.moments ++ record { session = p.number; statement = p.statement } ∷ []
   pub numbers : new.numbers ≡ old.numbers
+
+-- no room was used up
+abbrev pub HasRoomStill : Db → Db → Type 0
+HasRoomStill old new = (old.moments_room ≤ new.moments_room) × (old.segments_room ≤ new.segments_room)
 
 -- a want of memory that came after the start is told so
 abbrev pub after_start : Reply → Reply

@@ -1,20 +1,21 @@
-//! BEGIN where it decides on a transaction that changed something.
+//! BEGIN.
 
-ghost use Rattle.std.specs.Prelude.{◌≡◌, ◌<◌, ℤ, true, Some, IfOk, IfErr, OnErr};
+ghost use Rattle.std.specs.Prelude.{◌≡◌, ◌<◌, ℤ, true, false, Some, IfOk, IfErr, OnErr};
 ghost use Rattle.script_text.specs.Collisions.{IsFault, TellsTruly};
 ghost use Rattle.plain_sessions.specs.Records.{Shared};
 ghost use Rattle.plain_sessions.specs.Sessions as plain;
 ghost use Rattle.plain_sessions.specs.Sessions.{is_changed};
 ghost use Rattle.plain_sessions.specs.declared.commands.Command.TheVariants as command;
+ghost use Rattle.script_text.specs.declared.replies.Reply.TheVariants.{Done};
 ghost use Rattle.session_txn.specs.Showing.{is_sound_reply};
 ghost use Rattle.shared_db.specs.Shared.{KeepsRoom};
 ghost use Rattle.serving.specs.Serving.{IsBefore};
-ghost use Rattle.serving.specs.Steps.{Answered};
+ghost use Rattle.serving.specs.Answering.{Answered};
+ghost use Rattle.serving.specs.Steps.{HasRoomStill};
 
 use crate::ahead::look_ahead;
 use crate::deciding::settle;
 use crate::places::number_of;
-use crate::serving::reply_to;
 use chunk_store::{PutFault, law_of_chunks};
 use script_text::Reply;
 use session_laws::law_of_states;
@@ -24,25 +25,56 @@ use shared_db::{Change, SharedDb};
 use std::alloc::Global;
 use tuple_codec::Digester;
 
-/// BEGIN where the open transaction has changed something: the decision on it and the start of the next are one moment.
-pub(crate) fn begin_changed<D: Digester>(
+/// BEGIN: it takes its start, and an open transaction that changed nothing is given up; one that changed something is decided on first, at
+/// the same moment. A fault leaves all as it was.
+pub(crate) fn begin<D: Digester>(
     alloc: Global,
     db: &mut SharedDb,
     session: &mut Session<D>,
-) -> Reply
-    requires open { (p : plain.Session) × (t : plain.Transaction) × (shared : Shared) × IsBefore D.address session.old db.old.parts p shared × (p.transaction ≡ Some t) }
+) -> Result<Reply, PutFault>
+    requires before { (p : plain.Session) × (shared : Shared) × IsBefore D.address session.old db.old.parts p shared }
     requires moments { 0 < db.old.moments_room }
     requires segments { 0 < db.old.segments_room }
-    ensures answered { (epoch : ℤ) (p : plain.Session) (t : plain.Transaction) (shared : Shared) → IsBefore D.address session.old db.old.parts p shared → p.transaction ≡ Some t
-        → is_changed p ≡ true → Answered D.address epoch p command.Begin shared db.old.parts db.new.parts session.new result }
-    ensures sound { is_sound_reply result ≡ true }
-    ensures truly { TellsTruly D.address result }
+    ensures answered { IfOk result (λ reply. (epoch : ℤ) (p : plain.Session) (shared : Shared) → IsBefore D.address session.old db.old.parts p shared
+        → Answered D.address epoch p command.Begin shared db.old.parts db.new.parts session.new reply) }
+    ensures sound { IfOk result (λ reply. is_sound_reply reply ≡ true) }
+    ensures truly { IfOk result (TellsTruly D.address) }
+    ensures fault { IfErr result (IsFault D.address) }
+    ensures same { OnErr result (db.new.parts ≡ db.old.parts) }
+    ensures kept { OnErr result (session.new ≡ session.old) }
     ensures room { KeepsRoom 1 db.old db.new }
+    ensures room_kept { OnErr result (HasRoomStill db.old db.new) }
 {
-    match begin_anew(alloc, db, session) {
-        Ok(reply) => reply,
-        Err(fault) => reply_to(fault),
+    if session.is_changed() {
+        begin_anew(alloc, db, session)
+    } else {
+        begin_unchanged(alloc, db, session)
     }
+}
+
+/// BEGIN where nothing has changed.
+fn begin_unchanged<D: Digester>(
+    alloc: Global,
+    db: &mut SharedDb,
+    session: &mut Session<D>,
+) -> Result<Reply, PutFault>
+    requires before { (p : plain.Session) × (shared : Shared) × IsBefore D.address session.old db.old.parts p shared }
+    requires moments { 0 < db.old.moments_room }
+    ensures answered { IfOk result (λ reply. (epoch : ℤ) (p : plain.Session) (shared : Shared) → IsBefore D.address session.old db.old.parts p shared → is_changed p ≡ false
+        → Answered D.address epoch p command.Begin shared db.old.parts db.new.parts session.new reply) }
+    ensures done { IfOk result (λ reply. reply ≡ Done) }
+    ensures fault { IfErr result (IsFault D.address) }
+    ensures same { OnErr result (db.new.parts ≡ db.old.parts) }
+    ensures kept { OnErr result (session.new ≡ session.old) }
+    ensures room { KeepsRoom 0 db.old db.new }
+    ensures room_kept { OnErr result (HasRoomStill db.old db.new) }
+{
+    law_of_states();
+    let look = db.look(alloc, &session.branch)?;
+    let number = number_of(session.position);
+    db.start(session.number, number);
+    plan_begin(alloc, session, look);
+    Ok(Reply::Done)
 }
 
 /// Decides and begins; a fault leaves all as it was.
@@ -62,6 +94,7 @@ fn begin_anew<D: Digester>(
     ensures same { OnErr result (db.new.parts ≡ db.old.parts) }
     ensures kept { OnErr result (session.new ≡ session.old) }
     ensures room { KeepsRoom 1 db.old db.new }
+    ensures room_kept { OnErr result (HasRoomStill db.old db.new) }
 {
     law_of_chunks();
     law_of_states();

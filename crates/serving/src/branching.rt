@@ -1,11 +1,12 @@
 //! Steps on the list of branches, each at one moment: DOLT_BRANCH and DOLT_CHECKOUT.
 
-ghost use Rattle.std.specs.Prelude.{◌≡◌, ◌≢◌, ◌<◌, ◌+◌, ◌^◌, ℤ, true, None};
-ghost use Rattle.script_text.specs.Collisions.{TellsTruly};
+ghost use Rattle.std.specs.Prelude.{◌≡◌, ◌≢◌, ◌<◌, ℤ, true, false, None, IfErr, IfOk, OnErr};
+ghost use Rattle.script_text.specs.Collisions.{IsFault, TellsTruly};
 ghost use Rattle.plain_sessions.specs.Branching.{checkout_name};
 ghost use Rattle.plain_sessions.specs.Fitness.{is_fit_branch, is_fit_checkout, is_fit_new};
 ghost use Rattle.plain_sessions.specs.Records.{Shared};
 ghost use Rattle.plain_sessions.specs.Sessions as plain;
+ghost use Rattle.plain_sessions.specs.Sessions.{is_changed};
 ghost use Rattle.plain_sessions.specs.declared.commands.Command.TheVariants as command;
 ghost use Rattle.sql_procedures.specs.Arguments.{is_point};
 ghost use Rattle.session_txn.specs.Showing.{is_sound_reply};
@@ -13,11 +14,12 @@ ghost use Rattle.shared_db.specs.Shared.{KeepsRoom};
 ghost use Rattle.shared_db.specs.Stepping.{point_of, step_of_branch, step_of_checkout};
 ghost use Rattle.shared_db.specs.declared.changes.BranchReply.TheVariants as reply;
 ghost use Rattle.serving.specs.Branching.{Went, step_reply};
-ghost use Rattle.serving.specs.Serving.{IsBefore, Serves};
-ghost use Rattle.serving.specs.Steps.{number_at};
+ghost use Rattle.serving.specs.Serving.{IsBefore};
+ghost use Rattle.serving.specs.Steps.{HasRoomStill};
 
-use crate::places::{go_on, number_of};
+use crate::places::number_of;
 use crate::rows::{status_row, switched_row};
+use chunk_store::PutFault;
 use script_text::Reply;
 use session_state::Session;
 use shared_db::{BranchReply, BranchStep, Point, SharedDb, law_of_steps};
@@ -26,112 +28,63 @@ use std::alloc::Global;
 use table_root::BranchName;
 use tuple_codec::{Answer, Digester, Text};
 
-/// DOLT_BRANCH; the session goes on to its next statement.
-pub(crate) fn change_branches<D: Digester>(
-    alloc: Global,
-    db: &mut SharedDb,
-    session: &mut Session<D>,
-    request: &BranchRequest,
-) -> Reply
-    requires before { (p : plain.Session) × (shared : Shared) × IsBefore D.address session.old db.old.parts p shared }
-    requires place { number_at session.old.position + 1 < 2 ^ 32 }
-    requires fit { is_fit_branch request.now ≡ true }
-    requires moments { 0 < db.old.moments_room }
-    ensures served { (epoch : ℤ) (p : plain.Session) (shared : Shared) → IsBefore D.address session.old db.old.parts p shared
-        → Serves D.address epoch p (command.OnBranches request.now) shared db.old.parts db.new.parts session.new result }
-    ensures sound { is_sound_reply result ≡ true }
-    ensures truly { TellsTruly D.address result }
-    ensures room { KeepsRoom 0 db.old db.new }
-{
-    let number = number_of(session.position);
-    let reply = step_branches(alloc, db, session, request);
-    go_on(session, number);
-    reply
-}
-
-/// The answer to DOLT_BRANCH, before the session goes on.
-fn step_branches<D: Digester>(
+/// DOLT_BRANCH. Where memory was wanting there is no moment.
+pub(crate) fn step_branches<D: Digester>(
     alloc: Global,
     db: &mut SharedDb,
     session: &Session<D>,
     request: &BranchRequest,
-) -> Reply
+) -> Result<Reply, PutFault>
     requires before { (p : plain.Session) × (shared : Shared) × IsBefore D.address session.now db.old.parts p shared }
     requires fit { is_fit_branch request.now ≡ true }
     requires moments { 0 < db.old.moments_room }
-    ensures went { (epoch : ℤ) (p : plain.Session) (shared : Shared) → IsBefore D.address session.now db.old.parts p shared
-        → Went D.address epoch p (command.OnBranches request.now) shared db.old.parts db.new.parts session.now result }
-    ensures sound { is_sound_reply result ≡ true }
-    ensures truly { TellsTruly D.address result }
+    ensures went { IfOk result (λ reply. (epoch : ℤ) (p : plain.Session) (shared : Shared) → IsBefore D.address session.now db.old.parts p shared
+        → Went D.address epoch p (command.OnBranches request.now) shared db.old.parts db.new.parts session.now reply) }
+    ensures sound { IfOk result (λ reply. is_sound_reply reply ≡ true) }
+    ensures truly { IfOk result (TellsTruly D.address) }
+    ensures fault { IfErr result (IsFault D.address) }
+    ensures same { OnErr result (db.new.parts ≡ db.old.parts) }
     ensures room { KeepsRoom 0 db.old db.new }
+    ensures room_kept { OnErr result (HasRoomStill db.old db.new) }
 {
     law_of_steps();
     let step = step_of_branch(request);
-    match status_row(alloc) {
-        Ok(row) => {
-            let number = number_of(session.position);
-            let ended = db.branch_step(session.number, number, &step);
-            step_reply(row, ended)
-        }
-        Err(_) => Reply::Refused(1),
-    }
-}
-
-/// DOLT_CHECKOUT; the session goes on to its next statement, on the branch that it is on then.
-pub(crate) fn check_out<D: Digester>(
-    alloc: Global,
-    db: &mut SharedDb,
-    session: &mut Session<D>,
-    request: &CheckoutRequest,
-) -> Reply
-    requires before { (p : plain.Session) × (shared : Shared) × IsBefore D.address session.old db.old.parts p shared }
-    requires place { number_at session.old.position + 1 < 2 ^ 32 }
-    requires fit { is_fit_checkout request.now ≡ true }
-    requires moments { 0 < db.old.moments_room }
-    ensures served { (epoch : ℤ) (p : plain.Session) (shared : Shared) → IsBefore D.address session.old db.old.parts p shared
-        → Serves D.address epoch p (command.Checkout request.now) shared db.old.parts db.new.parts session.new result }
-    ensures sound { is_sound_reply result ≡ true }
-    ensures truly { TellsTruly D.address result }
-    ensures room { KeepsRoom 0 db.old db.new }
-{
+    let row = status_row(alloc)?;
     let number = number_of(session.position);
-    let reply = go_to(alloc, db, session, request);
-    go_on(session, number);
-    reply
+    let ended = db.branch_step(session.number, number, &step);
+    Ok(step_reply(row, ended))
 }
 
-/// The checkout's answer, before the session goes on. A transaction with changes keeps the session where it is; another one is over.
-fn go_to<D: Digester>(
+/// DOLT_CHECKOUT, but in a transaction that changed something: the session is on the branch that it is on then, and its transaction is over.
+/// Where memory was wanting there is no moment, and all is as it was.
+pub(crate) fn go_to<D: Digester>(
     alloc: Global,
     db: &mut SharedDb,
     session: &mut Session<D>,
     request: &CheckoutRequest,
-) -> Reply
-    requires before { (p : plain.Session) × (shared : Shared) × IsBefore D.address session.old db.old.parts p shared }
+) -> Result<Reply, PutFault>
+    requires before { (p : plain.Session) × (shared : Shared) × IsBefore D.address session.old db.old.parts p shared × (is_changed p ≡ false) }
     requires fit { is_fit_checkout request.now ≡ true }
     requires moments { 0 < db.old.moments_room }
-    ensures went { (epoch : ℤ) (p : plain.Session) (shared : Shared) → IsBefore D.address session.old db.old.parts p shared
-        → Went D.address epoch p (command.Checkout request.now) shared db.old.parts db.new.parts session.new result }
+    ensures went { IfOk result (λ reply. (epoch : ℤ) (p : plain.Session) (shared : Shared) → IsBefore D.address session.old db.old.parts p shared → is_changed p ≡ false
+        → Went D.address epoch p (command.Checkout request.now) shared db.old.parts db.new.parts session.new reply) }
     ensures position { session.new.position ≡ session.old.position }
-    ensures sound { is_sound_reply result ≡ true }
-    ensures truly { TellsTruly D.address result }
+    ensures sound { IfOk result (λ reply. is_sound_reply reply ≡ true) }
+    ensures truly { IfOk result (TellsTruly D.address) }
+    ensures fault { IfErr result (IsFault D.address) }
+    ensures same { OnErr result (db.new.parts ≡ db.old.parts) }
+    ensures kept { OnErr result (session.new ≡ session.old) }
     ensures room { KeepsRoom 0 db.old db.new }
+    ensures room_kept { OnErr result (HasRoomStill db.old db.new) }
 {
-    if session.is_changed() {
-        return Reply::Refused(9006);
-    }
     law_of_steps();
     let branch = checkout_name(request);
-    match switched_row(alloc, branch.bytes()) {
-        Ok(row) => {
-            let step = step_of_checkout(request);
-            let number = number_of(session.position);
-            let ended = db.branch_step(session.number, number, &step);
-            arrive(session, branch, ended);
-            step_reply(row, ended)
-        }
-        Err(_) => Reply::Refused(1),
-    }
+    let row = switched_row(alloc, branch.bytes())?;
+    let step = step_of_checkout(request);
+    let number = number_of(session.position);
+    let ended = db.branch_step(session.number, number, &step);
+    arrive(session, branch, ended);
+    Ok(step_reply(row, ended))
 }
 
 /// Where the step was done the session is on that branch, outside any transaction.

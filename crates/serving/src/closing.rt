@@ -1,34 +1,34 @@
-//! Calls that may have a decision of their own: answered by the session itself, or decided on at a moment.
+//! Calls that may have a decision of their own: DOLT_COMMIT, and DOLT_MERGE of a name.
 
-ghost use Rattle.std.specs.Prelude.{◌≡◌, ◌<◌, ◌≤◌, ◌≤ℤ◌, ◌+◌, ◌^◌, ℤ, pos, true, IfErr, IfOk, OnErr, Ok, None, Some};
+ghost use Rattle.std.specs.Prelude.{◌≡◌, ◌<◌, ◌≤ℤ◌, ℤ, pos, true, IfErr, IfOk, OnErr, Ok, None, Some};
+ghost use Rattle.chunk_store.specs.declared.faults.PutFault.TheVariants.{Memory};
 ghost use Rattle.script_text.specs.Collisions.{IsFault, TellsTruly};
 ghost use Rattle.plain_sessions.specs.Fitness.{IsFitWork};
 ghost use Rattle.plain_sessions.specs.Merging.{Closes, Ending};
-ghost use Rattle.plain_sessions.specs.Moments.{closed};
+ghost use Rattle.plain_sessions.specs.Moments.{alone_by, closed};
 ghost use Rattle.plain_sessions.specs.Records.{BranchState, Shared};
 ghost use Rattle.plain_sessions.specs.Sessions as plain;
-ghost use Rattle.plain_sessions.specs.Sessions.{within};
 ghost use Rattle.plain_sessions.specs.Statements.{worked};
 ghost use Rattle.plain_sessions.specs.declared.commands.Command.TheVariants as command;
 ghost use Rattle.session_laws.specs.Changes.{Parts};
-ghost use Rattle.session_state.specs.Standing.{SessionStands};
 ghost use Rattle.session_txn.specs.Answering.{Decides};
 ghost use Rattle.session_txn.specs.Showing.{is_sound_reply};
 ghost use Rattle.shared_db.specs.Plans.{PlanIs};
 ghost use Rattle.shared_db.specs.Shared.{KeepsRoom};
-ghost use Rattle.merge_procs.specs.Steps.{merges};
+ghost use Rattle.serving.specs.Answering.{HasMet};
 ghost use Rattle.serving.specs.Branching.{Went};
-ghost use Rattle.serving.specs.Closing.{ClosedAs, IsCourse};
+ghost use Rattle.serving.specs.Closing.{ClosedAs};
 ghost use Rattle.serving.specs.Kinds.{may_close};
-ghost use Rattle.serving.specs.Serving.{IsBefore, Serves};
+ghost use Rattle.serving.specs.Serving.{Fails, IsBefore, IsHere, IsSoundMet, MetTellsTruly};
 ghost use Rattle.serving.specs.Starting.{HasStarted};
-ghost use Rattle.serving.specs.Steps.{number_at};
+ghost use Rattle.serving.specs.Steps.{HasRoomStill};
 
 use crate::courses::{Course, find_course};
 use crate::deciding::settle;
-use crate::places::{go_on, number_of};
-use crate::serving::reply_to;
-use crate::starting::{after_start, end_answered};
+use crate::faults::reply_to;
+use crate::meeting::{Met, Pending};
+use crate::places::number_of;
+use crate::starting::{end_answered, refuse_started, take_start};
 use branch_procs::plan_dolt_commit;
 use chunk_store::{PutFault, law_of_chunks};
 use merge_procs::{merge_local, plan_merge};
@@ -36,131 +36,52 @@ use plain_sessions::Work;
 use script_text::Reply;
 use session_laws::law_of_states;
 use session_state::Session;
-use session_txn::{due, plan_begin};
+use session_txn::due;
 use shared_db::{Plan, SharedDb};
 use std::alloc::Global;
 use table_root::Look;
 use tuple_codec::Digester;
 
-/// DOLT_COMMIT, or DOLT_MERGE of a name; the session goes on to its next statement. A commit that is made has the epoch as its date.
-pub(crate) fn serve_closing<D: Digester>(
+/// The call at its first moment: its decision in the open transaction, or a start of its own. A commit that is made has the epoch as its date.
+pub(crate) fn meet_closing<D: Digester>(
     alloc: Global,
     db: &mut SharedDb,
     session: &mut Session<D>,
     asked: &Work,
     epoch: i64,
-) -> Reply
-    requires before { (p : plain.Session) × (shared : Shared) × IsBefore D.address session.old db.old.parts p shared }
-    requires place { number_at session.old.position + 1 < 2 ^ 32 }
+) -> Result<Met, PutFault>
+    requires before { (p : plain.Session) × (shared : Shared) × IsBefore D.address session.old db.old.parts p shared × (alone_by None p (command.Data asked.now) ≡ None) }
     requires closes { may_close asked.now ≡ true }
     requires fit { IsFitWork asked.now }
     requires epoch { pos 0 ≤ℤ epoch }
-    requires moments { 2 ≤ db.old.moments_room }
+    requires moments { 0 < db.old.moments_room }
     requires segments { 0 < db.old.segments_room }
-    ensures served { (p : plain.Session) (shared : Shared) → IsBefore D.address session.old db.old.parts p shared
-        → Serves D.address epoch p (command.Data asked.now) shared db.old.parts db.new.parts session.new result }
-    ensures sound { is_sound_reply result ≡ true }
-    ensures truly { TellsTruly D.address result }
-    ensures moments { db.old.moments_room ≤ db.new.moments_room + 2 }
-    ensures segments { db.old.segments_room ≤ db.new.segments_room + 1 }
-{
-    let number = number_of(session.position);
-    let reply = answer_closing(alloc, db, session, asked, epoch);
-    go_on(session, number);
-    reply
-}
-
-/// The answer, before the session goes on.
-fn answer_closing<D: Digester>(
-    alloc: Global,
-    db: &mut SharedDb,
-    session: &mut Session<D>,
-    asked: &Work,
-    epoch: i64,
-) -> Reply
-    requires before { (p : plain.Session) × (shared : Shared) × IsBefore D.address session.old db.old.parts p shared }
-    requires closes { may_close asked.now ≡ true }
-    requires fit { IsFitWork asked.now }
-    requires epoch { pos 0 ≤ℤ epoch }
-    requires moments { 2 ≤ db.old.moments_room }
-    requires segments { 0 < db.old.segments_room }
-    ensures went { (p : plain.Session) (shared : Shared) → IsBefore D.address session.old db.old.parts p shared
-        → Went D.address epoch p (command.Data asked.now) shared db.old.parts db.new.parts session.new result }
-    ensures sound { is_sound_reply result ≡ true }
-    ensures truly { TellsTruly D.address result }
-    ensures moments { db.old.moments_room ≤ db.new.moments_room + 2 }
-    ensures segments { db.old.segments_room ≤ db.new.segments_room + 1 }
+    ensures met { IfOk result (λ met. (p : plain.Session) (shared : Shared) → IsBefore D.address session.old db.old.parts p shared → alone_by None p (command.Data asked.now) ≡ None
+        → HasMet D.address epoch p (command.Data asked.now) shared db.old.parts db.new.parts session.new met) }
+    ensures sound { IfOk result IsSoundMet }
+    ensures truly { IfOk result (MetTellsTruly D.address) }
+    ensures fails { IfErr result (λ fault. (p : plain.Session) (shared : Shared) → IsBefore D.address session.old db.old.parts p shared → Fails p (command.Data asked.now) fault) }
+    ensures fault { IfErr result (IsFault D.address) }
+    ensures same { OnErr result (db.new.parts ≡ db.old.parts) }
+    ensures kept { OnErr result (session.new ≡ session.old) }
+    ensures room { KeepsRoom 1 db.old db.new }
+    ensures room_kept { OnErr result (HasRoomStill db.old db.new) }
 {
     if session.start.is_some() {
-        answer_open(alloc, db, session, asked, epoch)
+        Ok(Met::Answered(decide_open(alloc, db, session, asked, epoch)?))
     } else {
-        start_closing(alloc, db, session, asked, epoch)
+        start_closing(alloc, db, session, asked)
     }
 }
 
-/// In the transaction that is open.
-fn answer_open<D: Digester>(
-    alloc: Global,
-    db: &mut SharedDb,
-    session: &mut Session<D>,
-    asked: &Work,
-    epoch: i64,
-) -> Reply
-    requires open { (p : plain.Session) × (t : plain.Transaction) × (shared : Shared) × IsBefore D.address session.old db.old.parts p shared × (p.transaction ≡ Some t) }
-    requires closes { may_close asked.now ≡ true }
-    requires fit { IsFitWork asked.now }
-    requires epoch { pos 0 ≤ℤ epoch }
-    requires moments { 0 < db.old.moments_room }
-    requires segments { 0 < db.old.segments_room }
-    ensures went { (p : plain.Session) (t : plain.Transaction) (shared : Shared) → IsBefore D.address session.old db.old.parts p shared → p.transaction ≡ Some t
-        → Went D.address epoch p (command.Data asked.now) shared db.old.parts db.new.parts session.new result }
-    ensures sound { is_sound_reply result ≡ true }
-    ensures truly { TellsTruly D.address result }
-    ensures room { KeepsRoom 1 db.old db.new }
-{
-    match find_course(alloc, session, asked) {
-        Ok(course) => follow_open(alloc, db, session, asked, epoch, course),
-        Err(fault) => reply_to(fault),
-    }
-}
-
-/// The decision, the refusal that was found before it, or the session's own answer.
-fn follow_open<D: Digester>(
-    alloc: Global,
-    db: &mut SharedDb,
-    session: &mut Session<D>,
-    asked: &Work,
-    epoch: i64,
-    course: Course,
-) -> Reply
-    requires open { (p : plain.Session) × (t : plain.Transaction) × (shared : Shared) × IsBefore D.address session.old db.old.parts p shared × (p.transaction ≡ Some t) }
-    requires course { (p : plain.Session) (t : plain.Transaction) → SessionStands D.address session.old p → p.transaction ≡ Some t → IsCourse course asked.now (worked p t asked.now) }
-    requires closes { may_close asked.now ≡ true }
-    requires fit { IsFitWork asked.now }
-    requires epoch { pos 0 ≤ℤ epoch }
-    requires moments { 0 < db.old.moments_room }
-    requires segments { 0 < db.old.segments_room }
-    ensures went { (p : plain.Session) (t : plain.Transaction) (shared : Shared) → IsBefore D.address session.old db.old.parts p shared → p.transaction ≡ Some t
-        → Went D.address epoch p (command.Data asked.now) shared db.old.parts db.new.parts session.new result }
-    ensures sound { is_sound_reply result ≡ true }
-    ensures truly { TellsTruly D.address result }
-    ensures room { KeepsRoom 1 db.old db.new }
-{
-    match course {
-        Course::Closes => decide_open(alloc, db, session, asked, epoch),
-        Course::Refused(number) => due(Reply::Refused(number), 1),
-        Course::Stays => merge_local(alloc, session, asked),
-    }
-}
-
-/// The decision on the open transaction, which is over where it was decided on.
+/// The decision on the open transaction, which is over where it was decided on. A fault leaves all as it was.
 fn decide_open<D: Digester>(
     alloc: Global,
     db: &mut SharedDb,
     session: &mut Session<D>,
     asked: &Work,
     epoch: i64,
-) -> Reply
+) -> Result<Reply, PutFault>
     requires closing { (p : plain.Session) × (t : plain.Transaction) × (ending : Ending) × (shared : Shared) × IsBefore D.address session.old db.old.parts p shared × (p.transaction ≡ Some t)
         × (worked p t asked.now ≡ Ok (Closes ending)) }
     requires closes { may_close asked.now ≡ true }
@@ -168,187 +89,90 @@ fn decide_open<D: Digester>(
     requires epoch { pos 0 ≤ℤ epoch }
     requires moments { 0 < db.old.moments_room }
     requires segments { 0 < db.old.segments_room }
-    ensures went { (p : plain.Session) (t : plain.Transaction) (ending : Ending) (shared : Shared) → IsBefore D.address session.old db.old.parts p shared → p.transaction ≡ Some t
-        → worked p t asked.now ≡ Ok (Closes ending) → Went D.address epoch p (command.Data asked.now) shared db.old.parts db.new.parts session.new result }
-    ensures sound { is_sound_reply result ≡ true }
-    ensures truly { TellsTruly D.address result }
+    ensures went { IfOk result (λ reply. (p : plain.Session) (t : plain.Transaction) (ending : Ending) (shared : Shared) → IsBefore D.address session.old db.old.parts p shared → p.transaction ≡ Some t
+        → worked p t asked.now ≡ Ok (Closes ending) → Went D.address epoch p (command.Data asked.now) shared db.old.parts db.new.parts session.new reply) }
+    ensures sound { IfOk result (λ reply. is_sound_reply reply ≡ true) }
+    ensures truly { IfOk result (TellsTruly D.address) }
+    ensures fault { IfErr result (IsFault D.address) }
+    ensures same { OnErr result (db.new.parts ≡ db.old.parts) }
+    ensures kept { OnErr result (session.new ≡ session.old) }
     ensures room { KeepsRoom 1 db.old db.new }
+    ensures room_kept { OnErr result (HasRoomStill db.old db.new) }
 {
-    match close(alloc, db, session, asked, epoch) {
-        Ok(reply) => {
-            session.start = None;
-            reply
-        }
-        Err(fault) => reply_to(fault),
-    }
+    let reply = close(alloc, db, session, asked, epoch)?;
+    session.start = None;
+    Ok(reply)
 }
 
-/// Outside a transaction it takes its start.
+/// Outside a transaction it takes its start. Where memory was wanting there is none.
 fn start_closing<D: Digester>(
     alloc: Global,
     db: &mut SharedDb,
     session: &mut Session<D>,
     asked: &Work,
-    epoch: i64,
-) -> Reply
+) -> Result<Met, PutFault>
     requires before { (p : plain.Session) × (shared : Shared) × IsBefore D.address session.old db.old.parts p shared × (p.transaction ≡ None) }
     requires closes { may_close asked.now ≡ true }
-    requires fit { IsFitWork asked.now }
-    requires epoch { pos 0 ≤ℤ epoch }
-    requires moments { 2 ≤ db.old.moments_room }
-    requires segments { 0 < db.old.segments_room }
-    ensures went { (p : plain.Session) (shared : Shared) → IsBefore D.address session.old db.old.parts p shared → p.transaction ≡ None
-        → Went D.address epoch p (command.Data asked.now) shared db.old.parts db.new.parts session.new result }
-    ensures sound { is_sound_reply result ≡ true }
-    ensures truly { TellsTruly D.address result }
-    ensures moments { db.old.moments_room ≤ db.new.moments_room + 2 }
-    ensures segments { db.old.segments_room ≤ db.new.segments_room + 1 }
+    requires moments { 0 < db.old.moments_room }
+    ensures met { IfOk result (λ met. (epoch : ℤ) (p : plain.Session) (shared : Shared) → IsBefore D.address session.old db.old.parts p shared → p.transaction ≡ None
+        → HasMet D.address epoch p (command.Data asked.now) shared db.old.parts db.new.parts session.new met) }
+    ensures sound { IfOk result IsSoundMet }
+    ensures truly { IfOk result (MetTellsTruly D.address) }
+    ensures fault { IfErr result (λ fault. fault ≡ Memory) }
+    ensures same { OnErr result (db.new.parts ≡ db.old.parts) }
+    ensures kept { OnErr result (session.new ≡ session.old) }
+    ensures room { KeepsRoom 0 db.old db.new }
+    ensures room_kept { OnErr result (HasRoomStill db.old db.new) }
 {
-    law_of_states();
-    match db.look(alloc, &session.branch) {
-        Ok(look) => {
-            let number = number_of(session.position);
-            db.start(session.number, number);
-            plan_begin(alloc, session, look);
-            answer_started(alloc, db, session, asked, epoch)
-        }
-        Err(_) => Reply::Refused(1),
-    }
+    take_start(alloc, db, session)?;
+    Ok(follow_started(alloc, session, asked))
 }
 
-/// The answer in the transaction that was started.
-fn answer_started<D: Digester>(
-    alloc: Global,
-    db: &mut SharedDb,
-    session: &mut Session<D>,
-    asked: &Work,
-    epoch: i64,
-) -> Reply
-    requires started { (parts : Parts) × (p : plain.Session) × (t : plain.Transaction) × (shared : Shared) × HasStarted D.address session.old parts db.old.parts p t shared }
+/// In the transaction that was started: its decision is to come, or it is refused before it, or the session answers it by itself.
+fn follow_started<D: Digester>(alloc: Global, session: &mut Session<D>, asked: &Work) -> Met
+    requires started { (parts : Parts) × (now : Parts) × (p : plain.Session) × (t : plain.Transaction) × (shared : Shared) × HasStarted D.address session.old parts now p t shared }
     requires closes { may_close asked.now ≡ true }
-    requires fit { IsFitWork asked.now }
-    requires epoch { pos 0 ≤ℤ epoch }
-    requires moments { 0 < db.old.moments_room }
-    requires segments { 0 < db.old.segments_room }
-    ensures went { (parts : Parts) (p : plain.Session) (t : plain.Transaction) (shared : Shared) → HasStarted D.address session.old parts db.old.parts p t shared
-        → Went D.address epoch p (command.Data asked.now) shared parts db.new.parts session.new result }
-    ensures sound { is_sound_reply result ≡ true }
-    ensures truly { TellsTruly D.address result }
-    ensures room { KeepsRoom 1 db.old db.new }
+    ensures met { (epoch : ℤ) (parts : Parts) (now : Parts) (p : plain.Session) (t : plain.Transaction) (shared : Shared) → HasStarted D.address session.old parts now p t shared
+        → HasMet D.address epoch p (command.Data asked.now) shared parts now session.new result }
+    ensures sound { IsSoundMet result }
+    ensures truly { MetTellsTruly D.address result }
 {
     match find_course(alloc, session, asked) {
-        Ok(course) => follow_started(alloc, db, session, asked, epoch, course),
-        Err(fault) => {
-            session.start = None;
-            after_start(reply_to(fault))
+        Ok(Course::Closes) => Met::Pending(Pending::Closing),
+        Ok(Course::Refused(number)) => {
+            Met::Answered(refuse_started(session, due(Reply::Refused(number), 1)))
         }
-    }
-}
-
-/// The decision, the refusal that was found before it, or the session's own answer. Whatever is decided or refused, the transaction is over.
-fn follow_started<D: Digester>(
-    alloc: Global,
-    db: &mut SharedDb,
-    session: &mut Session<D>,
-    asked: &Work,
-    epoch: i64,
-    course: Course,
-) -> Reply
-    requires started { (parts : Parts) × (p : plain.Session) × (t : plain.Transaction) × (shared : Shared) × HasStarted D.address session.old parts db.old.parts p t shared }
-    requires course { (p : plain.Session) (t : plain.Transaction) → SessionStands D.address session.old p → p.transaction ≡ Some t → IsCourse course asked.now (worked p t asked.now) }
-    requires closes { may_close asked.now ≡ true }
-    requires fit { IsFitWork asked.now }
-    requires epoch { pos 0 ≤ℤ epoch }
-    requires moments { 0 < db.old.moments_room }
-    requires segments { 0 < db.old.segments_room }
-    ensures went { (parts : Parts) (p : plain.Session) (t : plain.Transaction) (shared : Shared) → HasStarted D.address session.old parts db.old.parts p t shared
-        → Went D.address epoch p (command.Data asked.now) shared parts db.new.parts session.new result }
-    ensures sound { is_sound_reply result ≡ true }
-    ensures truly { TellsTruly D.address result }
-    ensures room { KeepsRoom 1 db.old db.new }
-{
-    match course {
-        Course::Closes => decide_started(alloc, db, session, asked, epoch),
-        Course::Refused(number) => {
-            session.start = None;
-            after_start(due(Reply::Refused(number), 1))
+        Ok(Course::Stays) => {
+            let reply = merge_local(alloc, session, asked);
+            end_answered(session, reply)
         }
-        Course::Stays => stay_started(alloc, db, session, asked),
-    }
-}
-
-/// A merge that the session answers by itself ends as any statement does that took its start.
-fn stay_started<D: Digester>(
-    alloc: Global,
-    db: &mut SharedDb,
-    session: &mut Session<D>,
-    asked: &Work,
-) -> Reply
-    requires started { (parts : Parts) × (p : plain.Session) × (t : plain.Transaction) × (shared : Shared) × HasStarted D.address session.old parts db.old.parts p t shared }
-    requires merges { merges asked.now ≡ true }
-    requires moments { 0 < db.old.moments_room }
-    requires segments { 0 < db.old.segments_room }
-    ensures went { (epoch : ℤ) (parts : Parts) (p : plain.Session) (t : plain.Transaction) (shared : Shared) → HasStarted D.address session.old parts db.old.parts p t shared
-        → Went D.address epoch p (command.Data asked.now) shared parts db.new.parts session.new result }
-    ensures sound { is_sound_reply result ≡ true }
-    ensures truly { TellsTruly D.address result }
-    ensures room { KeepsRoom 1 db.old db.new }
-{
-    let reply = merge_local(alloc, session, asked);
-    end_answered(alloc, db, session, reply)
-}
-
-/// The decision on the transaction that was started, which is over whatever comes.
-fn decide_started<D: Digester>(
-    alloc: Global,
-    db: &mut SharedDb,
-    session: &mut Session<D>,
-    asked: &Work,
-    epoch: i64,
-) -> Reply
-    requires started { (parts : Parts) × (p : plain.Session) × (t : plain.Transaction) × (ending : Ending) × (shared : Shared) × HasStarted D.address session.old parts db.old.parts p t shared
-        × (worked (within p t) t asked.now ≡ Ok (Closes ending)) }
-    requires closes { may_close asked.now ≡ true }
-    requires fit { IsFitWork asked.now }
-    requires epoch { pos 0 ≤ℤ epoch }
-    requires moments { 0 < db.old.moments_room }
-    requires segments { 0 < db.old.segments_room }
-    ensures went { (parts : Parts) (p : plain.Session) (t : plain.Transaction) (ending : Ending) (shared : Shared) → HasStarted D.address session.old parts db.old.parts p t shared
-        → worked (within p t) t asked.now ≡ Ok (Closes ending) → Went D.address epoch p (command.Data asked.now) shared parts db.new.parts session.new result }
-    ensures sound { is_sound_reply result ≡ true }
-    ensures truly { TellsTruly D.address result }
-    ensures room { KeepsRoom 1 db.old db.new }
-{
-    let decision = close(alloc, db, session, asked, epoch);
-    session.start = None;
-    match decision {
-        Ok(reply) => reply,
-        Err(fault) => after_start(reply_to(fault)),
+        Err(fault) => Met::Answered(refuse_started(session, reply_to(fault))),
     }
 }
 
 /// The decision at one moment, on the very state that is looked at. A fault leaves all as it was.
-fn close<D: Digester>(
+pub(crate) fn close<D: Digester>(
     alloc: Global,
     db: &mut SharedDb,
     session: &Session<D>,
     asked: &Work,
     epoch: i64,
 ) -> Result<Reply, PutFault>
-    requires closing { (p : plain.Session) × (t : plain.Transaction) × (ending : Ending) × (shared : Shared) × IsBefore D.address session.now db.old.parts p shared × (p.transaction ≡ Some t)
+    requires closing { (p : plain.Session) × (t : plain.Transaction) × (ending : Ending) × (shared : Shared) × IsHere D.address session.now db.old.parts p shared × (p.transaction ≡ Some t)
         × (worked p t asked.now ≡ Ok (Closes ending)) }
     requires closes { may_close asked.now ≡ true }
     requires fit { IsFitWork asked.now }
     requires epoch { pos 0 ≤ℤ epoch }
     requires moments { 0 < db.old.moments_room }
     requires segments { 0 < db.old.segments_room }
-    ensures closed { IfOk result (λ reply. (p : plain.Session) (t : plain.Transaction) (ending : Ending) (shared : Shared) → IsBefore D.address session.now db.old.parts p shared → p.transaction ≡ Some t
+    ensures closed { IfOk result (λ reply. (p : plain.Session) (t : plain.Transaction) (ending : Ending) (shared : Shared) → IsHere D.address session.now db.old.parts p shared → p.transaction ≡ Some t
         → worked p t asked.now ≡ Ok (Closes ending) → ClosedAs D.address epoch p t ending shared db.old.parts db.new.parts reply) }
     ensures sound { IfOk result (λ reply. is_sound_reply reply ≡ true) }
     ensures truly { IfOk result (TellsTruly D.address) }
     ensures fault { IfErr result (IsFault D.address) }
     ensures same { OnErr result (db.new.parts ≡ db.old.parts) }
     ensures room { KeepsRoom 1 db.old db.new }
+    ensures room_kept { OnErr result (HasRoomStill db.old db.new) }
 {
     law_of_chunks();
     law_of_states();

@@ -1,4 +1,4 @@
-//! The decision on an open transaction, where no other session acts.
+//! The decision on an open transaction.
 
 ghost use Rattle.std.specs.Prelude.{◌≡◌, ◌<◌, ◌≤◌, true, Some, IfOk, IfErr, OnOk, OnErr};
 ghost use Rattle.std.specs.Arc.{arc_value};
@@ -11,8 +11,8 @@ ghost use Rattle.plain_sessions.specs.Sessions as plain;
 ghost use Rattle.session_txn.specs.Showing.{is_sound_reply};
 ghost use Rattle.shared_db.specs.Plans.{brought};
 ghost use Rattle.shared_db.specs.Shared.{IsSettled, KeepsRoom, record_at};
-ghost use Rattle.serving.specs.Serving.{IsBefore};
-ghost use Rattle.serving.specs.Steps.{Decided};
+ghost use Rattle.serving.specs.Serving.{IsHere};
+ghost use Rattle.serving.specs.Steps.{Decided, HasRoomStill};
 
 use crate::places::number_of;
 use chunk_store::{PutFault, law_of_chunks};
@@ -32,15 +32,16 @@ pub(crate) fn decide<D: Digester>(
     db: &mut SharedDb,
     session: &Session<D>,
 ) -> Result<Reply, PutFault>
-    requires open { (p : plain.Session) × (t : plain.Transaction) × (shared : Shared) × IsBefore D.address session.now db.old.parts p shared × (p.transaction ≡ Some t) }
+    requires open { (p : plain.Session) × (t : plain.Transaction) × (shared : Shared) × IsHere D.address session.now db.old.parts p shared × (p.transaction ≡ Some t) }
     requires moments { 0 < db.old.moments_room }
     requires segments { 0 < db.old.segments_room }
-    ensures decided { IfOk result (λ reply. (p : plain.Session) (t : plain.Transaction) (shared : Shared) → IsBefore D.address session.now db.old.parts p shared
+    ensures decided { IfOk result (λ reply. (p : plain.Session) (t : plain.Transaction) (shared : Shared) → IsHere D.address session.now db.old.parts p shared
         → p.transaction ≡ Some t → Decided D.address p t shared db.old.parts db.new.parts reply) }
     ensures sound { IfOk result (λ reply. is_sound_reply reply ≡ true) }
     ensures fault { IfErr result (IsFault D.address) }
     ensures same { OnErr result (db.new.parts ≡ db.old.parts) }
     ensures room { KeepsRoom 1 db.old db.new }
+    ensures room_kept { OnErr result (HasRoomStill db.old db.new) }
 {
     law_of_chunks();
     law_of_states();
@@ -67,6 +68,7 @@ pub(crate) fn settle(
     ensures fault { IfErr result (IsCause (bytes_at db.old.parts.chunks) (bytes_at (brought plan))) }
     ensures same { OnErr result (db.new.parts ≡ db.old.parts) }
     ensures room { KeepsRoom 1 db.old db.new }
+    ensures room_kept { OnErr result (HasRoomStill db.old db.new) }
 {
     let Plan {
         change,

@@ -1,7 +1,8 @@
 //! Database statements outside a transaction: each takes a start of its own.
 
-ghost use Rattle.std.specs.Prelude.{◌≡◌, ◌<◌, ◌≤◌, ◌+◌, ℤ, true, false};
+ghost use Rattle.std.specs.Prelude.{◌≡◌, ◌<◌, ℤ, true, None, IfErr, IfOk, OnErr, OnOk};
 ghost use Rattle.script_text.specs.Collisions.{TellsTruly};
+ghost use Rattle.chunk_store.specs.declared.faults.PutFault.TheVariants.{Memory};
 ghost use Rattle.plain_sessions.specs.Fitness.{IsFitCommand};
 ghost use Rattle.plain_sessions.specs.Moments.{takes_start};
 ghost use Rattle.plain_sessions.specs.Records.{Shared};
@@ -12,134 +13,124 @@ ghost use Rattle.plain_sessions.specs.declared.commands.Work.{Work};
 ghost use Rattle.session_laws.specs.Changes.{Parts};
 ghost use Rattle.session_txn.specs.Showing.{is_sound_reply};
 ghost use Rattle.shared_db.specs.Shared.{KeepsRoom};
+ghost use Rattle.serving.specs.Answering.{HasMet};
 ghost use Rattle.serving.specs.Kinds.{is_in_place};
-ghost use Rattle.serving.specs.Serving.{IsBefore};
-ghost use Rattle.serving.specs.Starting.{HasAnswered, HasStarted, HasWorked, with_reply};
-ghost use Rattle.serving.specs.Steps.{Answered, after_start};
+ghost use Rattle.serving.specs.Serving.{IsBefore, IsSoundMet, MetTellsTruly};
+ghost use Rattle.serving.specs.Starting.{HasAnswered, HasStarted, HasWorked};
+ghost use Rattle.serving.specs.Steps.{HasRoomStill, after_start};
 
 use crate::alone::answer_alone;
-use crate::deciding::decide;
+use crate::faults::after_start;
+use crate::meeting::{Met, Pending};
 use crate::places::number_of;
-use crate::serving::reply_to;
+use chunk_store::PutFault;
 use plain_sessions::Command;
 use script_text::Reply;
 use session_laws::law_of_states;
 use session_state::Session;
 use session_txn::plan_begin;
 use shared_db::SharedDb;
-use std::alloc::Global;
+use std::alloc::{AllocError, Global};
 use tuple_codec::Digester;
 
-/// A database statement outside a transaction takes its start, and what it does is decided on or stays open.
-pub(crate) fn started<D: Digester>(
+/// A database statement outside a transaction takes its start; it is answered, or what it does is to be decided on. Where memory was wanting
+/// there is no start.
+pub(crate) fn start_work<D: Digester>(
     alloc: Global,
     db: &mut SharedDb,
     session: &mut Session<D>,
     asked: &Command,
-) -> Reply
+) -> Result<Met, PutFault>
     requires before { (p : plain.Session) × (shared : Shared) × IsBefore D.address session.old db.old.parts p shared × (takes_start p asked.now ≡ true) }
     requires fit { IsFitCommand asked.now }
     requires call { is_in_place asked.now ≡ true }
-    requires moments { 1 < db.old.moments_room }
-    requires segments { 0 < db.old.segments_room }
-    ensures answered { (epoch : ℤ) (p : plain.Session) (shared : Shared) → IsBefore D.address session.old db.old.parts p shared → takes_start p asked.now ≡ true
-        → Answered D.address epoch p asked.now shared db.old.parts db.new.parts session.new result }
-    ensures sound { is_sound_reply result ≡ true }
-    ensures truly { TellsTruly D.address result }
-    ensures moments_left { db.old.moments_room ≤ db.new.moments_room + 2 }
-    ensures segments_left { db.old.segments_room ≤ db.new.segments_room + 1 }
+    requires moments { 0 < db.old.moments_room }
+    ensures met { IfOk result (λ met. (epoch : ℤ) (p : plain.Session) (shared : Shared) → IsBefore D.address session.old db.old.parts p shared → takes_start p asked.now ≡ true
+        → HasMet D.address epoch p asked.now shared db.old.parts db.new.parts session.new met) }
+    ensures sound { IfOk result IsSoundMet }
+    ensures truly { IfOk result (MetTellsTruly D.address) }
+    ensures fault { IfErr result (λ fault. fault ≡ Memory) }
+    ensures same { OnErr result (db.new.parts ≡ db.old.parts) }
+    ensures kept { OnErr result (session.new ≡ session.old) }
+    ensures room { KeepsRoom 0 db.old db.new }
+    ensures room_kept { OnErr result (HasRoomStill db.old db.new) }
 {
-    law_of_states();
-    match db.look(alloc, &session.branch) {
-        Ok(look) => {
-            let number = number_of(session.position);
-            db.start(session.number, number);
-            plan_begin(alloc, session, look);
-            answer_started(alloc, db, session, asked)
-        }
-        Err(_) => Reply::Refused(1),
-    }
+    take_start(alloc, db, session)?;
+    let reply = answer_alone(alloc, session, asked);
+    Ok(end_answered(session, reply))
 }
 
-/// Answers in the transaction that was started.
-fn answer_started<D: Digester>(
+/// Takes the start of a transaction: its moment is made, and the session is in it.
+pub(crate) fn take_start<D: Digester>(
     alloc: Global,
     db: &mut SharedDb,
     session: &mut Session<D>,
-    asked: &Command,
-) -> Reply
-    requires started { (parts : Parts) × (p : plain.Session) × (t : plain.Transaction) × (shared : Shared) × HasStarted D.address session.old parts db.old.parts p t shared × (takes_start p asked.now ≡ true) }
-    requires fit { IsFitCommand asked.now }
-    requires call { is_in_place asked.now ≡ true }
+) -> Result<(), AllocError>
+    requires before { (p : plain.Session) × (shared : Shared) × IsBefore D.address session.old db.old.parts p shared × (p.transaction ≡ None) }
     requires moments { 0 < db.old.moments_room }
-    requires segments { 0 < db.old.segments_room }
-    ensures answered { (epoch : ℤ) (parts : Parts) (p : plain.Session) (t : plain.Transaction) (shared : Shared) → HasStarted D.address session.old parts db.old.parts p t shared
-        → takes_start p asked.now ≡ true → Answered D.address epoch p asked.now shared parts db.new.parts session.new result }
-    ensures sound { is_sound_reply result ≡ true }
-    ensures truly { TellsTruly D.address result }
-    ensures room { KeepsRoom 1 db.old db.new }
+    ensures started { OnOk result ((p : plain.Session) (shared : Shared) → IsBefore D.address session.old db.old.parts p shared → p.transaction ≡ None
+        → (t : plain.Transaction) × HasStarted D.address session.new db.old.parts db.new.parts p t shared) }
+    ensures same { OnErr result (db.new.parts ≡ db.old.parts) }
+    ensures kept { OnErr result (session.new ≡ session.old) }
+    ensures room { KeepsRoom 0 db.old db.new }
+    ensures room_kept { OnErr result (HasRoomStill db.old db.new) }
 {
-    let reply = answer_alone(alloc, session, asked);
-    end_answered(alloc, db, session, reply)
+    law_of_states();
+    let look = db.look(alloc, &session.branch)?;
+    let number = number_of(session.position);
+    db.start(session.number, number);
+    plan_begin(alloc, session, look);
+    Ok(())
 }
 
 /// Ends what was answered in the transaction that was started. A refusal drops it.
-pub(crate) fn end_answered<D: Digester>(
-    alloc: Global,
-    db: &mut SharedDb,
-    session: &mut Session<D>,
-    reply: Reply,
-) -> Reply
-    requires answered { (parts : Parts) × (p : plain.Session) × (asked : Work) × (shared : Shared) × HasAnswered D.address session.old parts db.old.parts p asked shared reply }
+pub(crate) fn end_answered<D: Digester>(session: &mut Session<D>, reply: Reply) -> Met
+    requires answered { (parts : Parts) × (now : Parts) × (p : plain.Session) × (asked : Work) × (shared : Shared) × HasAnswered D.address session.old parts now p asked shared reply }
     requires sound { is_sound_reply reply ≡ true }
     requires truly { TellsTruly D.address reply }
-    requires moments { 0 < db.old.moments_room }
-    requires segments { 0 < db.old.segments_room }
-    ensures answered { (epoch : ℤ) (parts : Parts) (p : plain.Session) (asked : Work) (shared : Shared) → HasAnswered D.address session.old parts db.old.parts p asked shared reply
-        → Answered D.address epoch p (command.Data asked) shared parts db.new.parts session.new result }
-    ensures sound { is_sound_reply result ≡ true }
-    ensures truly { TellsTruly D.address result }
-    ensures room { KeepsRoom 1 db.old db.new }
+    ensures met { (epoch : ℤ) (parts : Parts) (now : Parts) (p : plain.Session) (asked : Work) (shared : Shared) → HasAnswered D.address session.old parts now p asked shared reply
+        → HasMet D.address epoch p (command.Data asked) shared parts now session.new result }
+    ensures sound { IsSoundMet result }
+    ensures truly { MetTellsTruly D.address result }
 {
     if is_refusal(&reply) {
-        session.start = None;
-        after_start(reply)
+        Met::Answered(refuse_started(session, reply))
     } else {
-        end_started(alloc, db, session, reply)
+        end_started(session, reply)
     }
 }
 
-/// Ends what went well: without autocommit the transaction stays open, else what it changed is decided on.
-fn end_started<D: Digester>(
-    alloc: Global,
-    db: &mut SharedDb,
-    session: &mut Session<D>,
-    reply: Reply,
-) -> Reply
-    requires worked { (parts : Parts) × (p : plain.Session) × (asked : Work) × (shared : Shared) × HasWorked D.address session.old parts db.old.parts p asked shared reply }
+/// A refusal, or a fault, behind the start: the transaction is dropped.
+pub(crate) fn refuse_started<D: Digester>(session: &mut Session<D>, reply: Reply) -> Reply
     requires sound { is_sound_reply reply ≡ true }
     requires truly { TellsTruly D.address reply }
-    requires moments { 0 < db.old.moments_room }
-    requires segments { 0 < db.old.segments_room }
-    ensures answered { (epoch : ℤ) (parts : Parts) (p : plain.Session) (asked : Work) (shared : Shared) → HasWorked D.address session.old parts db.old.parts p asked shared reply
-        → Answered D.address epoch p (command.Data asked) shared parts db.new.parts session.new result }
+    ensures session { session.new ≡ record session.old { start = None } }
+    ensures reply { result ≡ after_start reply }
     ensures sound { is_sound_reply result ≡ true }
     ensures truly { TellsTruly D.address result }
-    ensures room { KeepsRoom 1 db.old db.new }
+{
+    session.start = None;
+    after_start(reply)
+}
+
+/// Ends what went well: without autocommit the transaction stays open, else what it changed is to be decided on.
+fn end_started<D: Digester>(session: &mut Session<D>, reply: Reply) -> Met
+    requires worked { (parts : Parts) × (now : Parts) × (p : plain.Session) × (asked : Work) × (shared : Shared) × HasWorked D.address session.old parts now p asked shared reply }
+    requires sound { is_sound_reply reply ≡ true }
+    requires truly { TellsTruly D.address reply }
+    ensures met { (epoch : ℤ) (parts : Parts) (now : Parts) (p : plain.Session) (asked : Work) (shared : Shared) → HasWorked D.address session.old parts now p asked shared reply
+        → HasMet D.address epoch p (command.Data asked) shared parts now session.new result }
+    ensures sound { IsSoundMet result }
+    ensures truly { MetTellsTruly D.address result }
 {
     if !session.autocommit {
-        return reply;
+        return Met::Answered(reply);
     }
     if !session.is_changed() {
         session.start = None;
-        return reply;
+        return Met::Answered(reply);
     }
-    let decision = decide(alloc, db, session);
-    session.start = None;
-    match decision {
-        Ok(verdict) => with_reply(reply, verdict),
-        Err(fault) => after_start(reply_to(fault)),
-    }
+    Met::Pending(Pending::Between(reply))
 }
 
 /// Whether the statement was refused, by a rule or for want of memory.
@@ -149,31 +140,5 @@ fn is_refusal(reply: &Reply) -> bool
     match reply {
         Reply::Done | Reply::Count(_) | Reply::Rows(_) => false,
         Reply::Refused(_) | Reply::Syntax(_) | Reply::Collided(_) => true,
-    }
-}
-
-/// A want of memory that came after the start is told so.
-pub(crate) fn after_start(reply: Reply) -> Reply
-    ensures reply { result ≡ after_start reply }
-{
-    match reply {
-        Reply::Refused(number) => {
-            if number == 1 {
-                Reply::Refused(2)
-            } else {
-                Reply::Refused(number)
-            }
-        }
-        other => other,
-    }
-}
-
-/// The statement's own reply in place of the decision's, where that is well.
-fn with_reply(reply: Reply, verdict: Reply) -> Reply
-    ensures { result ≡ with_reply reply verdict }
-{
-    match verdict {
-        Reply::Done => reply,
-        other => other,
     }
 }

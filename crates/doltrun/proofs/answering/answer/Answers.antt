@@ -1,36 +1,37 @@
-use Rattle.std.proofs.Common.{ℤ, subst, w64}
+use Rattle.std.proofs.Common.{false, of_z, to_z, true, w64}
 use Rattle.std.proofs.lemmas.Int.{to_z-of_z}
 use Rattle.std.proofs.lemmas.Result.{err_from_is_err_and}
-use Rattle.shared_db.specs.Opening.{IsOpeningFault}
-use Rattle.plain_sessions.specs.Commands.{command}
-use Rattle.plain_sessions.specs.Output.{IsPlainRun}
-use Rattle.doltrun.proofs.AnswerLemmas.{alone_by, comes_put, comes_script}
-use Rattle.doltrun.proofs.ScriptLemmas.{script_sound}
+use Rattle.doltrun.proofs.AnswerLemmas.{comes_in, comes_script}
+use Rattle.doltrun.proofs.EpochLemmas.{date_fits, date_handed}
+use Rattle.doltrun.proofs.ScriptLemmas.{script_ordered, script_sound}
 use Rattle.doltrun.proofs.answering.answer.Goals as goal
 
-pub run_script-requires-clause-sound : goal.run_script-requires-clause-sound
-run_script-requires-clause-sound g c = λ κs within. script_sound c.args.bytes.now c.in_ok-script.script c.in_ok-script.ensures
+pub answer_in_given_order-requires-clause-sound : goal.answer_in_given_order-requires-clause-sound
+answer_in_given_order-requires-clause-sound g c κs within = script_sound c.args.bytes.now c.args.asked.with_order c.in_ok-script.script c.in_ok-script.ensures
+
+pub answer_in_given_order-requires-clause-ordered : goal.answer_in_given_order-requires-clause-ordered
+answer_in_given_order-requires-clause-ordered g c κs within = script_ordered c.args.bytes.now c.args.asked.with_order c.in_ok-script.script c.if-asked.true c.in_ok-script.ensures
+
+pub answer_in_text_order-requires-clause-sound : goal.answer_in_text_order-requires-clause-sound
+answer_in_text_order-requires-clause-sound g c κs within = script_sound c.args.bytes.now c.args.asked.with_order c.in_ok-script.script c.in_ok-script.ensures
 
 pub returns-in_err-script : goal.returns-in_err-script
 returns-in_err-script g c =
     let p = err_from_is_err_and c.from_residual.result c.from_residual.ensures.1 in
-    rw (p.1, p.2) (comes_script g.D.Digester.address c.args.epoch c.args.bytes.now c.in_err-script.field-0.0 c.in_err-script.ensures)
+    rw (p.1, p.2) (comes_script g.D.Digester.address c.args.asked c.args.bytes.now c.in_err-script.field-0.0 c.in_err-script.ensures)
 
-pub returns-in_err-run : goal.returns-in_err-run
-returns-in_err-run g c =
-    let p = err_from_is_err_and c.from_residual-in_err-run.result c.from_residual-in_err-run.ensures.1 in
-    let opens = subst (λ (date : ℤ). IsOpeningFault g.D.Digester.address date c.in_err-run.field-0.0) (to_z-of_z w64 c.args.epoch c.ranges.epoch) c.in_err-run.ensures.fault in
-    rw (p.1, p.2) (comes_put g.D.Digester.address c.args.epoch c.args.bytes.now c.in_ok-script.script c.in_err-run.field-0.0 c.in_ok-script.ensures opens)
+pub answer_in_given_order-requires-clause-epoch : goal.answer_in_given_order-requires-clause-epoch
+answer_in_given_order-requires-clause-epoch g c κs within = date_handed c.args.asked.epoch c.requires
 
-pub returns : goal.returns
-returns g c = record {
-  script = c.in_ok-script.script;
-  run = c.in_ok-run.run';
-  reads = c.in_ok-script.ensures;
-  runs = subst (λ (date : ℤ). IsPlainRun command g.D.Digester.address date c.in_ok-script.script c.in_ok-run.run') (to_z-of_z w64 c.args.epoch c.ranges.epoch) c.in_ok-run.ensures.plain;
-  truly = c.in_ok-run.ensures.truly;
-  ordered = c.in_ok-run.ensures.order;
-  shown = c.in_ok-run.ensures.shown;
-  prints = c.in_ok-print_output.ensures;
-  alone = λ other shown same. alone_by c.one_reading.ensures c.in_ok-run.run' other c.in_ok-print_output.field-0 c.in_ok-run.ensures.shown c.in_ok-print_output.ensures shown same;
-}
+pub answer_in_text_order-requires-clause-epoch : goal.answer_in_text_order-requires-clause-epoch
+answer_in_text_order-requires-clause-epoch g c κs within = date_handed c.args.asked.epoch c.requires
+
+pub returns-then-asked : goal.returns-then-asked
+returns-then-asked g c =
+    comes_in g.D.Digester.address c.args.asked true (to_z w64 (of_z w64 c.args.asked.epoch)) c.args.bytes.now c.in_ok-script.script c.answer_in_given_order.result c.if-asked.true
+    (to_z-of_z w64 c.args.asked.epoch (date_fits c.args.asked.epoch c.requires)) c.in_ok-script.ensures c.answer_in_given_order.ensures
+
+pub returns-else-asked : goal.returns-else-asked
+returns-else-asked g c =
+    comes_in g.D.Digester.address c.args.asked false (to_z w64 (of_z w64 c.args.asked.epoch)) c.args.bytes.now c.in_ok-script.script c.answer_in_text_order.result c.if-asked.false
+    (to_z-of_z w64 c.args.asked.epoch (date_fits c.args.asked.epoch c.requires)) c.in_ok-script.ensures c.answer_in_text_order.ensures

@@ -1,16 +1,15 @@
-use Rattle.std.proofs.Common.{◌≡◌, ◌∙◌, Err, Some, ℕ, ℤ, List, length, arith, ap, subst, w64}
-use Rattle.std.proofs.lemmas.Int.{to_z-of_z}
+use Rattle.std.proofs.Common.{◌≡◌, ◌∙◌, Err, Some, ℕ, List, length, arith, ap, subst}
 use Rattle.std.specs.Io.KnownBytes.{Appends}
 use Rattle.script_text.specs.Input.{script}
 use Rattle.script_text.specs.declared.faults.BadScript.{BadScript}
 use Rattle.doltrun.specs.Headline.{fault_line}
-use Rattle.doltrun.specs.Stops.{AnswersAll, AnswersPart, WritesCollision}
-use Rattle.doltrun.proofs.TopLemmas.{IsRead, answers_whole, collides_whole, falls_whole, faults_whole, stops_told}
+use Rattle.doltrun.specs.Stops.{AnswersAll, AnswersPart, WritesCollision, WritesStop}
+use Rattle.doltrun.proofs.TopLemmas.{IsRead, answers_whole, collides_whole, falls_whole, faults_whole, stops_told, stops_whole}
 use Rattle.doltrun.proofs.top.run_input.Goals as goal
 
 pub returns-in-Ok : goal.returns-in-Ok
 returns-in-Ok g c =
-    let epoch = c.args.epoch in
+    let asked = c.args.asked in
     let told = g.S.Source.left c.args.input.now in
     let left = g.S.Source.left c.read_up_to.new.source in
     let old = g.K.Sink.held c.args.output.now in
@@ -20,22 +19,20 @@ returns-in-Ok g c =
     let len : c.in-Ok.bytes.len ≡ length bytes = c.in-Ok.bytes.ok.0 in
     let read : IsRead told left bytes = record { consumed = c.in-Ok.ensures.bytes; ended = λ short. c.in-Ok.ensures.end (omega arith) } in
     let wrote = c.write_answer.ensures in
-    let date = to_z-of_z w64 c.args.epoch c.ranges.epoch in
     record {
-      done = λ is. answers_whole address epoch told left old new bytes read (subst (λ (bytes : List ℕ). AnswersAll address epoch bytes old new) c.as_slice.ensures.value
-          (subst (λ (date : ℤ). AnswersAll address date c.as_slice.result.now old new) date (wrote.done is)));
+      done = λ is. answers_whole address asked told left old new bytes read (subst (λ (bytes : List ℕ). AnswersAll address asked bytes old new) c.as_slice.ensures.value (wrote.done is));
       usage = wrote.words;
-      script = λ is. faults_whole told left old new bytes read
-          (subst (λ (bytes : List ℕ). (fault : BadScript) × (script bytes ≡ Err fault) × Appends old new (fault_line fault)) c.as_slice.ensures.value (wrote.script is));
-      faulty = λ fault is. stops_told told left bytes c.write_answer.result read (λ other told. wrote.faulty other (ap script c.as_slice.ensures.value ∙ told)) wrote.words fault is;
-      collision = λ is. collides_whole address epoch told left old new bytes read (subst (λ (bytes : List ℕ). WritesCollision address epoch (Some bytes) old new) c.as_slice.ensures.value
-          (subst (λ (date : ℤ). WritesCollision address date (Some c.as_slice.result.now) old new) date (wrote.collision is)));
+      script = λ is. faults_whole asked told left old new bytes read
+          (subst (λ (bytes : List ℕ). (fault : BadScript) × (script bytes asked.with_order ≡ Err fault) × Appends old new (fault_line fault)) c.as_slice.ensures.value (wrote.script is));
+      faulty = λ fault is. stops_told asked.with_order told left bytes c.write_answer.result read
+          (λ other told. wrote.faulty other (ap (λ (bytes : List ℕ). script bytes asked.with_order) c.as_slice.ensures.value ∙ told)) wrote.words fault is;
+      order = λ is. stops_whole address asked told left old new bytes read (subst (λ (bytes : List ℕ). WritesStop address asked (Some bytes) old new) c.as_slice.ensures.value (wrote.order is));
+      collision = λ is. collides_whole address asked told left old new bytes read (subst (λ (bytes : List ℕ). WritesCollision address asked (Some bytes) old new) c.as_slice.ensures.value (wrote.collision is));
       failed = λ is. absurd (wrote.source is);
       steady = λ steady is. wrote.source is;
       write = wrote.rose;
-      part = λ is. falls_whole address epoch told left old new bytes (g.K.Sink.room c.args.output.now) read
-          (subst (λ (bytes : List ℕ). AnswersPart address epoch bytes old new (g.K.Sink.room c.args.output.now)) c.as_slice.ensures.value
-          (subst (λ (date : ℤ). AnswersPart address date c.as_slice.result.now old new (g.K.Sink.room c.args.output.now)) date (wrote.part is)));
+      part = λ is. falls_whole address asked told left old new bytes (g.K.Sink.room c.args.output.now) read
+          (subst (λ (bytes : List ℕ). AnswersPart address asked bytes old new (g.K.Sink.room c.args.output.now)) c.as_slice.ensures.value (wrote.part is));
       memory = wrote.memory;
       taken = c.in-Ok.ensures.taken;
       counts = (c.in-Ok.ensures.later, wrote.later);

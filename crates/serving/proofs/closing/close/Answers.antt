@@ -5,7 +5,7 @@ use Rattle.plain_sessions.specs.Records.{Shared}
 use Rattle.plain_sessions.specs.Sessions as plain
 use Rattle.plain_sessions.specs.Statements.{worked}
 use Rattle.serving.specs.Closing.{ClosedAs}
-use Rattle.serving.specs.Serving.{IsBefore}
+use Rattle.serving.specs.Serving.{IsHere}
 use Rattle.serving.proofs.ClosingLemmas.{closed_ok, fault_is, sound_ok, truly_ok}
 use Rattle.serving.proofs.LookLemmas.{Looks, decides}
 use Rattle.serving.proofs.StateLemmas.{may_look}
@@ -27,7 +27,7 @@ returns-clause-closed g c =
     let looks : Looks c.args.session.now c.args.db.now.parts c.in_ok-look.look =
     record { branch = c.in_ok-look.ensures.branch; there = c.in_ok-look.ensures.there; heads = c.in_ok-look.ensures.heads; chunks = c.in_ok-look.ensures.chunks } in
     subst (λ (e : ℤ). IfOk c.settle.result (λ reply. (p : plain.Session) (t : plain.Transaction) (ending : Ending) (shared : Shared)
-    → IsBefore g.D.Digester.address c.args.session.now c.args.db.now.parts p shared → p.transaction ≡ Some t
+    → IsHere g.D.Digester.address c.args.session.now c.args.db.now.parts p shared → p.transaction ≡ Some t
     → worked p t c.args.asked.now ≡ Ok (Closes ending)
     → ClosedAs g.D.Digester.address e p t ending shared c.args.db.now.parts c.settle.new.db.parts reply)) (to_z-of_z w64 c.args.epoch c.ranges.epoch)
     (closed_ok c.law_of_states.ensures g.D.Digester.address _ c.args.session.now c.args.db.now.parts c.in_ok-look.look looks c.args.asked.now c.in_ok-plan.plan c.in_ok-plan.ensures.planned

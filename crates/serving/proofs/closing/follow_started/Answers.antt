@@ -1,37 +1,60 @@
-use Rattle.std.proofs.Common.{ℤ, refl, subst, w64}
-use Rattle.std.proofs.lemmas.Int.{to_z-of_z}
+use Rattle.std.proofs.Common.{refl, subst}
 use Rattle.plain_sessions.specs.Sessions.{within}
 use Rattle.plain_sessions.specs.Statements.{worked}
-use Rattle.plain_sessions.specs.declared.commands.Command.TheVariants as command
-use Rattle.serving.specs.Branching.{Went}
 use Rattle.serving.specs.Closing.{IsCourse}
-use Rattle.serving.proofs.ClosingLemmas.{ending_of, refused_started}
+use Rattle.serving.proofs.ClosingLemmas.{closing_to_come, ending_of, faulted_started, refused_started, still_stands, still_started}
+use Rattle.serving.proofs.StartLemmas.{has_answered}
 use Rattle.serving.proofs.closing.follow_started.Goals as goal
 
-pub decide_started-requires-clause-started : goal.decide_started-requires-clause-started
-decide_started-requires-clause-started g c κs within_κs =
+pub merge_local-reply-requires-clause-stands : goal.merge_local-reply-requires-clause-stands
+merge_local-reply-requires-clause-stands g c κs within_κs =
     let held = c.requires.started in
-    let so = ending_of (worked (within held.1 held.2) held.2 c.args.asked.now)
-    (subst (λ course. IsCourse course c.args.asked.now (worked (within held.1 held.2) held.2 c.args.asked.now)) c.in-Closes.is (c.requires.course (within held.1 held.2) held.2 held.4.stands refl)) in
-    (held.0, held.1, held.2, so.0, held.3, held.4, so.1)
+    (within held.2 held.3, held.3, still_stands c.find_course.ensures.same g.D.Digester.address (within held.2 held.3) held.5.stands, refl)
 
-pub stay_started-requires-clause-merges : goal.stay_started-requires-clause-merges
-stay_started-requires-clause-merges g c κs within_κs =
+pub merge_local-reply-requires-clause-merges : goal.merge_local-reply-requires-clause-merges
+merge_local-reply-requires-clause-merges g c κs within_κs =
     let held = c.requires.started in
-    (subst (λ course. IsCourse course c.args.asked.now (worked (within held.1 held.2) held.2 c.args.asked.now)) c.in-Stays.is (c.requires.course (within held.1 held.2) held.2 held.4.stands refl)).0
+    (subst (λ course. IsCourse course c.args.asked.now (worked (within held.2 held.3) held.3 c.args.asked.now)) c.in-Ok-Stays.field-0-is
+    (c.in-Ok-Stays.ensures.course (within held.2 held.3) held.3 held.5.stands refl)).0
 
-pub returns-in-Closes-clause-went : goal.returns-in-Closes-clause-went
-returns-in-Closes-clause-went g c = λ parts p t shared has.
+pub end_answered-requires-clause-answered : goal.end_answered-requires-clause-answered
+end_answered-requires-clause-answered g c κs within_κs =
+    let held = c.requires.started in
+    let same = c.find_course.ensures.same in (
+      held.0,
+      held.1,
+      held.2,
+      c.args.asked.now,
+      held.4,
+      has_answered g.D.Digester.address c.find_course.new.session c.merge_local-reply.new.session held.0 held.1 held.2 held.3 held.4 c.merge_local-reply.result
+          (still_started same g.D.Digester.address held.0 held.1 held.2 held.3 held.4 held.5) c.merge_local-reply.ensures.base c.args.asked.now
+          (c.merge_local-reply.ensures.alone (within held.2 held.3) (still_stands same g.D.Digester.address (within held.2 held.3) held.5.stands) refl),
+    )
+
+pub returns-in-Ok-Closes-clause-met : goal.returns-in-Ok-Closes-clause-met
+returns-in-Ok-Closes-clause-met g c = λ epoch parts now p t shared has.
     let so = ending_of (worked (within p t) t c.args.asked.now)
-    (subst (λ course. IsCourse course c.args.asked.now (worked (within p t) t c.args.asked.now)) c.in-Closes.is (c.requires.course (within p t) t has.stands refl)) in
-    subst (λ (e : ℤ). Went g.D.Digester.address e p (command.Data c.args.asked.now) shared parts c.decide_started.new.db.parts c.decide_started.new.session c.decide_started.result)
-    (to_z-of_z w64 c.args.epoch c.ranges.epoch) (c.decide_started.ensures.went parts p t so.0 shared has so.1)
+    (subst (λ course. IsCourse course c.args.asked.now (worked (within p t) t c.args.asked.now)) c.in-Ok-Closes.field-0-is (c.in-Ok-Closes.ensures.course (within p t) t has.stands refl)) in
+    closing_to_come g.D.Digester.address epoch c.find_course.new.session parts now p t shared
+    (still_started c.find_course.ensures.same g.D.Digester.address parts now p t shared has) c.args.asked.now so.0 c.requires.closes so.1
 
-pub returns-in-Refused-clause-went : goal.returns-in-Refused-clause-went
-returns-in-Refused-clause-went g c = λ parts p t shared has.
-    refused_started g.D.Digester.address c.args.epoch c.args.session.now parts c.args.db.now.parts p t shared has c.args.asked.now c.in-Refused.number c.due.result c.after_start.result
-    (subst (λ course. IsCourse course c.args.asked.now (worked (within p t) t c.args.asked.now)) c.in-Refused.is (c.requires.course (within p t) t has.stands refl)) c.due.ensures.due
-    c.after_start.ensures.reply
+pub returns-in-Ok-Refused-clause-met : goal.returns-in-Ok-Refused-clause-met
+returns-in-Ok-Refused-clause-met g c = λ epoch parts now p t shared has.
+    refused_started g.D.Digester.address epoch c.find_course.new.session parts now p t shared
+    (still_started c.find_course.ensures.same g.D.Digester.address parts now p t shared has) c.args.asked.now c.in-Ok-Refused.number c.refuse_started.new.session c.due.result c.refuse_started.result
+    (subst (λ course. IsCourse course c.args.asked.now (worked (within p t) t c.args.asked.now)) c.in-Ok-Refused.field-0-is (c.in-Ok-Refused.ensures.course (within p t) t has.stands refl))
+    c.due.ensures.due c.refuse_started.ensures.session c.refuse_started.ensures.reply
 
-pub returns-in-Stays-clause-went : goal.returns-in-Stays-clause-went
-returns-in-Stays-clause-went g c = c.stay_started.ensures.went c.args.epoch
+pub returns-in-Ok-Stays-clause-met : goal.returns-in-Ok-Stays-clause-met
+returns-in-Ok-Stays-clause-met g c = λ epoch parts now p t shared has.
+    let same = c.find_course.ensures.same in
+    c.end_answered.ensures.met epoch parts now p c.args.asked.now shared
+    (has_answered g.D.Digester.address c.find_course.new.session c.merge_local-reply.new.session parts now p t shared c.merge_local-reply.result
+    (still_started same g.D.Digester.address parts now p t shared has) c.merge_local-reply.ensures.base c.args.asked.now
+    (c.merge_local-reply.ensures.alone (within p t) (still_stands same g.D.Digester.address (within p t) has.stands) refl))
+
+pub returns-in-Err-clause-met : goal.returns-in-Err-clause-met
+returns-in-Err-clause-met g c = λ epoch parts now p t shared has.
+    faulted_started g.D.Digester.address epoch c.find_course.new.session parts now p t shared
+    (still_started c.find_course.ensures.same g.D.Digester.address parts now p t shared has) c.args.asked.now c.in-Err.fault c.refuse_started-in-Err.new.session c.reply_to.result
+    c.refuse_started-in-Err.result c.refuse_started-in-Err.ensures.session c.reply_to.ensures.reply c.refuse_started-in-Err.ensures.reply

@@ -1,4 +1,3 @@
-use Rattle.std.proofs.Common.{refl}
 use Rattle.serving.proofs.LookLemmas.{Looks, decided_ok, decides, fault_is, sound_ok}
 use Rattle.serving.proofs.StateLemmas.{may_look}
 use Rattle.serving.proofs.deciding.decide.Goals as goal

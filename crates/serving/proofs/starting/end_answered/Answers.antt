@@ -9,16 +9,17 @@ end_started-requires-clause-worked g c κs within_κs =
       held.1,
       held.2,
       held.3,
-      worked_well g.D.Digester.address c.args.session.now held.0 c.args.db.now.parts held.1 held.2 held.3 c.args.reply held.4
+      held.4,
+      worked_well g.D.Digester.address c.args.session.now held.0 held.1 held.2 held.3 held.4 c.args.reply held.5
           (sym c.is_refusal.ensures ∙ c.if-is_refusal.false),
     )
 
-pub returns-then-is_refusal-clause-answered : goal.returns-then-is_refusal-clause-answered
-returns-then-is_refusal-clause-answered g c = λ epoch parts p asked shared has.
-    dropped_answered g.D.Digester.address c.args.session.now parts c.args.db.now.parts p asked shared c.args.reply has epoch c.after_start.result
-    (sym c.is_refusal.ensures ∙ c.if-is_refusal.true) c.after_start.ensures.reply
+pub returns-then-is_refusal-clause-met : goal.returns-then-is_refusal-clause-met
+returns-then-is_refusal-clause-met g c = λ epoch parts now p asked shared has.
+    dropped_answered g.D.Digester.address c.args.session.now parts now p asked shared c.args.reply has epoch c.refuse_started.new.session c.refuse_started.result
+    (sym c.is_refusal.ensures ∙ c.if-is_refusal.true) c.refuse_started.ensures.session c.refuse_started.ensures.reply
 
-pub returns-else-is_refusal-clause-answered : goal.returns-else-is_refusal-clause-answered
-returns-else-is_refusal-clause-answered g c = λ epoch parts p asked shared has.
-    c.end_started.ensures.answered epoch parts p asked shared
-    (worked_well g.D.Digester.address c.args.session.now parts c.args.db.now.parts p asked shared c.args.reply has (sym c.is_refusal.ensures ∙ c.if-is_refusal.false))
+pub returns-else-is_refusal-clause-met : goal.returns-else-is_refusal-clause-met
+returns-else-is_refusal-clause-met g c = λ epoch parts now p asked shared has.
+    c.end_started.ensures.met epoch parts now p asked shared
+    (worked_well g.D.Digester.address c.args.session.now parts now p asked shared c.args.reply has (sym c.is_refusal.ensures ∙ c.if-is_refusal.false))

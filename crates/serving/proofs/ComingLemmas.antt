@@ -1,0 +1,164 @@
+-- Statements that need no moment, and how it is known of one that it needs one.
+use Rattle.std.proofs.Common.{◌≡◌, refl, ◌∙◌, sym, ap, subst, ℕ, ◌+◌, Bool, true, false, not, ◌&&◌, ◌||◌, List, Option, Some, None, IfSome, is_some, slice_get, if◌then◌else◌}
+use Rattle.std.specs.Option.{option_and_then}
+use Rattle.chunk_store.specs.Chunks.{Chunk, Lists}
+use Rattle.chunk_store.specs.Drafts.{DraftParts}
+use Rattle.chunk_store.specs.declared.faults.PutFault.{PutFault}
+use Rattle.tuple_codec.specs.declared.records.BranchRecord.{BranchRecord}
+use Rattle.table_root.specs.declared.heads.Look.{Look}
+use Rattle.script_text.specs.Output.{shortage}
+use Rattle.script_text.specs.declared.replies.Reply.{Reply}
+use Rattle.script_text.specs.declared.replies.Reply.TheVariants as print
+use Rattle.plain_sessions.specs.Moments.{alone, alone_by, effect_alone, ends_by_set, if_answered, is_in_transaction, past}
+use Rattle.plain_sessions.specs.Records.{Shared}
+use Rattle.plain_sessions.specs.Replies.{refused}
+use Rattle.plain_sessions.specs.Sessions as plain
+use Rattle.plain_sessions.specs.Sessions.{Before, Transaction, is_changed}
+use Rattle.plain_sessions.specs.Statements.{worked}
+use Rattle.plain_sessions.specs.declared.commands.Command.{Command}
+use Rattle.plain_sessions.specs.declared.commands.Command.TheVariants as command
+use Rattle.plain_sessions.specs.declared.commands.Work.{Work}
+use Rattle.plain_sessions.specs.declared.commands.Work.TheVariants as work
+use Rattle.sql_procedures.specs.declared.requests.CheckoutRequest.{CheckoutRequest}
+use Rattle.sql_procedures.specs.declared.requests.MergeRequest.TheVariants as merging
+use Rattle.session_laws.specs.Changes.{Parts}
+use Rattle.session_laws.specs.Transactions.{StartStands}
+use Rattle.session_state.specs.Standing.{IsInTransaction, SessionStands}
+use Rattle.session_state.specs.declared.sessions.Place.TheVariants as place
+use Rattle.session_state.specs.declared.sessions.Session.{Session}
+use Rattle.session_txn.specs.Answering.{AnswersAlone}
+use Rattle.session_txn.proofs.SessionLemmas.{in_transaction}
+use Rattle.serving.specs.Kinds.{is_alone, is_in_place, may_close}
+use Rattle.serving.specs.Serving.{Fails, IsBefore, PassesAlone}
+use Rattle.serving.specs.Steps.{IsStillAt, fault_reply, number_at}
+use Rattle.serving.proofs.AloneLemmas.{alone_before, still_alone}
+use Rattle.serving.proofs.AnswerLemmas.{same_number}
+
+-- ---- the session goes on
+
+module _ {D : Type 0} (address : List ℕ → List ℕ) (old session : Session D) (parts : Parts) (p : plain.Session) (shared : Shared) (before : IsBefore address old parts p shared) where
+  base_later : session.draft.chunks.base ≡ old.draft.chunks.base → Lists session.draft.chunks.base parts.chunks
+  base_later base = subst (λ (chunks : List Chunk). Lists chunks parts.chunks) (sym base) before.later
+
+  passes : (asked : Command) (reply : Reply) → AnswersAlone address p asked session reply → session.draft.chunks.base ≡ old.draft.chunks.base
+      → PassesAlone address p asked shared parts (record session { position = place.Before (number_at old.position + 1) }) reply
+  passes asked reply alone base =
+      let still : IsStillAt p alone.after = still_alone (shortage reply) p asked alone.after reply alone.is in
+      let after = (past p.statement (alone.after, reply)).0 in
+      let stands : SessionStands address (record session { position = place.Before (number_at old.position + 1) }) after = record {
+        name = alone.stands.name;
+        number = alone.stands.number;
+        branch = alone.stands.branch;
+        autocommit = alone.stands.autocommit;
+        allow = alone.stands.allow;
+        force = alone.stands.force;
+        position = (ap (λ n. n + 1) (same_number old.position p.statement p.place before.session_stands.position), refl);
+        transaction = alone.stands.transaction;
+        named = alone.stands.named;
+        plain_own = alone.stands.plain_own;
+        committer = alone.stands.committer;
+      } in
+      record {
+        after = after;
+        is = alone_before (shortage reply) p asked (alone.after, reply) before.before alone.is;
+        next = record {
+          session_stands = stands;
+          before = refl;
+          state_stands = before.state_stands;
+          placed = ap (slice_get shared.places) still.number ∙ before.placed ∙ ap Some (sym still.branch);
+          later = base_later base;
+        };
+        number = still.number;
+      }
+
+  -- with the steps that lead there
+  pub passes_by : (asked : Command) (reply : Reply) (gone : Session D) (number : ℕ) → number ≡ number_at old.position → gone ≡ record session { position = place.Before (number + 1) }
+      → AnswersAlone address p asked session reply → session.draft.chunks.base ≡ old.draft.chunks.base → PassesAlone address p asked shared parts gone reply
+  passes_by asked reply gone number same is alone base =
+      subst (λ (s : Session D). PassesAlone address p asked shared parts s reply) (sym (is ∙ ap (λ (n : ℕ). record session { position = place.Before (n + 1) }) same))
+      (passes asked reply alone base)
+
+-- a fault that is answered at once
+pub fault_passes : {D : Type 0} (address : List ℕ → List ℕ) (session gone : Session D) (number : ℕ) (fault : PutFault) (reply : Reply) → number ≡ number_at session.position
+    → gone ≡ record session { position = place.Before (number + 1) } → reply ≡ fault_reply fault
+    → (parts : Parts) (p : plain.Session) (asked : Command) (shared : Shared) → IsBefore address session parts p shared → Fails p asked fault → PassesAlone address p asked shared parts gone reply
+fault_passes address session gone number fault reply same is says parts p asked shared before fails =
+    passes_by address session session parts p shared before asked reply gone number same is
+    (record { after = p; is = subst (λ (r : Reply). alone_by (shortage r) p asked ≡ Some (p, r)) (sym says) fails; stands = before.session_stands }) refl
+
+-- ---- what needs a moment
+
+none_if : {A : Type 0} (test : Bool) (said : A) → not test ≡ false → (if test then None else Some said) ≡ None
+none_if true said is = refl
+none_if false said is = absurd (cc)
+
+set_waits : (ends changed : Bool) (over other : plain.Said) → not (ends && changed) ≡ false → (if ends then (if changed then None else Some over) else Some other) ≡ None
+set_waits true changed over other is = none_if changed over is
+set_waits false changed over other is = absurd (cc)
+
+-- outside a transaction a database statement takes its start
+work_waits : (p : plain.Session) (asked : Work) → is_in_transaction p ≡ false → effect_alone p (command.Data asked) ≡ None
+work_waits p asked outside = by p.transaction outside where
+  by : (held : Option Transaction) → is_some held ≡ false → option_and_then (λ t. if_answered p t (worked p t asked)) held ≡ None
+  by None is = refl
+  by (Some t) is = absurd (cc)
+
+or_false : (b : Bool) → b || false ≡ false → b ≡ false
+or_false true is = absurd (cc)
+or_false false is = refl
+
+work_needs : (p : plain.Session) (asked : Work) → not (may_close asked) ≡ true → is_alone p (command.Data asked) ≡ false → effect_alone p (command.Data asked) ≡ None
+work_needs p (work.Ask one) in_place waits = work_waits p (work.Ask one) waits
+work_needs p (work.Change write) in_place waits = work_waits p (work.Change write) waits
+work_needs p (work.Add tables) in_place waits = work_waits p (work.Add tables) (or_false (is_in_transaction p) waits)
+work_needs p (work.ResetTo reset) in_place waits = work_waits p (work.ResetTo reset) (or_false (is_in_transaction p) waits)
+work_needs p (work.Commit request) in_place waits = absurd (cc)
+work_needs p (work.Merge (merging.Merge request)) in_place waits = absurd (cc)
+work_needs p (work.Merge merging.Abort) in_place waits = work_waits p (work.Merge merging.Abort) (or_false (is_in_transaction p) waits)
+work_needs p (work.Resolve request) in_place waits = work_waits p (work.Resolve request) (or_false (is_in_transaction p) waits)
+work_needs p (work.Verify way) in_place waits = work_waits p (work.Verify way) (or_false (is_in_transaction p) waits)
+
+pub needs_moment : (p : plain.Session) (asked : Command) → is_in_place asked ≡ true → is_alone p asked ≡ false → alone_by None p asked ≡ None
+needs_moment p (command.Faulty refusal) in_place waits = absurd (cc)
+needs_moment p command.Begin in_place waits = refl
+needs_moment p command.CommitAll in_place waits = none_if (is_changed p) _ waits
+needs_moment p command.Rollback in_place waits = absurd (cc)
+needs_moment p (command.Switch setting) in_place waits = set_waits (ends_by_set p setting.variable setting.on) (is_changed p) _ _ waits
+needs_moment p (command.Say list) in_place waits = absurd (cc)
+needs_moment p (command.Data asked) in_place waits = work_needs p asked in_place waits
+needs_moment p (command.OnBranches request) in_place waits = absurd (cc)
+needs_moment p (command.Checkout request) in_place waits = absurd (cc)
+
+-- ---- DOLT_CHECKOUT
+
+checkout_refused : {D : Type 0} (address : List ℕ → List ℕ) (p : plain.Session) (session : Session D) (request : CheckoutRequest) (reply : Reply) → reply ≡ print.Refused 9006
+    → is_changed p ≡ true → SessionStands address session p → AnswersAlone address p (command.Checkout request) session reply
+checkout_refused address p session request reply says changed stands = record {
+  after = p;
+  is = subst (λ (r : Reply). alone_by (shortage r) p (command.Checkout request) ≡ Some (p, r)) (sym says) (ap (λ (test : Bool). if test then Some (p, refused 9006) else None) changed);
+  stands = stands;
+}
+
+pub checkout_alone : {D : Type 0} (address : List ℕ → List ℕ) (session : Session D) (asked : Command) (request : CheckoutRequest) → asked ≡ command.Checkout request → (result : Option Reply)
+    → IfSome result (λ reply. (reply ≡ print.Refused 9006) × ((p : plain.Session) → SessionStands address session p → is_changed p ≡ true))
+    → IfSome result (λ reply. (p : plain.Session) → SessionStands address session p → AnswersAlone address p asked session reply)
+checkout_alone address session asked request is None said = tt
+checkout_alone address session asked request is (Some reply) said = λ p stands.
+    subst (λ (one : Command). AnswersAlone address p one session reply) (sym is) (checkout_refused address p session request reply said.0 (said.1 p stands) stands)
+
+-- ---- the transaction in which a session is
+
+started_by : (address : List ℕ → List ℕ) (draft : DraftParts) (start : Option Look) (rec : BranchRecord) (held : Option Transaction) → StartStands address draft start rec held
+    → is_some start ≡ is_some held
+started_by address draft None rec None stands = refl
+started_by address draft (Some look) rec (Some t) stands = refl
+started_by address draft None rec (Some t) stands = absurd stands
+started_by address draft (Some look) rec None stands = absurd stands
+
+module _ {D : Type 0} (address : List ℕ → List ℕ) (session : Session D) (p : plain.Session) (stands : SessionStands address session p) where
+  pub started_is : is_some session.start ≡ is_in_transaction p
+  started_is = started_by address session.draft.chunks session.start session.own p.transaction stands.transaction
+
+  -- the transaction in which a session with a start is
+  pub started_in : is_some session.start ≡ true → IsInTransaction address session
+  started_in is = in_transaction address session p stands (sym started_is ∙ is)

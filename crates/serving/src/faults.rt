@@ -1,0 +1,59 @@
+//! What is answered where memory was wanting or an address failed.
+
+ghost use Rattle.std.specs.Prelude.{◌≡◌, ◌<◌, ◌+◌, ◌^◌, true};
+ghost use Rattle.script_text.specs.Collisions.{IsFault, TellsTruly};
+ghost use Rattle.plain_sessions.specs.Records.{Shared};
+ghost use Rattle.plain_sessions.specs.Sessions as plain;
+ghost use Rattle.plain_sessions.specs.declared.commands.Command.{Command};
+ghost use Rattle.session_laws.specs.Changes.{Parts};
+ghost use Rattle.session_txn.specs.Showing.{is_sound_reply};
+ghost use Rattle.serving.specs.Serving.{Fails, IsBefore, PassesAlone};
+ghost use Rattle.serving.specs.Steps.{after_start, fault_reply, number_at};
+
+use crate::places::{go_on, number_of};
+use chunk_store::PutFault;
+use script_text::Reply;
+use session_state::Session;
+use tuple_codec::Digester;
+
+/// What a fault is answered before any moment.
+pub(crate) fn reply_to(fault: PutFault) -> Reply
+    ensures reply { result ≡ fault_reply fault }
+    ensures sound { is_sound_reply result ≡ true }
+{
+    match fault {
+        PutFault::Memory => Reply::Refused(1),
+        PutFault::Collision(clash) => Reply::collided(clash),
+    }
+}
+
+/// A want of memory that came after the start is told so.
+pub(crate) fn after_start(reply: Reply) -> Reply
+    ensures reply { result ≡ after_start reply }
+{
+    match reply {
+        Reply::Refused(number) => {
+            if number == 1 {
+                Reply::Refused(2)
+            } else {
+                Reply::Refused(number)
+            }
+        }
+        other => other,
+    }
+}
+
+/// Answers a statement that met a fault before its first moment, and the session goes on to the next one.
+pub fn answer_fault<D: Digester>(session: &mut Session<D>, fault: PutFault) -> Reply
+    requires before { (parts : Parts) × (p : plain.Session) × (shared : Shared) × IsBefore D.address session.old parts p shared }
+    requires place { number_at session.old.position + 1 < 2 ^ 32 }
+    requires fault { IsFault D.address fault }
+    ensures alone { (parts : Parts) (p : plain.Session) (asked : Command) (shared : Shared) → IsBefore D.address session.old parts p shared → Fails p asked fault
+        → PassesAlone D.address p asked shared parts session.new result }
+    ensures sound { is_sound_reply result ≡ true }
+    ensures truly { TellsTruly D.address result }
+{
+    let number = number_of(session.position);
+    go_on(session, number);
+    reply_to(fault)
+}
