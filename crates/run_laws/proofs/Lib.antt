@@ -5,6 +5,7 @@ pub mod LineLemmas
 pub mod OrderLemmas
 pub mod RunLemmas
 pub mod SeenLemmas
+pub mod SessionLemmas
 pub mod ReplayLemmas
 pub mod ThreadLemmas
 pub mod HistoryLemmas

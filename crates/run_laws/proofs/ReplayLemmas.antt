@@ -20,9 +20,10 @@ use Rattle.plain_sessions.specs.Moments.{After, Past, Still, alone, moment_at, p
 use Rattle.plain_sessions.specs.Runs.{Runner, Shortages, State, advance, awaiting, commands_of, has_none_left, is_over, opened, plain_run, put_runner, runners_of, step, step_of, steps_along, went_on}
 use Rattle.run_laws.specs.Replaying.{AgreesWith, AgreesWithAll, Along, AreWaiting, CantGoOn, IsStopped, WaitsAt, all_replies, dropped, first_runners, is_at, is_next, pending_by, reply_of, seen, seen_all, seen_at}
 use Rattle.run_laws.specs.Laws.{shown_of}
-use Rattle.run_laws.proofs.ListLemmas.{get_behind, get_front, get_put, get_put_other, if_false, put_same}
-use Rattle.run_laws.proofs.SeenLemmas.{local_seen, seen_before, seen_found, seen_pending, seen_put, start_short, start_waits, started_seen, waiting_seen}
-use Rattle.run_laws.proofs.Steps.{alone_past, moment_past, step_here}
+use Rattle.run_laws.proofs.ListLemmas.{get_put, get_put_other, if_false, put_same}
+use Rattle.run_laws.proofs.SeenLemmas.{seen_found, seen_put}
+use Rattle.run_laws.proofs.SessionLemmas.{Comes, agrees_unstarted, decision_back, decision_waits, dropped_back, dropped_stays, local_stays, moment_comes, moment_waits, start_back, start_comes, start_is_waited}
+use Rattle.run_laws.proofs.Steps.{step_here}
 
 -- ---- who agrees with more replies agrees with fewer
 
@@ -39,49 +40,6 @@ agrees_put answers runners place runner next h back agrees at other there =
           let apart : at ≢ place = grind (arith, nat_tests) in
           agrees at other (get_put_other runners place at next apart ∙ there)
     ] refl
-
-told_before : (answers : ℕ → Option Shortage) (session : Session) (replies : List Reply) (reply : Reply) (todo : List Command)
-    → AgreesWith answers (record { session = session; replies = replies ++ reply ∷ []; todo = todo }) → (at : ℕ) → at < length replies → answers (at + 1) ≡ option_and_then shortage (slice_get replies at)
-told_before answers session replies reply todo agrees at below =
-    let more : at < length (replies ++ reply ∷ []) = omega (arith, length_push replies reply) in
-    agrees.told at more ∙ ap (option_and_then shortage) (get_front replies (reply ∷ []) at below)
-
-told_last : (answers : ℕ → Option Shortage) (session : Session) (replies : List Reply) (reply : Reply) (todo : List Command)
-    → AgreesWith answers (record { session = session; replies = replies ++ reply ∷ []; todo = todo }) → answers (length replies + 1) ≡ shortage reply
-told_last answers session replies reply todo agrees =
-    let less : length replies < length (replies ++ reply ∷ []) = omega (arith, length_push replies reply) in
-    agrees.told (length replies) less ∙ ap (option_and_then shortage) (get_behind replies reply)
-
-known : (answers : ℕ → Option Shortage) (session later : Session) (replies : List Reply) (reply : Reply) (todo : List Command) → session.statement ≡ length replies + 1
-    → AgreesWith answers (record { session = later; replies = replies ++ reply ∷ []; todo = todo }) → answers session.statement ≡ shortage reply
-known answers session later replies reply todo number agrees = ap answers number ∙ told_last answers later replies reply todo agrees
-
--- before a statement nothing is started
-agrees_unstarted : (answers : ℕ → Option Shortage) (session later : Session) (replies : List Reply) (reply : Reply) (command : Command) (todo : List Command) → is_before_statement session.place ≡ true
-    → AgreesWith answers (record { session = later; replies = replies ++ reply ∷ []; todo = todo }) → AgreesWith answers (record { session = session; replies = replies; todo = command ∷ todo })
-agrees_unstarted answers session later replies reply command todo before agrees = record {
-  told = told_before answers later replies reply todo agrees;
-  started = λ between. let apart : false ≡ true = sym between ∙ before in absurd (cc);
-}
-
--- behind a start the answer is known by the reply
-agrees_started : (answers : ℕ → Option Shortage) (session later : Session) (replies : List Reply) (reply : Reply) (command : Command) (todo : List Command) → session.statement ≡ length replies + 1 → shortage reply ≢ Some AtOnce
-    → AgreesWith answers (record { session = later; replies = replies ++ reply ∷ []; todo = todo }) → AgreesWith answers (record { session = session; replies = replies; todo = command ∷ todo })
-agrees_started answers session later replies reply command todo number other agrees = record {
-  told = told_before answers later replies reply todo agrees;
-  started = λ between at_once. other (sym (known answers session later replies reply todo number agrees) ∙ at_once);
-}
-
--- a reply tells the shortage that it was made of
-told_short : (short : Shortage) → shortage (reply_of short) ≡ Some short
-told_short AtOnce = refl
-told_short AfterStart = refl
-told_short (Clashes clash) = refl
-
-only_at_once : (short : Shortage) → shortage (reply_of short) ≡ Some AtOnce → short ≡ AtOnce
-only_at_once AtOnce h = refl
-only_at_once AfterStart h = absurd (cc)
-only_at_once (Clashes clash) h = absurd (cc)
 
 -- ---- one session goes on
 
@@ -103,7 +61,7 @@ replies_at (first ∷ runners) zero runner h = let same : first ≡ runner = cc 
 replies_at (first ∷ runners) (suc place) runner h = replies_at runners place runner h
 
 -- a statement to come is in no reply
-unanswered : (runners : List Runner) (place : ℕ) (runner : Runner) → slice_get runners place ≡ Some runner → runner.session.statement ≡ length runner.replies + 1
+pub unanswered : (runners : List Runner) (place : ℕ) (runner : Runner) → slice_get runners place ≡ Some runner → runner.session.statement ≡ length runner.replies + 1
     → shortages_in (all_replies runners) place runner.session.statement ≡ None
 unanswered runners place runner h number =
     let e : length runner.replies + 1 - 1 ≡ length runner.replies = omega arith in
@@ -112,7 +70,7 @@ unanswered runners place runner h number =
     ∙ ap (λ (rs : List Reply). option_and_then shortage (slice_get rs (length runner.replies))) (get_or_from_slice_get (all_replies runners) place runner.replies [] (replies_at runners place runner h))
     ∙ ap (option_and_then shortage) (slice_get_past runner.replies (length runner.replies) (omega arith))
 
-agrees_self : (runners : List Runner) → AreWaiting runners → AgreesWithAll (shortages_in (all_replies runners)) runners
+pub agrees_self : (runners : List Runner) → AreWaiting runners → AgreesWithAll (shortages_in (all_replies runners)) runners
 agrees_self runners waiting place runner h = record {
   told = λ at below. let e : at + 1 - 1 ≡ at = omega arith in
       ap (λ n. option_and_then shortage (slice_get (slice_index_or (all_replies runners) place []) n)) e
@@ -120,7 +78,7 @@ agrees_self runners waiting place runner h = record {
   started = λ between at_once. let apart : ◌≡◌ {A = Option Shortage} None (Some AtOnce) = sym (unanswered runners place runner h (waiting place runner h).numbered) ∙ at_once in absurd (cc);
 }
 
-still_seen : (answers : ℕ → Option Shortage) (session : Session) (replies : List Reply) (before : Bool) (todo : List Command) → WaitsAt session before todo → answers session.statement ≡ None
+pub still_seen : (answers : ℕ → Option Shortage) (session : Session) (replies : List Reply) (before : Bool) (todo : List Command) → WaitsAt session before todo → answers session.statement ≡ None
     → seen_at answers session replies before todo ≡ record { session = session; replies = replies; todo = todo }
 still_seen answers session replies true [] waits none = refl
 still_seen answers session replies false [] waits none = absurd (cc)
@@ -187,8 +145,7 @@ module _ (reads : List ℕ → Command) (address : List ℕ → List ℕ) (epoch
       → slice_get runners place ≡ Some (record { session = session; replies = replies; todo = command ∷ todo })
       → ((answers : Shortages) → AgreesWith (answers place) next → AgreesWith (answers place) (record { session = session; replies = replies; todo = command ∷ todo }))
       → ((answers : Shortages) → AgreesWith (answers place) next → seen (answers place) (record { session = session; replies = replies; todo = command ∷ todo }) ≡ record { session = session; replies = replies; todo = command ∷ todo })
-      → ((answers : Shortages) → AgreesWith (answers place) next → (after : After) × (moment_at address epoch (answers place session.statement) shared session command ≡ Some (left, after))
-      × (went_on (answers place) session command todo replies after ≡ seen (answers place) next))
+      → ((answers : Shortages) → AgreesWith (answers place) next → Comes address epoch (answers place) shared session replies command todo left next)
       → Along reads address epoch script order shared runners
       → Along reads address epoch script (order ++ record { session = place; statement = session.statement } ∷ []) left (slice_set runners place next)
   keeps_moment order shared left runners place session replies command todo next h back waits goes =
@@ -209,8 +166,7 @@ module _ (reads : List ℕ → Command) (address : List ℕ → List ℕ) (epoch
   replay_local order shared runners place session replies command todo said h number before is =
       keeps_still order shared runners place (record { session = session; replies = replies; todo = command ∷ todo }) (record { session = said.0; replies = replies ++ said.1 ∷ []; todo = todo }) h
       (λ answers agrees. agrees_unstarted (answers place) session said.0 replies said.1 command todo before agrees)
-      (λ answers agrees. local_seen (answers place) session replies command todo said before (alone_past (shortage said.1) session command said is).1
-      (subst (λ answer. alone answer session command ≡ Some said) (sym (known (answers place) session said.0 replies said.1 todo number agrees)) is))
+      (λ answers agrees. local_stays (answers place) session replies command todo said number before is agrees)
 
   pub replay_moment : (order : List Moment) (shared left : Shared) (runners : List Runner) (place : ℕ) (session : Session) (replies : List Reply) (command : Command) (todo : List Command) (said : Said)
       → slice_get runners place ≡ Some (record { session = session; replies = replies; todo = command ∷ todo }) → session.statement ≡ length replies + 1 → is_before_statement session.place ≡ true
@@ -220,13 +176,8 @@ module _ (reads : List ℕ → Command) (address : List ℕ → List ℕ) (epoch
   replay_moment order shared left runners place session replies command todo said h number before waits is =
       keeps_moment order shared left runners place session replies command todo (record { session = said.0; replies = replies ++ said.1 ∷ []; todo = todo }) h
       (λ answers agrees. agrees_unstarted (answers place) session said.0 replies said.1 command todo before agrees)
-      (λ answers agrees. waiting_seen (answers place) session replies command todo before
-      (subst (λ answer. alone answer session command ≡ None) (sym (known (answers place) session said.0 replies said.1 todo number agrees)) waits))
-      (λ answers agrees. (
-        Past said,
-        subst (λ answer. moment_at address epoch answer shared session command ≡ Some (left, Past said)) (sym (known (answers place) session said.0 replies said.1 todo number agrees)) is,
-        sym (seen_before (answers place) said.0 (replies ++ said.1 ∷ []) todo (moment_past address epoch (shortage said.1) shared session command left said is).1),
-      ))
+      (λ answers agrees. moment_waits (answers place) session replies command todo said number before waits agrees)
+      (λ answers agrees. moment_comes (answers place) session replies command todo address epoch shared left said number is agrees)
 
   -- the decision behind a start
   pub replay_decision : (order : List Moment) (shared left : Shared) (runners : List Runner) (place : ℕ) (session : Session) (replies : List Reply) (command : Command) (todo : List Command) (said : Said)
@@ -236,14 +187,10 @@ module _ (reads : List ℕ → Command) (address : List ℕ → List ℕ) (epoch
       → Along reads address epoch script (order ++ record { session = place; statement = session.statement } ∷ []) left (slice_set runners place (record { session = said.0; replies = replies ++ said.1 ∷ []; todo = todo }))
   replay_decision order shared left runners place session replies command todo said h number between well is =
       keeps_moment order shared left runners place session replies command todo (record { session = said.0; replies = replies ++ said.1 ∷ []; todo = todo }) h
-      (λ answers agrees. agrees_started (answers place) session said.0 replies said.1 command todo number (λ at_once. let apart : ◌≡◌ {A = Option Shortage} None (Some AtOnce) = sym well ∙ at_once in absurd (cc)) agrees)
-      (λ answers agrees. seen_pending (answers place) session replies command todo between
-      ∙ ap (pending_by (answers place) session replies command todo) (known (answers place) session said.0 replies said.1 todo number agrees ∙ well))
-      (λ answers agrees. (
-        Past said,
-        subst (λ answer. moment_at address epoch answer shared session command ≡ Some (left, Past said)) (sym (known (answers place) session said.0 replies said.1 todo number agrees ∙ well)) is,
-        sym (seen_before (answers place) said.0 (replies ++ said.1 ∷ []) todo (moment_past address epoch None shared session command left said is).1),
-      ))
+      (λ answers agrees. decision_back (answers place) session replies command todo said number well agrees)
+      (λ answers agrees. decision_waits (answers place) session replies command todo said number between well agrees)
+      (λ answers agrees. moment_comes (answers place) session replies command todo address epoch shared left said number
+      (subst (λ answer. moment_at address epoch answer shared session command ≡ Some (left, Past said)) (sym well) is) agrees)
 
   -- the start of a database statement whose decision is to come
   pub replay_start : (order : List Moment) (shared : Shared) (runners : List Runner) (at : ℕ) (session : Session) (replies : List Reply) (work : Work) (todo : List Command) (transaction : Transaction) (place : Place)
@@ -254,22 +201,9 @@ module _ (reads : List ℕ → Command) (address : List ℕ → List ℕ) (epoch
   replay_start order shared runners at session replies work todo transaction place h before none is between =
       let next : Runner = record { session = awaiting session transaction place; replies = replies; todo = Data work ∷ todo } in
       keeps_moment order shared shared runners at session replies (Data work) todo next h
-      (λ answers agrees. record { told = agrees.told; started = λ other. let apart : true ≡ false = sym before ∙ other in absurd (cc) })
-      (λ answers agrees. waiting_seen (answers at) session replies (Data work) todo before (start_waits session work none (answers at session.statement) (agrees.started between)))
-      (λ answers agrees. elim (answers at session.statement) as (λ answer. answers at session.statement ≡ answer →
-      (after : After) × (moment_at address epoch (answers at session.statement) shared session (Data work) ≡ Some (shared, after)) × (went_on (answers at) session (Data work) todo replies after ≡ seen (answers at) next)) [
-        | None ↦ λ known_as. (
-          Still transaction place,
-          ap (λ answer. moment_at address epoch answer shared session (Data work)) known_as ∙ is,
-          ap (pending_by (answers at) (awaiting session transaction place) replies (Data work) todo) (sym known_as) ∙ sym (seen_pending (answers at) (awaiting session transaction place) replies (Data work) todo between),
-        )
-        | Some short ↦ λ known_as. (
-          Past (past session.statement (session, reply_of short)),
-          ap (λ answer. moment_at address epoch answer shared session (Data work)) known_as
-              ∙ start_short address epoch shared session work short none before (λ at_once. agrees.started between (known_as ∙ ap (λ (s : Shortage). Some s) at_once)),
-          started_seen (answers at) session replies (Data work) todo transaction place none between short known_as,
-        )
-      ] refl)
+      (λ answers agrees. start_back (answers at) session replies work todo transaction place before agrees)
+      (λ answers agrees. start_is_waited (answers at) session replies work todo transaction place before none between agrees)
+      (λ answers agrees. start_comes (answers at) session replies work todo transaction place address epoch shared before none is between agrees)
 
   -- an answer 2 or 3 in place of the decision
   pub replay_dropped : (order : List Moment) (shared : Shared) (runners : List Runner) (place : ℕ) (session : Session) (replies : List Reply) (command : Command) (todo : List Command) (short : Shortage)
@@ -279,9 +213,8 @@ module _ (reads : List ℕ → Command) (address : List ℕ → List ℕ) (epoch
       → Along reads address epoch script order shared (slice_set runners place (record { session = dropped session; replies = replies ++ reply_of short ∷ []; todo = todo }))
   replay_dropped order shared runners place session replies command todo short h number between other =
       keeps_still order shared runners place (record { session = session; replies = replies; todo = command ∷ todo }) (record { session = dropped session; replies = replies ++ reply_of short ∷ []; todo = todo }) h
-      (λ answers agrees. agrees_started (answers place) session (dropped session) replies (reply_of short) command todo number (λ at_once. other (only_at_once short at_once)) agrees)
-      (λ answers agrees. seen_pending (answers place) session replies command todo between
-      ∙ ap (pending_by (answers place) session replies command todo) (known (answers place) session (dropped session) replies (reply_of short) todo number agrees ∙ told_short short))
+      (λ answers agrees. dropped_back (answers place) session replies command todo short number other agrees)
+      (λ answers agrees. dropped_stays (answers place) session replies command todo short number between agrees)
 
   -- ---- the beginning
 
@@ -305,12 +238,23 @@ module _ (reads : List ℕ → Command) (address : List ℕ → List ℕ) (epoch
       ∙ ap (λ all. Some (record { shared = shared; runners = all })) (all_still answers 0 runners waiting (λ place runner h. let zeroth : 0 + place ≡ place = omega arith in
       ap (λ n. answers n runner.session.statement) zeroth ∙ unanswered runners place runner h (waiting place runner h).numbered))
 
+  pub machine_by : (order : List Moment) (shared : Shared) (runners : List Runner) → list_all is_over runners ≡ true
+      → steps_along address epoch (shortages_in (all_replies runners)) order (opened reads address epoch (shortages_in (all_replies runners)) script) ≡ Some (record { shared = shared; runners = runners })
+      → plain_run reads address script order (shortages_in (all_replies runners)) epoch ≡ Some (record { shared = shared; runners = runners })
+  unfolding plain_run
+  machine_by order shared runners over stepped =
+      ap (option_and_then (λ (last : State). if list_all is_over last.runners then Some last else None)) stepped
+      ∙ ap (λ test. if test then Some (record { shared = shared; runners = runners }) else None) over
+
+  -- the machine's run shows itself
+  pub shown_by_machine : (order : List Moment) (shared : Shared) (runners : List Runner)
+      → plain_run reads address script order (shortages_in (all_replies runners)) epoch ≡ Some (record { shared = shared; runners = runners })
+      → IsPlainRun reads address epoch script (shown_of address script order shared runners)
+  shown_by_machine order shared runners ran = ap (option_map (shown address script order)) ran
+
   pub replay_end : (order : List Moment) (shared : Shared) (runners : List Runner) → AreWaiting runners → list_all is_over runners ≡ true → Along reads address epoch script order shared runners
       → IsPlainRun reads address epoch script (shown_of address script order shared runners)
-  unfolding plain_run
-  replay_end order shared runners waiting over along =
-      ap (λ (found : Option State). option_map (shown address script order) (option_and_then (λ (last : State). if list_all is_over last.runners then Some last else None) found)) (replay_state order shared runners waiting along)
-      ∙ ap (λ test. option_map (shown address script order) (if test then Some (record { shared = shared; runners = runners }) else None)) over
+  replay_end order shared runners waiting over along = shown_by_machine order shared runners (machine_by order shared runners over (replay_state order shared runners waiting along))
 
   pub replay_stopped : (order : List Moment) (count : ℕ) (shared : Shared) (runners : List Runner) → AreWaiting runners → Along reads address epoch script (take count order) shared runners → count ≤ length order
       → CantGoOn address epoch (shortages_in (all_replies runners)) (record { shared = shared; runners = runners }) (slice_get order count)

@@ -1,20 +1,12 @@
 -- Sessions that each go their own way through one history of moments, whose states are told by spellings.
-use Rattle.std.specs.Prelude.{◌≡◌, ℕ, ℤ, ◌+◌, ◌<◌, ◌==◌, List, [], ◌∷◌, length, Option, Some, slice_get, if◌then◌else◌}
-use Rattle.std.specs.Option.{option_and_then}
-use Rattle.script_text.specs.Output.{Shortage, shortage}
-use Rattle.script_text.specs.declared.replies.Reply.{Reply}
+use Rattle.std.specs.Prelude.{◌≡◌, ℕ, ℤ, ◌==◌, List, [], ◌∷◌, Option, Some, if◌then◌else◌}
+use Rattle.script_text.specs.Output.{Shortage}
 use Rattle.script_text.specs.declared.scripts.Moment.{Moment}
 use Rattle.plain_sessions.specs.Records.{Shared}
-use Rattle.plain_sessions.specs.Sessions.{Said, Session}
+use Rattle.plain_sessions.specs.Sessions.{Session}
 use Rattle.plain_sessions.specs.declared.commands.Command.{Command}
 use Rattle.plain_sessions.specs.Runs.{Runner, advance, step_of}
-use Rattle.run_laws.specs.Turns.{Turn, ServedIn}
-
--- a session alone goes through its turns, on whatever states they find
-abbrev pub Goes : (List ℕ → List ℕ) → ℤ → (ℕ → Option Shortage) → Runner → List Turn → Runner → Type 0
-Goes address epoch answers runner [] last = runner ≡ last
-Goes address epoch answers runner (turn ∷ turns) last =
-    (next : Runner) × (step_of address epoch answers turn.statement turn.found runner.session runner.replies runner.todo ≡ Some (turn.left, next)) × Goes address epoch answers next turns last
+use Rattle.run_laws.specs.Replaying.{AgreesWith, seen}
 
 -- a turn whose states are spelled
 pub record ToldTurn (Words : Type 0) : Type 0 where
@@ -41,7 +33,7 @@ left_last before (entry ∷ log) = left_last entry.left log
 abbrev pub moment_of_entry : {Words : Type 0} → Entry Words → Moment
 moment_of_entry entry = record { session = entry.session; statement = entry.statement }
 
--- the same, on states that the spellings stand for
+-- a session alone goes through its turns, on states that the spellings stand for
 abbrev pub GoesTold : {Words : Type 0} → (Words → Shared → Type 0) → (List ℕ → List ℕ) → ℤ → (ℕ → Option Shortage) → Runner → List (ToldTurn Words) → Runner → Type 0
 GoesTold Stands address epoch answers runner [] last = runner ≡ last
 GoesTold Stands address epoch answers runner (turn ∷ turns) last =
@@ -49,25 +41,7 @@ GoesTold Stands address epoch answers runner (turn ∷ turns) last =
     × (step_of address epoch answers turn.statement found runner.session runner.replies runner.todo ≡ Some (left, next))
     × GoesTold Stands address epoch answers next turns last
 
--- told turns and turns of states
-abbrev pub TurnsStand : {Words : Type 0} → (Words → Shared → Type 0) → List (ToldTurn Words) → List Turn → Type 0
-TurnsStand Stands [] [] = Unit {0}
-TurnsStand Stands [] (turn ∷ turns) = ⊥
-TurnsStand Stands (told ∷ more) [] = ⊥
-TurnsStand Stands (told ∷ more) (turn ∷ turns) =
-    (told.statement ≡ turn.statement) × Stands told.found turn.found × Stands told.left turn.left × TurnsStand Stands more turns
-
--- what serving one statement tells
-pub record ServedTold {Words : Type 0} (Stands : Words → Shared → Type 0) (address : List ℕ → List ℕ) (epoch : ℤ) (answer : Option Shortage) (session : Session) (command : Command) (told : List (ToldTurn Words)) (said : Said) : Type 0 where
-  pub turns : List Turn
-  pub stand : TurnsStand Stands told turns
-  pub served : ServedIn address epoch answer session command turns said
-
--- the wants of memory and collisions are those that the replies tell
-abbrev pub Tells : (ℕ → Option Shortage) → List Reply → Type 0
-Tells answers replies = (at : ℕ) → at < length replies → answers (at + 1) ≡ option_and_then shortage (slice_get replies at)
-
--- what one session's thread keeps: by these told turns it went from its first statement on, and these are to come
-abbrev pub ThreadGoes : {Words : Type 0} → (Words → Shared → Type 0) → (List ℕ → List ℕ) → ℤ → Session → List Command → List (ToldTurn Words) → Session → List Reply → List Command → Type 0
-ThreadGoes Stands address epoch first all told session replies rest =
-    (answers : ℕ → Option Shortage) → Tells answers replies → GoesTold Stands address epoch answers (advance answers all [] first) told (advance answers rest replies session)
+-- what one session keeps that goes its own way: by these told turns the machine comes from the session's beginning to what it has of it now, whatever it will be answered
+abbrev pub Way : {Words : Type 0} → (Words → Shared → Type 0) → (List ℕ → List ℕ) → ℤ → Session → List Command → List (ToldTurn Words) → Runner → Type 0
+Way Stands address epoch first all told runner =
+    (answers : ℕ → Option Shortage) → AgreesWith answers runner → GoesTold Stands address epoch answers (advance answers all [] first) told (seen answers runner)

@@ -6,6 +6,7 @@ use Rattle.std.proofs.lemmas.List.{length-set}
 use Rattle.std.proofs.lemmas.List.Quantifiers.{position-Some}
 use Rattle.std.proofs.lemmas.Bool.Decides.{nat_tests}
 use Rattle.std.proofs.lemmas.Option.{same_Some, slice_get-map, slice_get_within}
+use Rattle.chunk_store.specs.Chunks.{Lists}
 use Rattle.script_text.specs.Input.{place_of}
 use Rattle.script_text.specs.Shown.{is_shown_moment}
 use Rattle.script_text.specs.declared.scripts.Moment.{Moment}
@@ -19,7 +20,6 @@ use Rattle.run_laws.specs.Orders.{asked_moment, asked_order}
 use Rattle.run_laws.specs.Replaying.{Along, dropped, reply_of}
 use Rattle.run_laws.proofs.ListLemmas.{all_append, get_put, get_put_other, join, put_same}
 use Rattle.session_laws.specs.Changes.{Parts, StateStands}
-use Rattle.serving.specs.Serving.{Passes}
 use Rattle.script_run.specs.Following.{ArePlayers, AreSettledTo, CantFollow, GoesOn, Stays, Answers, Drops, HasFollowed, IsFurther, IsPlayer, IsPlayingAt, StandsAt, Turns, Meets, Starts, Decides, is_next_at, is_settled, moments_left}
 use Rattle.script_run.specs.declared.players.Player.{Player}
 use Rattle.script_run.specs.declared.players.Playing.{Playing}
@@ -111,35 +111,36 @@ module _ (address : List ℕ → List ℕ) (epoch : ℤ) (script : Script) (laws
 
 -- ---- the other sessions stand where they stood
 
-module _ {D : Type 0} (address : List ℕ → List ℕ) (old new : Parts) (shared left : Shared) (place statement : ℕ) where
-  stands_still : (s : Stage) (player : Player D) (runner : Runner) → StateStands address new left → Passes place statement shared left old new → runner.session.number ≢ place
+-- on its branch, where all chunks that were there are there
+module _ {D : Type 0} (address : List ℕ → List ℕ) (old new : Parts) (shared left : Shared) (stands : StateStands address new left) (grown : Lists old.chunks new.chunks) where
+  stands_still : (s : Stage) (player : Player D) (runner : Runner) → slice_get left.places runner.session.number ≡ slice_get shared.places runner.session.number
       → StandsAt address player old runner shared s → StandsAt address player new runner left s
-  stands_still stage.Free player runner stands passes apart is = record {
+  stands_still stage.Free player runner placed is = record {
     session_stands = is.session_stands;
     before = is.before;
     state_stands = stands;
-    placed = passes.others runner.session.number apart ∙ is.placed;
-    later = λ k bytes listed. passes.grown k bytes (is.later k bytes listed);
+    placed = placed ∙ is.placed;
+    later = λ k bytes listed. grown k bytes (is.later k bytes listed);
   }
-  stands_still (stage.Waits asked) player runner stands passes apart is = (
+  stands_still (stage.Waits asked) player runner placed is = (
     record {
       session_stands = is.0.session_stands;
       before = is.0.before;
       state_stands = stands;
-      placed = passes.others runner.session.number apart ∙ is.0.placed;
-      later = λ k bytes listed. passes.grown k bytes (is.0.later k bytes listed);
+      placed = placed ∙ is.0.placed;
+      later = λ k bytes listed. grown k bytes (is.0.later k bytes listed);
     },
     is.1,
     is.2,
     is.3,
   )
-  stands_still (stage.Between asked wanted) player runner stands passes apart is = (
+  stands_still (stage.Between asked wanted) player runner placed is = (
     record {
       here = record {
         session_stands = is.0.here.session_stands;
         state_stands = stands;
-        placed = passes.others runner.session.number apart ∙ is.0.here.placed;
-        later = λ k bytes listed. passes.grown k bytes (is.0.here.later k bytes listed);
+        placed = placed ∙ is.0.here.placed;
+        later = λ k bytes listed. grown k bytes (is.0.here.later k bytes listed);
       };
       work = is.0.work;
       asked_is = is.0.asked_is;
@@ -151,10 +152,10 @@ module _ {D : Type 0} (address : List ℕ → List ℕ) (old new : Parts) (share
     is.2,
   )
 
-  pub another_stays : (other : ℕ) (runner : Runner) (player : Player D) → other ≢ place → StateStands address new left → Passes place statement shared left old new
-      → IsPlayer address old shared other runner player → IsPlayer address new left other runner player
-  another_stays other runner player apart stands passes is = record {
-    stands = stands_still player.stage player runner stands passes (λ same. apart (sym is.number ∙ same)) is.stands;
+  pub player_stays : (place : ℕ) (runner : Runner) (player : Player D) → slice_get left.places place ≡ slice_get shared.places place
+      → IsPlayer address old shared place runner player → IsPlayer address new left place runner player
+  player_stays place runner player placed is = record {
+    stands = stands_still player.stage player runner (subst (λ n. slice_get left.places n ≡ slice_get shared.places n) (sym is.number) placed) is.stands;
     number = is.number;
     said = is.said;
     counted = is.counted;
@@ -275,7 +276,7 @@ module _ {D : Type 0} (address : List ℕ → List ℕ) (epoch : ℤ) (script : 
         stands = on.state_stands;
         players = subst (λ (ps : List (Player D)). ArePlayers address after.db.parts on.left (slice_set now.runners place on.last) ps) (sym put)
             (players_next address playing.db.parts after.db.parts now.shared on.left now.runners playing.players.items place one.runner on.last player next now.players one.there found on.is
-            (λ other runner another apart is. another_stays address playing.db.parts after.db.parts now.shared on.left place statement other runner another apart on.state_stands on.passes is));
+            (λ other runner another apart is. player_stays address playing.db.parts after.db.parts now.shared on.left on.state_stands on.passes.grown other runner another (on.passes.others other apart) is));
         moments_room = omega (arith, now.moments_room);
         segments_room = omega (arith, now.segments_room);
       }

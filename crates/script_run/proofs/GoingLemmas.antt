@@ -21,15 +21,16 @@ use Rattle.chunk_store.specs.declared.faults.PutFault.TheVariants.{Memory}
 use Rattle.run_laws.specs.Replaying.{dropped, reply_of}
 use Rattle.run_laws.proofs.ListLemmas.{all_append, both, drop_at_get, if_false, if_true, join}
 use Rattle.run_laws.proofs.Steps.{alone_past, moment_past}
-use Rattle.session_laws.specs.Changes.{Parts}
+use Rattle.session_laws.specs.Changes.{Parts, StateStands}
 use Rattle.session_state.specs.Standing.{SessionStands}
 use Rattle.session_txn.specs.Showing.{is_sound_reply}
 use Rattle.serving.specs.Serving.{Awaits, Concludes, Drops, Fails, IsBefore, IsBetween, MeetsOnce, Passes, PassesAlone, Starts}
 use Rattle.serving.specs.Steps.{number_at}
 use Rattle.serving.specs.declared.meeting.Pending.{Pending}
 use Rattle.serving.specs.declared.meeting.Pending.TheVariants as pending
+use Rattle.serving.proofs.BegunLemmas.{started_at as begun_at, started_passes, started_state}
 use Rattle.script_run.specs.Following as going
-use Rattle.script_run.specs.Following.{GoesOn, IsAsked, IsFurther, IsLed, IsPlayer, StandsAt, Turns, is_free, is_next_at, is_settled, moments_left, starts_made}
+use Rattle.script_run.specs.Following.{GoesOn, IsAsked, IsFurther, IsLed, IsLedInto, IsPlayer, StandsAt, Turns, is_free, is_next_at, is_settled, moments_left, starts_made}
 use Rattle.script_run.specs.declared.players.Player.{Player}
 use Rattle.script_run.specs.declared.players.Stage.{Stage}
 use Rattle.script_run.specs.declared.players.Stage.TheVariants as stage
@@ -83,12 +84,19 @@ started_at (pending.Between reply) q t work awaits = ap is_before_statement awai
 started_at pending.Closing q t work awaits = ap is_before_statement awaits.0
 
 module _ {D : Type 0} {address : List ℕ → List ℕ} {parts : Parts} {shared : Shared} {place : ℕ} {runner : Runner} {player : Player D} (is : IsPlayer address parts shared place runner player) where
-  stands_of : SessionStands address player.session runner.session
+  pub stands_of : SessionStands address player.session runner.session
   stands_of = by player.stage is.stands where
     by : (s : Stage) → StandsAt address player parts runner shared s → SessionStands address player.session runner.session
     by stage.Free stands = stands.session_stands
     by (stage.Waits asked) stands = stands.0.session_stands
     by (stage.Between asked wanted) stands = stands.0.here.session_stands
+
+  pub state_of : StateStands address parts shared
+  state_of = by player.stage is.stands where
+    by : (s : Stage) → StandsAt address player parts runner shared s → StateStands address parts shared
+    by stage.Free stands = stands.state_stands
+    by (stage.Waits asked) stands = stands.0.state_stands
+    by (stage.Between asked wanted) stands = stands.0.here.state_stands
 
   pub before_of : is_free player.stage ≡ true → IsBefore address player.session parts runner.session shared
   before_of free = by player.stage free is.stands where
@@ -322,6 +330,32 @@ module _ {D : Type 0} {address : List ℕ → List ℕ} {parts : Parts} {shared 
     is = next_player asked rest todo (dropped runner.session) reply next drops.next refl refl pushed kept texts free sound truly;
   }
 
+-- ---- behind a start whose work is to be done
+
+module _ {D : Type 0} {address : List ℕ → List ℕ} {place : ℕ} {runner : Runner} {shared : Shared} {old new : Parts} {asked : Command} {player : Player D}
+    (is : IsLedInto address place runner shared old new asked player) where
+  -- its start was a moment of its own
+  pub into_passes : Passes place runner.session.statement shared shared old new
+  into_passes = passes_at is.is new shared (started_passes address runner.session asked shared old new player.session is.started)
+
+  -- and left what is shared as it was
+  pub into_stands : StateStands address new shared
+  into_stands = started_state address runner.session asked shared old new player.session is.started
+
+  pub into_more : length player.replies.items < length player.texts
+  into_more = more_said is.is asked is.is.stands.3.0 is.is.stands.3.1
+
+  pub into_room : vec_len player.replies < vec_capacity player.replies
+  into_room = has_room is.is (more_of is.is asked is.is.stands.3.0 is.is.stands.3.1)
+
+  -- its statement's number is the one that it had
+  pub into_number : number_at player.session.position + 1 < 2 ^ 32
+  into_number =
+      let number : number_at player.session.position ≡ runner.session.statement = begun_at address runner.session asked shared old new player.session is.started in
+      let counted : runner.session.statement ≡ length runner.replies + 1 = is.is.counted in
+      let few : length player.texts + 2 < 2 ^ 32 = is.is.few in
+      omega (arith, more_of is.is asked is.is.stands.3.0 is.is.stands.3.1)
+
 -- ---- how many moments are left
 
 module _ {D : Type 0} (player next : Player D) where
@@ -347,14 +381,23 @@ module _ {D : Type 0} (player next : Player D) where
         by (stage.Waits asked) free = refl
         by (stage.Between asked wanted) free = absurd (cc)
 
-  -- its start was made
-  pub one_less : (asked first : Command) (wanted : Pending) → length player.replies.items < length player.texts → player.stage ≡ stage.Waits first → next.replies ≡ player.replies → next.texts ≡ player.texts
+  -- its start was made, and its work is to be done
+  pub started_left : (asked : Command) → player.stage ≡ stage.Waits asked → next.replies ≡ player.replies → next.texts ≡ player.texts → next.stage ≡ stage.Free → moments_left next + 0 ≤ moments_left player
+  started_left asked waits replies texts free =
+      let same : length next.replies.items ≡ length player.replies.items = ap (λ rs. length rs.items) replies in
+      let all : length next.texts ≡ length player.texts = ap length texts in
+      let none : starts_made next.stage ≡ 0 = ap starts_made free in
+      let none_before : starts_made player.stage ≡ 0 = ap starts_made waits in
+      omega arith
+
+  -- the work of its start was done, and its decision is to come
+  pub one_less : (asked : Command) (wanted : Pending) → length player.replies.items < length player.texts → player.stage ≡ stage.Free → next.replies ≡ player.replies → next.texts ≡ player.texts
       → next.stage ≡ stage.Between asked wanted → moments_left next + 1 ≤ moments_left player
-  one_less asked first wanted more waits replies texts stage_is =
+  one_less asked wanted more free replies texts stage_is =
       let same : length next.replies.items ≡ length player.replies.items = ap (λ rs. length rs.items) replies in
       let all : length next.texts ≡ length player.texts = ap length texts in
       let one : starts_made next.stage ≡ 1 = ap starts_made stage_is in
-      let none : starts_made player.stage ≡ 0 = ap starts_made waits in
+      let none : starts_made player.stage ≡ 0 = ap starts_made free in
       omega (arith, more)
 
 -- ---- further, and further on

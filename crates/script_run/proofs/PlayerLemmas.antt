@@ -98,7 +98,7 @@ as_many_first : (script : Script) (place : ℕ) (names : List (List ℕ)) → le
 as_many_first script place [] = refl
 as_many_first script place (name ∷ names) = ap suc (as_many_first script (place + 1) names)
 
-abbrev first_at : Script → ℕ → List ℕ → Runner
+abbrev pub first_at : Script → ℕ → List ℕ → Runner
 first_at script place name = record { session = new_session place name; replies = []; todo = commands_of command place script.lines }
 
 found_first : (script : Script) (place : ℕ) (names : List (List ℕ)) (at : ℕ) (name : List ℕ) → slice_get names at ≡ Some name
@@ -128,7 +128,7 @@ sum_left (player ∷ players) (count ∷ statements) many each =
     let counted : sum (count ∷ statements) ≡ count + sum statements = sum_cons count statements in
     omega arith
 
-new_left : {D : Type 0} (address : List ℕ → List ℕ) (place : ℕ) (name : List ℕ) (lines : List Line) (player : Player D)
+pub new_left : {D : Type 0} (address : List ℕ → List ℕ) (place : ℕ) (name : List ℕ) (lines : List Line) (player : Player D)
     → IsNewPlayer address place name lines (count_of place lines) player → moments_left player ≡ 2 * count_of place lines
 new_left address place name lines player new =
     let texts : length player.texts ≡ count_of place lines = ap length new.texts ∙ texts_counted place lines in
@@ -138,7 +138,7 @@ new_left address place name lines player new =
     all
 
 module _ {D : Type 0} (address : List ℕ → List ℕ) (epoch : ℤ) (script : Script) (parts : Parts) (players : List (Player D)) (statements : List ℕ) where
-  new_is : (place : ℕ) (name : List ℕ) (player : Player D) → IsSoundScript script → StateStands address parts (opening address epoch script.names)
+  pub new_is : (place : ℕ) (name : List ℕ) (player : Player D) → IsSoundScript script → StateStands address parts (opening address epoch script.names)
       → slice_get script.names place ≡ Some name → IsNewPlayer address place name script.lines (count_of place script.lines) player
       → IsPlayer address parts (opening address epoch script.names) place (first_at script place name) player
   new_is place name player sound stands there new =
@@ -164,10 +164,10 @@ module _ {D : Type 0} (address : List ℕ → List ℕ) (epoch : ℤ) (script : 
         truly = tt;
       }
 
-  at_count : statements ≡ counts (length script.names) script.lines → (place : ℕ) → place < length script.names → slice_get statements place ≡ Some (count_of place script.lines)
+  pub at_count : statements ≡ counts (length script.names) script.lines → (place : ℕ) → place < length script.names → slice_get statements place ≡ Some (count_of place script.lines)
   at_count are place below = ap (λ (ns : List ℕ). slice_get ns place) are ∙ count_at (length script.names) script.lines place below
 
-  new_at : statements ≡ counts (length script.names) script.lines → AreNewPlayers address script.names script.lines statements players
+  pub new_at : statements ≡ counts (length script.names) script.lines → AreNewPlayers address script.names script.lines statements players
       → (place : ℕ) (name : List ℕ) (player : Player D) → slice_get script.names place ≡ Some name → slice_get players place ≡ Some player
       → IsNewPlayer address place name script.lines (count_of place script.lines) player
   new_at are new place name player named found =

@@ -31,7 +31,7 @@ use Rattle.serving.specs.Serving.{Awaits}
 use Rattle.serving.specs.Steps.{number_at}
 use Rattle.serving.specs.declared.meeting.Pending.{Pending}
 use Rattle.serving.specs.declared.meeting.Pending.TheVariants as pending
-use Rattle.script_run.specs.Following.{ArePlayers, CantFollow, IsPlayer, IsPlayingAt, IsReplayed, IsStoppedAt, StandsAt, is_free, is_next_at, is_settled, is_through}
+use Rattle.script_run.specs.Following.{AreAlong, CantFollow, IsPlayer, IsPlayingAt, IsReplayed, IsStoppedAt, StandsAt, is_free, is_next_at, is_settled, is_through}
 use Rattle.script_run.specs.Scripts.{IsSoundScript}
 use Rattle.script_run.specs.declared.players.Player.{Player}
 use Rattle.script_run.specs.declared.players.Playing.{Playing}
@@ -179,34 +179,34 @@ option_cases : {X : Type 0} (P : Option X → Type 0) (found : Option X) → (fo
 option_cases P None none some = none refl
 option_cases P (Some x) none some = some x refl
 
-module _ {D : Type 0} (address : List ℕ → List ℕ) (epoch : ℤ) (script : Script) (moments : List Moment) (playing : Playing D) (now : IsPlayingAt address epoch script moments playing) where
+module _ {D : Type 0} (address : List ℕ → List ℕ) (script : Script) (moments : List Moment) (parts : Parts) (players : List (Player D)) (now : AreAlong address script moments parts players) where
   player_at : (place : ℕ) (runner : Runner) → slice_get now.runners place ≡ Some runner
-      → (player : Player D) × (slice_get playing.players.items place ≡ Some player) × IsPlayer address playing.db.parts now.shared place runner player
+      → (player : Player D) × (slice_get players place ≡ Some player) × IsPlayer address parts now.shared place runner player
   player_at place runner there =
-      let one = there_at playing.players.items place (subst (λ n. place < n) (sym now.players.lists) (slice_get_within now.runners place runner there)) in
+      let one = there_at players place (subst (λ n. place < n) (sym now.players.lists) (slice_get_within now.runners place runner there)) in
       (one.0, one.1, now.players.each place runner one.0 there one.1)
 
-  pub replies_are : map (λ (player : Player D). player.replies.items) playing.players.items ≡ all_replies now.runners
-  replies_are = said_by playing.players.items now.runners now.players.lists (λ place runner player h g. (now.players.each place runner player h g).said)
+  pub replies_are : map (λ (player : Player D). player.replies.items) players ≡ all_replies now.runners
+  replies_are = said_by players now.runners now.players.lists (λ place runner player h g. (now.players.each place runner player h g).said)
 
   pub are_truly : AllTellTruly address (all_replies now.runners)
   are_truly = all_truly address now.runners (λ place runner h. (player_at place runner h).2.truly)
 
-  pub are_waiting : list_all is_settled playing.players.items ≡ true → AreWaiting now.runners
+  pub are_waiting : list_all is_settled players ≡ true → AreWaiting now.runners
   are_waiting settled place runner there =
       let one = player_at place runner there in
-      is_waiting address playing.db.parts now.shared place runner one.0 one.2 (all_at is_settled playing.players.items place one.0 one.1 settled)
+      is_waiting address parts now.shared place runner one.0 one.2 (all_at is_settled players place one.0 one.1 settled)
 
-  pub are_over : list_all is_over now.runners ≡ list_all is_through playing.players.items
-  are_over = over_all now.runners playing.players.items now.players.lists (λ place runner player h g.
-      over_is address playing.db.parts now.shared place runner player (now.players.each place runner player h g))
+  pub are_over : list_all is_over now.runners ≡ list_all is_through players
+  are_over = over_all now.runners players now.players.lists (λ place runner player h g.
+      over_is address parts now.shared place runner player (now.players.each place runner player h g))
 
-  pub none_next : (moment : Moment) → CantFollow moment playing.players.items → is_next now.runners moment ≡ false
+  pub none_next : (moment : Moment) → CantFollow moment players → is_next now.runners moment ≡ false
   none_next moment cant =
       option_cases (λ (found : Option Runner). option_map_or (is_at moment) found false ≡ false) (slice_get now.runners moment.session) (λ none. refl) (λ runner there.
       let one = player_at moment.session runner there in
       let past = cant one.0 one.1 in
-      not_at address playing.db.parts now.shared moment.session runner one.0 moment one.2 past.0 past.1)
+      not_at address parts now.shared moment.session runner one.0 moment one.2 past.0 past.1)
 
   -- ---- the whole order was followed
 
@@ -214,13 +214,13 @@ module _ {D : Type 0} (address : List ℕ → List ℕ) (epoch : ℤ) (script : 
   shows replies order branches = record { names = script.names; replies = replies; order = order; branches = branches }
 
   pub shown_is : (replies : List (List Reply)) (order : List Moment) (branches : List BranchLine)
-      → replies ≡ map (λ (player : Player D). player.replies.items) playing.players.items → order ≡ playing.db.parts.moments → branches ≡ playing.db.parts.branches
+      → replies ≡ map (λ (player : Player D). player.replies.items) players → order ≡ parts.moments → branches ≡ parts.branches
       → record { names = script.names; replies = replies; order = order; branches = branches } ≡ shown_of address script moments now.shared now.runners
   shown_is replies order branches said in_order lines =
       ap (λ (rs : List (List Reply)). shows rs order branches) (said ∙ replies_are)
       ∙ ap (λ (o : List Moment). shows (all_replies now.runners) o branches) (in_order ∙ now.made)
       ∙ ap (λ (bs : List BranchLine). shows (all_replies now.runners) moments bs)
-      (lines ∙ branches_are address playing.db.parts.chunks now.shared.commits playing.db.parts.branches now.shared.branches now.stands.branches)
+      (lines ∙ branches_are address parts.chunks now.shared.commits parts.branches now.shared.branches now.stands.branches)
 
   sound_replies : list_all (list_all is_sound_reply) (all_replies now.runners) ≡ true
   sound_replies = all_sound now.runners (λ place runner h. (player_at place runner h).2.sound)
@@ -262,19 +262,23 @@ module _ {D : Type 0} (address : List ℕ → List ℕ) (epoch : ℤ) (script : 
     few = few_replies;
   }
 
+abbrev along_of : {D : Type 0} {address : List ℕ → List ℕ} {epoch : ℤ} {script : Script} {moments : List Moment} {playing : Playing D} → IsPlayingAt address epoch script moments playing
+    → AreAlong address script moments playing.db.parts playing.players.items
+along_of now = record { shared = now.shared; runners = now.runners; made = now.made; all = now.all; within = now.within; stands = now.stands; players = now.players }
+
 pub is_replayed : {D : Type 0} (address : List ℕ → List ℕ) (epoch : ℤ) (script : Script) (playing : Playing D) (replies : List (List Reply)) (order : List Moment) (branches : List BranchLine)
     → OrdersAreFollowed → IsSoundScript script → IsPlayingAt address epoch script (asked_order script) playing
     → list_all is_settled playing.players.items ≡ true → list_all is_through playing.players.items ≡ true
     → replies ≡ map (λ (player : Player D). player.replies.items) playing.players.items → order ≡ playing.db.parts.moments → branches ≡ playing.db.parts.branches
     → IsReplayed address epoch script (record { names = script.names; replies = replies; order = order; branches = branches })
 is_replayed address epoch script playing replies order branches laws sound now settled through said in_order lines =
-    subst (λ (run : RunText). IsReplayed address epoch script run) (sym (shown_is address epoch script (asked_order script) playing now replies order branches said in_order lines)) (record {
-      plain = laws.plain command address epoch script (asked_order script) now.shared now.runners (are_waiting address epoch script (asked_order script) playing now settled)
-          (are_over address epoch script (asked_order script) playing now ∙ through) now.along;
-      truly = are_truly address epoch script (asked_order script) playing now;
+    subst (λ (run : RunText). IsReplayed address epoch script run) (sym (shown_is address script (asked_order script) playing.db.parts playing.players.items (along_of now) replies order branches said in_order lines)) (record {
+      plain = laws.plain command address epoch script (asked_order script) now.shared now.runners (are_waiting address script (asked_order script) playing.db.parts playing.players.items (along_of now) settled)
+          (are_over address script (asked_order script) playing.db.parts playing.players.items (along_of now) ∙ through) now.along;
+      truly = are_truly address script (asked_order script) playing.db.parts playing.players.items (along_of now);
       order = refl;
-      printable = are_printable address epoch script (asked_order script) playing now;
-      shown = are_shown address epoch script (asked_order script) playing now sound;
+      printable = are_printable address script (asked_order script) playing.db.parts playing.players.items (along_of now);
+      shown = are_shown address script (asked_order script) playing.db.parts playing.players.items (along_of now) sound;
     })
 
 -- ---- an item can't be followed, or a moment is left
@@ -294,20 +298,20 @@ pub is_stopped : {D : Type 0} (address : List ℕ → List ℕ) (epoch : ℤ) (s
     → IsStoppedAt address epoch script (record { item = item; names = script.names; replies = replies })
 is_stopped address epoch script playing count item replies laws sound fits now within settled cant left said numbered =
     let order : List Moment = asked_order script in
-    let same : all_replies now.runners ≡ replies = sym (said ∙ replies_are address epoch script (take count order) playing now) in
+    let same : all_replies now.runners ≡ replies = sym (said ∙ replies_are address script (take count order) playing.db.parts playing.players.items (along_of now)) in
     record {
       count = count;
       item = numbered;
       stopped = subst (λ (rs : List (List Reply)). IsStopped command address epoch script order count (shortages_in rs)) same
-          (laws.stopped command address epoch script order count now.shared now.runners (are_waiting address epoch script (take count order) playing now settled) now.along within
+          (laws.stopped command address epoch script order count now.shared now.runners (are_waiting address script (take count order) playing.db.parts playing.players.items (along_of now) settled) now.along within
           (option_cases (λ (found : Option Moment). CantGoOn address epoch (shortages_in (all_replies now.runners)) (record { shared = now.shared; runners = now.runners }) found) (slice_get order count)
-          (λ none. are_over address epoch script (take count order) playing now ∙ left (behind_last order count within none))
+          (λ none. are_over address script (take count order) playing.db.parts playing.players.items (along_of now) ∙ left (behind_last order count within none))
           (λ moment there. laws.refused address epoch (shortages_in (all_replies now.runners)) now.shared now.runners moment
-          (none_next address epoch script (take count order) playing now moment (cant moment there)))));
+          (none_next address script (take count order) playing.db.parts playing.players.items (along_of now) moment (cant moment there)))));
       names = refl;
       shown = subst (λ (rs : List (List Reply)). IsShownStop (record { item = item; names = script.names; replies = rs })) same
-          (is_shown_stop address epoch script (take count order) playing now item fits sound);
-      truly = subst (λ (rs : List (List Reply)). AllTellTruly address rs) same (are_truly address epoch script (take count order) playing now);
+          (is_shown_stop address script (take count order) playing.db.parts playing.players.items (along_of now) item fits sound);
+      truly = subst (λ (rs : List (List Reply)). AllTellTruly address rs) same (are_truly address script (take count order) playing.db.parts playing.players.items (along_of now));
     }
 
 -- ---- whole or not

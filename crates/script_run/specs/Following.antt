@@ -24,11 +24,15 @@ use Rattle.plain_sessions.specs.declared.commands.Work.{Work}
 use Rattle.run_laws.specs.Orders.{IsGivenOrder, asked_order}
 use Rattle.run_laws.specs.Replaying.{Along, IsStopped, dropped, reply_of}
 use Rattle.session_laws.specs.Changes.{Parts, StateStands}
+use Rattle.session_state.specs.declared.sessions.Session.{Session}
 use Rattle.session_txn.specs.Showing.{is_sound_reply}
 use Rattle.serving.specs.Serving.{IsBefore, IsBetween, Passes}
+use Rattle.serving.specs.Starting.{IsStarted}
 use Rattle.serving.specs.Steps.{number_at}
 use Rattle.script_run.specs.declared.following.Replayed.{Replayed}
 use Rattle.script_run.specs.declared.following.Replayed.TheVariants as replayed
+use Rattle.script_run.specs.declared.going.Led.{Led}
+use Rattle.script_run.specs.declared.going.Led.TheVariants as led
 use Rattle.script_run.specs.declared.players.Player.{Player}
 use Rattle.script_run.specs.declared.players.Playing.{Playing}
 use Rattle.script_run.specs.declared.players.Stage.{Stage}
@@ -134,6 +138,25 @@ pub record IsLed {D : Type 0} (address : List ℕ → List ℕ) (epoch : ℤ) (p
   pub state_stands : StateStands address new left
   pub passes : Passes place runner.session.statement shared left old new
 
+-- the start of its statement was made, and its work is to be done on what the start found
+pub record IsLedInto {D : Type 0} (address : List ℕ → List ℕ) (place : ℕ) (runner : Runner) (shared : Shared) (old new : Parts) (asked : Command) (player : Player D) : Type 0 where
+  pub was : Session D
+  pub is : IsPlayer address old shared place runner (record player { session = was; stage = stage.Waits asked })
+  pub started : IsStarted address runner.session asked shared old new player.session
+  pub free : player.stage ≡ stage.Free
+
+-- what a session came to with the shared database
+abbrev pub LedAs : {D : Type 0} → (List ℕ → List ℕ) → ℤ → ℕ → Runner → Shared → Parts → Parts → Player D → Led → Type 0
+LedAs address epoch place runner shared old new player led.Missed = IsFurther address old shared place runner player
+LedAs address epoch place runner shared old new player led.Made = IsLed address epoch place runner shared old new player
+LedAs address epoch place runner shared old new player (led.Started asked) = IsLedInto address place runner shared old new asked player
+
+-- a start whose work is to be done is counted with its work
+abbrev pub steps_made : Led → ℕ
+steps_made led.Missed = 1
+steps_made led.Made = 1
+steps_made (led.Started asked) = 0
+
 -- an item was followed: on to the moment of this statement, at it, and on to the next one
 pub record HasFollowed {D : Type 0} (address : List ℕ → List ℕ) (epoch : ℤ) (place statement : ℕ) (runner : Runner) (shared : Shared) (old new : Parts) (player : Player D) : Type 0 where
   pub here : Runner
@@ -170,6 +193,16 @@ pub record ArePlayers {D : Type 0} (address : List ℕ → List ℕ) (parts : Pa
   pub lists : length players ≡ length runners
   pub each : (place : ℕ) (runner : Runner) (player : Player D) → slice_get runners place ≡ Some runner → slice_get players place ≡ Some player
       → IsPlayer address parts shared place runner player
+
+-- these moments were made, and the sessions of the script stand for the machine's in the parts that they left
+pub record AreAlong {D : Type 0} (address : List ℕ → List ℕ) (script : Script) (moments : List Moment) (parts : Parts) (sessions : List (Player D)) : Type 0 where
+  pub shared : Shared
+  pub runners : List Runner
+  pub made : parts.moments ≡ moments
+  pub all : length runners ≡ length script.names
+  pub within : list_all (is_shown_moment (length script.names)) moments ≡ true
+  pub stands : StateStands address parts shared
+  pub players : ArePlayers address parts shared runners sessions
 
 -- along these moments the machine has come to a shared state and to sessions for which the program's stand; and there is room for the moments
 -- and segments that may follow

@@ -15,4 +15,6 @@ pub record IsSoundScript (script : Script) : Type 0 where
   pub names : list_all is_shown_name script.names ≡ true
   pub distinct : IsDistinct bytes_eq script.names
   pub sessions : list_all (is_line_within script) script.lines ≡ true
+  -- each session says something
+  pub spoken : length script.names ≤ length script.lines
   pub few : length script.lines ≤ most_statements

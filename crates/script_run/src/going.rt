@@ -1,11 +1,13 @@
 //! One session on its way along a given order: its statements without a moment, and its next moment.
 
-ghost use Rattle.std.specs.Prelude.{◌≡◌, ◌⊎◌, ◌<◌, ◌≤◌, ◌≤ℤ◌, ◌+◌, ℕ, pos, true, false, length};
+ghost use Rattle.std.specs.Prelude.{◌≡◌, ◌⊎◌, ◌<◌, ◌≤◌, ◌≤ℤ◌, ◌+◌, ℕ, ℤ, pos, true, false, length};
 ghost use Rattle.plain_sessions.specs.Records.{Shared};
 ghost use Rattle.plain_sessions.specs.Runs.{Runner};
 ghost use Rattle.session_laws.specs.Changes.{Parts};
 ghost use Rattle.shared_db.specs.Shared.{KeepsRoom};
-ghost use Rattle.script_run.specs.Following.{HasFollowed, IsAsked, IsFurther, IsLed, IsPlayer, is_free, is_next_at, is_settled, moments_left};
+ghost use Rattle.serving.specs.Steps.{HasRoomStill};
+ghost use Rattle.script_run.specs.Following.{HasFollowed, IsAsked, IsFurther, IsLed, IsLedInto, IsPlayer, LedAs, is_free, is_next_at, is_settled, moments_left, steps_made};
+ghost use Rattle.script_run.specs.declared.going.Led.TheVariants as led;
 ghost use Rattle.script_run.specs.declared.players.Stage.TheVariants as stage;
 
 use crate::asking::asked_by;
@@ -13,7 +15,9 @@ use crate::lines::number_of;
 use crate::players::{Player, Stage};
 use chunk_store::PutFault;
 use plain_sessions::Command;
-use serving::{Met, Pending, answer_fault, come_to, conclude, drop_started, meet};
+use serving::{
+    Begun, Met, Pending, answer_fault, come_to, conclude, drop_started, meet_start, work_started,
+};
 use shared_db::SharedDb;
 use std::alloc::Global;
 use std::mem::replace;
@@ -21,7 +25,7 @@ use tuple_codec::{Boxed, Digester};
 use wire_io::Pacer;
 
 /// Answers the session's statements up to the next one that needs a moment, or to its last one.
-pub(crate) fn go_on<D: Digester, P: Pacer>(alloc: Global, pacer: &P, player: &mut Player<D>)
+pub fn go_on<D: Digester, P: Pacer>(alloc: Global, pacer: &P, player: &mut Player<D>)
     requires { (parts : Parts) × (shared : Shared) × (place : ℕ) × (runner : Runner) × IsPlayer D.address parts shared place runner player.old }
     ensures goes { (parts : Parts) (shared : Shared) (place : ℕ) (runner : Runner) → IsPlayer D.address parts shared place runner player.old
         → IsFurther D.address parts shared place runner player.new }
@@ -87,7 +91,8 @@ fn come<D: Digester>(alloc: Global, player: &mut Player<D>, asked: Boxed<Command
     }
 }
 
-fn is_free(stage: &Stage) -> bool
+/// Whether nothing is known of its next statement: the session hasn't come to it, or has none left.
+pub fn is_free(stage: &Stage) -> bool
     ensures { result ≡ is_free stage.now }
 {
     match stage {
@@ -160,8 +165,25 @@ fn is_next<D: Digester>(player: &Player<D>, statement: u32) -> bool
     !is_free(&player.stage) && number_of(player.session.position) == statement
 }
 
-/// Leads the session, which needs a moment, to it. Where memory is wanting or an address fails no moment is made, and the statement is answered.
-fn lead<D: Digester>(alloc: Global, db: &mut SharedDb, player: &mut Player<D>, epoch: i64) -> bool
+/// What a session came to with the shared database.
+#[derive(Drop)]
+pub enum Led {
+    /// No moment was made; the statement is answered.
+    Missed,
+    /// The moment was made, and all that belongs to it is done.
+    Made,
+    /// The start of this statement was made. Its work is to be done, and needs no database.
+    Started(Boxed<Command>),
+}
+
+/// Leads the session, which needs a moment, to it, and through the work behind a start. Where memory is wanting or an address fails no moment is made,
+/// and the statement is answered.
+pub(crate) fn lead<D: Digester>(
+    alloc: Global,
+    db: &mut SharedDb,
+    player: &mut Player<D>,
+    epoch: i64,
+) -> bool
     requires player { (shared : Shared) × (place : ℕ) × (runner : Runner) × IsPlayer D.address db.old.parts shared place runner player.old }
     requires waits { is_free player.old.stage ≡ false }
     requires epoch { pos 0 ≤ℤ epoch }
@@ -175,6 +197,36 @@ fn lead<D: Digester>(alloc: Global, db: &mut SharedDb, player: &mut Player<D>, e
     ensures answered { result ≡ false → length player.new.replies.items ≡ length player.old.replies.items + 1 }
     ensures left { moments_left player.new + 1 ≤ moments_left player.old }
     ensures room { KeepsRoom 1 db.old db.new }
+{
+    match lead_in(alloc, db, player, epoch) {
+        Led::Missed => false,
+        Led::Made => true,
+        Led::Started(asked) => {
+            work_out(alloc, player, asked);
+            true
+        }
+    }
+}
+
+/// Leads the session, which needs a moment, to it. Behind a start the statement's work is left to be done.
+pub fn lead_in<D: Digester>(
+    alloc: Global,
+    db: &mut SharedDb,
+    player: &mut Player<D>,
+    epoch: i64,
+) -> Led
+    requires player { (shared : Shared) × (place : ℕ) × (runner : Runner) × IsPlayer D.address db.old.parts shared place runner player.old }
+    requires waits { is_free player.old.stage ≡ false }
+    requires epoch { pos 0 ≤ℤ epoch }
+    requires moments { 0 < db.old.moments_room }
+    requires segments { 0 < db.old.segments_room }
+    ensures led { (shared : Shared) (place : ℕ) (runner : Runner) → IsPlayer D.address db.old.parts shared place runner player.old
+        → LedAs D.address epoch place runner shared db.old.parts db.new.parts player.new result }
+    ensures same { result ≡ led.Missed → db.new.parts ≡ db.old.parts }
+    ensures answered { result ≡ led.Missed → length player.new.replies.items ≡ length player.old.replies.items + 1 }
+    ensures left { moments_left player.new + steps_made result ≤ moments_left player.old }
+    ensures room { KeepsRoom 1 db.old db.new }
+    ensures room_kept { result ≡ led.Missed → HasRoomStill db.old db.new }
 {
     match replace(&mut player.stage, Stage::Free) {
         Stage::Free => unreachable!(),
@@ -190,35 +242,44 @@ fn meet_first<D: Digester>(
     player: &mut Player<D>,
     asked: Boxed<Command>,
     epoch: i64,
-) -> bool
+) -> Led
     requires player { (shared : Shared) × (place : ℕ) × (runner : Runner) × IsPlayer D.address db.old.parts shared place runner (record player.old { stage = stage.Waits asked }) }
     requires free { player.old.stage ≡ stage.Free }
     requires epoch { pos 0 ≤ℤ epoch }
     requires moments { 0 < db.old.moments_room }
     requires segments { 0 < db.old.segments_room }
-    ensures led { result ≡ true → (shared : Shared) (place : ℕ) (runner : Runner) → IsPlayer D.address db.old.parts shared place runner (record player.old { stage = stage.Waits asked })
-        → IsLed D.address epoch place runner shared db.old.parts db.new.parts player.new }
-    ensures missed { result ≡ false → (shared : Shared) (place : ℕ) (runner : Runner) → IsPlayer D.address db.old.parts shared place runner (record player.old { stage = stage.Waits asked })
-        → IsFurther D.address db.old.parts shared place runner player.new }
-    ensures same { result ≡ false → db.new.parts ≡ db.old.parts }
-    ensures answered { result ≡ false → length player.new.replies.items ≡ length player.old.replies.items + 1 }
-    ensures left { moments_left player.new + 1 ≤ moments_left (record player.old { stage = stage.Waits asked }) }
+    ensures led { (shared : Shared) (place : ℕ) (runner : Runner) → IsPlayer D.address db.old.parts shared place runner (record player.old { stage = stage.Waits asked })
+        → LedAs D.address epoch place runner shared db.old.parts db.new.parts player.new result }
+    ensures same { result ≡ led.Missed → db.new.parts ≡ db.old.parts }
+    ensures answered { result ≡ led.Missed → length player.new.replies.items ≡ length player.old.replies.items + 1 }
+    ensures left { moments_left player.new + steps_made result ≤ moments_left (record player.old { stage = stage.Waits asked }) }
     ensures room { KeepsRoom 1 db.old db.new }
+    ensures room_kept { result ≡ led.Missed → HasRoomStill db.old db.new }
 {
-    match meet(alloc, db, &mut player.session, asked.get(), epoch) {
-        Ok(Met::Answered(reply)) => {
+    match meet_start(alloc, db, &mut player.session, asked.get(), epoch) {
+        Ok(Begun::Answered(reply)) => {
             player.replies.push_reserved(reply);
-            true
+            Led::Made
         }
-        Ok(Met::Pending(wanted)) => {
-            player.stage = Stage::Between(asked, wanted);
-            true
-        }
+        Ok(Begun::Started) => Led::Started(asked),
         Err(fault) => {
             let reply = answer_fault(&mut player.session, fault);
             player.replies.push_reserved(reply);
-            false
+            Led::Missed
         }
+    }
+}
+
+/// The work of a statement whose start was made, on what the start found. The session is answered, or stands before its decision.
+pub fn work_out<D: Digester>(alloc: Global, player: &mut Player<D>, asked: Boxed<Command>)
+    requires { (place : ℕ) × (runner : Runner) × (shared : Shared) × (old : Parts) × (new : Parts) × IsLedInto D.address place runner shared old new asked player.old }
+    ensures led { (epoch : ℤ) (place : ℕ) (runner : Runner) (shared : Shared) (old new : Parts) → IsLedInto D.address place runner shared old new asked player.old
+        → IsLed D.address epoch place runner shared old new player.new }
+    ensures left { moments_left player.new + 1 ≤ moments_left player.old }
+{
+    match work_started(alloc, &mut player.session, asked.get()) {
+        Met::Answered(reply) => player.replies.push_reserved(reply),
+        Met::Pending(wanted) => player.stage = Stage::Between(asked, wanted),
     }
 }
 
@@ -230,30 +291,29 @@ fn decide<D: Digester>(
     asked: &Boxed<Command>,
     wanted: Pending,
     epoch: i64,
-) -> bool
+) -> Led
     requires player { (shared : Shared) × (place : ℕ) × (runner : Runner) × IsPlayer D.address db.old.parts shared place runner (record player.old { stage = stage.Between asked.now wanted }) }
     requires free { player.old.stage ≡ stage.Free }
     requires epoch { pos 0 ≤ℤ epoch }
     requires moments { 0 < db.old.moments_room }
     requires segments { 0 < db.old.segments_room }
-    ensures led { result ≡ true → (shared : Shared) (place : ℕ) (runner : Runner) → IsPlayer D.address db.old.parts shared place runner (record player.old { stage = stage.Between asked.now wanted })
-        → IsLed D.address epoch place runner shared db.old.parts db.new.parts player.new }
-    ensures missed { result ≡ false → (shared : Shared) (place : ℕ) (runner : Runner) → IsPlayer D.address db.old.parts shared place runner (record player.old { stage = stage.Between asked.now wanted })
-        → IsFurther D.address db.old.parts shared place runner player.new }
-    ensures same { result ≡ false → db.new.parts ≡ db.old.parts }
-    ensures answered { result ≡ false → length player.new.replies.items ≡ length player.old.replies.items + 1 }
-    ensures left { moments_left player.new + 1 ≤ moments_left (record player.old { stage = stage.Between asked.now wanted }) }
+    ensures led { (shared : Shared) (place : ℕ) (runner : Runner) → IsPlayer D.address db.old.parts shared place runner (record player.old { stage = stage.Between asked.now wanted })
+        → LedAs D.address epoch place runner shared db.old.parts db.new.parts player.new result }
+    ensures same { result ≡ led.Missed → db.new.parts ≡ db.old.parts }
+    ensures answered { result ≡ led.Missed → length player.new.replies.items ≡ length player.old.replies.items + 1 }
+    ensures left { moments_left player.new + steps_made result ≤ moments_left (record player.old { stage = stage.Between asked.now wanted }) }
     ensures room { KeepsRoom 1 db.old db.new }
+    ensures room_kept { result ≡ led.Missed → HasRoomStill db.old db.new }
 {
     match conclude(alloc, db, &mut player.session, asked.get(), wanted, epoch) {
         Ok(reply) => {
             player.replies.push_reserved(reply);
-            true
+            Led::Made
         }
         Err(fault) => {
             let reply = drop_started(&mut player.session, fault);
             player.replies.push_reserved(reply);
-            false
+            Led::Missed
         }
     }
 }

@@ -1,4 +1,6 @@
-//! A script's lines run one after another, in the text's order, each by its session over the shared database.
+//! A script's lines run one after another, in the text's order, each by its session over the shared database; or along an order that the script
+//! gives. A crate above that runs sessions in another way has a [`Player`] for each, and leads it from moment to moment by [`go_on`], [`lead_in`] and
+//! [`work_out`].
 #![tactic(auto)]
 
 mod asking;
@@ -10,4 +12,7 @@ mod players;
 mod running;
 
 pub use following::{Replayed, replay_script};
-pub use lines::run_script;
+pub use going::{Led, go_on, is_free, lead_in, work_out};
+pub use lines::{number_of, run_script};
+pub use opening::counts;
+pub use players::{Player, Stage, new_players};

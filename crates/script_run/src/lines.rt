@@ -129,7 +129,8 @@ fn speak<D: Digester, P: Pacer>(
     speaker.replies.push_reserved(reply);
 }
 
-pub(crate) fn number_of(place: Place) -> u32
+/// The number of the statement before or in which a session stands.
+pub fn number_of(place: Place) -> u32
     ensures { result ≡ number_at place }
 {
     match place {

@@ -35,7 +35,7 @@ pub fn open<D: Digester>(alloc: Global, script: &Script, epoch: i64) -> Result<R
 }
 
 /// How many of the lines each session has.
-pub(crate) fn counts(alloc: Global, lines: &[Line], sessions: usize) -> Result<Vec<u32>, AllocError>
+pub fn counts(alloc: Global, lines: &[Line], sessions: usize) -> Result<Vec<u32>, AllocError>
     requires { length lines.now < 2 ^ 32 }
     ensures { IfOk result (λ all. all.items ≡ counts sessions lines.now) }
 {

@@ -67,7 +67,7 @@ pub fn open_playing<D: Digester>(
 }
 
 /// Sessions of these names before their first statements, each with its lines' texts and room for as many replies.
-fn new_players<D: Digester>(
+pub fn new_players<D: Digester>(
     alloc: Global,
     names: &[Text],
     lines: &[Line],

@@ -51,14 +51,13 @@ use Rattle.shared_db.specs.Plans.{PlanIs, brought}
 use Rattle.shared_db.specs.Shared.{AreWith, IsSettled, changed_lines, noted}
 use Rattle.shared_db.specs.declared.changes.Change.{Change}
 use Rattle.shared_db.specs.declared.changes.Plan.{Plan}
-use Rattle.serving.specs.Answering.{Concluded, HasMet, HasStartedTo}
+use Rattle.serving.specs.Answering.{Concluded, HasStartedTo}
 use Rattle.serving.specs.Branching.{Went}
 use Rattle.serving.specs.Closing.{ClosedAs, LeavesAs}
 use Rattle.serving.specs.Kinds.{may_close}
 use Rattle.serving.specs.Serving.{Fails, IsBefore, IsBetween, IsHere, turn_at}
 use Rattle.serving.specs.Starting.{HasStarted}
 use Rattle.serving.specs.Steps.{after_start, fault_reply, number_at}
-use Rattle.serving.specs.declared.meeting.Met.{Met}
 use Rattle.serving.specs.declared.meeting.Pending.TheVariants as pending
 use Rattle.serving.proofs.AnswerLemmas.{over_stands, same_number, short_alone, started_answered, went_of}
 use Rattle.serving.proofs.DecisionLemmas.{brought_is, stands_still, union_with}
@@ -511,11 +510,3 @@ module _ {D : Type 0} (address : List ℕ → List ℕ) (session : Session D) wh
 
   pub none_open : is_some session.start ≡ false → (p : plain.Session) → SessionStands address session p → p.transaction ≡ None
   none_open is p stands = none_there p.transaction (sym (inside address session p stands) ∙ is)
-
-  -- outside a transaction the statement has met what it meets where none is open
-  pub met_outside : is_some session.start ≡ false → (epoch : ℤ) (after : Session D) (parts new : Parts) (asked : Work) (result : Result Met PutFault)
-      → IfOk result (λ met. (e : ℤ) (p : plain.Session) (shared : Shared) → IsBefore address session parts p shared → p.transaction ≡ None → HasMet address e p (Data asked) shared parts new after met)
-      → IfOk result (λ met. (p : plain.Session) (shared : Shared) → IsBefore address session parts p shared → alone_by None p (Data asked) ≡ None
-      → HasMet address epoch p (Data asked) shared parts new after met)
-  met_outside is epoch after parts new asked (Ok met) met_is = λ p shared before waits. met_is epoch p shared before (none_open is p before.session_stands)
-  met_outside is epoch after parts new asked (Err fault) met_is = tt

@@ -2,6 +2,7 @@ pub mod AheadLemmas
 pub mod AloneLemmas
 pub mod AnswerLemmas
 pub mod BeginLemmas
+pub mod BegunLemmas
 pub mod BranchLemmas
 pub mod ClosingLemmas
 pub mod ComingLemmas

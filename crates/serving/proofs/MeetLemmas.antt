@@ -1,12 +1,10 @@
 -- A statement that needs a moment: what its waiting tells, what its first moment comes to, and where its session goes then.
-use Rattle.std.proofs.Common.{◌≡◌, refl, ◌∙◌, sym, ap, subst, ℕ, ◌+◌, ℤ, Bool, true, false, not, List, Option, Some, None, Ok, Err, IfOk, IfErr, option_map, is_some, slice_get, if◌then◌else◌}
+use Rattle.std.proofs.Common.{◌≡◌, refl, ◌∙◌, sym, ap, subst, ℕ, ◌+◌, ℤ, Bool, true, false, List, Option, Some, None, Ok, Err, IfOk, IfErr, option_map, slice_get, if◌then◌else◌}
 use Rattle.std.specs.Prelude.{Result}
-use Rattle.std.specs.Option.{option_and_then, option_map_or}
+use Rattle.std.specs.Option.{option_map_or}
 use Rattle.chunk_store.specs.Chunks.{Lists}
 use Rattle.chunk_store.specs.declared.faults.PutFault.{PutFault}
-use Rattle.chunk_store.specs.declared.faults.PutFault.TheVariants.{Memory}
 use Rattle.expr_eval.specs.Binding.{Outcome, and_then}
-use Rattle.script_text.specs.Collisions.{IsFault}
 use Rattle.script_text.specs.Output.{Shortage}
 use Rattle.script_text.specs.declared.replies.Reply.{Reply}
 use Rattle.script_text.specs.declared.replies.Reply.TheVariants as print
@@ -26,8 +24,8 @@ use Rattle.sql_procedures.specs.declared.requests.CheckoutRequest.{CheckoutReque
 use Rattle.sql_procedures.specs.declared.requests.MergeRequest.TheVariants as merging
 use Rattle.sql_rules.specs.Writes.{is_below}
 use Rattle.plain_sessions.specs.Branching.{add, reset_to}
-use Rattle.plain_sessions.specs.Merging.{Worked, Answers, Closes, resolve}
-use Rattle.plain_sessions.specs.Moments.{alone, alone_by, effect_alone, ends_by_set, if_answered, moment_in, past, past_moment, takes_start}
+use Rattle.plain_sessions.specs.Merging.{Worked, Answers, Closes, Ending, resolve}
+use Rattle.plain_sessions.specs.Moments.{alone, alone_by, effect_alone, ends_by_set, moment_in, past, past_moment, takes_start}
 use Rattle.plain_sessions.specs.Records.{BranchState, Shared}
 use Rattle.plain_sessions.specs.Replies.{done, refused}
 use Rattle.plain_sessions.specs.Runs.{awaiting}
@@ -49,7 +47,9 @@ use Rattle.serving.specs.Answering.{Answered, Concluded, HasMet, HasStartedTo, p
 use Rattle.serving.specs.Branching.{Went}
 use Rattle.serving.specs.Kinds.{may_close}
 use Rattle.serving.specs.Serving.{Awaits, Concludes, Fails, IsBefore, IsBetween, Meets, Starts}
+use Rattle.serving.specs.Starting.{HasBegun}
 use Rattle.serving.specs.Steps.{number_at}
+use Rattle.serving.specs.declared.meeting.Begun.{Begun}
 use Rattle.serving.specs.declared.meeting.Met.{Met}
 use Rattle.serving.specs.declared.meeting.Met.TheVariants as met
 use Rattle.serving.specs.declared.meeting.Pending.{Pending}
@@ -102,7 +102,7 @@ switch_waits p setting waits =
 pub checkout_waits : (p : plain.Session) (request : CheckoutRequest) → effect_alone p (command.Checkout request) ≡ None → is_changed p ≡ false
 checkout_waits p request waits = leaves_waiting (is_changed p) (p, refused 9006) waits
 
--- ---- a database statement without a decision of its own waits for its start alone
+-- ---- a database statement of another kind has no decision of its own
 
 stays_then : {A : Type 0} (outcome : Outcome A) (f : A → Outcome Worked) → ((a : A) → is_closing (f a) ≡ false) → is_closing (and_then outcome f) ≡ false
 stays_then (Ok a) f each = each a
@@ -168,17 +168,12 @@ work_stays p t (work.Merge (merging.Merge request)) apart = absurd (cc)
 work_stays p t (work.Resolve request) apart = resolved_stays t.own (resolve request t.own.working)
 work_stays p t (work.Verify way) apart = refl
 
--- in a transaction it would be answered
-pub work_waits : (p : plain.Session) (asked : Work) → may_close asked ≡ false → effect_alone p (command.Data asked) ≡ None → takes_start p (command.Data asked) ≡ true
-work_waits p asked apart waits = by p.transaction waits where
-  never : (t : Transaction) (outcome : Outcome Worked) → is_closing outcome ≡ false → if_answered p t outcome ≡ None → ⊥
-  never t (Ok (Answers reply own)) stays is = absurd (cc)
-  never t (Ok (Closes call)) stays is = absurd (cc)
-  never t (Err number) stays is = absurd (cc)
-
-  by : (o : Option Transaction) → option_and_then (λ t. if_answered p t (worked p t asked)) o ≡ None → not (is_some o) ≡ true
-  by None is = refl
-  by (Some t) is = absurd (never t (worked p t asked) (work_stays p t asked apart) is)
+-- so one that has such a decision may have it
+pub closing_may : (p : plain.Session) (t : Transaction) (asked : Work) (ending : Ending) → worked p t asked ≡ Ok (Closes ending) → may_close asked ≡ true
+closing_may p t asked ending is = by (may_close asked) refl where
+  by : (test : Bool) → may_close asked ≡ test → test ≡ true
+  by true so = refl
+  by false so = let never : true ≡ false = sym (ap is_closing is) ∙ work_stays p t asked so in absurd (cc)
 
 -- ---- what the first moment comes to, by the kind of statement
 
@@ -321,56 +316,21 @@ concluded_on {D = D} address epoch old session gone number parts new asked wante
       };
     })
 
--- ---- a database statement at its first moment
+-- ---- the first moment of a database statement
 
-abbrev pub MeetsAs : {D : Type 0} → (List ℕ → List ℕ) → ℤ → Session D → Session D → Parts → Parts → Command → Result Met PutFault → Type 0
-MeetsAs address epoch old session parts new asked result =
-    IfOk result (λ m. (p : plain.Session) (shared : Shared) → IsBefore address old parts p shared → alone None p asked ≡ None → HasMet address epoch p asked shared parts new session m)
+abbrev pub BeginsAs : {D : Type 0} → (List ℕ → List ℕ) → ℤ → Session D → Session D → Parts → Parts → Command → Result Begun PutFault → Type 0
+BeginsAs address epoch old session parts new asked result =
+    IfOk result (λ begun. (p : plain.Session) (shared : Shared) → IsBefore address old parts p shared → alone None p asked ≡ None → HasBegun address epoch p asked shared parts new session begun)
 
-abbrev pub FailsAs : {D : Type 0} → (List ℕ → List ℕ) → Session D → Parts → Command → Result Met PutFault → Type 0
+abbrev pub FailsAs : {D : Type 0} → (List ℕ → List ℕ) → Session D → Parts → Command → Result Begun PutFault → Type 0
 FailsAs address old parts asked result =
     IfErr result (λ fault. (p : plain.Session) (shared : Shared) → IsBefore address old parts p shared → alone None p asked ≡ None → Fails p asked fault)
 
 -- a fault of a statement that takes no start of its own
 pub fails_without : {D : Type 0} (address : List ℕ → List ℕ) (old : Session D) (parts : Parts) (asked one : Command) → asked ≡ one → ((p : plain.Session) → takes_start p one ≡ false)
-    → (result : Result Met PutFault) → FailsAs address old parts asked result
-fails_without address old parts asked one is local (Ok m) = tt
+    → (result : Result Begun PutFault) → FailsAs address old parts asked result
+fails_without address old parts asked one is local (Ok begun) = tt
 fails_without address old parts asked one is local (Err fault) = λ p shared before waits. subst (λ (c : Command). Fails p c fault) (sym is) (short_alone fault p one (local p))
-
-module _ {D : Type 0} (address : List ℕ → List ℕ) (old : Session D) (parts : Parts) (asked : Command) (w : Work) (is : asked ≡ command.Data w) where
-  pub closing_waits : (p : plain.Session) (shared : Shared) → IsBefore address old parts p shared → alone None p asked ≡ None → alone_by None p (command.Data w) ≡ None
-  closing_waits p shared before waits = waits_by None p (command.Data w) before.before (subst (λ (one : Command). alone None p one ≡ None) is waits)
-
-  pub start_takes : may_close w ≡ false → (p : plain.Session) (shared : Shared) → IsBefore address old parts p shared → alone None p asked ≡ None → takes_start p asked ≡ true
-  start_takes apart p shared before waits = subst (λ (one : Command). takes_start p one ≡ true) (sym is) (work_waits p w apart (closing_waits p shared before waits))
-
-  pub closing_meets : (epoch e : ℤ) (session : Session D) (new : Parts) → e ≡ epoch → (result : Result Met PutFault)
-      → IfOk result (λ m. (p : plain.Session) (shared : Shared) → IsBefore address old parts p shared → alone_by None p (command.Data w) ≡ None
-      → HasMet address e p (command.Data w) shared parts new session m)
-      → MeetsAs address epoch old session parts new asked result
-  closing_meets epoch e session new same (Ok m) told = λ p shared before waits.
-      subst (λ (n : ℤ). HasMet address n p asked shared parts new session m) same
-      (subst (λ (one : Command). HasMet address e p one shared parts new session m) (sym is) (told p shared before (closing_waits p shared before waits)))
-  closing_meets epoch e session new same (Err fault) told = tt
-
-  pub closing_fails : (result : Result Met PutFault) → IfErr result (λ fault. (p : plain.Session) (shared : Shared) → IsBefore address old parts p shared → Fails p (command.Data w) fault)
-      → FailsAs address old parts asked result
-  closing_fails (Ok m) told = tt
-  closing_fails (Err fault) told = λ p shared before waits. subst (λ (one : Command). Fails p one fault) (sym is) (told p shared before)
-
-  pub start_meets : (epoch : ℤ) (session : Session D) (new : Parts) → may_close w ≡ false → (result : Result Met PutFault)
-      → IfOk result (λ m. (e : ℤ) (p : plain.Session) (shared : Shared) → IsBefore address old parts p shared → takes_start p asked ≡ true → HasMet address e p asked shared parts new session m)
-      → MeetsAs address epoch old session parts new asked result
-  start_meets epoch session new apart (Ok m) told = λ p shared before waits. told epoch p shared before (start_takes apart p shared before waits)
-  start_meets epoch session new apart (Err fault) told = tt
-
-  pub start_fails : (result : Result Met PutFault) → IfErr result (λ fault. fault ≡ Memory) → FailsAs address old parts asked result
-  start_fails (Ok m) told = tt
-  start_fails (Err fault) told = λ p shared before waits. subst (Fails p asked) (sym told) refl
-
-pub start_fault : (address : List ℕ → List ℕ) (result : Result Met PutFault) → IfErr result (λ fault. fault ≡ Memory) → IfErr result (IsFault address)
-start_fault address (Ok m) told = tt
-start_fault address (Err fault) told = subst (IsFault address) (sym told) tt
 
 -- where the start was made the session is at the same statement
 pub place_kept : {D : Type 0} (address : List ℕ → List ℕ) (epoch : ℤ) (old rested : Session D) (parts mid : Parts) (p : plain.Session) (asked : Command) (shared : Shared) (wanted : Pending)

@@ -1,7 +1,6 @@
 -- A database statement outside a transaction, from its start to its answer.
-use Rattle.std.proofs.Common.{◌≡◌, refl, ◌∙◌, sym, ap, subst, ℕ, ℤ, true, false, List, Option, Some, None, Ok, Err, is_some}
+use Rattle.std.proofs.Common.{◌≡◌, refl, ◌∙◌, sym, ap, subst, ℕ, ℤ, true, false, List, Option, Some, None, Ok, Err}
 use Rattle.std.specs.Prelude.{pos}
-use Rattle.std.proofs.lemmas.Bool.{not-true}
 use Rattle.std.proofs.lemmas.Option.{same_Some}
 use Rattle.chunk_store.specs.Chunks.{Chunk, Lists}
 use Rattle.chunk_store.specs.Stores.{all_chunks}
@@ -108,21 +107,6 @@ module _ {D : Type 0} (address : List ℕ → List ℕ) (epoch : ℤ) (session :
 
 -- ---- what the code's steps hand over
 
-none_there : {A : Type 0} (o : Option A) → is_some o ≡ false → o ≡ None
-none_there None is = refl
-none_there (Some a) is = absurd (cc)
-
-pub outside : (p : plain.Session) (asked : Command) → takes_start p asked ≡ true → p.transaction ≡ None
-outside p (command.Faulty refusal) takes = absurd (cc)
-outside p command.Begin takes = absurd (cc)
-outside p command.CommitAll takes = absurd (cc)
-outside p command.Rollback takes = absurd (cc)
-outside p (command.Switch setting) takes = absurd (cc)
-outside p (command.Say list) takes = absurd (cc)
-outside p (command.Data asked) takes = none_there p.transaction (not-true _ takes)
-outside p (command.OnBranches request) takes = absurd (cc)
-outside p (command.Checkout request) takes = absurd (cc)
-
 pub alone_within : (p : plain.Session) (t : Transaction) (asked : Command) → takes_start p asked ≡ true → is_in_place asked ≡ true → is_alone (within p t) asked ≡ true
 alone_within p t (command.Faulty refusal) takes runs = absurd (cc)
 alone_within p t command.Begin takes runs = absurd (cc)
@@ -164,24 +148,6 @@ pub has_answered : {D : Type 0} (address : List ℕ → List ℕ) (started sessi
     → HasStarted address started parts now p t shared → session.draft.chunks.base ≡ started.draft.chunks.base → (asked : Work) → AnswersAlone address (within p t) (command.Data asked) session reply
     → HasAnswered address session parts now p asked shared reply
 has_answered address started session parts now p t shared reply has base asked alone = record { old = started; start = t; started = has; base = base; alone = alone }
-
--- whatever the statement is, it is a database statement
-abbrev pub HasAnsweredAt : {D : Type 0} → (List ℕ → List ℕ) → Session D → Parts → Parts → plain.Session → Command → Shared → Reply → Type 0
-HasAnsweredAt address session parts now p asked shared reply = (work : Work) × (asked ≡ command.Data work) × HasAnswered address session parts now p work shared reply
-
-pub answered_in : {D : Type 0} (address : List ℕ → List ℕ) (started session : Session D) (parts now : Parts) (p : plain.Session) (t : Transaction) (shared : Shared) (reply : Reply)
-    → HasStarted address started parts now p t shared → session.draft.chunks.base ≡ started.draft.chunks.base → (asked : Command) → takes_start p asked ≡ true
-    → AnswersAlone address (within p t) asked session reply → HasAnsweredAt address session parts now p asked shared reply
-answered_in address started session parts now p t shared reply has base (command.Faulty refusal) takes alone = absurd (cc)
-answered_in address started session parts now p t shared reply has base command.Begin takes alone = absurd (cc)
-answered_in address started session parts now p t shared reply has base command.CommitAll takes alone = absurd (cc)
-answered_in address started session parts now p t shared reply has base command.Rollback takes alone = absurd (cc)
-answered_in address started session parts now p t shared reply has base (command.Switch setting) takes alone = absurd (cc)
-answered_in address started session parts now p t shared reply has base (command.Say list) takes alone = absurd (cc)
-answered_in address started session parts now p t shared reply has base (command.Data asked) takes alone =
-    (asked, refl, has_answered address started session parts now p t shared reply has base asked alone)
-answered_in address started session parts now p t shared reply has base (command.OnBranches request) takes alone = absurd (cc)
-answered_in address started session parts now p t shared reply has base (command.Checkout request) takes alone = absurd (cc)
 
 module _ {D : Type 0} (address : List ℕ → List ℕ) (session : Session D) (parts now : Parts) (p : plain.Session) (asked : Work) (shared : Shared) (reply : Reply)
     (has : HasAnswered address session parts now p asked shared reply) where

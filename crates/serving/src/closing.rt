@@ -1,11 +1,10 @@
 //! Calls that may have a decision of their own: DOLT_COMMIT, and DOLT_MERGE of a name.
 
-ghost use Rattle.std.specs.Prelude.{◌≡◌, ◌<◌, ◌≤ℤ◌, ℤ, pos, true, IfErr, IfOk, OnErr, Ok, None, Some};
-ghost use Rattle.chunk_store.specs.declared.faults.PutFault.TheVariants.{Memory};
+ghost use Rattle.std.specs.Prelude.{◌≡◌, ◌<◌, ◌≤ℤ◌, ℤ, pos, true, IfErr, IfOk, OnErr, Ok, Some};
 ghost use Rattle.script_text.specs.Collisions.{IsFault, TellsTruly};
 ghost use Rattle.plain_sessions.specs.Fitness.{IsFitWork};
 ghost use Rattle.plain_sessions.specs.Merging.{Closes, Ending};
-ghost use Rattle.plain_sessions.specs.Moments.{alone_by, closed};
+ghost use Rattle.plain_sessions.specs.Moments.{closed};
 ghost use Rattle.plain_sessions.specs.Records.{BranchState, Shared};
 ghost use Rattle.plain_sessions.specs.Sessions as plain;
 ghost use Rattle.plain_sessions.specs.Statements.{worked};
@@ -19,7 +18,7 @@ ghost use Rattle.serving.specs.Answering.{HasMet};
 ghost use Rattle.serving.specs.Branching.{Went};
 ghost use Rattle.serving.specs.Closing.{ClosedAs};
 ghost use Rattle.serving.specs.Kinds.{may_close};
-ghost use Rattle.serving.specs.Serving.{Fails, IsBefore, IsHere, IsSoundMet, MetTellsTruly};
+ghost use Rattle.serving.specs.Serving.{IsBefore, IsHere, IsSoundMet, MetTellsTruly};
 ghost use Rattle.serving.specs.Starting.{HasStarted};
 ghost use Rattle.serving.specs.Steps.{HasRoomStill};
 
@@ -28,7 +27,7 @@ use crate::deciding::settle;
 use crate::faults::reply_to;
 use crate::meeting::{Met, Pending};
 use crate::places::number_of;
-use crate::starting::{end_answered, refuse_started, take_start};
+use crate::starting::{end_answered, refuse_started};
 use branch_procs::plan_dolt_commit;
 use chunk_store::{PutFault, law_of_chunks};
 use merge_procs::{merge_local, plan_merge};
@@ -42,40 +41,9 @@ use std::alloc::Global;
 use table_root::Look;
 use tuple_codec::Digester;
 
-/// The call at its first moment: its decision in the open transaction, or a start of its own. A commit that is made has the epoch as its date.
-pub(crate) fn meet_closing<D: Digester>(
-    alloc: Global,
-    db: &mut SharedDb,
-    session: &mut Session<D>,
-    asked: &Work,
-    epoch: i64,
-) -> Result<Met, PutFault>
-    requires before { (p : plain.Session) × (shared : Shared) × IsBefore D.address session.old db.old.parts p shared × (alone_by None p (command.Data asked.now) ≡ None) }
-    requires closes { may_close asked.now ≡ true }
-    requires fit { IsFitWork asked.now }
-    requires epoch { pos 0 ≤ℤ epoch }
-    requires moments { 0 < db.old.moments_room }
-    requires segments { 0 < db.old.segments_room }
-    ensures met { IfOk result (λ met. (p : plain.Session) (shared : Shared) → IsBefore D.address session.old db.old.parts p shared → alone_by None p (command.Data asked.now) ≡ None
-        → HasMet D.address epoch p (command.Data asked.now) shared db.old.parts db.new.parts session.new met) }
-    ensures sound { IfOk result IsSoundMet }
-    ensures truly { IfOk result (MetTellsTruly D.address) }
-    ensures fails { IfErr result (λ fault. (p : plain.Session) (shared : Shared) → IsBefore D.address session.old db.old.parts p shared → Fails p (command.Data asked.now) fault) }
-    ensures fault { IfErr result (IsFault D.address) }
-    ensures same { OnErr result (db.new.parts ≡ db.old.parts) }
-    ensures kept { OnErr result (session.new ≡ session.old) }
-    ensures room { KeepsRoom 1 db.old db.new }
-    ensures room_kept { OnErr result (HasRoomStill db.old db.new) }
-{
-    if session.start.is_some() {
-        Ok(Met::Answered(decide_open(alloc, db, session, asked, epoch)?))
-    } else {
-        start_closing(alloc, db, session, asked)
-    }
-}
-
-/// The decision on the open transaction, which is over where it was decided on. A fault leaves all as it was.
-fn decide_open<D: Digester>(
+/// The decision on the open transaction, which is over where it was decided on. A fault leaves all as it was. A commit that is made has the epoch
+/// as its date.
+pub(crate) fn decide_open<D: Digester>(
     alloc: Global,
     db: &mut SharedDb,
     session: &mut Session<D>,
@@ -104,32 +72,12 @@ fn decide_open<D: Digester>(
     Ok(reply)
 }
 
-/// Outside a transaction it takes its start. Where memory was wanting there is none.
-fn start_closing<D: Digester>(
+/// In the transaction that was started: its decision is to come, or it is refused before it, or the session answers it by itself.
+pub(crate) fn follow_started<D: Digester>(
     alloc: Global,
-    db: &mut SharedDb,
     session: &mut Session<D>,
     asked: &Work,
-) -> Result<Met, PutFault>
-    requires before { (p : plain.Session) × (shared : Shared) × IsBefore D.address session.old db.old.parts p shared × (p.transaction ≡ None) }
-    requires closes { may_close asked.now ≡ true }
-    requires moments { 0 < db.old.moments_room }
-    ensures met { IfOk result (λ met. (epoch : ℤ) (p : plain.Session) (shared : Shared) → IsBefore D.address session.old db.old.parts p shared → p.transaction ≡ None
-        → HasMet D.address epoch p (command.Data asked.now) shared db.old.parts db.new.parts session.new met) }
-    ensures sound { IfOk result IsSoundMet }
-    ensures truly { IfOk result (MetTellsTruly D.address) }
-    ensures fault { IfErr result (λ fault. fault ≡ Memory) }
-    ensures same { OnErr result (db.new.parts ≡ db.old.parts) }
-    ensures kept { OnErr result (session.new ≡ session.old) }
-    ensures room { KeepsRoom 0 db.old db.new }
-    ensures room_kept { OnErr result (HasRoomStill db.old db.new) }
-{
-    take_start(alloc, db, session)?;
-    Ok(follow_started(alloc, session, asked))
-}
-
-/// In the transaction that was started: its decision is to come, or it is refused before it, or the session answers it by itself.
-fn follow_started<D: Digester>(alloc: Global, session: &mut Session<D>, asked: &Work) -> Met
+) -> Met
     requires started { (parts : Parts) × (now : Parts) × (p : plain.Session) × (t : plain.Transaction) × (shared : Shared) × HasStarted D.address session.old parts now p t shared }
     requires closes { may_close asked.now ≡ true }
     ensures met { (epoch : ℤ) (parts : Parts) (now : Parts) (p : plain.Session) (t : plain.Transaction) (shared : Shared) → HasStarted D.address session.old parts now p t shared

@@ -18,9 +18,11 @@ mod places;
 mod rows;
 mod starting;
 mod switching;
+mod working;
 
 pub use answering::serve;
 pub use coming::come_to;
 pub use concluding::{conclude, drop_started};
 pub use faults::answer_fault;
-pub use meeting::{Met, Pending, meet};
+pub use meeting::{Begun, Met, Pending, meet, meet_start};
+pub use working::work_started;

@@ -1,10 +1,8 @@
 //! Database statements outside a transaction: each takes a start of its own.
 
-ghost use Rattle.std.specs.Prelude.{◌≡◌, ◌<◌, ℤ, true, None, IfErr, IfOk, OnErr, OnOk};
+ghost use Rattle.std.specs.Prelude.{◌≡◌, ◌<◌, ℤ, true, None, OnErr, OnOk};
 ghost use Rattle.script_text.specs.Collisions.{TellsTruly};
-ghost use Rattle.chunk_store.specs.declared.faults.PutFault.TheVariants.{Memory};
 ghost use Rattle.plain_sessions.specs.Fitness.{IsFitCommand};
-ghost use Rattle.plain_sessions.specs.Moments.{takes_start};
 ghost use Rattle.plain_sessions.specs.Records.{Shared};
 ghost use Rattle.plain_sessions.specs.Replies.{is_refusal};
 ghost use Rattle.plain_sessions.specs.Sessions as plain;
@@ -16,14 +14,13 @@ ghost use Rattle.shared_db.specs.Shared.{KeepsRoom};
 ghost use Rattle.serving.specs.Answering.{HasMet};
 ghost use Rattle.serving.specs.Kinds.{is_in_place};
 ghost use Rattle.serving.specs.Serving.{IsBefore, IsSoundMet, MetTellsTruly};
-ghost use Rattle.serving.specs.Starting.{HasAnswered, HasStarted, HasWorked};
+ghost use Rattle.serving.specs.Starting.{HasAnswered, HasStarted, HasWorked, IsStarted};
 ghost use Rattle.serving.specs.Steps.{HasRoomStill, after_start};
 
 use crate::alone::answer_alone;
 use crate::faults::after_start;
 use crate::meeting::{Met, Pending};
 use crate::places::number_of;
-use chunk_store::PutFault;
 use plain_sessions::Command;
 use script_text::Reply;
 use session_laws::law_of_states;
@@ -32,33 +29,6 @@ use session_txn::plan_begin;
 use shared_db::SharedDb;
 use std::alloc::{AllocError, Global};
 use tuple_codec::Digester;
-
-/// A database statement outside a transaction takes its start; it is answered, or what it does is to be decided on. Where memory was wanting
-/// there is no start.
-pub(crate) fn start_work<D: Digester>(
-    alloc: Global,
-    db: &mut SharedDb,
-    session: &mut Session<D>,
-    asked: &Command,
-) -> Result<Met, PutFault>
-    requires before { (p : plain.Session) × (shared : Shared) × IsBefore D.address session.old db.old.parts p shared × (takes_start p asked.now ≡ true) }
-    requires fit { IsFitCommand asked.now }
-    requires call { is_in_place asked.now ≡ true }
-    requires moments { 0 < db.old.moments_room }
-    ensures met { IfOk result (λ met. (epoch : ℤ) (p : plain.Session) (shared : Shared) → IsBefore D.address session.old db.old.parts p shared → takes_start p asked.now ≡ true
-        → HasMet D.address epoch p asked.now shared db.old.parts db.new.parts session.new met) }
-    ensures sound { IfOk result IsSoundMet }
-    ensures truly { IfOk result (MetTellsTruly D.address) }
-    ensures fault { IfErr result (λ fault. fault ≡ Memory) }
-    ensures same { OnErr result (db.new.parts ≡ db.old.parts) }
-    ensures kept { OnErr result (session.new ≡ session.old) }
-    ensures room { KeepsRoom 0 db.old db.new }
-    ensures room_kept { OnErr result (HasRoomStill db.old db.new) }
-{
-    take_start(alloc, db, session)?;
-    let reply = answer_alone(alloc, session, asked);
-    Ok(end_answered(session, reply))
-}
 
 /// Takes the start of a transaction: its moment is made, and the session is in it.
 pub(crate) fn take_start<D: Digester>(
@@ -81,6 +51,25 @@ pub(crate) fn take_start<D: Digester>(
     db.start(session.number, number);
     plan_begin(alloc, session, look);
     Ok(())
+}
+
+/// The work of a statement that has no decision but the commit rule's, in the transaction that was started: it is answered, or what it did is
+/// to be decided on.
+pub(crate) fn answer_started<D: Digester>(
+    alloc: Global,
+    session: &mut Session<D>,
+    asked: &Command,
+) -> Met
+    requires started { (p : plain.Session) × (shared : Shared) × (old : Parts) × (new : Parts) × IsStarted D.address p asked.now shared old new session.old }
+    requires fit { IsFitCommand asked.now }
+    requires call { is_in_place asked.now ≡ true }
+    ensures met { (epoch : ℤ) (p : plain.Session) (shared : Shared) (old : Parts) (new : Parts) → IsStarted D.address p asked.now shared old new session.old
+        → HasMet D.address epoch p asked.now shared old new session.new result }
+    ensures sound { IsSoundMet result }
+    ensures truly { MetTellsTruly D.address result }
+{
+    let reply = answer_alone(alloc, session, asked);
+    end_answered(session, reply)
 }
 
 /// Ends what was answered in the transaction that was started. A refusal drops it.

@@ -26,7 +26,7 @@ push_reserved-requires g c =
     let p = c.requires.player in has_room p.3 (more_of p.3 c.args.asked.now p.3.stands.2.0 p.3.stands.2.1)
 
 pub returns-in-Ok-clause-led : goal.returns-in-Ok-clause-led
-returns-in-Ok-clause-led g c = λ made shared place runner is.
+returns-in-Ok-clause-led g c = λ shared place runner is.
     has_decided is c.args.epoch c.args.asked.now is.stands.2.0 is.stands.2.1 c.args.wanted is.stands.0 c.conclude.new.db.parts c.in-Ok.reply _
     (subst (λ (one : Command). Concludes g.D.Digester.address c.args.epoch runner.session one shared c.args.db.now.parts c.conclude.new.db.parts c.conclude.new.session c.in-Ok.reply) c.get.ensures
     (subst (λ (e : ℤ). Concludes g.D.Digester.address e runner.session c.get.result.now shared c.args.db.now.parts c.conclude.new.db.parts c.conclude.new.session c.in-Ok.reply)
@@ -61,8 +61,8 @@ pub push_reserved-requires-in-Err : goal.push_reserved-requires-in-Err
 push_reserved-requires-in-Err g c =
     let p = c.requires.player in has_room p.3 (more_of p.3 c.args.asked.now p.3.stands.2.0 p.3.stands.2.1)
 
-pub returns-in-Err-clause-missed : goal.returns-in-Err-clause-missed
-returns-in-Err-clause-missed g c = λ missed shared place runner is.
+pub returns-in-Err-clause-led : goal.returns-in-Err-clause-led
+returns-in-Err-clause-led g c = λ shared place runner is.
     was_dropped is c.args.asked.now is.stands.2.0 is.stands.2.1 c.args.wanted is.stands.0 c.drop_started-reply.result _
     (c.drop_started-reply.ensures.drops c.args.db.now.parts runner.session c.args.asked.now c.args.wanted shared
     (subst (λ (s : Session g.row.D.Denot). IsBetween g.D.Digester.address s c.args.db.now.parts runner.session c.args.asked.now c.args.wanted shared) (sym c.in-Err.ensures.kept) is.stands.0))

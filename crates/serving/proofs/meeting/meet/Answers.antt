@@ -1,12 +1,10 @@
-use Rattle.std.proofs.Common.{ℤ, subst, w64}
+use Rattle.std.proofs.Common.{w64}
 use Rattle.std.proofs.lemmas.Int.{to_z-of_z}
-use Rattle.serving.specs.Answering.{HasMet}
-use Rattle.serving.proofs.MeetLemmas.{passed_on}
+use Rattle.serving.proofs.BegunLemmas.{started_of}
 use Rattle.serving.proofs.meeting.meet.Goals as goal
 
-pub returns-clause-met : goal.returns-clause-met
-returns-clause-met g c = λ p shared before waits.
-    passed_on g.D.Digester.address c.args.epoch c.args.session.now c.meet_first.new.session c.number_of-number.result c.args.db.now.parts c.meet_first.new.db.parts c.args.asked.now
-    c.number_of-number.ensures c.pass_on.new.session c.in_ok-met.met c.pass_on.ensures p shared before
-    (subst (λ (e : ℤ). HasMet g.D.Digester.address e p c.args.asked.now shared c.args.db.now.parts c.meet_first.new.db.parts c.meet_first.new.session c.in_ok-met.met)
-    (to_z-of_z w64 c.args.epoch c.ranges.epoch) (c.in_ok-met.ensures.met p shared before waits))
+pub returns-in-Started-clause-met : goal.returns-in-Started-clause-met
+returns-in-Started-clause-met g c = λ p shared before waits.
+    c.work_started.ensures.met c.args.epoch p shared c.args.db.now.parts c.meet_start.new.db.parts
+    (started_of g.D.Digester.address c.args.epoch _ (to_z-of_z w64 c.args.epoch c.ranges.epoch) p c.args.asked.now shared c.args.db.now.parts c.meet_start.new.db.parts c.meet_start.new.session
+    c.in_ok-reply.field-0 c.in-Started.is (c.in_ok-reply.ensures.begun p shared before waits))

@@ -1,40 +1,38 @@
-use Rattle.std.proofs.Common.{◌∙◌, sym, w64}
+use Rattle.std.proofs.Common.{ℤ, None, refl, sym, subst, w64}
 use Rattle.std.proofs.lemmas.Int.{to_z-of_z}
-use Rattle.serving.proofs.MeetLemmas.{closing_fails, closing_meets, closing_waits, start_fails, start_fault, start_meets, start_takes}
+use Rattle.plain_sessions.specs.declared.commands.Command.TheVariants.{Data}
+use Rattle.serving.specs.Branching.{Went}
+use Rattle.serving.proofs.ClosingLemmas.{closes_open, none_open, open_there}
+use Rattle.serving.proofs.MeetLemmas.{closing_may, waits_by}
 use Rattle.serving.proofs.meeting.meet_work.Goals as goal
 
-pub meet_closing-requires-clause-before : goal.meet_closing-requires-clause-before
-meet_closing-requires-clause-before g c κs within =
+pub decide_open-requires-clause-closing : goal.decide_open-requires-clause-closing
+decide_open-requires-clause-closing g c κs within_κs =
     let held = c.requires.before in
-    (held.0, held.1, held.2, closing_waits g.D.Digester.address c.args.session.now c.args.db.now.parts c.args.asked.now c.args.work.now c.requires.work held.0 held.1 held.2 held.3)
+    let found = open_there g.D.Digester.address c.args.session.now (sym c.if-is_some.ensures) held.0 held.2.session_stands in
+    let so = closes_open held.0 found.0 c.args.asked.now found.1 (waits_by None held.0 (Data c.args.asked.now) held.2.before held.3) in
+    (held.0, found.0, so.0, held.1, held.2, found.1, so.1)
 
-pub start_work-requires-clause-before : goal.start_work-requires-clause-before
-start_work-requires-clause-before g c κs within =
-    let held = c.requires.before in (
-      held.0,
-      held.1,
-      held.2,
-      start_takes g.D.Digester.address c.args.session.now c.args.db.now.parts c.args.asked.now c.args.work.now c.requires.work
-          (sym c.may_close.ensures ∙ c.if-may_close.false) held.0 held.1 held.2 held.3,
-    )
+pub decide_open-requires-clause-closes : goal.decide_open-requires-clause-closes
+decide_open-requires-clause-closes g c κs within_κs =
+    let held = c.requires.before in
+    let found = open_there g.D.Digester.address c.args.session.now (sym c.if-is_some.ensures) held.0 held.2.session_stands in
+    let so = closes_open held.0 found.0 c.args.asked.now found.1 (waits_by None held.0 (Data c.args.asked.now) held.2.before held.3) in
+    closing_may held.0 found.0 c.args.asked.now so.0 so.1
 
-pub returns-then-may_close-clause-met : goal.returns-then-may_close-clause-met
-returns-then-may_close-clause-met g c =
-    closing_meets g.D.Digester.address c.args.session.now c.args.db.now.parts c.args.asked.now c.args.work.now c.requires.work c.args.epoch _ c.meet_closing.new.session c.meet_closing.new.db.parts
-    (to_z-of_z w64 c.args.epoch c.ranges.epoch) c.meet_closing.result c.meet_closing.ensures.met
+pub take_start-requires-clause-before : goal.take_start-requires-clause-before
+take_start-requires-clause-before g c κs within_κs =
+    let held = c.requires.before in
+    (held.0, held.1, held.2, none_open g.D.Digester.address c.args.session.now (sym c.if-is_some.ensures) held.0 held.2.session_stands)
 
-pub returns-then-may_close-clause-fails : goal.returns-then-may_close-clause-fails
-returns-then-may_close-clause-fails g c =
-    closing_fails g.D.Digester.address c.args.session.now c.args.db.now.parts c.args.asked.now c.args.work.now c.requires.work c.meet_closing.result c.meet_closing.ensures.fails
+pub returns-in_ok-decide_open-clause-begun : goal.returns-in_ok-decide_open-clause-begun
+returns-in_ok-decide_open-clause-begun g c = λ p shared before waits.
+    let found = open_there g.D.Digester.address c.args.session.now (sym c.if-is_some.ensures) p before.session_stands in
+    let so = closes_open p found.0 c.args.asked.now found.1 (waits_by None p (Data c.args.asked.now) before.before waits) in
+    subst (λ (e : ℤ). Went g.D.Digester.address e p (Data c.args.asked.now) shared c.args.db.now.parts c.decide_open.new.db.parts c.decide_open.new.session c.in_ok-decide_open.field-0)
+    (to_z-of_z w64 c.args.epoch c.ranges.epoch) (c.in_ok-decide_open.ensures.went p found.0 so.0 shared before found.1 so.1)
 
-pub returns-else-may_close-clause-met : goal.returns-else-may_close-clause-met
-returns-else-may_close-clause-met g c =
-    start_meets g.D.Digester.address c.args.session.now c.args.db.now.parts c.args.asked.now c.args.work.now c.requires.work c.args.epoch c.start_work.new.session c.start_work.new.db.parts
-    (sym c.may_close.ensures ∙ c.if-may_close.false) c.start_work.result c.start_work.ensures.met
-
-pub returns-else-may_close-clause-fails : goal.returns-else-may_close-clause-fails
-returns-else-may_close-clause-fails g c =
-    start_fails g.D.Digester.address c.args.session.now c.args.db.now.parts c.args.asked.now c.args.work.now c.requires.work c.start_work.result c.start_work.ensures.fault
-
-pub returns-else-may_close-clause-fault : goal.returns-else-may_close-clause-fault
-returns-else-may_close-clause-fault g c = start_fault g.D.Digester.address c.start_work.result c.start_work.ensures.fault
+pub returns-in_ok-take_start-clause-begun : goal.returns-in_ok-take_start-clause-begun
+returns-in_ok-take_start-clause-begun g c = λ p shared before waits.
+    let way = c.in_ok-take_start.ensures.started p shared before (none_open g.D.Digester.address c.args.session.now (sym c.if-is_some.ensures) p before.session_stands) in
+    record { work = c.args.asked.now; asked_is = refl; waits = waits; transaction = way.0; started = way.1 }
