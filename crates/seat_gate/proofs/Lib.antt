@@ -4,4 +4,4 @@ mod Moves
 mod Meetings
 pub mod Gathering
 pub mod Telling
-mod WorkerLemmas
+pub mod WorkerLemmas
