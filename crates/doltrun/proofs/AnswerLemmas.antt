@@ -1,13 +1,9 @@
--- What bytes come to where a step of the answer failed, and that a text tells one run or one stop alone.
-use Rattle.std.proofs.Common.{◌≡◌, Bool, ℕ, ℤ, List, Result, Ok, Err, refl, true, ap₂, subst, sym, ◌∙◌}
+-- What a script comes to where a step of the answer failed, and that a text tells one run or one stop alone.
+use Rattle.std.proofs.Common.{◌≡◌, ℕ, ℤ, List, Ok, Err, refl, subst, sym, ◌∙◌}
 use Rattle.chunk_store.specs.declared.faults.PutFault.{PutFault}
 use Rattle.chunk_store.specs.declared.faults.PutFault.TheVariants as put
-use Rattle.script_text.specs.Input.{script}
 use Rattle.script_text.specs.Output.{stop_text, text}
-use Rattle.script_text.specs.Reading.{Gives}
 use Rattle.script_text.specs.Shown.{HasOneReading, HasOneStop, IsSameShown, IsSameStop, IsShown, IsShownStop}
-use Rattle.script_text.specs.declared.faults.ScriptFault.{ScriptFault}
-use Rattle.script_text.specs.declared.faults.ScriptFault.TheVariants as bad
 use Rattle.script_text.specs.declared.outputs.RunText.{RunText}
 use Rattle.script_text.specs.declared.outputs.StopText.{StopText}
 use Rattle.script_text.specs.declared.scripts.Script.{Script}
@@ -18,46 +14,16 @@ use Rattle.script_run.specs.Following.{IsStoppedAt, ReplaysAs}
 use Rattle.script_run.specs.declared.following.Replayed.{Replayed}
 use Rattle.script_run.specs.declared.following.Replayed.TheVariants as replayed
 use Rattle.shared_db.specs.Opening.{IsOpeningFault}
-use Rattle.doltrun.specs.Answers.{of_put, of_script}
+use Rattle.doltrun.specs.Answers.{of_put}
 use Rattle.doltrun.specs.Stops.{AnswersPart, Comes, ComesOf, Stop, StopsAt, WritesStop}
 use Rattle.doltrun.specs.declared.answering.NoAnswer.{NoAnswer}
 use Rattle.doltrun.specs.declared.answering.NoAnswer.TheVariants as fault
+use Rattle.doltrun.specs.declared.words.MomentOrder.TheVariants.{Given}
 use Rattle.doltrun.specs.declared.words.ScriptRun.{ScriptRun}
-
-pub comes_script : (address : List ℕ → List ℕ) (asked : ScriptRun) (bytes : List ℕ) (fault : ScriptFault) → Gives {X = Script} (Err fault) (script bytes asked.with_order) → Comes address asked bytes (Err (of_script fault))
-comes_script address asked bytes bad.Memory h = tt
-comes_script address asked bytes (bad.Bad line) h = h
 
 pub comes_put : (address : List ℕ → List ℕ) (asked : ScriptRun) (read : Script) (fault : PutFault) → IsOpeningFault address asked.epoch fault → ComesOf address asked read (Err (of_put fault))
 comes_put address asked read put.Memory opens = tt
 comes_put address asked read (put.Collision clash) opens = opens
-
--- what a script comes to, the bytes come to that it was read of
-pub comes_of : (address : List ℕ → List ℕ) (asked : ScriptRun) (bytes : List ℕ) (read : Script) (result : Result (List ℕ) NoAnswer) → script bytes asked.with_order ≡ Ok read
-    → ComesOf address asked read result → Comes address asked bytes result
-comes_of address asked bytes read (Ok written) is came = record {
-  script = came.script;
-  run = came.run;
-  reads = is ∙ came.reads;
-  runs = came.runs;
-  truly = came.truly;
-  ordered = came.ordered;
-  shown = came.shown;
-  prints = came.prints;
-  alone = came.alone;
-}
-comes_of address asked bytes read (Err fault.Memory) is came = tt
-comes_of address asked bytes read (Err (fault.Bad line)) is came = absurd came
-comes_of address asked bytes read (Err (fault.Stopped written)) is came = record {
-  in_order = came.0;
-  read = read;
-  reads = is;
-  stop = came.1.0;
-  stops = came.1.1;
-  alone = came.1.2;
-  is = came.1.3;
-}
-comes_of address asked bytes read (Err (fault.Collision clash)) is came = ((read, is), came)
 
 -- a text shows one run alone
 pub alone_by : HasOneReading → (run other : RunText) (written : List ℕ) → IsShown run → written ≡ text run → IsShown other → text other ≡ written → IsSameShown run other
@@ -68,20 +34,10 @@ pub stop_alone_by : HasOneStop → (address : List ℕ → List ℕ) (epoch : �
     → stop_text other ≡ stop_text stop → IsSameStop stop other
 stop_alone_by one address epoch read stop other stops shown names same = one stop other stops.shown shown (stops.names ∙ sym names) (sym same)
 
-run_is : (asked : ScriptRun) (with_order : Bool) (epoch : ℤ) → asked.with_order ≡ with_order → epoch ≡ asked.epoch → record { with_order = with_order; epoch = epoch } ≡ asked
-run_is asked with_order epoch chosen date = ap₂ (λ (b : Bool) (e : ℤ). let made : ScriptRun = record { with_order = b; epoch = e } in made) (sym chosen) date
-
--- in the order chosen, and with the epoch asked
-pub comes_in : (address : List ℕ → List ℕ) (asked : ScriptRun) (with_order : Bool) (epoch : ℤ) (bytes : List ℕ) (read : Script) (result : Result (List ℕ) NoAnswer)
-    → asked.with_order ≡ with_order → epoch ≡ asked.epoch → script bytes asked.with_order ≡ Ok read
-    → ComesOf address (record { with_order = with_order; epoch = epoch }) read result → Comes address asked bytes result
-comes_in address asked with_order epoch bytes read result chosen date is came =
-    comes_of address asked bytes read result is (subst (λ (run : ScriptRun). ComesOf address run read result) (run_is asked with_order epoch chosen date) came)
-
 -- a run that was led along its order
 pub run_comes : (address : List ℕ → List ℕ) (epoch date : ℤ) (read : Script) (replay : Replayed) (run : RunText) (written : List ℕ) → HasOneReading → date ≡ epoch
     → replay ≡ replayed.Run run → ReplaysAs address date read replay → written ≡ text run
-    → ComesOf address (record { with_order = true; epoch = epoch }) read (Ok written)
+    → ComesOf address (record { order = Given; epoch = epoch }) read (Ok written)
 run_comes address epoch date read replay run written one same is came prints =
     let there = subst (λ (e : ℤ). ReplaysAs address e read (replayed.Run run)) same (subst (λ (r : Replayed). ReplaysAs address date read r) is came) in
     record {
@@ -99,7 +55,7 @@ run_comes address epoch date read replay run written one same is came prints =
 -- and one that stopped
 pub stop_comes : (address : List ℕ → List ℕ) (epoch date : ℤ) (read : Script) (replay : Replayed) (stop : StopText) (written : List ℕ) → HasOneStop → date ≡ epoch
     → replay ≡ replayed.Stop stop → ReplaysAs address date read replay → written ≡ stop_text stop
-    → ComesOf address (record { with_order = true; epoch = epoch }) read (Err (fault.Stopped written))
+    → ComesOf address (record { order = Given; epoch = epoch }) read (Err (fault.Stopped written))
 stop_comes address epoch date read replay stop written one same is came prints =
     let there = subst (λ (e : ℤ). ReplaysAs address e read (replayed.Stop stop)) same (subst (λ (r : Replayed). ReplaysAs address date read r) is came) in
     (refl, (stop, there, λ other shown names alike. stop_alone_by one address epoch read stop other there shown names alike, prints))

@@ -1,8 +1,6 @@
--- An epoch that words ask for is a date, and 64 bits hold a date.
-use Rattle.std.proofs.Common.{◌≡◌, refl, subst, sym, ℕ, ℤ, pos, negsuc, Bool, true, false, nat_lt, List, Option, Some, None, arith, of_z, to_z, w64, if◌then◌else◌}
-use Rattle.std.proofs.lemmas.Bool.Decides.{nat_tests}
-use Rattle.std.proofs.lemmas.Int.{ints, to_z-of_z}
-use Rattle.std.specs.Prelude.{◌≤ℤ◌, ◌<◌, ◌^◌, FitsSigned, IfSome, codes, option_and_then, option_map}
+-- An epoch that words ask for is a date.
+use Rattle.std.proofs.Common.{◌≡◌, refl, subst, sym, ℕ, ℤ, pos, Bool, true, false, nat_lt, List, Option, Some, None, if◌then◌else◌}
+use Rattle.std.specs.Prelude.{◌^◌, IfSome, codes, option_and_then, option_map}
 use Rattle.clap.specs.Walk.{is_empty}
 use Rattle.clap.specs.Words.{Text, fault_of, first_of, matches_of}
 use Rattle.script_text.specs.Numerals.{number}
@@ -15,18 +13,6 @@ use Rattle.doltrun.specs.declared.words.ScriptRun.{ScriptRun}
 
 abbrev IsDate : ℤ → Type 0
 IsDate epoch = is_date epoch ≡ true
-
-pub date_fits : (epoch : ℤ) → IsDate epoch → FitsSigned w64 epoch
-date_fits (pos seconds) is = let below : seconds < 2 ^ 63 = grind (arith, nat_tests) in record { sfits = below }
-date_fits (negsuc seconds) is = absurd (cc)
-
-pub date_later : (epoch : ℤ) → IsDate epoch → pos 0 ≤ℤ epoch
-date_later (pos seconds) is = omega (arith, ints)
-date_later (negsuc seconds) is = absurd (cc)
-
--- as it is handed on
-pub date_handed : (epoch : ℤ) → IsDate epoch → pos 0 ≤ℤ to_z w64 (of_z w64 epoch)
-date_handed epoch is = subst (λ (z : ℤ). pos 0 ≤ℤ z) (sym (to_z-of_z w64 epoch (date_fits epoch is))) (date_later epoch is)
 
 named_below : (epoch : ℕ) (test : Bool) → nat_lt epoch (2 ^ 63) ≡ test → IfSome (if test then Some (pos epoch) else None) IsDate
 named_below epoch true is = is
@@ -64,7 +50,7 @@ form_dated words =
 
 in_mode : (mode : Mode) (epoch : ℤ) → IsDate epoch → IfSome (run_of mode epoch) (λ (asked : ScriptRun). IsDate asked.epoch)
 in_mode Ordered epoch date = date
-in_mode Threads epoch date = tt
+in_mode Threads epoch date = date
 in_mode Replay epoch date = date
 in_mode Load epoch date = tt
 

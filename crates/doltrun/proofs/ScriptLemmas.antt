@@ -88,6 +88,7 @@ statement_sound read parts name room sound =
         distinct = sound.distinct;
         sessions = all_append (is_line_within read) read.lines ((record { session = place; statement = parts.statement }) ∷ []) sound.sessions
             (join (nat_lt place (length read.names)) true test refl);
+        spoken = let spoken = sound.spoken in omega (arith, spoken, length_push read.lines (let line : Line = record { session = place; statement = parts.statement } in line));
         few = omega (arith, length_push read.lines (let line : Line = record { session = place; statement = parts.statement } in line));
       }
       | false ↦ λ test.
@@ -105,6 +106,8 @@ statement_sound read parts name room sound =
             sessions = all_append (is_line_within next) read.lines ((record { session = length read.names; statement = parts.statement }) ∷ [])
                 (all_weaker (is_line_within read) (is_line_within next) (within_more read next more) read.lines sound.sessions)
                 (join (nat_lt (length read.names) (length (read.names ++ parts.name ∷ []))) true last refl);
+            spoken = let spoken = sound.spoken in
+                omega (arith, spoken, length_push read.names parts.name, length_push read.lines (let line : Line = record { session = length read.names; statement = parts.statement } in line));
             few = omega (arith, length_push read.lines (let line : Line = record { session = length read.names; statement = parts.statement } in line));
           }
     ] refl
@@ -157,7 +160,7 @@ read_from number read (line ∷ lines) next sound h =
 
 empty_sound : (order : Option (List OrderItem)) → IsSoundScript (record { names = []; lines = []; order = order })
 unfolding IsDistinct
-empty_sound order = record { names = refl; distinct = tt; sessions = refl; few = omega arith }
+empty_sound order = record { names = refl; distinct = tt; sessions = refl; spoken = omega arith; few = omega arith }
 
 ordered_read : (number : ℕ) (lines : List (List ℕ)) (read : Script) → ordered_from number lines ≡ Ok read → IsSoundScript read × (read.order ≢ None)
 ordered_read number [] read h = absurd (cc)

@@ -8,6 +8,7 @@ use Rattle.script_text.specs.declared.faults.BadScript.{BadScript}
 use Rattle.script_text.specs.declared.scripts.Script.{Script}
 use Rattle.doltrun.specs.Headline.{HasScript, WritesAnswer, fault_line}
 use Rattle.doltrun.specs.Stops.{Answer, Answers, AnswersAll, AnswersPart, Collides, Collision, FallsShort, Fault, Faults, IsToWrite, IsTold, IsWanted, Stop, Stops, StopsThere, WritesCollision, WritesFault, WritesStop}
+use Rattle.doltrun.specs.Words.{is_given}
 use Rattle.doltrun.specs.declared.words.ScriptRun.{ScriptRun}
 use Rattle.doltrun.specs.declared.status.Status.{Status}
 use Rattle.doltrun.specs.declared.status.Status.TheVariants as status
@@ -55,9 +56,9 @@ ended with_order told left bytes read taken is =
 
 pub answers_whole : (address : List ℕ → List ℕ) (asked : ScriptRun) (told left old new : Option (List ℕ)) (bytes : List ℕ) → IsRead told left bytes → AnswersAll address asked bytes old new → WritesAnswer address asked told left old new
 answers_whole address asked told left old new bytes read all = record {
-  read = script bytes asked.with_order;
-  script = whole_script asked.with_order told left bytes read;
-  ended = ended asked.with_order told left bytes all.answers.script read all.answers.reads;
+  read = script bytes (is_given asked.order);
+  script = whole_script (is_given asked.order) told left bytes read;
+  ended = ended (is_given asked.order) told left bytes all.answers.script read all.answers.reads;
   written = all.written;
   answers = all.answers;
   writes = all.writes;
@@ -67,8 +68,8 @@ pub told_fault : (with_order : Bool) (told left : Option (List ℕ)) (bytes : Li
 told_fault with_order told left bytes fault read is = subst (λ (r : Result Script BadScript). HasScript told with_order r) is (whole_script with_order told left bytes read)
 
 pub faults_whole : (asked : ScriptRun) (told left old new : Option (List ℕ)) (bytes : List ℕ) → IsRead told left bytes
-    → (fault : BadScript) × (script bytes asked.with_order ≡ Err fault) × Appends old new (fault_line fault) → WritesFault asked told old new
-faults_whole asked told left old new bytes read wrote = record { bad = wrote.0; breaks = told_fault asked.with_order told left bytes wrote.0 read wrote.1; writes = wrote.2 }
+    → (fault : BadScript) × (script bytes (is_given asked.order) ≡ Err fault) × Appends old new (fault_line fault) → WritesFault asked told old new
+faults_whole asked told left old new bytes read wrote = record { bad = wrote.0; breaks = told_fault (is_given asked.order) told left bytes wrote.0 read wrote.1; writes = wrote.2 }
 
 told_script : (with_order : Bool) (told left : Option (List ℕ)) (bytes : List ℕ) (read : Script) → IsRead told left bytes → script bytes with_order ≡ Ok read → HasScript told with_order (Ok read)
 told_script with_order told left bytes read taken is = subst (λ (r : Result Script BadScript). HasScript told with_order r) is (whole_script with_order told left bytes taken)
@@ -77,7 +78,7 @@ pub stops_whole : (address : List ℕ → List ℕ) (asked : ScriptRun) (told le
 stops_whole address asked told left old new bytes read wrote = record {
   in_order = wrote.in_order;
   script = wrote.script;
-  reads = told_script asked.with_order told left bytes wrote.script read wrote.reads;
+  reads = told_script (is_given asked.order) told left bytes wrote.script read wrote.reads;
   stop = wrote.stop;
   stops = wrote.stops;
   alone = wrote.alone;
@@ -87,7 +88,7 @@ stops_whole address asked told left old new bytes read wrote = record {
 pub collides_whole : (address : List ℕ → List ℕ) (asked : ScriptRun) (told left old new : Option (List ℕ)) (bytes : List ℕ) → IsRead told left bytes → WritesCollision address asked (Some bytes) old new → WritesCollision address asked told old new
 collides_whole address asked told left old new bytes read wrote = record {
   script = wrote.script;
-  reads = told_script asked.with_order told left bytes wrote.script read wrote.reads;
+  reads = told_script (is_given asked.order) told left bytes wrote.script read wrote.reads;
   clash = wrote.clash;
   opens = wrote.opens;
   writes = wrote.writes;
@@ -95,10 +96,10 @@ collides_whole address asked told left old new bytes read wrote = record {
 
 wanted_whole : (address : List ℕ → List ℕ) (asked : ScriptRun) (told left : Option (List ℕ)) (bytes written : List ℕ) → IsRead told left bytes
     → IsWanted address asked bytes written → IsToWrite address asked told written
-wanted_whole address asked told left bytes written read (Answer answer) = Answers (script bytes asked.with_order) (whole_script asked.with_order told left bytes read) answer
-wanted_whole address asked told left bytes written read (Fault bad is line) = Faults bad (told_fault asked.with_order told left bytes bad read is) line
-wanted_whole address asked told left bytes written read (Stop stops) = Stops stops.read stops.stop (told_script asked.with_order told left bytes stops.read read stops.reads) stops.stops stops.is
-wanted_whole address asked told left bytes written read (Collision said clash is opens line) = Collides said clash (told_script asked.with_order told left bytes said read is) opens line
+wanted_whole address asked told left bytes written read (Answer answer) = Answers (script bytes (is_given asked.order)) (whole_script (is_given asked.order) told left bytes read) answer
+wanted_whole address asked told left bytes written read (Fault bad is line) = Faults bad (told_fault (is_given asked.order) told left bytes bad read is) line
+wanted_whole address asked told left bytes written read (Stop stops) = Stops stops.read stops.stop (told_script (is_given asked.order) told left bytes stops.read read stops.reads) stops.stops stops.is
+wanted_whole address asked told left bytes written read (Collision said clash is opens line) = Collides said clash (told_script (is_given asked.order) told left bytes said read is) opens line
 
 pub falls_whole : (address : List ℕ → List ℕ) (asked : ScriptRun) (told left old new : Option (List ℕ)) (bytes : List ℕ) (room : ℕ) → IsRead told left bytes
     → AnswersPart address asked bytes old new room → FallsShort address asked told old new room

@@ -1,10 +1,11 @@
 -- Worked lists of words.
-use Rattle.std.proofs.Common.{◌≡◌, refl, codes, ℤ, pos, true, false, [], ◌∷◌, ◌++◌, Option, Some, None}
+use Rattle.std.proofs.Common.{◌≡◌, refl, codes, ℤ, pos, [], ◌∷◌, ◌++◌, Option, Some, None}
 use Rattle.clap.specs.Words.{Text}
 use Rattle.clap.proofs.OnLiterals.{clap_on_literals}
 use Rattle.doltrun.specs.Words.{form, form_of, run_asked}
 use Rattle.doltrun.specs.declared.words.Form.{Form}
 use Rattle.doltrun.specs.declared.words.Mode.TheVariants.{Ordered, Threads, Replay, Load}
+use Rattle.doltrun.specs.declared.words.MomentOrder.TheVariants.{Given, OfLines, OfThreads}
 
 abbrev ordered : ℤ → Option Form
 ordered epoch = Some (record { mode = Ordered; epoch = epoch; seed = None })
@@ -139,17 +140,17 @@ unfolding clap_on_literals
 given_both epoch seed = refl
 
 -- which of them run, and in which order
-ordered_runs : run_asked (codes "ordered" ∷ []) ≡ Some (record { with_order = false; epoch = pos 0 })
+ordered_runs : run_asked (codes "ordered" ∷ []) ≡ Some (record { order = OfLines; epoch = pos 0 })
 unfolding clap_on_literals
 ordered_runs = refl
 
-replay_runs : run_asked (codes "--epoch=5" ∷ codes "replay" ∷ []) ≡ Some (record { with_order = true; epoch = pos 5 })
+replay_runs : run_asked (codes "--epoch=5" ∷ codes "replay" ∷ []) ≡ Some (record { order = Given; epoch = pos 5 })
 unfolding clap_on_literals
 replay_runs = refl
 
-threads_dont_run : run_asked (codes "threads" ∷ []) ≡ None
+threads_run : run_asked (codes "threads" ∷ []) ≡ Some (record { order = OfThreads; epoch = pos 0 })
 unfolding clap_on_literals
-threads_dont_run = refl
+threads_run = refl
 
 load_doesnt_run : run_asked (codes "load" ∷ codes "--seed=7" ∷ []) ≡ None
 unfolding clap_on_literals

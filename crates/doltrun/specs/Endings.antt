@@ -6,7 +6,7 @@ use Rattle.wire_io.specs.Moves.{AppendsFront, LosesAtMost}
 use Rattle.script_text.specs.declared.faults.BadScript.{BadScript}
 use Rattle.doltrun.specs.Headline.{WritesAnswer, most_taken, usage_line}
 use Rattle.doltrun.specs.Stops.{FallsShort, IsTold, StopsThere, WritesCollision, WritesFault, WritesStop}
-use Rattle.doltrun.specs.Words.{run_asked}
+use Rattle.doltrun.specs.Words.{is_given, run_asked}
 use Rattle.doltrun.specs.declared.words.ScriptRun.{ScriptRun}
 use Rattle.doltrun.specs.declared.status.Status.{Status}
 use Rattle.doltrun.specs.declared.status.Status.TheVariants as status
@@ -41,7 +41,7 @@ pub record IsRun {S K : Type 0} (address : List ℕ → List ℕ) (asked : Scrip
   pub usage : result ≢ status.Usage
   -- a script that breaks a rule is told by its first line that does, and the least rule
   pub script : result ≡ status.Script → WritesFault asked (source.left input) (sink.held output) (sink.held wrote)
-  pub faulty : (bad : BadScript) → IsTold (source.left input) asked.with_order bad → StopsThere result
+  pub faulty : (bad : BadScript) → IsTold (source.left input) (is_given asked.order) bad → StopsThere result
   -- a given order that can't be followed is told by the first such item
   pub order : result ≡ status.Order → WritesStop address asked (source.left input) (sink.held output) (sink.held wrote)
   -- the two chunks that a database is opened with, where they have one address

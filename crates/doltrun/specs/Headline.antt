@@ -1,5 +1,5 @@
 -- What the program reads and writes.
-use Rattle.std.specs.Prelude.{◌≡◌, ℕ, ◌+◌, Bool, true, false, List, ◌++◌, codes, Option, Some, None, Result, Ok}
+use Rattle.std.specs.Prelude.{◌≡◌, ℕ, ◌+◌, Bool, List, ◌++◌, codes, Option, Some, None, Result, Ok}
 use Rattle.std.specs.Fmt.{decimal}
 use Rattle.std.specs.Io.KnownBytes.{Appends, IsAtEnd}
 use Rattle.chunk_store.specs.declared.faults.Clash.{Clash}
@@ -14,6 +14,9 @@ use Rattle.script_text.specs.declared.scripts.Script.{Script}
 use Rattle.plain_sessions.specs.Commands.{command}
 use Rattle.plain_sessions.specs.Output.{IsPlainRun}
 use Rattle.run_laws.specs.Orders.{IsGivenOrder, IsTextOrder}
+use Rattle.doltrun.specs.Words.{is_given}
+use Rattle.doltrun.specs.declared.words.MomentOrder.{MomentOrder}
+use Rattle.doltrun.specs.declared.words.MomentOrder.TheVariants.{Given, OfLines, OfThreads}
 use Rattle.doltrun.specs.declared.words.ScriptRun.{ScriptRun}
 
 abbrev pub usage_line : List ℕ
@@ -36,13 +39,15 @@ abbrev pub HasScript : Option (List ℕ) → Bool → Result Script BadScript �
 HasScript None with_order read = Unit {0}
 HasScript (Some input) with_order read = script input with_order ≡ read
 
--- the moments stand in the order of the script's lines; or the script gives their order
-abbrev pub IsInOrder : Bool → Script → List Moment → Type 0
-IsInOrder false script order = IsTextOrder script order
-IsInOrder true script order = IsGivenOrder script order
+-- the moments stand in the order of the script's lines; or the script gives their order; or each session was in a thread of its own, and any order may have
+-- come of it along which the plain machine runs
+abbrev pub IsInOrder : MomentOrder → Script → List Moment → Type 0
+IsInOrder OfLines script order = IsTextOrder script order
+IsInOrder Given script order = IsGivenOrder script order
+IsInOrder OfThreads script order = Unit {0}
 
 -- The text that was written is that of a run which is the plain machine's run of the script with the epoch asked, along the order and with
--- the wants of memory and collisions that the text shows; the order is the script's own, of its lines or as it gives it; each collision is one of two byte strings of that
+-- the wants of memory and collisions that the text shows; the order is that of its lines, or as the script gives it, or any where sessions were in threads; each collision is one of two byte strings of that
 -- address; and whatever run has this text has the same sessions, printed replies, wants of memory, collisions and order.
 pub record IsAnswer (address : List ℕ → List ℕ) (asked : ScriptRun) (read : Result Script BadScript) (written : List ℕ) : Type 0 where
   pub script : Script
@@ -50,7 +55,7 @@ pub record IsAnswer (address : List ℕ → List ℕ) (asked : ScriptRun) (read 
   pub reads : read ≡ Ok script
   pub runs : IsPlainRun command address asked.epoch script run
   pub truly : AllTellTruly address run.replies
-  pub ordered : IsInOrder asked.with_order script run.order
+  pub ordered : IsInOrder asked.order script run.order
   pub shown : IsShown run
   pub prints : written ≡ text run
   pub alone : (other : RunText) → IsShown other → text other ≡ written → IsSameShown run other
@@ -58,7 +63,7 @@ pub record IsAnswer (address : List ℕ → List ℕ) (asked : ScriptRun) (read 
 -- the whole input was read, and the whole answer to its script was appended
 pub record WritesAnswer (address : List ℕ → List ℕ) (asked : ScriptRun) (told left old new : Option (List ℕ)) : Type 0 where
   pub read : Result Script BadScript
-  pub script : HasScript told asked.with_order read
+  pub script : HasScript told (is_given asked.order) read
   pub ended : IsAtEnd left
   pub written : List ℕ
   pub answers : IsAnswer address asked read written

@@ -1,5 +1,5 @@
 -- What the program writes where it doesn't answer.
-use Rattle.std.specs.Prelude.{◌≡◌, ◌⊎◌, ℕ, ◌<◌, Bool, true, List, length, Option, Some, None, Result, Ok, Err}
+use Rattle.std.specs.Prelude.{◌≡◌, ◌⊎◌, ℕ, ◌<◌, Bool, List, length, Option, Some, None, Result, Ok, Err}
 use Rattle.std.specs.Io.KnownBytes.{Appends}
 use Rattle.script_text.specs.Input.{script}
 use Rattle.script_text.specs.Output.{stop_text}
@@ -14,6 +14,8 @@ use Rattle.shared_db.specs.Opening.{IsOpeningClash}
 use Rattle.doltrun.specs.Headline.{HasScript, IsAnswer, collision_line, fault_line}
 use Rattle.doltrun.specs.declared.answering.NoAnswer.{NoAnswer}
 use Rattle.doltrun.specs.declared.answering.NoAnswer.TheVariants as fault
+use Rattle.doltrun.specs.Words.{is_given}
+use Rattle.doltrun.specs.declared.words.MomentOrder.TheVariants.{Given}
 use Rattle.doltrun.specs.declared.words.ScriptRun.{ScriptRun}
 use Rattle.doltrun.specs.declared.status.Status.{Status}
 use Rattle.doltrun.specs.declared.status.Status.TheVariants as status
@@ -21,13 +23,13 @@ use Rattle.doltrun.specs.declared.status.Status.TheVariants as status
 -- the first line of the input that breaks a rule, and the rule, were appended
 pub record WritesFault (asked : ScriptRun) (told old new : Option (List ℕ)) : Type 0 where
   pub bad : BadScript
-  pub breaks : HasScript told asked.with_order (Err bad)
+  pub breaks : HasScript told (is_given asked.order) (Err bad)
   pub writes : Appends old new (fault_line bad)
 
 -- the script was read, and the two chunks that a database is opened with, which have one address, were appended
 pub record WritesCollision (address : List ℕ → List ℕ) (asked : ScriptRun) (told old new : Option (List ℕ)) : Type 0 where
   pub script : Script
-  pub reads : HasScript told asked.with_order (Ok script)
+  pub reads : HasScript told (is_given asked.order) (Ok script)
   pub clash : Clash
   pub opens : IsOpeningClash address asked.epoch clash
   pub writes : Appends old new (collision_line clash)
@@ -36,9 +38,9 @@ pub record WritesCollision (address : List ℕ → List ℕ) (asked : ScriptRun)
 -- what was answered before it by no rule; the plain machine steps along the items before it with these answers, and can't go on there; and whatever
 -- stop of these sessions has this line is at the same item, with the same wants of memory and collisions
 pub record WritesStop (address : List ℕ → List ℕ) (asked : ScriptRun) (told old new : Option (List ℕ)) : Type 0 where
-  pub in_order : asked.with_order ≡ true
+  pub in_order : asked.order ≡ Given
   pub script : Script
-  pub reads : HasScript told asked.with_order (Ok script)
+  pub reads : HasScript told (is_given asked.order) (Ok script)
   pub stop : StopText
   pub stops : IsStoppedAt address asked.epoch script stop
   pub alone : (other : StopText) → IsShownStop other → other.names ≡ script.names → stop_text other ≡ stop_text stop → IsSameStop stop other
@@ -46,10 +48,10 @@ pub record WritesStop (address : List ℕ → List ℕ) (asked : ScriptRun) (tol
 
 -- a text that is written whole where the sink doesn't fail
 pub data IsToWrite (address : List ℕ → List ℕ) (asked : ScriptRun) (told : Option (List ℕ)) (written : List ℕ) : Type 0 where
-  Answers : (read : Result Script BadScript) → HasScript told asked.with_order read → IsAnswer address asked read written → IsToWrite address asked told written
-  Faults : (bad : BadScript) → HasScript told asked.with_order (Err bad) → written ≡ fault_line bad → IsToWrite address asked told written
-  Stops : (script : Script) (stop : StopText) → HasScript told asked.with_order (Ok script) → IsStoppedAt address asked.epoch script stop → written ≡ stop_text stop → IsToWrite address asked told written
-  Collides : (script : Script) (clash : Clash) → HasScript told asked.with_order (Ok script) → IsOpeningClash address asked.epoch clash → written ≡ collision_line clash → IsToWrite address asked told written
+  Answers : (read : Result Script BadScript) → HasScript told (is_given asked.order) read → IsAnswer address asked read written → IsToWrite address asked told written
+  Faults : (bad : BadScript) → HasScript told (is_given asked.order) (Err bad) → written ≡ fault_line bad → IsToWrite address asked told written
+  Stops : (script : Script) (stop : StopText) → HasScript told (is_given asked.order) (Ok script) → IsStoppedAt address asked.epoch script stop → written ≡ stop_text stop → IsToWrite address asked told written
+  Collides : (script : Script) (clash : Clash) → HasScript told (is_given asked.order) (Ok script) → IsOpeningClash address asked.epoch clash → written ≡ collision_line clash → IsToWrite address asked told written
 
 -- a part of such a text was appended, and the sink promised no room for the whole of it
 pub record FallsShort (address : List ℕ → List ℕ) (asked : ScriptRun) (told old new : Option (List ℕ)) (room : ℕ) : Type 0 where
@@ -60,9 +62,9 @@ pub record FallsShort (address : List ℕ → List ℕ) (asked : ScriptRun) (tol
 
 -- the script of these bytes gives an order that can't be followed, and this is the text that tells it
 pub record StopsAt (address : List ℕ → List ℕ) (asked : ScriptRun) (bytes written : List ℕ) : Type 0 where
-  pub in_order : asked.with_order ≡ true
+  pub in_order : asked.order ≡ Given
   pub read : Script
-  pub reads : script bytes asked.with_order ≡ Ok read
+  pub reads : script bytes (is_given asked.order) ≡ Ok read
   pub stop : StopText
   pub stops : IsStoppedAt address asked.epoch read stop
   pub alone : (other : StopText) → IsShownStop other → other.names ≡ read.names → stop_text other ≡ stop_text stop → IsSameStop stop other
@@ -70,11 +72,11 @@ pub record StopsAt (address : List ℕ → List ℕ) (asked : ScriptRun) (bytes 
 
 -- what bytes come to: the answer to their script, or the fault of it
 abbrev pub Comes : (List ℕ → List ℕ) → ScriptRun → List ℕ → Result (List ℕ) NoAnswer → Type 0
-Comes address asked bytes (Ok written) = IsAnswer address asked (script bytes asked.with_order) written
+Comes address asked bytes (Ok written) = IsAnswer address asked (script bytes (is_given asked.order)) written
 Comes address asked bytes (Err fault.Memory) = Unit {0}
-Comes address asked bytes (Err (fault.Bad bad)) = script bytes asked.with_order ≡ Err bad
+Comes address asked bytes (Err (fault.Bad bad)) = script bytes (is_given asked.order) ≡ Err bad
 Comes address asked bytes (Err (fault.Stopped written)) = StopsAt address asked bytes written
-Comes address asked bytes (Err (fault.Collision clash)) = ((read : Script) × (script bytes asked.with_order ≡ Ok read)) × IsOpeningClash address asked.epoch clash
+Comes address asked bytes (Err (fault.Collision clash)) = ((read : Script) × (script bytes (is_given asked.order) ≡ Ok read)) × IsOpeningClash address asked.epoch clash
 
 -- the told input has a line that breaks a rule
 abbrev pub IsTold : Option (List ℕ) → Bool → BadScript → Type 0
@@ -88,15 +90,15 @@ StopsThere result = (result ≡ status.Script) ⊎ (result ≡ status.Read) ⊎ 
 -- the answer to the script of these bytes was appended
 pub record AnswersAll (address : List ℕ → List ℕ) (asked : ScriptRun) (bytes : List ℕ) (old new : Option (List ℕ)) : Type 0 where
   pub written : List ℕ
-  pub answers : IsAnswer address asked (script bytes asked.with_order) written
+  pub answers : IsAnswer address asked (script bytes (is_given asked.order)) written
   pub writes : Appends old new written
 
 -- what these bytes come to: an answer, a fault, a stop, or a collision
 pub data IsWanted (address : List ℕ → List ℕ) (asked : ScriptRun) (bytes written : List ℕ) : Type 0 where
-  Answer : IsAnswer address asked (script bytes asked.with_order) written → IsWanted address asked bytes written
-  Fault : (bad : BadScript) → script bytes asked.with_order ≡ Err bad → written ≡ fault_line bad → IsWanted address asked bytes written
+  Answer : IsAnswer address asked (script bytes (is_given asked.order)) written → IsWanted address asked bytes written
+  Fault : (bad : BadScript) → script bytes (is_given asked.order) ≡ Err bad → written ≡ fault_line bad → IsWanted address asked bytes written
   Stop : StopsAt address asked bytes written → IsWanted address asked bytes written
-  Collision : (read : Script) (clash : Clash) → script bytes asked.with_order ≡ Ok read → IsOpeningClash address asked.epoch clash → written ≡ collision_line clash → IsWanted address asked bytes written
+  Collision : (read : Script) (clash : Clash) → script bytes (is_given asked.order) ≡ Ok read → IsOpeningClash address asked.epoch clash → written ≡ collision_line clash → IsWanted address asked bytes written
 
 -- a part was appended of it
 pub record AnswersPart (address : List ℕ → List ℕ) (asked : ScriptRun) (bytes : List ℕ) (old new : Option (List ℕ)) (room : ℕ) : Type 0 where
@@ -105,12 +107,12 @@ pub record AnswersPart (address : List ℕ → List ℕ) (asked : ScriptRun) (by
   pub wider : room < length written
   pub writes : AppendsFront old new written
 
--- what a script comes to that was read, in the order of its lines or in the one that it gives
+-- what a script comes to that was read, in the order asked
 abbrev pub ComesOf : (List ℕ → List ℕ) → ScriptRun → Script → Result (List ℕ) NoAnswer → Type 0
 ComesOf address asked read (Ok written) = IsAnswer address asked (Ok read) written
 ComesOf address asked read (Err fault.Memory) = Unit {0}
 ComesOf address asked read (Err (fault.Bad bad)) = ⊥
 ComesOf address asked read (Err (fault.Stopped written)) =
-    (asked.with_order ≡ true) × ((stop : StopText) × IsStoppedAt address asked.epoch read stop
+    (asked.order ≡ Given) × ((stop : StopText) × IsStoppedAt address asked.epoch read stop
     × ((other : StopText) → IsShownStop other → other.names ≡ read.names → stop_text other ≡ stop_text stop → IsSameStop stop other) × (written ≡ stop_text stop))
 ComesOf address asked read (Err (fault.Collision clash)) = IsOpeningClash address asked.epoch clash

@@ -1,5 +1,5 @@
 -- What the words of the command line ask for.
-use Rattle.std.specs.Prelude.{ℕ, ℤ, pos, true, false, nat_lt, ◌^◌, if◌then◌else◌, List, [], ◌∷◌, map, codes, String, string_bytes, Option, Some, None, option_and_then, option_map}
+use Rattle.std.specs.Prelude.{ℕ, ℤ, pos, Bool, true, false, nat_lt, ◌^◌, if◌then◌else◌, List, [], ◌∷◌, map, codes, String, string_bytes, Option, Some, None, option_and_then, option_map}
 use Rattle.std.specs.Str.{bytes_eq}
 use Rattle.clap.specs.Words.{App, Row, Rule, Text, fault_of, first_of, matches_of, new_rule}
 use Rattle.clap.specs.Simple.{new_shape}
@@ -8,6 +8,8 @@ use Rattle.script_text.specs.Numerals.{number}
 use Rattle.doltrun.specs.declared.words.Form.{Form}
 use Rattle.doltrun.specs.declared.words.Mode.{Mode}
 use Rattle.doltrun.specs.declared.words.Mode.TheVariants.{Ordered, Threads, Replay, Load}
+use Rattle.doltrun.specs.declared.words.MomentOrder.{MomentOrder}
+use Rattle.doltrun.specs.declared.words.MomentOrder.TheVariants.{Given, OfLines, OfThreads}
 use Rattle.doltrun.specs.declared.words.ScriptRun.{ScriptRun}
 
 -- the bytes of the words
@@ -70,11 +72,17 @@ form_in rows = form_named (first_of (codes "mode") rows) (first_of (codes "epoch
 abbrev pub form : List Text → Option Form
 form words = if is_empty (fault_of line words) then form_in (matches_of line words) else None
 
--- a run of a script in this mode; `threads` and `load` don't run yet
+-- whether the script gives the order of its moments
+abbrev pub is_given : MomentOrder → Bool
+is_given OfLines = false
+is_given Given = true
+is_given OfThreads = false
+
+-- a run of a script in this mode; `load` doesn't run yet
 abbrev pub run_of : Mode → ℤ → Option ScriptRun
-run_of Ordered epoch = Some (record { with_order = false; epoch = epoch })
-run_of Replay epoch = Some (record { with_order = true; epoch = epoch })
-run_of Threads epoch = None
+run_of Ordered epoch = Some (record { order = OfLines; epoch = epoch })
+run_of Threads epoch = Some (record { order = OfThreads; epoch = epoch })
+run_of Replay epoch = Some (record { order = Given; epoch = epoch })
 run_of Load epoch = None
 
 -- the run that the words ask for

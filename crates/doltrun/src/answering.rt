@@ -1,10 +1,11 @@
-ghost use Rattle.std.specs.Prelude.{◌≡◌, ◌≢◌, ◌≤ℤ◌, IfOk, None, pos, false, true, string_bytes};
+ghost use Rattle.std.specs.Prelude.{◌≡◌, ◌≢◌, ◌≤ℤ◌, IfOk, None, pos, true, string_bytes};
 ghost use Rattle.plain_sessions.specs.StateLimits.{is_date};
 ghost use Rattle.doltrun.specs.Headline.{collision_line, fault_line};
 ghost use Rattle.script_run.specs.Scripts.{IsSoundScript};
 ghost use Rattle.doltrun.specs.Stops.{Comes, ComesOf};
+ghost use Rattle.doltrun.specs.declared.words.MomentOrder.TheVariants.{Given, OfLines, OfThreads};
 
-use crate::words::ScriptRun;
+use crate::words::{MomentOrder, ScriptRun};
 use chunk_store::{Clash, PutFault};
 use script_run::{Replayed, replay_script, run_script};
 use script_text::{
@@ -12,6 +13,9 @@ use script_text::{
     read_script,
 };
 use std::alloc::{AllocError, Global};
+use std::sync::Wait;
+use std::thread::Threads;
+use thread_run::run_threads;
 use tuple_codec::{Blob, Digester};
 use wire_io::Pacer;
 
@@ -66,8 +70,9 @@ impl From<PutFault> for NoAnswer {
     }
 }
 
-/// The text that answers the script in these bytes, in the order of its lines or in the one that it gives. Commits bear the epoch as their date.
-pub fn answer<D: Digester, P: Pacer>(
+/// The text that answers the script in these bytes, in the order asked. Commits bear the epoch as their date.
+pub fn answer<D: Digester, R: Threads + Wait + Sync, P: Pacer>(
+    rt: &R,
     alloc: Global,
     pacer: &P,
     asked: ScriptRun,
@@ -76,11 +81,12 @@ pub fn answer<D: Digester, P: Pacer>(
     requires { is_date asked.epoch ≡ true }
     ensures { Comes D.address asked bytes.now result }
 {
-    let script = read_script(alloc, bytes, asked.with_order)?;
-    if asked.with_order {
-        answer_in_given_order::<D, P>(alloc, pacer, script, asked.epoch)
-    } else {
-        answer_in_text_order::<D, P>(alloc, pacer, script, asked.epoch)
+    let script = read_script(alloc, bytes, asked.order.is_given())?;
+    let epoch = asked.epoch;
+    match asked.order {
+        MomentOrder::OfLines => answer_in_text_order::<D, P>(alloc, pacer, script, epoch),
+        MomentOrder::Given => answer_in_given_order::<D, P>(alloc, pacer, script, epoch),
+        MomentOrder::OfThreads => answer_in_threads::<D, R, P>(rt, alloc, pacer, script, epoch),
     }
 }
 
@@ -92,7 +98,7 @@ fn answer_in_text_order<D: Digester, P: Pacer>(
 ) -> Result<Blob, NoAnswer>
     requires sound { IsSoundScript script }
     requires epoch { pos 0 ≤ℤ epoch }
-    ensures { ComesOf D.address (record { with_order = false; epoch = epoch }) script result }
+    ensures { ComesOf D.address (record { order = OfLines; epoch = epoch }) script result }
 {
     let run = run_script::<D, P>(alloc, pacer, script, epoch)?;
     one_reading();
@@ -108,7 +114,7 @@ fn answer_in_given_order<D: Digester, P: Pacer>(
     requires sound { IsSoundScript script }
     requires ordered { script.order ≢ None }
     requires epoch { pos 0 ≤ℤ epoch }
-    ensures { ComesOf D.address (record { with_order = true; epoch = epoch }) script result }
+    ensures { ComesOf D.address (record { order = Given; epoch = epoch }) script result }
 {
     match replay_script::<D, P>(alloc, pacer, script, epoch)? {
         Replayed::Run(run) => {
@@ -120,6 +126,22 @@ fn answer_in_given_order<D: Digester, P: Pacer>(
             Err(NoAnswer::Stopped(print_stop(alloc, &stop)?))
         }
     }
+}
+
+fn answer_in_threads<D: Digester, R: Threads + Wait + Sync, P: Pacer>(
+    rt: &R,
+    alloc: Global,
+    pacer: &P,
+    script: Script,
+    epoch: i64,
+) -> Result<Blob, NoAnswer>
+    requires sound { IsSoundScript script }
+    requires epoch { pos 0 ≤ℤ epoch }
+    ensures { ComesOf D.address (record { order = OfThreads; epoch = epoch }) script result }
+{
+    let run = run_threads::<R, D, P>(rt, alloc, pacer, script, epoch)?;
+    one_reading();
+    Ok(print_output(alloc, &run)?)
 }
 
 /// The line that tells the rule that a script breaks.

@@ -1,5 +1,6 @@
-//! The program `doltrun`: it reads a script of SQL statements from standard input, runs them in the order of its lines or in one that it gives, and writes what
-//! each answered, the order of the moments at which they met the database, and the addresses that each branch has at the end.
+//! The program `doltrun`: it reads a script of SQL statements from standard input, runs them in the order of its lines (`ordered`), each session in a thread of
+//! its own (`threads`), or in an order that the script gives (`replay`), and writes what each answered, the order of the moments at which they met the database,
+//! and the addresses that each branch has at the end.
 //!
 //! What it promises stands on `run`, which takes any source and sink. `main` gives it the standard streams.
 #![tactic(auto)]
@@ -19,7 +20,7 @@ use std::process::ExitCode;
 use std::rt::Env;
 pub use top::{run, run_with};
 use wire_io::{NoPace, StdSink, StdSource};
-pub use words::{Form, Mode, ScriptRun};
+pub use words::{Form, Mode, MomentOrder, ScriptRun};
 
 fn main(rt: HostRuntime) -> ExitCode {
     let Ok(words) = given_words(&rt) else {

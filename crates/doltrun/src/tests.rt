@@ -1,9 +1,10 @@
 use crate::{Status, run, run_with};
 use std::alloc::{AllocError, Global};
-use std::sync::Wait;
 use std::sync::atomic::{AtomicU64, Ordering};
+use std::sync::{Condvar, Mutex, Wait};
 use std::test::Fail;
 use std::thread::Threads;
+use std::time::{Clock, Duration};
 use tuple_codec::{Address, Digester};
 use wire_io::{MemorySink, MemorySource, NoPace, Pacer};
 
@@ -128,6 +129,90 @@ fn an_order_that_ends_too_early_is_told(rt: HostRuntime) -> Result<(), Fail> {
     Ok(())
 }
 
+const TWO_SESSIONS: &[u8] = b"@a CREATE TABLE t (id BIGINT PRIMARY KEY);
+@a INSERT INTO t VALUES (1);
+@b CREATE TABLE u (id BIGINT PRIMARY KEY);
+@b INSERT INTO u VALUES (2);
+";
+
+/// So many seconds at most a session is held for the other.
+const LONGEST: u64 = 20;
+
+/// Holds two sessions, each before its second statement, until both have come there.
+#[derive(Drop)]
+struct Meeting<'r, R> {
+    rt: &'r R,
+    came: Mutex<u32>,
+    others: Condvar,
+    /// How many saw both there before the time was up.
+    met: AtomicU64,
+}
+
+impl<'r, R: Wait + Clock> Meeting<'r, R> {
+    fn meet(&self) {
+        let mut came = self.came.lock(self.rt);
+        *came = came.wrapping_add(1);
+        self.others.notify_all();
+        let longest = Duration::from_secs(LONGEST);
+        let (_, wait) = self
+            .others
+            .wait_timeout_while(self.rt, came, longest, |came| *came < 2);
+        if !wait.timed_out() {
+            self.met.fetch_add(1, Ordering::SeqCst);
+        }
+    }
+}
+
+impl<'r, R: Wait + Clock + Sync> Pacer for Meeting<'r, R> {
+    fn before(&self, _session: u32, statement: u32) {
+        if statement == 2 {
+            self.meet();
+        }
+    }
+}
+
+// Where one thread ran both, in whatever order, the first would wait in vain.
+#[test]
+fn two_sessions_are_in_threads_at_once(rt: HostRuntime) -> Result<(), Fail> {
+    let meeting = Meeting {
+        rt: &rt,
+        came: Mutex::new(0),
+        others: Condvar::new(),
+        met: AtomicU64::new(0),
+    };
+    let (status, written) = ended_at_pace(&rt, rt.alloc(), "threads", TWO_SESSIONS, &meeting)?;
+    assert_eq!(rt; status, Status::Done);
+    assert_eq!(rt; meeting.met.load(Ordering::SeqCst), 2);
+    let replies = b"session a\n1 ok\n2 ok 1\nsession b\n1 ok\n2 ok 1\norder ";
+    assert!(rt; written.as_slice().starts_with(replies));
+    let branch =
+        b"\nbranch main gj1enah2hu7oj7neve7uiuqo5geo87mk jmjph9hdk85oq6jnvst1m35ms1pjr7nj 9srqt76ersimhc5b156ea1tnkcjnq9it\n";
+    assert!(rt; written.as_slice().ends_with(branch));
+    Ok(())
+}
+
+/// The line of a run's text that tells the order of its moments.
+fn order_line(text: &[u8]) -> &str {
+    let text = str::from_utf8(text).unwrap_or("");
+    text.lines()
+        .find(|line| line.starts_with("order"))
+        .unwrap_or("")
+}
+
+#[test]
+fn the_order_of_threads_gives_the_same_text_in_replay(rt: HostRuntime) -> Result<(), Fail> {
+    let (status, written) = ended(&rt, rt.alloc(), "threads", TWO_SESSIONS)?;
+    assert_eq!(rt; status, Status::Done);
+    let order = order_line(written.as_slice());
+    let mut script = Vec::from_slice(rt.alloc(), order.as_bytes())?;
+    script.extend_from_slice(b"\n")?;
+    script.extend_from_slice(TWO_SESSIONS)?;
+    let (status, again) = ended(&rt, rt.alloc(), "replay", script.as_slice())?;
+    assert_eq!(rt; status, Status::Done);
+    assert_eq!(rt; again.as_slice(), written.as_slice());
+    Ok(())
+}
+
 const STATUSES: &str = "0 ordered
 0 --epoch=5 ordered
 0 ordered --epoch 5
@@ -142,9 +227,9 @@ const STATUSES: &str = "0 ordered
 1 load
 1 load --seed 7
 1 load --seed 1 --seed 1
-1 threads
+0 threads
 1 threads x
-1 threads --epoch=5
+0 threads --epoch=5
 1 turbo
 1 --help
 1 -- --epoch=5 ordered

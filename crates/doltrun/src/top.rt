@@ -17,11 +17,11 @@ use wire_io::{Pacer, ReadStop, Sink, Source, read_up_to};
 /// One byte above the longest script.
 const MOST_TAKEN: usize = 16_777_217;
 
-/// Reads a script from `input`, runs its statements, in the text's order or in the order of moments that the script gives, each by its session, and
-/// writes to `output` what each answered, the order of the moments, and the branches that they leave. `words` are the command line without the program's
-/// name.
+/// Reads a script from `input`, runs its statements, in the text's order, in the order of moments that the script gives, or each session in a thread of
+/// its own, and writes to `output` what each answered, the order of the moments, and the branches that they leave. `words` are the command line without
+/// the program's name.
 ///
-/// `ordered` and `replay` are the modes that run. Commits bear the date of `--epoch`. The text is built whole before its first byte is written.
+/// `ordered`, `threads` and `replay` are the modes that run. Commits bear the date of `--epoch`. The text is built whole before its first byte is written.
 pub fn run<R: Threads + Wait + Sync, S: Source, K: Sink, P: Pacer>(
     rt: &R,
     alloc: Global,
@@ -46,28 +46,15 @@ pub fn run_with<D: Digester, R: Threads + Wait + Sync, S: Source, K: Sink, P: Pa
 ) -> Status
     ensures { IsEnding D.address (spelled words.now) (record { left = S.left; faults = S.faults; steady = S.steady }) (record { held = K.held; faults = K.faults; room = K.room }) input.old input.new output.old output.new result }
 {
-    let _ = rt;
-    run_alone::<D, S, K, P>(alloc, words, input, output, pacer)
-}
-
-// Without leave to start threads or to wait, so it is proved to return.
-fn run_alone<D: Digester, S: Source, K: Sink, P: Pacer>(
-    alloc: Global,
-    words: &[String],
-    input: &mut S,
-    output: &mut K,
-    pacer: &P,
-) -> Status
-    ensures { IsEnding D.address (spelled words.now) (record { left = S.left; faults = S.faults; steady = S.steady }) (record { held = K.held; faults = K.faults; room = K.room }) input.old input.new output.old output.new result }
-{
     match run_to_do(alloc, words) {
-        Ok(Some(asked)) => run_input::<D, S, K, P>(alloc, asked, input, output, pacer),
+        Ok(Some(asked)) => run_input::<D, R, S, K, P>(rt, alloc, asked, input, output, pacer),
         Ok(None) => write_last(output, USAGE, Status::Usage),
         Err(_) => Status::Memory,
     }
 }
 
-fn run_input<D: Digester, S: Source, K: Sink, P: Pacer>(
+fn run_input<D: Digester, R: Threads + Wait + Sync, S: Source, K: Sink, P: Pacer>(
+    rt: &R,
     alloc: Global,
     asked: ScriptRun,
     input: &mut S,
@@ -78,7 +65,7 @@ fn run_input<D: Digester, S: Source, K: Sink, P: Pacer>(
     ensures { IsRun D.address asked (record { left = S.left; faults = S.faults; steady = S.steady }) (record { held = K.held; faults = K.faults; room = K.room }) input.old input.new output.old output.new result }
 {
     match read_up_to(alloc, input, MOST_TAKEN) {
-        Ok(bytes) => write_answer::<D, K, P>(alloc, pacer, asked, bytes.as_slice(), output),
+        Ok(bytes) => write_answer::<D, R, K, P>(rt, alloc, pacer, asked, bytes.as_slice(), output),
         Err(ReadStop::Failed) => Status::Read,
         Err(ReadStop::Memory) => Status::Memory,
     }

@@ -1,6 +1,6 @@
 ghost use Rattle.std.specs.Prelude.{◌≡◌, IfOk, codes, option_map};
 ghost use Rattle.clap.specs.Words.{app_of, first_value, found_of};
-ghost use Rattle.doltrun.specs.Words.{epoch_named, epoch_of, form, form_named, form_of, line, mode_named, run_asked, run_of, seed_of, spelled};
+ghost use Rattle.doltrun.specs.Words.{epoch_named, epoch_of, form, form_named, form_of, is_given, line, mode_named, run_asked, run_of, seed_of, spelled};
 
 use clap::error::ErrorKind;
 use clap::{Arg, ArgMatches, Command};
@@ -34,11 +34,30 @@ pub struct Form {
     pub seed: Option<u64>,
 }
 
+/// What the order of a run's moments comes from.
+#[derive(Clone, Copy, Debug, PartialEq, Eq)]
+pub enum MomentOrder {
+    /// The statements are run one after another, in the order of the script's lines.
+    OfLines,
+    /// The script gives it.
+    Given,
+    /// Each session is run in a thread of its own, and it is the order in which they come to the shared database.
+    OfThreads,
+}
+
+impl MomentOrder {
+    /// Whether the script gives the order, in a line before its statements.
+    pub fn is_given(self) -> bool
+        ensures { result ≡ is_given self }
+    {
+        matches!(self, MomentOrder::Given)
+    }
+}
+
 /// A run of the script that the input has.
 #[derive(Clone, Copy, Debug, PartialEq, Eq)]
 pub struct ScriptRun {
-    /// Whether the script gives the order of its moments.
-    pub with_order: bool,
+    pub order: MomentOrder,
     /// The date of every commit.
     pub epoch: i64,
 }
@@ -56,17 +75,13 @@ pub fn run_to_do(alloc: Global, words: &[String]) -> Result<Option<ScriptRun>, A
 fn run_in(mode: Mode, epoch: i64) -> Option<ScriptRun>
     ensures { result ≡ run_of mode epoch }
 {
-    match mode {
-        Mode::Ordered => Some(ScriptRun {
-            with_order: false,
-            epoch,
-        }),
-        Mode::Replay => Some(ScriptRun {
-            with_order: true,
-            epoch,
-        }),
-        Mode::Threads | Mode::Load => None,
-    }
+    let order = match mode {
+        Mode::Ordered => MomentOrder::OfLines,
+        Mode::Threads => MomentOrder::OfThreads,
+        Mode::Replay => MomentOrder::Given,
+        Mode::Load => return None,
+    };
+    Some(ScriptRun { order, epoch })
 }
 
 /// What the words, without the program's name, ask for; `None` where they are none of the program's forms.

@@ -7,6 +7,7 @@ ghost use Rattle.script_text.specs.Input.{script};
 ghost use Rattle.script_text.specs.declared.faults.BadScript.{BadScript};
 ghost use Rattle.doltrun.specs.Headline.{collision_line, fault_line};
 ghost use Rattle.doltrun.specs.Stops.{AnswersAll, AnswersPart, WritesCollision, WritesStop};
+ghost use Rattle.doltrun.specs.Words.{is_given};
 
 use crate::answering::{NoAnswer, answer, collision_text, fault_text};
 use crate::status::Status;
@@ -14,11 +15,14 @@ use crate::words::ScriptRun;
 use chunk_store::Clash;
 use script_text::BadScript;
 use std::alloc::Global;
+use std::sync::Wait;
+use std::thread::Threads;
 use tuple_codec::Digester;
 use wire_io::{Pacer, Sink, write_whole};
 
 /// Writes the answer to the script in these bytes, or the line of the rule that it breaks, or that of a collision.
-pub fn write_answer<D: Digester, K: Sink, P: Pacer>(
+pub fn write_answer<D: Digester, R: Threads + Wait + Sync, K: Sink, P: Pacer>(
+    rt: &R,
     alloc: Global,
     pacer: &P,
     asked: ScriptRun,
@@ -28,10 +32,10 @@ pub fn write_answer<D: Digester, K: Sink, P: Pacer>(
     requires { is_date asked.epoch ≡ true }
     ensures done { result ≡ Status.Done → AnswersAll D.address asked bytes.now (K.held output.old) (K.held output.new) }
     ensures script { result ≡ Status.Script
-        → (bad : BadScript) × (script bytes.now asked.with_order ≡ Err bad) × Appends (K.held output.old) (K.held output.new) (fault_line bad) }
+        → (bad : BadScript) × (script bytes.now (is_given asked.order) ≡ Err bad) × Appends (K.held output.old) (K.held output.new) (fault_line bad) }
     ensures order { result ≡ Status.Order → WritesStop D.address asked (Some bytes.now) (K.held output.old) (K.held output.new) }
     ensures collision { result ≡ Status.Collision → WritesCollision D.address asked (Some bytes.now) (K.held output.old) (K.held output.new) }
-    ensures faulty { (bad : BadScript) → script bytes.now asked.with_order ≡ Err bad → (result ≢ Status.Done) × (result ≢ Status.Order) × (result ≢ Status.Collision) }
+    ensures faulty { (bad : BadScript) → script bytes.now (is_given asked.order) ≡ Err bad → (result ≢ Status.Done) × (result ≢ Status.Order) × (result ≢ Status.Collision) }
     ensures part { result ≡ Status.Write → AnswersPart D.address asked bytes.now (K.held output.old) (K.held output.new) (K.room output.old) }
     ensures rose { result ≡ Status.Write → Rose (K.faults output.old) (K.faults output.new) }
     ensures later { K.faults output.old ≤ K.faults output.new }
@@ -39,7 +43,7 @@ pub fn write_answer<D: Digester, K: Sink, P: Pacer>(
     ensures words { result ≢ Status.Usage }
     ensures source { result ≢ Status.Read }
 {
-    match answer::<D, P>(alloc, pacer, asked, bytes) {
+    match answer::<D, R, P>(rt, alloc, pacer, asked, bytes) {
         Ok(text) => write_last(output, text.as_slice(), Status::Done),
         Err(NoAnswer::Bad(bad)) => write_fault(alloc, bad, output),
         Err(NoAnswer::Stopped(text)) => write_last(output, text.as_slice(), Status::Order),

@@ -4,6 +4,7 @@ use Rattle.script_text.specs.Input.{script}
 use Rattle.script_text.specs.declared.faults.BadScript.{BadScript}
 use Rattle.doltrun.specs.Headline.{fault_line}
 use Rattle.doltrun.specs.Stops.{AnswersAll, AnswersPart, WritesCollision, WritesStop}
+use Rattle.doltrun.specs.Words.{is_given}
 use Rattle.doltrun.proofs.TopLemmas.{IsRead, answers_whole, collides_whole, falls_whole, faults_whole, stops_told, stops_whole}
 use Rattle.doltrun.proofs.top.run_input.Goals as goal
 
@@ -23,9 +24,9 @@ returns-in-Ok g c =
       done = λ is. answers_whole address asked told left old new bytes read (subst (λ (bytes : List ℕ). AnswersAll address asked bytes old new) c.as_slice.ensures.value (wrote.done is));
       usage = wrote.words;
       script = λ is. faults_whole asked told left old new bytes read
-          (subst (λ (bytes : List ℕ). (fault : BadScript) × (script bytes asked.with_order ≡ Err fault) × Appends old new (fault_line fault)) c.as_slice.ensures.value (wrote.script is));
-      faulty = λ fault is. stops_told asked.with_order told left bytes c.write_answer.result read
-          (λ other told. wrote.faulty other (ap (λ (bytes : List ℕ). script bytes asked.with_order) c.as_slice.ensures.value ∙ told)) wrote.words fault is;
+          (subst (λ (bytes : List ℕ). (fault : BadScript) × (script bytes (is_given asked.order) ≡ Err fault) × Appends old new (fault_line fault)) c.as_slice.ensures.value (wrote.script is));
+      faulty = λ fault is. stops_told (is_given asked.order) told left bytes c.write_answer.result read
+          (λ other told. wrote.faulty other (ap (λ (bytes : List ℕ). script bytes (is_given asked.order)) c.as_slice.ensures.value ∙ told)) wrote.words fault is;
       order = λ is. stops_whole address asked told left old new bytes read (subst (λ (bytes : List ℕ). WritesStop address asked (Some bytes) old new) c.as_slice.ensures.value (wrote.order is));
       collision = λ is. collides_whole address asked told left old new bytes read (subst (λ (bytes : List ℕ). WritesCollision address asked (Some bytes) old new) c.as_slice.ensures.value (wrote.collision is));
       failed = λ is. absurd (wrote.source is);

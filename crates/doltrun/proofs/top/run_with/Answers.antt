@@ -2,7 +2,7 @@ use Rattle.std.proofs.Common.{◌∙◌, sym}
 use Rattle.doltrun.specs.Words.{run_asked, spelled}
 use Rattle.doltrun.proofs.EndingLemmas.{without_memory}
 use Rattle.doltrun.proofs.EpochLemmas.{asked_dated}
-use Rattle.doltrun.proofs.top.run_alone.Goals as goal
+use Rattle.doltrun.proofs.top.run_with.Goals as goal
 
 pub run_input-requires-after_bounds : goal.run_input-requires-after_bounds
 run_input-requires-after_bounds g c κs within = asked_dated (spelled c.args.words.now) c.in-Ok-Some.asked (sym c.in-Ok-Some.field-0-is ∙ c.in-Ok-Some.ensures)

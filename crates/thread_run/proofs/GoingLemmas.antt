@@ -1,0 +1,167 @@
+-- A session comes to the gate, has its turn and goes on.
+use Rattle.std.proofs.Common.{◌≡◌, refl, sym, ◌∙◌, ap, subst, ℕ, ℤ, ◌+◌, ◌*◌, ◌<◌, ◌≤◌, ◌^◌, ◌==◌, cond, false, true, List, [], ◌∷◌, ◌++◌, length, map, slice_get, arith}
+use Rattle.std.specs.Prelude.{slice_index_or}
+use Rattle.std.proofs.lemmas.List.{length-append, map-append}
+use Rattle.plain_sessions.specs.Records.{Shared}
+use Rattle.plain_sessions.specs.Runs.{Runner}
+use Rattle.plain_sessions.specs.Sessions as plain
+use Rattle.plain_sessions.specs.declared.commands.Command.{Command}
+use Rattle.run_laws.specs.Histories.{ToldTurn, Way}
+use Rattle.session_laws.specs.Changes.{StateStands}
+use Rattle.serving.specs.Serving.{Passes}
+use Rattle.serving.specs.Steps.{HasRoomStill}
+use Rattle.shared_db.specs.Shared.{Db, KeepsRoom}
+use Rattle.seat_gate.specs.History.{Entry, HasMade, Spelling, StartsWith, View, entries_of, entry, having_seen, with_entry}
+use Rattle.seat_gate.specs.Told.{left_last, told_by}
+use Rattle.seat_gate.proofs.Telling.{left_append, told_on_entering, told_on_leaving}
+use Rattle.shared_history.specs.Fitting.{Fits, HasCome, HasTurned, HasTurnLeft, seat_of}
+use Rattle.shared_history.specs.Spelling.{SpellsState, spelling_of}
+use Rattle.shared_history.proofs.FittingLemmas.{fits_left, fits_on, fits_still, has_come, has_room}
+use Rattle.seat_gate.specs.Working.{KeepsPlace}
+use Rattle.script_run.specs.Following.{IsFurther, IsLed, IsPlayer, is_free, is_settled, is_through, moments_left}
+use Rattle.script_run.specs.declared.players.Player.{Player}
+use Rattle.script_run.proofs.FollowLemmas.{player_stays}
+use Rattle.script_run.proofs.GoingLemmas.{may_number, more_left, number_is_at, said_of, state_of}
+use Rattle.thread_run.specs.Going.{IsGoing, told_turn, turns_of}
+use Rattle.thread_run.proofs.WayLemmas.{way_on, way_turns}
+
+-- seeing more, in which are no entries of its own, tells of no more turns
+turns_on_entering : (v : View) (seen : List Entry) → HasMade v → StartsWith seen v.seen → entries_of v.number seen ≡ v.made → turns_of (having_seen seen v) ≡ turns_of v
+turns_on_entering v seen made starts own = ap (λ turns. map told_turn turns) (told_on_entering v.number v.opened seen v.seen starts (own ∙ sym made))
+
+-- an entry of its own is one turn more
+turns_on_leaving : (v : View) (note : ℕ) (left : Spelling)
+    → turns_of (with_entry (entry v.number note left) v) ≡ turns_of v ++ record { statement = note; found = left_last v.opened v.seen; left = left } ∷ []
+turns_on_leaving v note left =
+    ap (λ turns. map told_turn turns) (told_on_leaving v.number v.opened v.seen (entry v.number note left) refl)
+    ∙ map-append told_turn (told_by v.number v.opened v.seen) (record { note = note; found = left_last v.opened v.seen; left = left } ∷ [])
+
+-- it has gone on, and needs no moment
+pub through_of : {D : Type 0} (player : Player D) → is_settled player ≡ true → is_free player.stage ≡ true → is_through player ≡ true
+through_of player settled free = sym (ap (λ b. cond b (length player.replies.items == length player.texts) true) free) ∙ settled
+
+pub keeps_none : (v : View) → KeepsPlace v v
+keeps_none v = record { opened = refl; number = refl; joined = refl; given = refl }
+
+-- the session stands at the gate, in the parts of the database that it holds, which fits the history
+pub record IsMeeting {D : Type 0} (address : List ℕ → List ℕ) (epoch : ℤ) (place : ℕ) (first : plain.Session) (all : List Command) (view : View) (db : Db) (player : Player D) : Type 0 where
+  pub number : view.number ≡ seat_of place
+  pub fits : Fits address db view.opened view.seen
+  pub own : HasMade view
+  pub runner : Runner
+  pub is : IsPlayer address db.parts fits.shared place runner player
+  pub way : Way (SpellsState address) address epoch first all (turns_of view) runner
+  pub counted : length view.made + moments_left player ≤ 2 * slice_index_or db.parts.numbers place 0
+
+module _ {D : Type 0} (address : List ℕ → List ℕ) (epoch : ℤ) (place : ℕ) (first : plain.Session) (all : List Command) where
+  -- statements without a moment
+  pub goes_further : (view : View) (player next : Player D) (going : IsGoing address epoch place first all view player)
+      → IsFurther address going.parts going.shared place going.runner next → moments_left next ≤ moments_left player → IsGoing address epoch place first all view next
+  goes_further view player next going further less = record {
+    number = going.number;
+    parts = going.parts;
+    spelled = going.spelled;
+    shared = going.shared;
+    runner = further.next;
+    is = further.is;
+    way = way_on (SpellsState address) address epoch first all (turns_of view) going.runner further.next further.goes going.way;
+    counted = let counted = going.counted in omega (arith, counted, less);
+  }
+
+  -- its turn has come
+  pub meets : (v : View) (seen : List Entry) (db : Db) (player : Player D) → HasMade v → Fits address db v.opened seen → StartsWith seen v.seen → entries_of v.number seen ≡ v.made
+      → IsGoing address epoch place first all v player → IsMeeting address epoch place first all (having_seen seen v) db player
+  meets v seen db player made fits starts own going =
+      let same : entries_of (seat_of place) seen ≡ entries_of (seat_of place) v.seen
+      = subst (λ n. entries_of n seen ≡ entries_of n v.seen) going.number (own ∙ sym made) in
+      let come : HasCome place going.parts db.parts = has_come address db v.opened seen v.seen place going.parts fits starts going.spelled same in
+      record {
+        number = going.number;
+        fits = fits;
+        own = own;
+        runner = going.runner;
+        is = player_stays address going.parts db.parts going.shared fits.shared fits.stands come.grown place going.runner player
+            (ap (λ (places : List (List ℕ)). slice_get places place) (sym fits.stands.places) ∙ (come.place
+            ∙ ap (λ (places : List (List ℕ)). slice_get places place) (state_of going.is).places)) going.is;
+        way = subst (λ (turns : List (ToldTurn Spelling)). Way (SpellsState address) address epoch first all turns going.runner) (sym (turns_on_entering v seen made starts own)) going.way;
+        counted = subst (λ (numbers : List ℕ). length v.made + moments_left player ≤ 2 * slice_index_or numbers place 0) (sym come.numbers) going.counted;
+      }
+
+  -- what the seat knows then
+  pub meets_as : (v now : View) (db : Db) (player : Player D) → HasMade v → now ≡ having_seen now.seen v → Fits address db v.opened now.seen → StartsWith now.seen v.seen
+      → entries_of v.number now.seen ≡ v.made → IsGoing address epoch place first all v player → IsMeeting address epoch place first all now db player
+  meets_as v now db player made is fits starts own going =
+      subst (λ (w : View). IsMeeting address epoch place first all w db player) (sym is) (meets v now.seen db player made fits starts own going)
+
+  turn_left : (view : View) (db : Db) (player : Player D) → is_free player.stage ≡ false → IsMeeting address epoch place first all view db player → HasTurnLeft place db.parts view.seen
+  turn_left view db player waits meeting =
+      let some : 0 < moments_left player = (more_left meeting.is waits).1 in
+      let counted = meeting.counted in
+      let made : length (entries_of (seat_of place) view.seen) ≡ length view.made = ap length (subst (λ n. entries_of n view.seen ≡ view.made) meeting.number meeting.own) in
+      omega (arith, some, counted, made)
+
+  pub finds_room : (view : View) (db : Db) (player : Player D) → is_free player.stage ≡ false → IsMeeting address epoch place first all view db player → (0 < db.moments_room) × (0 < db.segments_room)
+  finds_room view db player waits meeting = has_room address db view.opened view.seen place (turn_left view db player waits meeting) meeting.fits
+
+  -- no moment was made
+  pub missed_fits : (view : View) (old new : Db) (player : Player D) → new.parts ≡ old.parts → HasRoomStill old new → IsMeeting address epoch place first all view old player
+      → Fits address new view.opened view.seen
+  missed_fits view old new player same room meeting = fits_still address old new view.opened view.seen same room.0 room.1 meeting.fits
+
+  pub missed_goes : (view : View) (db : Db) (player next : Player D) (meeting : IsMeeting address epoch place first all view db player)
+      → IsFurther address db.parts meeting.fits.shared place meeting.runner next → moments_left next + 1 ≤ moments_left player → IsGoing address epoch place first all view next
+  missed_goes view db player next meeting further less = record {
+    number = meeting.number;
+    parts = db.parts;
+    spelled = fits_left address db view.opened view.seen meeting.fits;
+    shared = meeting.fits.shared;
+    runner = further.next;
+    is = further.is;
+    way = way_on (SpellsState address) address epoch first all (turns_of view) meeting.runner further.next further.goes meeting.way;
+    counted = let counted = meeting.counted in omega (arith, counted, less);
+  }
+
+  -- the moment was made
+  module _ (view : View) (old new : Db) (player : Player D) (waits : is_free player.stage ≡ false) (meeting : IsMeeting address epoch place first all view old player) where
+    turned : (left : Shared) → StateStands address new.parts left → Passes place meeting.runner.session.statement meeting.fits.shared left old.parts new.parts
+        → HasTurned place meeting.runner.session.statement old.parts new.parts
+    turned left stands passes = record {
+      moments = passes.moments;
+      numbers = passes.numbers;
+      others = λ other apart. ap (λ (places : List (List ℕ)). slice_get places other) stands.places
+          ∙ (passes.others other apart ∙ ap (λ (places : List (List ℕ)). slice_get places other) (sym meeting.fits.stands.places));
+      grown = passes.grown;
+    }
+
+    abbrev own_entry : ℕ → Entry
+    own_entry statement = entry view.number statement (spelling_of new.parts)
+
+    pub turned_fits : (left : Shared) → StateStands address new.parts left → Passes place meeting.runner.session.statement meeting.fits.shared left old.parts new.parts
+        → (statement : ℕ) → statement ≡ meeting.runner.session.statement → KeepsRoom 1 old new → Fits address new view.opened (view.seen ++ own_entry statement ∷ [])
+    turned_fits left stands passes statement is room =
+        let more = said_of meeting.is (more_left meeting.is waits).0 in
+        let number = may_number meeting.is more in
+        let small : meeting.runner.session.statement < 2 ^ 32 = omega (arith, number, number_is_at meeting.is) in
+        subst (λ n. Fits address new view.opened (view.seen ++ entry n statement (spelling_of new.parts) ∷ [])) (sym meeting.number)
+        (subst (λ n. Fits address new view.opened (view.seen ++ entry (seat_of place) n (spelling_of new.parts) ∷ [])) (sym is)
+        (fits_on address old new view.opened view.seen place meeting.runner.session.statement left (turn_left view old player waits meeting) small (turned left stands passes) stands room meeting.fits))
+
+    pub turned_goes : (next : Player D) (led : IsLed address epoch place meeting.runner meeting.fits.shared old.parts new.parts next) (statement : ℕ) → statement ≡ meeting.runner.session.statement
+        → moments_left next + 1 ≤ moments_left player → IsGoing address epoch place first all (with_entry (own_entry statement) view) next
+    turned_goes next led statement is less = record {
+      number = meeting.number;
+      parts = new.parts;
+      spelled = sym (left_append view.opened view.seen (own_entry statement ∷ []));
+      shared = led.left;
+      runner = led.next;
+      is = led.is;
+      way = subst (λ (turns : List (ToldTurn Spelling)). Way (SpellsState address) address epoch first all turns led.next) (sym (turns_on_leaving view statement (spelling_of new.parts)))
+          (subst (λ n. Way (SpellsState address) address epoch first all (turns_of view ++ record { statement = n; found = left_last view.opened view.seen; left = spelling_of new.parts } ∷ []) led.next) (sym is)
+          (way_turns (SpellsState address) address epoch first all (turns_of view) (left_last view.opened view.seen) (spelling_of new.parts) meeting.fits.shared led.left meeting.runner led.next
+          (record { parts = old.parts; spelled = fits_left address old view.opened view.seen meeting.fits; stands = meeting.fits.stands })
+          (record { parts = new.parts; spelled = refl; stands = led.state_stands }) led.turns meeting.way));
+      counted =
+          let counted = meeting.counted in
+          let more : length (view.made ++ own_entry statement ∷ []) ≡ length view.made + 1 = length-append view.made (own_entry statement ∷ []) in
+          subst (λ (numbers : List ℕ). length (view.made ++ own_entry statement ∷ []) + moments_left next ≤ 2 * slice_index_or numbers place 0) (sym led.passes.numbers) (omega (arith, counted, more, less));
+    }

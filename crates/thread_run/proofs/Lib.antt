@@ -1,0 +1,5 @@
+pub mod WayLemmas
+pub mod GoingLemmas
+pub mod EndingLemmas
+pub mod OpeningLemmas
+mod SendLemmas

@@ -1,0 +1,9 @@
+//! Sessions run in threads of their own, and meet at a gate for each moment of a statement. The order in which they came to the gate is the run's
+//! order of moments.
+#![tactic(auto)]
+
+mod opening;
+mod running;
+mod session;
+
+pub use running::{Ended, run_text, run_threads, run_to_end};
