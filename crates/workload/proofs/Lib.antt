@@ -1,0 +1,2 @@
+pub mod WorkloadLemmas
+mod Vectors
