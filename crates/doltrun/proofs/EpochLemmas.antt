@@ -1,18 +1,23 @@
--- An epoch that words ask for is a date.
-use Rattle.std.proofs.Common.{◌≡◌, refl, subst, sym, ℕ, ℤ, pos, Bool, true, false, nat_lt, List, Option, Some, None, if◌then◌else◌}
+-- An epoch that words ask for is a date, and a date fits its type.
+use Rattle.std.proofs.Common.{◌≡◌, refl, subst, sym, ℕ, ℤ, pos, negsuc, ◌<◌, arith, FitsSigned, w64, Bool, true, false, nat_lt, List, Option, Some, None, if◌then◌else◌}
 use Rattle.std.specs.Prelude.{◌^◌, IfSome, codes, option_and_then, option_map}
+use Rattle.std.proofs.lemmas.Bool.Decides.{nat_tests}
 use Rattle.clap.specs.Walk.{is_empty}
 use Rattle.clap.specs.Words.{Text, fault_of, first_of, matches_of}
 use Rattle.script_text.specs.Numerals.{number}
 use Rattle.plain_sessions.specs.StateLimits.{is_date}
-use Rattle.doltrun.specs.Words.{epoch_of, form, form_in, form_of, line, mode_named, run_asked, run_of, seed_of}
+use Rattle.doltrun.specs.Words.{epoch_of, form, form_in, form_of, line, mode_named, seed_of, task_asked, task_epoch, task_of}
 use Rattle.doltrun.specs.declared.words.Form.{Form}
 use Rattle.doltrun.specs.declared.words.Mode.{Mode}
 use Rattle.doltrun.specs.declared.words.Mode.TheVariants.{Ordered, Threads, Replay, Load}
-use Rattle.doltrun.specs.declared.words.ScriptRun.{ScriptRun}
+use Rattle.doltrun.specs.declared.words.Task.{Task}
 
 abbrev IsDate : ℤ → Type 0
 IsDate epoch = is_date epoch ≡ true
+
+pub date_fits : (epoch : ℤ) → IsDate epoch → FitsSigned w64 epoch
+date_fits (pos seconds) is = let below : seconds < 2 ^ 63 = grind (arith, nat_tests) in record { sfits = below }
+date_fits (negsuc seconds) is = absurd (cc)
 
 named_below : (epoch : ℕ) (test : Bool) → nat_lt epoch (2 ^ 63) ≡ test → IfSome (if test then Some (pos epoch) else None) IsDate
 named_below epoch true is = is
@@ -48,16 +53,23 @@ form_dated words =
     let rows = matches_of line words in
     taken (form_in rows) (is_empty (fault_of line words)) (with_mode (option_and_then mode_named (first_of (codes "mode") rows)) (first_of (codes "epoch") rows) (first_of (codes "seed") rows))
 
-in_mode : (mode : Mode) (epoch : ℤ) → IsDate epoch → IfSome (run_of mode epoch) (λ (asked : ScriptRun). IsDate asked.epoch)
-in_mode Ordered epoch date = date
-in_mode Threads epoch date = date
-in_mode Replay epoch date = date
-in_mode Load epoch date = tt
+abbrev IsDated : Task → Type 0
+IsDated asked = IsDate (task_epoch asked)
+
+with_given : (epoch : ℤ) (seed : Option ℕ) → IsDate epoch → IfSome (task_of Load epoch seed) IsDated
+with_given epoch None date = tt
+with_given epoch (Some given) date = date
+
+in_mode : (mode : Mode) (epoch : ℤ) (seed : Option ℕ) → IsDate epoch → IfSome (task_of mode epoch seed) IsDated
+in_mode Ordered epoch seed date = date
+in_mode Threads epoch seed date = date
+in_mode Replay epoch seed date = date
+in_mode Load epoch seed date = with_given epoch seed date
 
 of_form : (asked : Option Form) → IfSome asked (λ (asked : Form). IsDate asked.epoch)
-    → IfSome (option_and_then (λ (asked : Form). run_of asked.mode asked.epoch) asked) (λ (asked : ScriptRun). IsDate asked.epoch)
+    → IfSome (option_and_then (λ (asked : Form). task_of asked.mode asked.epoch asked.seed) asked) IsDated
 of_form None date = tt
-of_form (Some asked) date = in_mode asked.mode asked.epoch date
+of_form (Some asked) date = in_mode asked.mode asked.epoch asked.seed date
 
-pub asked_dated : (words : List Text) (asked : ScriptRun) → Some asked ≡ run_asked words → is_date asked.epoch ≡ true
-asked_dated words asked is = subst (λ (o : Option ScriptRun). IfSome o (λ (asked : ScriptRun). IsDate asked.epoch)) (sym is) (of_form (form words) (form_dated words))
+pub asked_dated : (words : List Text) (asked : Task) → Some asked ≡ task_asked words → is_date (task_epoch asked) ≡ true
+asked_dated words asked is = subst (λ (o : Option Task). IfSome o IsDated) (sym is) (of_form (form words) (form_dated words))

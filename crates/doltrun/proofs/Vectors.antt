@@ -2,10 +2,11 @@
 use Rattle.std.proofs.Common.{◌≡◌, refl, codes, ℤ, pos, [], ◌∷◌, ◌++◌, Option, Some, None}
 use Rattle.clap.specs.Words.{Text}
 use Rattle.clap.proofs.OnLiterals.{clap_on_literals}
-use Rattle.doltrun.specs.Words.{form, form_of, run_asked}
+use Rattle.doltrun.specs.Words.{form, form_of, task_asked}
 use Rattle.doltrun.specs.declared.words.Form.{Form}
 use Rattle.doltrun.specs.declared.words.Mode.TheVariants.{Ordered, Threads, Replay, Load}
 use Rattle.doltrun.specs.declared.words.MomentOrder.TheVariants.{Given, OfLines, OfThreads}
+use Rattle.doltrun.specs.declared.words.Task.TheVariants as task
 
 abbrev ordered : ℤ → Option Form
 ordered epoch = Some (record { mode = Ordered; epoch = epoch; seed = None })
@@ -139,19 +140,19 @@ given_both : (epoch seed : Text) → form ((codes "--epoch=" ++ epoch) ∷ codes
 unfolding clap_on_literals
 given_both epoch seed = refl
 
--- which of them run, and in which order
-ordered_runs : run_asked (codes "ordered" ∷ []) ≡ Some (record { order = OfLines; epoch = pos 0 })
+-- what they ask to be run
+ordered_runs : task_asked (codes "ordered" ∷ []) ≡ Some (task.Script (record { order = OfLines; epoch = pos 0 }))
 unfolding clap_on_literals
 ordered_runs = refl
 
-replay_runs : run_asked (codes "--epoch=5" ∷ codes "replay" ∷ []) ≡ Some (record { order = Given; epoch = pos 5 })
+replay_runs : task_asked (codes "--epoch=5" ∷ codes "replay" ∷ []) ≡ Some (task.Script (record { order = Given; epoch = pos 5 }))
 unfolding clap_on_literals
 replay_runs = refl
 
-threads_run : run_asked (codes "threads" ∷ []) ≡ Some (record { order = OfThreads; epoch = pos 0 })
+threads_run : task_asked (codes "threads" ∷ []) ≡ Some (task.Script (record { order = OfThreads; epoch = pos 0 }))
 unfolding clap_on_literals
 threads_run = refl
 
-load_doesnt_run : run_asked (codes "load" ∷ codes "--seed=7" ∷ []) ≡ None
+load_runs : task_asked (codes "load" ∷ codes "--seed=7" ∷ []) ≡ Some (task.Load (record { seed = 7; epoch = pos 0 }))
 unfolding clap_on_literals
-load_doesnt_run = refl
+load_runs = refl

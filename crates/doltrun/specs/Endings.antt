@@ -5,9 +5,13 @@ use Rattle.wire_io.specs.Causes.{Rose}
 use Rattle.wire_io.specs.Moves.{AppendsFront, LosesAtMost}
 use Rattle.script_text.specs.declared.faults.BadScript.{BadScript}
 use Rattle.doltrun.specs.Headline.{WritesAnswer, most_taken, usage_line}
+use Rattle.doltrun.specs.Loads.{LoadFallsShort, WritesLoad, WritesOpeningClash}
 use Rattle.doltrun.specs.Stops.{FallsShort, IsTold, StopsThere, WritesCollision, WritesFault, WritesStop}
-use Rattle.doltrun.specs.Words.{is_given, run_asked}
+use Rattle.doltrun.specs.Words.{is_given, task_asked}
+use Rattle.doltrun.specs.declared.words.LoadRun.{LoadRun}
 use Rattle.doltrun.specs.declared.words.ScriptRun.{ScriptRun}
+use Rattle.doltrun.specs.declared.words.Task.{Task}
+use Rattle.doltrun.specs.declared.words.Task.TheVariants as task
 use Rattle.doltrun.specs.declared.status.Status.{Status}
 use Rattle.doltrun.specs.declared.status.Status.TheVariants as status
 
@@ -34,7 +38,7 @@ pub record IsUsage {S K : Type 0} (sink : SinkTells K) (input read : S) (output 
   pub memory : result ≡ status.Memory → wrote ≡ output
   pub counts : sink.faults output ≤ sink.faults wrote
 
--- A run that was asked for ended so, over a source and a sink that were these before it and are these after it.
+-- A run of a script that was asked for ended so, over a source and a sink that were these before it and are these after it.
 pub record IsRun {S K : Type 0} (address : List ℕ → List ℕ) (asked : ScriptRun) (source : SourceTells S) (sink : SinkTells K) (input read : S) (output wrote : K) (result : Status) : Type 0 where
   -- the whole input was read, and what was appended is the text of the plain machine's run of its script
   pub done : result ≡ status.Done → WritesAnswer address asked (source.left input) (source.left read) (sink.held output) (sink.held wrote)
@@ -55,11 +59,25 @@ pub record IsRun {S K : Type 0} (address : List ℕ → List ℕ) (asked : Scrip
   pub taken : LosesAtMost most_taken (source.left input) (source.left read)
   pub counts : (source.faults input ≤ source.faults read) × (sink.faults output ≤ sink.faults wrote)
 
--- by the run that the words ask for, if they ask for one
-abbrev pub EndsBy : {S K : Type 0} → Option ScriptRun → (List ℕ → List ℕ) → SourceTells S → SinkTells K → S → S → K → K → Status → Type 0
+-- A run of a workload that was asked for ended so: nothing was read.
+pub record IsLoadRun {S K : Type 0} (address : List ℕ → List ℕ) (asked : LoadRun) (sink : SinkTells K) (input read : S) (output wrote : K) (result : Status) : Type 0 where
+  pub ends : (result ≡ status.Done) ⊎ (result ≡ status.Collision) ⊎ (result ≡ status.Write) ⊎ (result ≡ status.Memory)
+  pub untouched : read ≡ input
+  -- what was appended are the lines of the plain machine's run of the seed's workload
+  pub done : result ≡ status.Done → WritesLoad address asked (sink.held output) (sink.held wrote)
+  -- the two chunks that a database is opened with, where they have one address
+  pub collision : result ≡ status.Collision → WritesOpeningClash address asked.epoch (sink.held output) (sink.held wrote)
+  pub write : result ≡ status.Write → Rose (sink.faults output) (sink.faults wrote)
+  pub part : result ≡ status.Write → LoadFallsShort address asked (sink.held output) (sink.held wrote) (sink.room output)
+  pub memory : result ≡ status.Memory → wrote ≡ output
+  pub counts : sink.faults output ≤ sink.faults wrote
+
+-- by what the words ask to be run, if they ask for anything
+abbrev pub EndsBy : {S K : Type 0} → Option Task → (List ℕ → List ℕ) → SourceTells S → SinkTells K → S → S → K → K → Status → Type 0
 EndsBy None address source sink input read output wrote result = IsUsage sink input read output wrote result
-EndsBy (Some asked) address source sink input read output wrote result = IsRun address asked source sink input read output wrote result
+EndsBy (Some (task.Script asked)) address source sink input read output wrote result = IsRun address asked source sink input read output wrote result
+EndsBy (Some (task.Load asked)) address source sink input read output wrote result = IsLoadRun address asked sink input read output wrote result
 
 -- A call with these words ended so.
 abbrev pub IsEnding : {S K : Type 0} → (List ℕ → List ℕ) → List (List ℕ) → SourceTells S → SinkTells K → S → S → K → K → Status → Type 0
-IsEnding address words = EndsBy (run_asked words) address
+IsEnding address words = EndsBy (task_asked words) address

@@ -10,7 +10,8 @@ use Rattle.doltrun.specs.declared.words.Mode.{Mode}
 use Rattle.doltrun.specs.declared.words.Mode.TheVariants.{Ordered, Threads, Replay, Load}
 use Rattle.doltrun.specs.declared.words.MomentOrder.{MomentOrder}
 use Rattle.doltrun.specs.declared.words.MomentOrder.TheVariants.{Given, OfLines, OfThreads}
-use Rattle.doltrun.specs.declared.words.ScriptRun.{ScriptRun}
+use Rattle.doltrun.specs.declared.words.Task.{Task}
+use Rattle.doltrun.specs.declared.words.Task.TheVariants as task
 
 -- the bytes of the words
 abbrev pub spelled : {A : Type 0} → List (String A) → List Text
@@ -78,13 +79,18 @@ is_given OfLines = false
 is_given Given = true
 is_given OfThreads = false
 
--- a run of a script in this mode; `load` doesn't run yet
-abbrev pub run_of : Mode → ℤ → Option ScriptRun
-run_of Ordered epoch = Some (record { order = OfLines; epoch = epoch })
-run_of Threads epoch = Some (record { order = OfThreads; epoch = epoch })
-run_of Replay epoch = Some (record { order = Given; epoch = epoch })
-run_of Load epoch = None
+-- a run of a script, or of the workload of a seed, in this mode
+abbrev pub task_of : Mode → ℤ → Option ℕ → Option Task
+task_of Ordered epoch seed = Some (task.Script (record { order = OfLines; epoch = epoch }))
+task_of Threads epoch seed = Some (task.Script (record { order = OfThreads; epoch = epoch }))
+task_of Replay epoch seed = Some (task.Script (record { order = Given; epoch = epoch }))
+task_of Load epoch seed = option_map (λ given. task.Load (record { seed = given; epoch = epoch })) seed
 
--- the run that the words ask for
-abbrev pub run_asked : List Text → Option ScriptRun
-run_asked words = option_and_then (λ (asked : Form). run_of asked.mode asked.epoch) (form words)
+-- the date that its commits bear
+abbrev pub task_epoch : Task → ℤ
+task_epoch (task.Script asked) = asked.epoch
+task_epoch (task.Load asked) = asked.epoch
+
+-- what the words ask to be run
+abbrev pub task_asked : List Text → Option Task
+task_asked words = option_and_then (λ (asked : Form). task_of asked.mode asked.epoch asked.seed) (form words)

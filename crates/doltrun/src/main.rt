@@ -2,10 +2,13 @@
 //! its own (`threads`), or in an order that the script gives (`replay`), and writes what each answered, the order of the moments at which they met the database,
 //! and the addresses that each branch has at the end.
 //!
+//! With `load` it reads nothing: it runs a workload that is made from a seed, in threads, and writes what came of it in a few lines.
+//!
 //! What it promises stands on `run`, which takes any source and sink. `main` gives it the standard streams.
 #![tactic(auto)]
 
 mod answering;
+mod load;
 mod status;
 #[cfg(test)]
 mod tests;
@@ -20,7 +23,7 @@ use std::process::ExitCode;
 use std::rt::Env;
 pub use top::{run, run_with};
 use wire_io::{NoPace, StdSink, StdSource};
-pub use words::{Form, Mode, MomentOrder, ScriptRun};
+pub use words::{Form, LoadRun, Mode, MomentOrder, ScriptRun, Task};
 
 fn main(rt: HostRuntime) -> ExitCode {
     let Ok(words) = given_words(&rt) else {

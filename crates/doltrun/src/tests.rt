@@ -213,6 +213,35 @@ fn the_order_of_threads_gives_the_same_text_in_replay(rt: HostRuntime) -> Result
     Ok(())
 }
 
+/// Counts its calls.
+#[derive(Drop)]
+struct Count {
+    calls: AtomicU64,
+}
+
+impl Pacer for Count {
+    fn before(&self, _session: u32, _statement: u32) {
+        self.calls.fetch_add(1, Ordering::SeqCst);
+    }
+}
+
+/// What it writes before the address of what `main` is working on.
+const LOADED: &[u8] = b"load 7\nsessions 8\nstatements 4968\nrefused 0\nrows 4000\nworking ";
+
+#[test]
+fn a_workload_is_run_whole(rt: HostRuntime) -> Result<(), Fail> {
+    let pacer = Count {
+        calls: AtomicU64::new(0),
+    };
+    let (status, written) = ended_at_pace(&rt, rt.alloc(), "load --seed 7", b"", &pacer)?;
+    assert_eq!(rt; status, Status::Done);
+    assert_eq!(rt; pacer.calls.load(Ordering::SeqCst), 4968);
+    assert!(rt; written.as_slice().starts_with(LOADED));
+    // Behind these 62 bytes are the 32 characters of the address and a line feed.
+    assert_eq!(rt; written.as_slice().len(), 95);
+    Ok(())
+}
+
 const STATUSES: &str = "0 ordered
 0 --epoch=5 ordered
 0 ordered --epoch 5
@@ -225,7 +254,6 @@ const STATUSES: &str = "0 ordered
 1 ordered --epoch 05
 1 ordered --seed 1
 1 load
-1 load --seed 7
 1 load --seed 1 --seed 1
 0 threads
 1 threads x
@@ -319,13 +347,14 @@ impl Digester for OneForAll {
     }
 }
 
-/// The status of a run of `ordered` over memory, where all bytes have one address, and what it wrote.
+/// The status of a run over memory, where all bytes have one address, and what it wrote.
 fn ended_alike<R: Threads + Wait + Sync>(
     rt: &R,
     alloc: Global,
+    words: &str,
     script: &[u8],
 ) -> Result<(Status, Vec<u8>), AllocError> {
-    let words = words_of(alloc, "ordered")?;
+    let words = words_of(alloc, words)?;
     let mut input = MemorySource::steady(Vec::from_slice(alloc, script)?);
     let mut output = MemorySink::steady(alloc, ROOM)?;
     let status = run_with::<OneForAll, R, MemorySource, MemorySink, NoPace>(
@@ -339,19 +368,29 @@ fn ended_alike<R: Threads + Wait + Sync>(
     Ok((status, Vec::from_slice(alloc, output.bytes())?))
 }
 
+/// The line that tells the two chunks of the opening, where all bytes have one address.
+const OPENING_LINE: &[u8] =
+    b"collision 00000000000000000000000000000000 040000 05000000000000000000000000000000000000000000000000000000000100000000000000000007646f6c7472756e001a496e697469616c697a652064617461207265706f7369746f7279\n";
+
 #[test]
 fn two_chunks_of_one_address_are_told(rt: HostRuntime) -> Result<(), Fail> {
-    let (status, written) = ended_alike(&rt, rt.alloc(), b"")?;
+    let (status, written) = ended_alike(&rt, rt.alloc(), "ordered", b"")?;
     assert_eq!(rt; status.number(), 7);
-    let wanted =
-        b"collision 00000000000000000000000000000000 040000 05000000000000000000000000000000000000000000000000000000000100000000000000000007646f6c7472756e001a496e697469616c697a652064617461207265706f7369746f7279\n";
-    assert_eq!(rt; written.as_slice(), wanted.as_slice());
+    assert_eq!(rt; written.as_slice(), OPENING_LINE);
+    Ok(())
+}
+
+#[test]
+fn two_chunks_of_one_address_are_told_before_a_workload(rt: HostRuntime) -> Result<(), Fail> {
+    let (status, written) = ended_alike(&rt, rt.alloc(), "load --seed 7", b"")?;
+    assert_eq!(rt; status.number(), 7);
+    assert_eq!(rt; written.as_slice(), OPENING_LINE);
     Ok(())
 }
 
 #[test]
 fn a_rule_is_told_before_a_collision(rt: HostRuntime) -> Result<(), Fail> {
-    let (status, written) = ended_alike(&rt, rt.alloc(), b"@a SELECT 1")?;
+    let (status, written) = ended_alike(&rt, rt.alloc(), "ordered", b"@a SELECT 1")?;
     assert_eq!(rt; status, Status::Script);
     assert_eq!(rt; written.as_slice(), b"script line 1 rule 3\n".as_slice());
     Ok(())

@@ -1,11 +1,12 @@
 ghost use Rattle.chunk_store.specs.Digests.{cut_address};
-ghost use Rattle.std.specs.Prelude.{◌≡◌, true};
+ghost use Rattle.std.specs.Prelude.{◌≡◌, Some, true};
 ghost use Rattle.plain_sessions.specs.StateLimits.{is_date};
-ghost use Rattle.doltrun.specs.Endings.{IsEnding, IsRun};
-ghost use Rattle.doltrun.specs.Words.{spelled};
+ghost use Rattle.doltrun.specs.Endings.{EndsBy, IsEnding, IsRun};
+ghost use Rattle.doltrun.specs.Words.{spelled, task_epoch};
 
+use crate::load::run_workload;
 use crate::status::Status;
-use crate::words::{ScriptRun, USAGE, run_to_do};
+use crate::words::{ScriptRun, Task, USAGE, task_to_do};
 use crate::writing::{write_answer, write_last};
 use chunk_store::Sha512Cut;
 use std::alloc::Global;
@@ -18,10 +19,10 @@ use wire_io::{Pacer, ReadStop, Sink, Source, read_up_to};
 const MOST_TAKEN: usize = 16_777_217;
 
 /// Reads a script from `input`, runs its statements, in the text's order, in the order of moments that the script gives, or each session in a thread of
-/// its own, and writes to `output` what each answered, the order of the moments, and the branches that they leave. `words` are the command line without
-/// the program's name.
+/// its own, and writes to `output` what each answered, the order of the moments, and the branches that they leave. In the mode `load` it reads nothing,
+/// runs the workload of `--seed`, each session in a thread of its own, and writes its lines. `words` are the command line without the program's name.
 ///
-/// `ordered`, `threads` and `replay` are the modes that run. Commits bear the date of `--epoch`. The text is built whole before its first byte is written.
+/// Commits bear the date of `--epoch`. The text is built whole before its first byte is written.
 pub fn run<R: Threads + Wait + Sync, S: Source, K: Sink, P: Pacer>(
     rt: &R,
     alloc: Global,
@@ -46,10 +47,27 @@ pub fn run_with<D: Digester, R: Threads + Wait + Sync, S: Source, K: Sink, P: Pa
 ) -> Status
     ensures { IsEnding D.address (spelled words.now) (record { left = S.left; faults = S.faults; steady = S.steady }) (record { held = K.held; faults = K.faults; room = K.room }) input.old input.new output.old output.new result }
 {
-    match run_to_do(alloc, words) {
-        Ok(Some(asked)) => run_input::<D, R, S, K, P>(rt, alloc, asked, input, output, pacer),
+    match task_to_do(alloc, words) {
+        Ok(Some(task)) => run_task::<D, R, S, K, P>(rt, alloc, task, input, output, pacer),
         Ok(None) => write_last(output, USAGE, Status::Usage),
         Err(_) => Status::Memory,
+    }
+}
+
+fn run_task<D: Digester, R: Threads + Wait + Sync, S: Source, K: Sink, P: Pacer>(
+    rt: &R,
+    alloc: Global,
+    task: Task,
+    input: &mut S,
+    output: &mut K,
+    pacer: &P,
+) -> Status
+    requires { is_date (task_epoch task) ≡ true }
+    ensures { EndsBy (Some task) D.address (record { left = S.left; faults = S.faults; steady = S.steady }) (record { held = K.held; faults = K.faults; room = K.room }) input.old input.new output.old output.new result }
+{
+    match task {
+        Task::Script(asked) => run_input::<D, R, S, K, P>(rt, alloc, asked, input, output, pacer),
+        Task::Load(asked) => run_workload::<D, R, K, P>(rt, alloc, pacer, asked, output),
     }
 }
 

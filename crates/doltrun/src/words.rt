@@ -1,6 +1,6 @@
 ghost use Rattle.std.specs.Prelude.{◌≡◌, IfOk, codes, option_map};
 ghost use Rattle.clap.specs.Words.{app_of, first_value, found_of};
-ghost use Rattle.doltrun.specs.Words.{epoch_named, epoch_of, form, form_named, form_of, is_given, line, mode_named, run_asked, run_of, seed_of, spelled};
+ghost use Rattle.doltrun.specs.Words.{epoch_named, epoch_of, form, form_named, form_of, is_given, line, mode_named, seed_of, spelled, task_asked, task_of};
 
 use clap::error::ErrorKind;
 use clap::{Arg, ArgMatches, Command};
@@ -62,26 +62,41 @@ pub struct ScriptRun {
     pub epoch: i64,
 }
 
-/// The run that the words ask for; `None` where they are no form, or one that doesn't run yet.
-pub fn run_to_do(alloc: Global, words: &[String]) -> Result<Option<ScriptRun>, AllocError>
-    ensures { IfOk result (λ run. run ≡ run_asked (spelled words.now)) }
+/// A run of the workload that is made from a seed.
+#[derive(Clone, Copy, Debug, PartialEq, Eq)]
+pub struct LoadRun {
+    pub seed: u64,
+    /// The date of every commit.
+    pub epoch: i64,
+}
+
+/// What words ask to be run.
+#[derive(Clone, Copy, Debug, PartialEq, Eq)]
+pub enum Task {
+    Script(ScriptRun),
+    Load(LoadRun),
+}
+
+/// What the words ask to be run; `None` where they are no form.
+pub fn task_to_do(alloc: Global, words: &[String]) -> Result<Option<Task>, AllocError>
+    ensures { IfOk result (λ task. task ≡ task_asked (spelled words.now)) }
 {
     match read_words(alloc, words)? {
-        Some(asked) => Ok(run_in(asked.mode, asked.epoch)),
+        Some(asked) => Ok(task_in(asked.mode, asked.epoch, asked.seed)),
         None => Ok(None),
     }
 }
 
-fn run_in(mode: Mode, epoch: i64) -> Option<ScriptRun>
-    ensures { result ≡ run_of mode epoch }
+fn task_in(mode: Mode, epoch: i64, seed: Option<u64>) -> Option<Task>
+    ensures { result ≡ task_of mode epoch seed }
 {
     let order = match mode {
         Mode::Ordered => MomentOrder::OfLines,
         Mode::Threads => MomentOrder::OfThreads,
         Mode::Replay => MomentOrder::Given,
-        Mode::Load => return None,
+        Mode::Load => return Some(Task::Load(LoadRun { seed: seed?, epoch })),
     };
-    Some(ScriptRun { order, epoch })
+    Some(Task::Script(ScriptRun { order, epoch }))
 }
 
 /// What the words, without the program's name, ask for; `None` where they are none of the program's forms.

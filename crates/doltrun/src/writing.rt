@@ -69,7 +69,8 @@ fn write_fault<K: Sink>(alloc: Global, bad: BadScript, output: &mut K) -> Status
     }
 }
 
-fn write_clash<K: Sink>(alloc: Global, clash: &Clash, output: &mut K) -> Status
+/// Writes the line that tells two chunks of one address.
+pub fn write_clash<K: Sink>(alloc: Global, clash: &Clash, output: &mut K) -> Status
     ensures collision { result ≡ Status.Collision → Appends (K.held output.old) (K.held output.new) (collision_line clash.now) }
     ensures part { result ≡ Status.Write → AppendsFront (K.held output.old) (K.held output.new) (collision_line clash.now) }
     ensures wider { result ≡ Status.Write → K.room output.old < length (collision_line clash.now) }

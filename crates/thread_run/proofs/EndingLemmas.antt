@@ -336,10 +336,10 @@ said_by (w ∷ ws) = ap (λ (more : List (List Reply)). w.work.replies.items ∷
 module _ {D : Type 0} (address : List ℕ → List ℕ) (epoch : ℤ) (script : Script) (parts : Parts) (workers : List (Worker (Player D))) (sound : IsSoundScript script)
     (over : HasEnded address epoch script parts (works_of workers)) (replies : List (List Reply)) (order : List Moment) (branches : List BranchLine)
     (said : replies ≡ map (λ (w : Worker (Player D)). w.work.replies.items) workers) (in_order : order ≡ parts.moments) (lines : branches ≡ parts.branches) where
-  abbrev run : RunText
+  abbrev pub run : RunText
   run = record { names = script.names; replies = replies; order = order; branches = branches }
 
-  same_run : run ≡ shown_of address script parts.moments over.along.shared over.along.runners
+  pub same_run : run ≡ shown_of address script parts.moments over.along.shared over.along.runners
   same_run = shown_is address script parts.moments parts (works_of workers) over.along replies order branches (said ∙ said_by workers) in_order lines
 
   pub run_plain : IsPlainRun command address epoch script run

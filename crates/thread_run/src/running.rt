@@ -5,6 +5,7 @@ ghost use Rattle.script_text.specs.Collisions.{AllTellTruly};
 ghost use Rattle.script_text.specs.Shown.{IsPrintable, IsShown};
 ghost use Rattle.plain_sessions.specs.Commands.{command};
 ghost use Rattle.plain_sessions.specs.Output.{IsPlainRun};
+ghost use Rattle.run_laws.specs.Laws.{shown_of};
 ghost use Rattle.seat_gate.specs.Words.{gate_id};
 ghost use Rattle.seat_gate.specs.Working.{works_of};
 ghost use Rattle.shared_db.specs.Opening.{IsOpeningFault};
@@ -136,6 +137,8 @@ pub fn run_text<D: Digester>(
     ensures truly { IfOk result (λ run. AllTellTruly D.address run.replies) }
     ensures printable { IfOk result (λ run. IsPrintable run) }
     ensures shown { IfOk result (λ run. IsShown run) }
+    ensures along { (over : HasEnded D.address epoch script ended.db.parts (works_of ended.workers.items))
+        → IfOk result (λ run. run ≡ shown_of D.address script ended.db.parts.moments over.along.shared over.along.runners) }
 {
     let _ = epoch;
     let Ended { db, workers } = ended;

@@ -1,11 +1,11 @@
 use Rattle.std.proofs.Common.{◌∙◌, sym}
-use Rattle.doltrun.specs.Words.{run_asked, spelled}
+use Rattle.doltrun.specs.Words.{spelled, task_asked}
 use Rattle.doltrun.proofs.EndingLemmas.{without_memory}
 use Rattle.doltrun.proofs.EpochLemmas.{asked_dated}
 use Rattle.doltrun.proofs.top.run_with.Goals as goal
 
-pub run_input-requires-after_bounds : goal.run_input-requires-after_bounds
-run_input-requires-after_bounds g c κs within = asked_dated (spelled c.args.words.now) c.in-Ok-Some.asked (sym c.in-Ok-Some.field-0-is ∙ c.in-Ok-Some.ensures)
+pub run_task-requires-after_bounds : goal.run_task-requires-after_bounds
+run_task-requires-after_bounds g c κs within = asked_dated (spelled c.args.words.now) c.in-Ok-Some.task (sym c.in-Ok-Some.field-0-is ∙ c.in-Ok-Some.ensures)
 
 pub returns-in-Err : goal.returns-in-Err
-returns-in-Err g c = without_memory (run_asked (spelled c.args.words.now)) g.D.Digester.address _ _ c.args.input.now c.args.output.now
+returns-in-Err g c = without_memory (task_asked (spelled c.args.words.now)) g.D.Digester.address _ _ c.args.input.now c.args.output.now

@@ -1,0 +1,46 @@
+-- What the program writes where it runs a workload.
+use Rattle.std.specs.Prelude.{◌≡◌, ℕ, ℤ, ◌<◌, List, length, Option}
+use Rattle.std.specs.Io.KnownBytes.{Appends}
+use Rattle.chunk_store.specs.declared.faults.Clash.{Clash}
+use Rattle.load_run.specs.Loading.{IsLoaded, load_text}
+use Rattle.script_text.specs.Collisions.{AllTellTruly}
+use Rattle.script_text.specs.Shown.{IsShown}
+use Rattle.script_text.specs.declared.outputs.RunText.{RunText}
+use Rattle.shared_db.specs.Opening.{IsOpeningClash}
+use Rattle.wire_io.specs.Moves.{AppendsFront}
+use Rattle.doltrun.specs.Headline.{collision_line}
+use Rattle.doltrun.specs.declared.words.LoadRun.{LoadRun}
+
+-- These are the lines of a run which is the plain machine's run of the seed's workload with the epoch asked, along its own order and with the wants of
+-- memory and collisions that it tells; each collision is one of two byte strings of that address; and the rows are those that `main` has at its end.
+pub record IsLoadAnswer (address : List ℕ → List ℕ) (asked : LoadRun) (written : List ℕ) : Type 0 where
+  pub run : RunText
+  pub rows : ℕ
+  pub loads : IsLoaded address asked.seed asked.epoch run rows
+  pub truly : AllTellTruly address run.replies
+  pub shown : IsShown run
+  pub prints : written ≡ load_text asked.seed run rows
+
+-- the lines of the workload's run were appended
+pub record WritesLoad (address : List ℕ → List ℕ) (asked : LoadRun) (old new : Option (List ℕ)) : Type 0 where
+  pub written : List ℕ
+  pub answers : IsLoadAnswer address asked written
+  pub writes : Appends old new written
+
+-- the two chunks that a database is opened with, which have one address, were appended
+pub record WritesOpeningClash (address : List ℕ → List ℕ) (epoch : ℤ) (old new : Option (List ℕ)) : Type 0 where
+  pub clash : Clash
+  pub opens : IsOpeningClash address epoch clash
+  pub writes : Appends old new (collision_line clash)
+
+-- a text that is written whole where the sink doesn't fail
+pub data IsLoadToWrite (address : List ℕ → List ℕ) (asked : LoadRun) (written : List ℕ) : Type 0 where
+  Tells : IsLoadAnswer address asked written → IsLoadToWrite address asked written
+  Clashes : (clash : Clash) → IsOpeningClash address asked.epoch clash → written ≡ collision_line clash → IsLoadToWrite address asked written
+
+-- a part of such a text was appended, and the sink promised no room for the whole of it
+pub record LoadFallsShort (address : List ℕ → List ℕ) (asked : LoadRun) (old new : Option (List ℕ)) (room : ℕ) : Type 0 where
+  pub written : List ℕ
+  pub wanted : IsLoadToWrite address asked written
+  pub wider : room < length written
+  pub writes : AppendsFront old new written

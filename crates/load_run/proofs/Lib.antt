@@ -1,0 +1,4 @@
+mod CountLemmas
+mod LoadLemmas
+mod TextLemmas
+mod Vectors
