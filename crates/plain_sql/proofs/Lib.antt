@@ -1,2 +1,7 @@
 mod Vectors
 pub mod NestedLemmas
+pub mod InsertionLemmas
+pub mod SortedLemmas
+mod RankLemmas
+mod RunLemmas
+mod DistinctLemmas

@@ -5,3 +5,5 @@ pub mod Gives
 pub mod Seen
 pub mod Nesting
 pub mod Temporary
+pub mod Runs
+pub mod Distinct

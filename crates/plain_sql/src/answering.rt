@@ -7,11 +7,12 @@ ghost use Rattle.plain_sql.specs.Plans.{answer, query_on};
 ghost use Rattle.plain_sql.specs.Seen.{heading_seen, key_seen, plan_seen};
 
 use crate::combining::kept;
+use crate::distinct::once;
 use crate::faults::Refused;
 use crate::grouping::groups;
 use crate::items::Heading;
 use crate::planning::{Plan, planned, planned_alone};
-use crate::ranking::{Rank, Sorter, cut, once, sorted};
+use crate::ranking::{Rank, Sorter, cut, sorted};
 use crate::shown::cell_of;
 use crate::sources::{Known, Read, scope_of, sources_read};
 use sql_ast::{Query, Select};

@@ -1,11 +1,14 @@
-ghost use Rattle.std.specs.Prelude.{◌≡◌, ◌∷◌, [], IfOk, filter, map};
-ghost use Rattle.tuple_codec.specs.Rows.{key_cmp, key_of};
+ghost use Rattle.std.specs.Prelude.{◌≡◌, ◌∷◌, [], IfOk, OnOk, filter, map};
+ghost use Rattle.tuple_codec.specs.Rows.{key_of};
 ghost use Rattle.plain_sql.specs.Answers.{groups, has_key, keys_in};
-ghost use Rattle.plain_sql.specs.Lists.{firsts, has};
+ghost use Rattle.plain_sql.specs.Lists.{in_order};
+ghost use Rattle.plain_sql.specs.Runs.{goes_on, places_cmp, run_with, runs_from, runs_with};
 
-use crate::sorting::in_order;
+use crate::ranking::compare_cells;
 use std::alloc::{AllocError, Global};
-use tuple_codec::{Row, Sequence, Value, cell_at, copy_row, key_cmp};
+use std::cmp::Ordering;
+use std::mem;
+use tuple_codec::{Row, Sequence, Value, cell_at, copy_row};
 
 /// Which rows are one.
 #[derive(Drop)]
@@ -29,67 +32,53 @@ pub fn cells_at(alloc: Global, places: &[usize], row: &[Value]) -> Result<Row, A
     Ok(key)
 }
 
-fn has_key(keys: &[Row], key: &Row) -> bool
-    ensures { result ≡ has key_cmp keys.now key.now }
+/// The order of two rows by their cells at these places.
+fn compare_at(places: &[usize], a: &[Value], b: &[Value]) -> Ordering
+    ensures { result ≡ places_cmp places.now a.now b.now }
 {
-    keys.iter()
-        .any(|other| key_cmp(key.as_slice(), other.as_slice()).is_eq())
-}
-
-/// The cells that stand at these places, each once.
-fn keys_once(alloc: Global, places: &[usize], rows: &[Row]) -> Result<Sequence<Row>, AllocError>
-    ensures { IfOk result (λ keys. keys ≡ firsts key_cmp (map (key_of places.now) rows.now)) }
-{
-    let mut keys = Sequence::new(alloc);
-    for row in rows {
-        let key = cells_at(alloc, places, row.as_slice())?;
-        if !has_key(keys.as_slice(), &key) {
-            keys.push(key)?;
+    for place in places {
+        let order = compare_cells(*place, a, b);
+        if order.is_ne() {
+            return order;
         }
     }
-    Ok(keys)
+    Ordering::Equal
 }
 
-/// Copies of the rows that have this key there.
-fn group(
+/// The rows from the least cells at these places to the greatest; those with the same cells there stay as they stood.
+fn sorted(alloc: Global, places: &[usize], mut rows: Vec<Row>) -> Result<Vec<Row>, AllocError>
+    ensures { IfOk result (λ found. found.items ≡ in_order (places_cmp places.now) rows.items) }
+{
+    rows.as_mut_slice().sort_by(alloc, |a, b| compare_at(places, a.as_slice(), b.as_slice()))?;
+    Ok(rows)
+}
+
+/// Whether a row belongs to these, which have the same cells at these places.
+fn goes_on(places: &[usize], run: &[Row], row: &[Value]) -> bool
+    ensures { result ≡ goes_on (places_cmp places.now) run.now row.now }
+{
+    match run {
+        [] => true,
+        [first, ..] => compare_at(places, first.as_slice(), row).is_eq(),
+    }
+}
+
+/// Takes a row into the run, or ends the run and begins the next with it.
+fn take_row(
     alloc: Global,
     places: &[usize],
-    key: &Row,
-    rows: &[Row],
-) -> Result<Sequence<Row>, AllocError>
-    ensures { IfOk result (λ group. group ≡ filter (has_key places.now key.now) rows.now) }
+    runs: &mut Sequence<Sequence<Row>>,
+    run: &mut Sequence<Row>,
+    row: Row,
+) -> Result<(), AllocError>
+    ensures runs { OnOk result (runs.new ≡ runs_with (places_cmp places.now) runs.old run.old row) }
+    ensures run { OnOk result (run.new ≡ run_with (places_cmp places.now) run.old row) }
 {
-    let mut group = Sequence::new(alloc);
-    for row in rows {
-        let own = cells_at(alloc, places, row.as_slice())?;
-        if key_cmp(own.as_slice(), key.as_slice()).is_eq() {
-            group.push(copy_row(alloc, row.as_slice())?)?;
-        }
+    if goes_on(places, run.as_slice(), row.as_slice()) {
+        return run.push(row);
     }
-    Ok(group)
-}
-
-/// For each of these keys the rows that have it.
-fn groups_with(
-    alloc: Global,
-    places: &[usize],
-    keys: &[Row],
-    rows: &[Row],
-) -> Result<Sequence<Sequence<Row>>, AllocError>
-    ensures { IfOk result (λ groups. groups ≡ map (λ key. filter (has_key places.now key) rows.now) keys.now) }
-{
-    let mut groups = Sequence::new(alloc);
-    for key in keys {
-        groups.push(group(alloc, places, key, rows)?)?;
-    }
-    Ok(groups)
-}
-
-fn keys_in(alloc: Global, places: &[usize], rows: &[Row]) -> Result<Vec<Row>, AllocError>
-    ensures { IfOk result (λ keys. keys.items ≡ keys_in places.now rows.now) }
-{
-    let keys = keys_once(alloc, places, rows)?;
-    in_order(alloc, keys.as_slice())
+    runs.push(mem::replace(run, Sequence::new(alloc)))?;
+    run.push(row)
 }
 
 fn only(alloc: Global, row: &Row) -> Result<Sequence<Row>, AllocError>
@@ -110,6 +99,37 @@ fn each_alone(alloc: Global, rows: &[Row]) -> Result<Sequence<Sequence<Row>>, Al
     Ok(groups)
 }
 
+/// The rows cut into runs: those that stand next to each other with the same cells at these places.
+fn runs(
+    alloc: Global,
+    places: &[usize],
+    rows: Vec<Row>,
+) -> Result<Sequence<Sequence<Row>>, AllocError>
+    ensures { IfOk result (λ runs. runs ≡ runs_from (places_cmp places.now) [] rows.items) }
+{
+    let mut runs = Sequence::new(alloc);
+    let mut run = Sequence::new(alloc);
+    for row in rows {
+        take_row(alloc, places, &mut runs, &mut run, row)?;
+    }
+    if !run.as_slice().is_empty() {
+        runs.push(run)?;
+    }
+    Ok(runs)
+}
+
+/// The groups of rows that have the same cells at these places.
+fn by_places(
+    alloc: Global,
+    places: &[usize],
+    rows: Sequence<Row>,
+) -> Result<Sequence<Sequence<Row>>, AllocError>
+    ensures { IfOk result (λ found. found ≡ map (λ key. filter (has_key places.now key) rows) (keys_in places.now rows)) }
+{
+    let sorted = sorted(alloc, places, rows.into_vec())?;
+    runs(alloc, places, sorted)
+}
+
 /// The groups, in the order of their keys.
 pub fn groups(
     alloc: Global,
@@ -125,9 +145,6 @@ pub fn groups(
             groups.push(rows)?;
             Ok(groups)
         }
-        Grouping::By(places) => {
-            let keys = keys_in(alloc, places.as_slice(), rows.as_slice())?;
-            groups_with(alloc, places.as_slice(), keys.as_slice(), rows.as_slice())
-        }
+        Grouping::By(places) => by_places(alloc, places.as_slice(), rows),
     }
 }

@@ -6,6 +6,7 @@ mod answering;
 mod asking;
 mod binding;
 mod combining;
+mod distinct;
 mod faults;
 mod grouping;
 mod items;
@@ -14,7 +15,6 @@ mod lists;
 mod planning;
 mod ranking;
 mod shown;
-mod sorting;
 mod sources;
 
 pub use answering::answer;

@@ -1,0 +1,11 @@
+-- What DISTINCT remembers.
+use Rattle.std.specs.Prelude.{◌≡◌, List}
+use Rattle.std.specs.List.{list_any}
+use Rattle.std.specs.Ordering.{is_eq}
+use Rattle.tuple_codec.specs.Rows.{Cells, key_cmp}
+use Rattle.plain_sql.specs.declared.distinct.Line.{Line}
+use Rattle.plain_sql.specs.declared.ranking.Rank.{Rank}
+
+-- the lines are what the ranks show
+abbrev pub AreSeen : List Line → List Rank → Type 0
+AreSeen lines ranks = (cells : Cells) → list_any (λ line. is_eq (key_cmp cells line.cells)) lines ≡ list_any (λ rank. is_eq (key_cmp cells rank.cells)) ranks
