@@ -11,6 +11,8 @@ use Rattle.table_root.specs.declared.records.Table.{Table}
 use Rattle.table_rows.specs.Rows.{AreRowsAt}
 use Rattle.schema_model.specs.WrittenForms.{table_address}
 use Rattle.plain_sql.specs.declared.sources.Known.{Known}
+use Rattle.sql_ast.specs.declared.selects.Query.{Query}
+use Rattle.sql_select.specs.Seeks.{AddsServing, Serves}
 use Rattle.sql_select.specs.Sources.{AreThere, IsReadAt, known_table}
 
 pub table_found : (address : List ℕ → List ℕ) (chunks : Chunks) (k : List ℕ) → TablesStand → (table : PlainTable) → IsTableAt address chunks k table → (read : Table) × IsTableFound chunks k read
@@ -88,14 +90,16 @@ append_three : {A : Type 0} (xs : List A) (y : A) (zs : List A) → (xs ++ y ∷
 append_three [] y zs = refl
 append_three (x ∷ xs) y zs = ap (λ l. x ∷ l) (append_three xs y zs)
 
-pub read_first : (p : plain.NamedTable → Bool) (known kept new : List Known) (k : Known) (named : plain.NamedTable) (others database : PlainDatabase) → database ≡ named ∷ others → p named ≡ true
-    → new ≡ kept ++ map known_table (filter p others) → kept ≡ known ++ k ∷ [] → k ≡ known_table named → new ≡ known ++ map known_table (filter p database)
-read_first p known kept new k named others database both read more is of =
-    more ∙ ap (λ l. l ++ map known_table (filter p others)) is ∙ append_three known k (map known_table (filter p others)) ∙ ap (λ x. known ++ x ∷ map known_table (filter p others)) of
-    ∙ sym (ap (λ b. known ++ map known_table (cond b (named ∷ filter p others) (filter p others))) read) ∙ sym (ap (λ d. known ++ map known_table (filter p d)) both)
+pub read_first : (query : Query) (p : plain.NamedTable → Bool) (known kept new : List Known) (k : Known) (named : plain.NamedTable) (others database : PlainDatabase) → database ≡ named ∷ others → p named ≡ true
+    → AddsServing query kept new (map known_table (filter p others)) → kept ≡ known ++ k ∷ [] → Serves query (known_table named) k → AddsServing query known new (map known_table (filter p database))
+read_first query p known kept new k named others database both read more is serve =
+    subst (λ d. AddsServing query known new (map known_table (filter p d))) (sym both)
+    (subst (λ b. AddsServing query known new (map known_table (cond b (named ∷ filter p others) (filter p others)))) (sym read)
+    (k ∷ more.0, more.1 ∙ ap (λ l. l ++ more.0) is ∙ append_three known k more.0, (serve, more.2)))
 
-pub passed_over : (p : plain.NamedTable → Bool) (known kept new : List Known) (named : plain.NamedTable) (others database : PlainDatabase) → database ≡ named ∷ others → p named ≡ false
-    → new ≡ kept ++ map known_table (filter p others) → kept ≡ known → new ≡ known ++ map known_table (filter p database)
-passed_over p known kept new named others database both read more is =
-    more ∙ ap (λ l. l ++ map known_table (filter p others)) is
-    ∙ sym (ap (λ b. known ++ map known_table (cond b (named ∷ filter p others) (filter p others))) read) ∙ sym (ap (λ d. known ++ map known_table (filter p d)) both)
+pub passed_over : (query : Query) (p : plain.NamedTable → Bool) (known kept new : List Known) (named : plain.NamedTable) (others database : PlainDatabase) → database ≡ named ∷ others → p named ≡ false
+    → AddsServing query kept new (map known_table (filter p others)) → kept ≡ known → AddsServing query known new (map known_table (filter p database))
+passed_over query p known kept new named others database both read more is =
+    subst (λ d. AddsServing query known new (map known_table (filter p d))) (sym both)
+    (subst (λ b. AddsServing query known new (map known_table (cond b (named ∷ filter p others) (filter p others)))) (sym read)
+    (subst (λ l. AddsServing query l new (map known_table (filter p others))) is more))

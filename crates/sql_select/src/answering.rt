@@ -14,8 +14,9 @@ use sql_ast::Select;
 use std::alloc::Global;
 use tuple_codec::{Answer, Digester};
 
-/// What a SELECT shows of a database and of system tables, or its first refusal. The tables that it names are read whole, each once;
-/// combinations of their rows are tried one by one. The draft is only read.
+/// What a SELECT shows of a database and of system tables, or its first refusal. The tables that it names are read whole, each once,
+/// and combinations of their rows are tried one by one; of an only source whose WHERE names the primary key just the row of that
+/// key is read. The draft is only read.
 ///
 /// `@@name` and `active_branch()` have no value here: whoever knows the session puts literals in their places.
 pub fn answer<D: Digester>(
@@ -32,7 +33,7 @@ pub fn answer<D: Digester>(
     match select {
         Select::From(query) => {
             let system = sources.system.as_slice();
-            let known = known_read(alloc, draft, &query.from, &sources.database, system)?;
+            let known = known_read(alloc, draft, query, &sources.database, system)?;
             Ok(plain_answer(alloc, known.as_slice(), select)?)
         }
         Select::Alone(_) => Ok(plain_answer(alloc, &[], select)?),

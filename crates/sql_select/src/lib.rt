@@ -1,4 +1,4 @@
-//! What a SELECT shows of a database that a draft keeps as trees: the tables that it names are read whole, and answered
+//! What a SELECT shows of a database that a draft keeps as trees: the tables that it names are read, and answered
 //! as the definition of queries has it.
 //!
 //! The crates above use `specs/Sources.antt`: what a SELECT knows.
@@ -8,6 +8,7 @@ mod answering;
 mod faults;
 mod laws;
 mod reading;
+mod seeking;
 mod sources;
 
 pub use answering::answer;

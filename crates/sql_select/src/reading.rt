@@ -5,16 +5,19 @@ ghost use Rattle.std.specs.List.{list_any};
 ghost use Rattle.schema_model.specs.PlainTables.{PlainDatabase, PlainTable};
 ghost use Rattle.chunk_store.specs.Drafts.{chunks_of};
 ghost use Rattle.table_root.specs.Standing.{IsTableAt};
+ghost use Rattle.sql_ast.specs.declared.selects.Select.TheVariants as select;
+ghost use Rattle.plain_sql.specs.Plans.{answer};
+ghost use Rattle.sql_select.specs.Seeks.{AddsServing, Serves};
 ghost use Rattle.sql_select.specs.Sources.{AreThere, CanRead, IsReadAt, is_read, known_read, known_system, known_table, typed, typed_column};
 
+use crate::seeking::rows_needed;
 use crate::sources::NamedAnswer;
 use chunk_store::Draft;
 use plain_sql::{Known, NamedType};
 use schema_model::Column;
-use sql_ast::{FromClause, Join};
+use sql_ast::{FromClause, Join, Query};
 use std::alloc::{AllocError, Global};
 use table_root::{NamedTable, law_of_databases, law_of_tables, read_database, read_table};
-use table_rows::read_rows;
 use tuple_codec::{Address, Digester, Row, Sequence, SqlType, Text, copy_row};
 
 fn is_joined(joins: &[Join], name: &[u8]) -> bool
@@ -45,20 +48,21 @@ fn typed_columns(alloc: Global, columns: &[Column]) -> Result<Sequence<NamedType
     Ok(found)
 }
 
-/// A table's columns and rows.
+/// A table's columns, and of its rows those that the query needs.
 fn table_known<D: Digester>(
     alloc: Global,
     draft: &Draft<D>,
+    query: &Query,
     name: &Text,
     address: &Address,
 ) -> Result<Known, AllocError>
     requires { (contents : PlainTable) × IsTableAt D.address (chunks_of draft.now.chunks) address.now.0 contents }
     ensures { (contents : PlainTable) → IsTableAt D.address (chunks_of draft.now.chunks) address.now.0 contents
-        → IfOk result (λ known. known ≡ known_table (record { name = name.now; table = contents })) }
+        → IfOk result (λ known. Serves query.now (known_table (record { name = name.now; table = contents })) known) }
 {
     law_of_tables();
     let table = read_table(alloc, draft, address)?;
-    let rows = read_rows(alloc, draft, &table.schema, &table.rows)?;
+    let rows = rows_needed(alloc, draft, query, &table)?;
     Ok(Known {
         name: Text::from_slice(alloc, name.as_slice())?,
         columns: typed_columns(alloc, table.schema.columns.as_slice())?,
@@ -70,19 +74,19 @@ fn table_known<D: Digester>(
 fn push_tables<D: Digester>(
     alloc: Global,
     draft: &Draft<D>,
-    from: &FromClause,
+    query: &Query,
     tables: &[NamedTable],
     known: &mut Sequence<Known>,
 ) -> Result<(), AllocError>
     requires { (database : PlainDatabase) × AreThere D.address (chunks_of draft.now.chunks) database tables.now }
     ensures { (database : PlainDatabase) → AreThere D.address (chunks_of draft.now.chunks) database tables.now
-        → OnOk result (known.new ≡ known.old ++ map known_table (filter (λ named. is_read from.now named.name) database)) }
+        → OnOk result (AddsServing query.now known.old known.new (map known_table (filter (λ named. is_read query.now.from named.name) database))) }
 {
     if let [first, rest @ ..] = tables {
-        if is_read(from, first.name.as_slice()) {
-            known.push(table_known(alloc, draft, &first.name, &first.table)?)?;
+        if is_read(&query.from, first.name.as_slice()) {
+            known.push(table_known(alloc, draft, query, &first.name, &first.table)?)?;
         }
-        push_tables(alloc, draft, from, rest, known)?;
+        push_tables(alloc, draft, query, rest, known)?;
     }
     Ok(())
 }
@@ -159,22 +163,22 @@ fn push_system(
     Ok(())
 }
 
-/// The tables and system tables that the SELECT names, with all their rows.
+/// The tables and system tables that the SELECT names, with the rows that it needs.
 pub(crate) fn known_read<D: Digester>(
     alloc: Global,
     draft: &Draft<D>,
-    from: &FromClause,
+    query: &Query,
     database: &Address,
     system: &[NamedAnswer],
 ) -> Result<Sequence<Known>, AllocError>
     requires { CanRead D.address (chunks_of draft.now.chunks) database.now.0 }
     ensures { (contents : PlainDatabase) → IsReadAt D.address (chunks_of draft.now.chunks) database.now.0 contents
-        → IfOk result (λ known. known ≡ known_read from.now contents system.now) }
+        → IfOk result (λ known. answer known (select.From query.now) ≡ answer (known_read query.now.from contents system.now) (select.From query.now)) }
 {
     law_of_databases();
     let tables = read_database(alloc, draft, database)?;
     let mut known = Sequence::new(alloc);
-    push_tables(alloc, draft, from, tables.as_slice(), &mut known)?;
-    push_system(alloc, from, system, &mut known)?;
+    push_tables(alloc, draft, query, tables.as_slice(), &mut known)?;
+    push_system(alloc, &query.from, system, &mut known)?;
     Ok(known)
 }

@@ -1,0 +1,4 @@
+pub mod CalmLemmas
+pub mod EqualLemmas
+pub mod KeyLemmas
+pub mod RowLemmas

@@ -1,0 +1,46 @@
+-- What a SELECT of one source may read of a table in place of all its rows.
+use Rattle.std.specs.Prelude.{◌≡◌, ◌⊎◌, true, List, [], ◌∷◌, ◌++◌, map, Some, Ok}
+use Rattle.std.specs.List.{AllZip}
+use Rattle.std.specs.Option.{option_to_list}
+use Rattle.tuple_codec.specs.Rows.{Cells, fits_all}
+use Rattle.schema_model.specs.PlainTables.{key_types}
+use Rattle.schema_model.specs.declared.schemas.Schema.{Schema}
+use Rattle.sql_ast.specs.declared.expressions.Expr.{Expr}
+use Rattle.sql_ast.specs.declared.selects.Query.{Query}
+use Rattle.sql_ast.specs.declared.selects.Source.{Source}
+use Rattle.expr_eval.specs.declared.bound.BoundExpr.{BoundExpr}
+use Rattle.expr_eval.specs.declared.scopes.ScopeColumn.{ScopeColumn}
+use Rattle.plain_sql.specs.Plans.{condition, meaning, query_on, read_as, scope_column}
+use Rattle.plain_sql.specs.Temporary.{source_name}
+use Rattle.plain_sql.specs.declared.sources.Known.{Known}
+use Rattle.key_seek.specs.Seeking.{SeeksKey, row_with}
+use Rattle.sql_select.specs.Sources.{typed_column}
+
+-- the columns that an expression of the source may name
+abbrev pub scope_in : Source → Schema → List ScopeColumn
+scope_in source schema = map (scope_column (source_name source)) (map typed_column schema.columns)
+
+-- the filter names this key
+pub record SeeksBy (source : Source) (filter : Expr) (schema : Schema) (key : Cells) : Type 0 where
+  pub test : BoundExpr
+  pub bound : condition (scope_in source schema) filter ≡ Ok (meaning test)
+  pub seeks : SeeksKey schema test key
+  pub fits : fits_all (key_types schema) key ≡ true
+
+-- the WHERE over the only source does
+abbrev pub Seeks : Query → Schema → Cells → Type 0
+Seeks query schema key = (query.from.joins ≡ []) × (filter : Expr) × (query.clauses.filter ≡ Some filter) × SeeksBy query.from.first filter schema key
+
+-- all rows, or that of the key alone
+abbrev pub AreNeeded : Query → Schema → List Cells → List Cells → Type 0
+AreNeeded query schema rows read = (read ≡ rows) ⊎ ((key : Cells) × Seeks query schema key × (read ≡ option_to_list (row_with schema key rows)))
+
+-- of a table by the same name the query shows the same
+abbrev pub Serves : Query → Known → Known → Type 0
+Serves query whole part =
+    (part.name ≡ whole.name) × ((part ≡ whole)
+    ⊎ ((query.from.joins ≡ []) × (query_on (read_as (source_name query.from.first) part ∷ []) query ≡ query_on (read_as (source_name query.from.first) whole ∷ []) query)))
+
+-- behind what was known come tables that serve as these do
+abbrev pub AddsServing : Query → List Known → List Known → List Known → Type 0
+AddsServing query old new wanted = (more : List Known) × (new ≡ old ++ more) × AllZip (Serves query) wanted more
