@@ -30,7 +30,7 @@ short_row s row h =
     let body = leb-true (length (body_bytes s row)) 8192 one.1 in
     record { key = omega (arith, key); size = omega (arith, key, body); one = refl }
 
-keys_of_rows : (s : Schema) (rows : List Cells) → is_schema s ≡ true → list_all (is_row s) rows ≡ true → list_all (λ row. fits_all (key_types s) (primary_key s row)) rows ≡ true
+pub keys_of_rows : (s : Schema) (rows : List Cells) → is_schema s ≡ true → list_all (is_row s) rows ≡ true → list_all (λ row. fits_all (key_types s) (primary_key s row)) rows ≡ true
 keys_of_rows s [] is h = refl
 keys_of_rows s (row ∷ rows) is h =
     let one = and_parts (is_row s row) (list_all (is_row s) rows) h in
@@ -64,7 +64,7 @@ short_conflict s conflict h =
     let all = length-append (side_bytes s conflict.base) (side_bytes s conflict.ours ++ side_bytes s conflict.theirs) in
     record { key = omega (arith, key); size = omega (arith, key, base, ours, theirs, behind, all); one = refl }
 
-keys_of_conflicts : (s : Schema) (conflicts : List Conflict) → list_all (is_conflict s) conflicts ≡ true → list_all (λ (c : Conflict). fits_all (key_types s) c.key) conflicts ≡ true
+pub keys_of_conflicts : (s : Schema) (conflicts : List Conflict) → list_all (is_conflict s) conflicts ≡ true → list_all (λ (c : Conflict). fits_all (key_types s) c.key) conflicts ≡ true
 keys_of_conflicts s [] h = refl
 keys_of_conflicts s (c ∷ conflicts) h =
     let one = and_parts (is_conflict s c) (list_all (is_conflict s) conflicts) h in

@@ -35,7 +35,7 @@ tree_rows seen own e are few =
 own_tree : (address : List ℕ → List ℕ) (chunks : Chunks) (k : List ℕ) (items : List Item) → IsTree address chunks k items → IsTree address chunks (root address items) items
 own_tree address chunks k items tree = subst (λ (at : List ℕ). IsTree address chunks at items) (sym tree.named) tree
 
-kept_stands : (address : List ℕ → List ℕ) (chunks : Chunks) (table : Table) (contents : PlainTable) (rows conflicts : List Item) → IsTable contents → contents.violations ≡ []
+pub kept_stands : (address : List ℕ → List ℕ) (chunks : Chunks) (table : Table) (contents : PlainTable) (rows conflicts : List Item) → IsTable contents → contents.violations ≡ []
     → rows ≡ row_items contents → conflicts ≡ conflict_items contents → IsKept address chunks table contents.schema rows conflicts → IsUnindexedOf address chunks table contents
 kept_stands address chunks table contents rows conflicts is none r c kept =
     let rows_tree = subst (IsTree address chunks table.rows.0) r kept.rows_stand in
@@ -60,7 +60,7 @@ kept_stands address chunks table contents rows conflicts is none r c kept =
 -- ---- limits
 
 -- the limits are those on the schema, on how many rows there are, and on rows and conflicts
-limits_of : (within few rows conflicts : Bool) → within ≡ true → few ≡ true → rows && conflicts ≡ true → (within && few && rows && conflicts) ≡ true
+pub limits_of : (within few rows conflicts : Bool) → within ≡ true → few ≡ true → rows && conflicts ≡ true → (within && few && rows && conflicts) ≡ true
 limits_of within few true true w f s = and_from _ _ (and_from _ _ (and_from _ _ w f) refl) refl
 limits_of within few true false w f s = absurd (cc)
 limits_of within few false conflicts w f s = absurd (cc)
@@ -70,7 +70,7 @@ limits_short false few rows conflicts s = refl
 limits_short true false rows conflicts s = refl
 limits_short true true rows conflicts s = s
 
-limits_few : (within rows conflicts : Bool) → (within && false && rows && conflicts) ≡ false
+pub limits_few : (within rows conflicts : Bool) → (within && false && rows && conflicts) ≡ false
 limits_few true rows conflicts = refl
 limits_few false rows conflicts = refl
 

@@ -15,3 +15,8 @@ pub mod SideLemmas
 pub mod KeepLemmas
 pub mod ReadLemmas
 pub mod FaultLemmas
+pub mod LookLemmas
+pub mod ChangeLemmas
+pub mod SkipLemmas
+pub mod KeptLemmas
+pub mod DecideLemmas

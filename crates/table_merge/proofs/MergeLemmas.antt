@@ -159,7 +159,7 @@ side_at : (s : Schema) (key : Cells) (o : Option Cells) → IsAt s key o → is_
 side_at s key None h = refl
 side_at s key (Some row) h = and_from _ _ h.0 ((cells_told (primary_key s row) key).1 h.1)
 
-conflict_is : (conflict found : Conflict) (answer : Option (Option Cells)) → conflict_if conflict answer ≡ Some found → conflict ≡ found
+pub conflict_is : (conflict found : Conflict) (answer : Option (Option Cells)) → conflict_if conflict answer ≡ Some found → conflict ≡ found
 conflict_is conflict found None e = some_is conflict found e
 conflict_is conflict found (Some merged) e = absurd (cc)
 

@@ -67,7 +67,7 @@ found_is s key rows are = ap (found key) are.keyed ∙ found_keyed s key (rows_i
 rows_of : (s : Schema) (rows : List KeyedRow) → AreKeyed s rows → AreRows s (rows_in rows)
 rows_of s rows are = record { fit = are.fit; rise = subst (RiseFrom None) (keys_are s rows are) are.rise }
 
-perhaps : (s : Schema) (key : Cells) (o : Option Cells) → IsAt s key o → is_row_perhaps s o ≡ true
+pub perhaps : (s : Schema) (key : Cells) (o : Option Cells) → IsAt s key o → is_row_perhaps s o ≡ true
 perhaps s key None h = refl
 perhaps s key (Some row) h = h.0
 

@@ -3,3 +3,4 @@ pub mod Laws
 pub mod Merging
 pub mod Walking
 pub mod Steps
+pub mod Skipping

@@ -1,8 +1,9 @@
 -- What tables in a draft come to where they are merged.
 use Rattle.std.specs.Prelude.{◌≡◌, ℕ, Bool, true, false, ◌&&◌, nat_le, List, [], length, Option, None, Some, Result, Ok, Err}
 use Rattle.std.specs.List.{list_all}
+use Rattle.std.specs.Option.{option_map_or}
 use Rattle.tuple_codec.specs.Rows.{Cells}
-use Rattle.schema_model.specs.Limits.{is_conflict_within_limits, is_short_key, is_short_row, is_within_limits, most_rows}
+use Rattle.schema_model.specs.Limits.{is_conflict_within_limits, is_short_key, is_short_row, is_table_within_limits, is_within_limits, most_rows}
 use Rattle.schema_model.specs.PlainTables.{PlainTable, primary_key}
 use Rattle.schema_model.specs.declared.schemas.Schema.{Schema}
 use Rattle.chunk_store.specs.Chunks.{Chunks}
@@ -41,6 +42,13 @@ pub record AreSides (address : List ℕ → List ℕ) (chunks : Chunks) (base : 
   pub base_side : IsSidePerhaps address chunks base contents.base
   pub our_side : IsSide address chunks ours contents.ours
   pub their_side : IsSide address chunks theirs contents.theirs
+
+-- the same tables, each of which keeps the limits on data
+pub record AreKeptSides (address : List ℕ → List ℕ) (chunks : Chunks) (base : Option Table) (ours theirs : Table) (contents : PlainSides) : Type 0 where
+  pub sides : AreSides address chunks base ours theirs contents
+  pub base_kept : option_map_or is_table_within_limits contents.base true ≡ true
+  pub ours_kept : is_table_within_limits contents.ours ≡ true
+  pub theirs_kept : is_table_within_limits contents.theirs ≡ true
 
 abbrev pub merged_contents : PlainSides → Result PlainTable (List ℕ)
 merged_contents contents = table3 contents.base contents.ours contents.theirs

@@ -158,7 +158,7 @@ fn push_side(
 }
 
 /// The types of the primary key, in its order.
-fn key_types(alloc: Global, schema: &Schema) -> Result<Vec<SqlType>, AllocError>
+pub(crate) fn key_types(alloc: Global, schema: &Schema) -> Result<Vec<SqlType>, AllocError>
     requires { is_schema schema.now ≡ true }
     ensures { IfOk result (λ types. types.items ≡ key_types schema.now) }
 {

@@ -74,7 +74,7 @@ pub fn count_conflicts<D: Digester>(
     }
 }
 
-fn merged_schema(
+pub(crate) fn merged_schema(
     alloc: Global,
     base: Option<&Table>,
     ours: &Table,
@@ -104,7 +104,7 @@ fn schema_perhaps(table: Option<&Table>) -> Option<&Schema>
 }
 
 /// Merges tables on the schema that theirs come to.
-fn merge_on<D: Digester>(
+pub(crate) fn merge_on<D: Digester>(
     alloc: Global,
     draft: &mut Draft<D>,
     base: Option<&Table>,

@@ -111,7 +111,10 @@ fn conflicts_at(
     }
 }
 
-fn push_perhaps(items: &mut Vec<LeafItem>, item: Option<LeafItem>) -> Result<(), AllocError>
+pub(crate) fn push_perhaps(
+    items: &mut Vec<LeafItem>,
+    item: Option<LeafItem>,
+) -> Result<(), AllocError>
     ensures { OnOk result (map leaf_of items.new.items ≡ map leaf_of items.old.items ++ option_to_list (option_map leaf_of item)) }
 {
     if let Some(item) = item {
