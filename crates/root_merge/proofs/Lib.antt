@@ -10,3 +10,5 @@ mod NatLemmas
 mod StateLemmas
 mod CountLemmas
 mod DecideLemmas
+mod ChangingLemmas
+mod KeepingLemmas

@@ -1,7 +1,7 @@
 -- Merged tables as they stand in a draft: their trees, and their indexes made anew.
 use Rattle.std.proofs.Common.{◌≡◌, ◌≤◌, ◌<◌, ◌^◌, ◌+◌, refl, sym, ap, ◌∙◌, subst, ℕ, true, false, Bool, List, [], ◌∷◌, length, map, Option, Some, None, Result, Ok, Err, arith}
 use Rattle.std.specs.List.{list_all}
-use Rattle.std.specs.Option.{option_map}
+use Rattle.std.specs.Option.{option_map, option_map_or}
 use Rattle.std.specs.Result.{IfErr, IsErr, IsErrAnd}
 use Rattle.std.proofs.lemmas.List.{length-map}
 use Rattle.tuple_codec.specs.Nodes.{Item}
@@ -25,7 +25,9 @@ use Rattle.chunk_store.specs.declared.faults.PutFault.{PutFault}
 use Rattle.chunk_store.specs.declared.faults.PutFault.TheVariants as put
 use Rattle.table_merge.specs.Merging.{AreSides, IsMergeReason, IsSide, IsSidePerhaps, PlainSides, fault_of_put, merged_contents}
 use Rattle.table_merge.specs.declared.faults.MergeFault.{MergeFault}
-use Rattle.root_merge.specs.Merging.{IsLimitFault, MayBecome, is_data, part_in, schemas_merged}
+use Rattle.root_merge.specs.Kept.{IsKeptPerhaps}
+use Rattle.root_merge.specs.Merging.{CanMergeRows, CanMergeSides, IsLimitFault, MayBecome, is_data, part_in, schemas_merged}
+use Rattle.root_merge.specs.declared.reading.Sides.{Sides}
 use Rattle.root_merge.proofs.MergedLemmas.{few_rows, row_limits_of}
 
 -- ---- trees
@@ -135,3 +137,23 @@ part_told address chunks base ours theirs contents sides =
 
 pub limits_told : (address : List ℕ → List ℕ) (chunks : Chunks) (table : Table) (contents : PlainTable) → IsSide address chunks table contents → is_within_limits table.schema ≡ true
 limits_told address chunks table contents side = ap (λ (s : Schema). is_within_limits s) (schema_told address chunks table contents side) ∙ side.limits
+
+-- ---- tables that are merged
+
+base_kept : (address : List ℕ → List ℕ) (chunks : Chunks) (k : Option Address) (base : Option PlainTable) → IsKeptPerhaps address chunks k base → option_map_or is_table_within_limits base true ≡ true
+base_kept address chunks None None kept = refl
+base_kept address chunks (Some k) (Some table) kept = kept.within
+base_kept address chunks None (Some table) kept = absurd kept
+base_kept address chunks (Some k) None kept = absurd kept
+
+pub sides_can : (address : List ℕ → List ℕ) (chunks : Chunks) (base : Option Address) (ours theirs : Address) (sides : Sides) (contents : PlainSides) (table : PlainTable)
+    → CanMergeRows address chunks base ours theirs contents table → AreSides address chunks sides.base sides.ours sides.theirs contents → CanMergeSides address chunks sides contents table
+sides_can address chunks base ours theirs sides contents table can are = record {
+  stand = record {
+    sides = are;
+    base_kept = base_kept address chunks base contents.base can.kept.base_side;
+    ours_kept = can.kept.our_side.within;
+    theirs_kept = can.kept.their_side.within;
+  };
+  comes = can.comes;
+}

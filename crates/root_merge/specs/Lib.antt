@@ -4,3 +4,4 @@ pub mod Names
 pub mod Merging
 pub mod States
 pub mod Deciding
+pub mod Changing

@@ -11,12 +11,13 @@ use Rattle.schema_model.specs.Schemas.{is_name}
 use Rattle.schema_model.specs.declared.schemas.Schema.{Schema}
 use Rattle.chunk_store.specs.Chunks.{Chunks}
 use Rattle.chunk_store.specs.Kinds.{is_database, is_either, is_node, is_table}
-use Rattle.table_root.specs.Standing.{IsUnindexedOf}
+use Rattle.table_root.specs.Standing.{IsTableOf, IsUnindexedOf}
 use Rattle.table_root.specs.declared.records.NamedTable.{NamedTable}
 use Rattle.table_root.specs.declared.records.Table.{Table}
 use Rattle.schema_merge.specs.Merging.{schema3}
 use Rattle.plain_merge.specs.RootMerge.{MergedDatabase, MergedTable, SchemaConflict}
-use Rattle.table_merge.specs.Merging.{AreSides, PlainSides, keeps_limits, merged_contents}
+use Rattle.table_merge.specs.Merging as merging
+use Rattle.table_merge.specs.Merging.{PlainSides, keeps_limits, merged_contents}
 use Rattle.table_merge.specs.declared.faults.MergeFault.{MergeFault}
 use Rattle.table_merge.specs.declared.faults.MergeFault.TheVariants as fault
 use Rattle.constraint_scan.specs.Scanning.{AreThere, IsKeptAt}
@@ -68,9 +69,9 @@ pub record IsBecome (address : List ℕ → List ℕ) (chunks : Chunks) (became 
 abbrev pub of_table : PlainTable → MergedTable
 of_table table = record { table = Some table; conflicts = length table.conflicts }
 
--- tables that stand, and what their rows come to
+-- tables that stand and keep the limits, and what their rows come to
 pub record CanMergeSides (address : List ℕ → List ℕ) (chunks : Chunks) (sides : Sides) (contents : PlainSides) (table : PlainTable) : Type 0 where
-  pub stand : AreSides address chunks sides.base sides.ours sides.theirs contents
+  pub stand : merging.AreKeptSides address chunks sides.base sides.ours sides.theirs contents
   pub comes : merged_contents contents ≡ Ok table
 
 -- the same of tables at addresses
@@ -83,6 +84,12 @@ pub record IsTableMade (address : List ℕ → List ℕ) (chunks : Chunks) (tabl
   pub stands : IsUnindexedOf address chunks table contents
   pub limits : keeps_limits contents ≡ true
   pub settled : contents.violations ≡ []
+
+-- ours, which keeps the limits, and the table that a merge gave
+pub record IsMergeOf (address : List ℕ → List ℕ) (chunks : Chunks) (ours table : Table) (before contents : PlainTable) : Type 0 where
+  pub stands : IsTableOf address chunks ours before
+  pub within : is_table_within_limits before ≡ true
+  pub made : IsTableMade address chunks table contents
 
 -- the same where it keeps them all
 pub record MayBecome (address : List ℕ → List ℕ) (chunks : Chunks) (table : Table) (contents : PlainTable) : Type 0 where

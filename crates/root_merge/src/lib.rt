@@ -4,6 +4,7 @@
 #![tactic(auto)]
 
 mod candidates;
+mod changing;
 mod choosing;
 mod counting;
 mod deciding;
@@ -12,6 +13,7 @@ mod laws;
 mod merging;
 mod names;
 mod reading;
+mod sameness;
 mod settling;
 mod tables;
 

@@ -12,18 +12,20 @@ ghost use Rattle.plain_merge.specs.RootMerge.{MergedTable};
 ghost use Rattle.table_merge.specs.Merging.{IsMergeReason, PlainSides};
 ghost use Rattle.root_merge.specs.Choosing.{LeadsTo};
 ghost use Rattle.root_merge.specs.Kept.{IsKeptTable, MayStand};
-ghost use Rattle.root_merge.specs.Merging.{CanMergeRows, CanMergeSides, IsBecome, IsLimitFault, IsTableMade, MayBecome, Part, is_data, is_within_perhaps, of_table};
+ghost use Rattle.root_merge.specs.Merging.{CanMergeRows, CanMergeSides, IsBecome, IsLimitFault, IsMergeOf, IsTableMade, MayBecome, Part, is_data, is_within_perhaps, of_table};
 
+use crate::changing::keep_changes;
 use crate::choosing::Choice;
 use crate::laws::laws_of_growth;
 use crate::reading::{Sides, sides_at};
+use crate::sameness::is_same_schema;
 use chunk_store::{Draft, PutFault};
 use index_keep::indexes_of;
 use plain_writes::is_large;
 use prolly_tree::count;
-use schema_model::Schema;
+use schema_model::{Schema, law_of_sameness};
 use std::alloc::{AllocError, Global};
-use table_merge::{MergeFault, merge_table};
+use table_merge::{MergeFault, merge_kept_table};
 use table_root::{Table, write_table};
 use table_rows::read_rows;
 use tuple_codec::{Address, Digester, Row, Sequence};
@@ -61,7 +63,7 @@ fn rows_are_short<D: Digester>(
 }
 
 /// How many conflicts a table has.
-fn conflicts_in<D: Digester>(draft: &Draft<D>, table: &Table) -> u64
+pub(crate) fn conflicts_in<D: Digester>(draft: &Draft<D>, table: &Table) -> u64
     requires { (contents : PlainTable) × IsUnindexedOf D.address (chunks_of draft.now.chunks) table.now contents }
     ensures { (contents : PlainTable) → IsUnindexedOf D.address (chunks_of draft.now.chunks) table.now contents → result ≡ length contents.conflicts }
 {
@@ -153,6 +155,29 @@ fn keep_rows<D: Digester>(
     Ok(became)
 }
 
+/// Writes a table that a merge of rows gave: by what changed in ours where it has ours' schema, else whole.
+fn keep_merge<D: Digester>(
+    alloc: Global,
+    draft: &mut Draft<D>,
+    ours: &Table,
+    table: Table,
+) -> Result<Became, MergeFault>
+    requires { (before : PlainTable) × (contents : PlainTable) × IsMergeOf D.address (chunks_of draft.old.chunks) ours.now table before contents }
+    ensures made { (before contents : PlainTable) → IsMergeOf D.address (chunks_of draft.old.chunks) ours.now table before contents
+        → IfOk result (λ became. IsBecome D.address (chunks_of draft.new.chunks) became (of_table contents)) }
+    ensures fault { (before contents : PlainTable) → IsMergeOf D.address (chunks_of draft.old.chunks) ours.now table before contents
+        → IfErr result (IsLimitFault (is_table_within_limits contents)) }
+    ensures grows { Grows is_data draft.old draft.new }
+    ensures cause { IfErr result (IsMergeReason D.address (chunks_of draft.new.chunks)) }
+{
+    law_of_sameness();
+    if is_same_schema(&table.schema, &ours.schema) {
+        keep_changes(alloc, draft, ours, &table)
+    } else {
+        keep_rows(alloc, draft, table)
+    }
+}
+
 /// Merges the rows of tables whose schemas merge.
 fn merge_sides<D: Digester>(
     alloc: Global,
@@ -168,14 +193,14 @@ fn merge_sides<D: Digester>(
     ensures cause { IfErr result (IsMergeReason D.address (chunks_of draft.new.chunks)) }
 {
     laws_of_growth();
-    let table = merge_table(
+    let table = merge_kept_table(
         alloc,
         draft,
         sides.base.as_ref(),
         &sides.ours,
         &sides.theirs,
     )?;
-    keep_rows(alloc, draft, table)
+    keep_merge(alloc, draft, &sides.ours, table)
 }
 
 /// The same of tables at addresses.
