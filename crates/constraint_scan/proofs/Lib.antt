@@ -7,3 +7,7 @@ pub mod ListLemmas
 pub mod RecordLemmas
 pub mod OnceLemmas
 pub mod OwnLemmas
+pub mod PrefixLemmas
+pub mod SeekLemmas
+pub mod TreeLemmas
+pub mod FoundLemmas

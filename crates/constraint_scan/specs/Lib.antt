@@ -3,3 +3,5 @@ pub mod Refusals
 pub mod Written
 pub mod Recording
 pub mod Recorded
+pub mod Seeking
+pub mod Roots

@@ -7,11 +7,14 @@
 #![tactic(auto)]
 
 mod canonical;
+mod cells;
+mod entries;
 mod judging;
 mod laws;
 mod listing;
 mod reading;
 mod recording;
+mod seeking;
 
 pub use canonical::CanonicalChecks;
 pub use judging::first_violation;
@@ -19,3 +22,4 @@ pub use laws::law_of_recording;
 pub use listing::{Violation, violations};
 pub use reading::{read_schemas, read_tables};
 pub use recording::record_violations;
+pub use seeking::{has_child, has_parent, is_repeated};
