@@ -11,3 +11,7 @@ pub mod PrefixLemmas
 pub mod SeekLemmas
 pub mod TreeLemmas
 pub mod FoundLemmas
+pub mod MemberLemmas
+pub mod CauseLemmas
+pub mod ChangedLemmas
+pub mod LostLemmas

@@ -75,10 +75,10 @@ cmp_itself found = λ i. ordering_then (tied_itself nat_cmp_total found.kind i) 
 pub cells_itself : (cells : Cells) → same_cells cells cells ≡ true
 cells_itself cells = (cells_told cells cells).1 refl
 
-same_itself : (found : Found) → same_violation found found ≡ true
+pub same_itself : (found : Found) → same_violation found found ≡ true
 same_itself found = λ i. bytes_itself found.table i && is_eq (cmp_itself found.violation i) && cells_itself found.violation.row i
 
-or_right : (a : Bool) {b : Bool} → b ≡ true → (a || b) ≡ true
+pub or_right : (a : Bool) {b : Bool} → b ≡ true → (a || b) ≡ true
 or_right true e = refl
 or_right false e = e
 

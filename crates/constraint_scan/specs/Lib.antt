@@ -5,3 +5,4 @@ pub mod Recording
 pub mod Recorded
 pub mod Seeking
 pub mod Roots
+pub mod Changed

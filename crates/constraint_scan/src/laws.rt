@@ -2,6 +2,7 @@
 
 ghost use Rattle.chunk_store.specs.Laws.{DraftsFollow, DraftsGrow};
 ghost use Rattle.table_root.specs.Standing.{DatabasesStand, TableValuesStand, TablesStand};
+ghost use Rattle.constraint_scan.specs.Changed.{ChangesTell};
 ghost use Rattle.constraint_scan.specs.Recorded.{AllAreRecorded};
 ghost use Rattle.constraint_scan.specs.Refusals.{ConstraintsSuffice};
 
@@ -11,6 +12,11 @@ use table_root::{law_of_databases, law_of_tables};
 /// What a refusal depends on: schemas and rows alone, and constraints that are there.
 pub(crate) fn law_of_refusals()
     ensures { ConstraintsSuffice }
+{}
+
+/// Between databases with the same names and schemas a refusal is told by the rows that changed.
+pub(crate) fn law_of_changes()
+    ensures { ChangesTell }
 {}
 
 /// What `violations` lists of a database may be recorded in it, and then each table has all of its own.
