@@ -55,7 +55,7 @@ module _ (checks : Checks) (database : PlainDatabase) where
       ++ flat_map (of_check checks name schema rows) schema.checks
       ++ flat_map (of_column schema rows) (enumerate_from 0 schema.columns)
 
-  columns_left : (name : List ℕ) (schema : Schema) (rows : List Cells) → is_constrained schema ≡ false
+  pub columns_left : (name : List ℕ) (schema : Schema) (rows : List Cells) → is_constrained schema ≡ false
       → unordered name schema rows ≡ flat_map (of_column schema rows) (enumerate_from 0 schema.columns)
   columns_left name schema rows free =
       let unique = left_not (list_any (λ (index : IndexDef). index.unique) schema.indexes) (not (is_empty schema.checks) || not (is_empty schema.foreign)) free in

@@ -15,3 +15,4 @@ pub mod MemberLemmas
 pub mod CauseLemmas
 pub mod ChangedLemmas
 pub mod LostLemmas
+pub mod ThinLemmas

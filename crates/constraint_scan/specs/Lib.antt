@@ -6,3 +6,4 @@ pub mod Recorded
 pub mod Seeking
 pub mod Roots
 pub mod Changed
+pub mod Thinned

@@ -24,7 +24,7 @@ fn is_any_unique(indexes: &[IndexDef]) -> bool
 }
 
 /// Whether the schema has a unique index, a CHECK or a foreign key.
-fn is_constrained(schema: &Schema) -> bool
+pub(crate) fn is_constrained(schema: &Schema) -> bool
     ensures { result ≡ is_constrained schema.now }
 {
     is_any_unique(schema.indexes.as_slice())

@@ -15,6 +15,7 @@ mod listing;
 mod reading;
 mod recording;
 mod seeking;
+mod thinning;
 
 pub use canonical::CanonicalChecks;
 pub use judging::first_violation;

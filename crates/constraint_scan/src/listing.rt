@@ -11,7 +11,7 @@ ghost use Rattle.constraint_scan.specs.Scanning.{CanRead, IsReadAt};
 ghost use Rattle.constraint_scan.specs.Written.{fits, fits_in, written, written_in};
 
 use crate::canonical::CanonicalChecks;
-use crate::reading::read_tables;
+use crate::thinning::read_thinned;
 use chunk_store::Draft;
 use plain_writes::{Found, NamedTable, table_in, violations as violations_of_tables};
 use schema_model::Schema;
@@ -79,6 +79,9 @@ fn written_all(
 }
 
 /// The violations of the database at an address, by table, kind, constraint and key. Those that merges recorded take no part.
+///
+/// Rows are read of tables with a unique index, a CHECK, a foreign key, or a NOT NULL column that isn't the whole primary key, and of those that a
+/// foreign key names; of others the first row alone.
 pub fn violations<D: Digester>(
     alloc: Global,
     draft: &Draft<D>,
@@ -88,7 +91,7 @@ pub fn violations<D: Digester>(
     ensures { (contents : PlainDatabase) → IsReadAt D.address (chunks_of draft.now.chunks) database.now.0 contents
         → IfOk result (λ list. list.items ≡ flat_map (written_in contents) (violations checks contents)) }
 {
-    let tables = read_tables(alloc, draft, database)?;
+    let tables = read_thinned(alloc, draft, database)?;
     let found = violations_of_tables::<CanonicalChecks>(alloc, tables.as_slice())?;
     written_all(alloc, tables.as_slice(), found.as_slice())
 }

@@ -16,7 +16,7 @@ use table_rows::read_rows;
 use tuple_codec::{Address, Digester, Row, Sequence, Text};
 
 /// A table of this schema and these rows, in which no merge left anything open.
-fn bare_table(alloc: Global, schema: Schema, rows: Sequence<Row>) -> Table
+pub(crate) fn bare_table(alloc: Global, schema: Schema, rows: Sequence<Row>) -> Table
     ensures { result ≡ record { schema = schema; rows = rows; conflicts = []; violations = [] } }
 {
     Table {

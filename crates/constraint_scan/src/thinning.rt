@@ -1,0 +1,198 @@
+//! The tables of a database with those rows alone that may break a constraint, or that a foreign key looks for.
+
+ghost use Rattle.std.specs.Prelude.{◌≡◌, ◌∷◌, ◌++◌, ◌||◌, true, [], IfOk, List, OnOk, if◌then◌else◌, map, take};
+ghost use Rattle.std.specs.List.{enumerate_from, list_any};
+ghost use Rattle.tuple_codec.specs.Rows.{Cells};
+ghost use Rattle.schema_model.specs.PlainTables.{PlainDatabase, PlainTable};
+ghost use Rattle.schema_model.specs.Schemas.{is_schema};
+ghost use Rattle.chunk_store.specs.Drafts.{chunks_of};
+ghost use Rattle.plain_writes.specs.Seen.{named_seen};
+ghost use Rattle.table_root.specs.Standing.{IsTableAt};
+ghost use Rattle.table_rows.specs.Rows.{AreRowsAt, HasRowsAt};
+ghost use Rattle.constraint_scan.specs.Scanning.{AreThere, CanRead, IsReadAt, skeleton};
+ghost use Rattle.constraint_scan.specs.Thinned.{is_guarded, is_judged, is_parent, is_sole, looks_for, thin_named, thinned};
+
+use crate::judging::is_constrained;
+use crate::reading::{bare_table, read_schemas};
+use chunk_store::Draft;
+use plain_writes::NamedTable;
+use prolly_tree::scan_from;
+use schema_model::{Column, Schema};
+use std::alloc::{AllocError, Global};
+use table_root::{NamedTable as Entry, law_of_databases, law_of_tables, read_database, read_table};
+use table_rows::{read_rows, row_of};
+use tuple_codec::{Address, Digester, Row, Sequence, Text};
+
+fn is_sole(key: &[u8], place: usize) -> bool
+    ensures { result ≡ is_sole key.now place }
+{
+    match key {
+        [] => false,
+        [only] => usize::from(*only) == place,
+        [_, _, ..] => false,
+    }
+}
+
+fn is_guarded(key: &[u8], place: usize, column: &Column) -> bool
+    ensures { result ≡ is_guarded key.now (place, column.now) }
+{
+    column.not_null && !is_sole(key, place)
+}
+
+fn has_guarded(key: &[u8], columns: &[Column]) -> bool
+    ensures { result ≡ list_any (is_guarded key.now) (enumerate_from 0 columns.now) }
+{
+    for (place, column) in columns.iter().enumerate() {
+        if is_guarded(key, place, column) {
+            return true;
+        }
+    }
+    false
+}
+
+/// Whether a row other than the first may break a constraint.
+fn is_judged(schema: &Schema) -> bool
+    ensures { result ≡ is_judged schema.now }
+{
+    is_constrained(schema) || has_guarded(schema.key.as_slice(), schema.columns.as_slice())
+}
+
+fn looks_for(name: &[u8], schema: &Schema) -> bool
+    ensures { result ≡ looks_for name.now schema.now }
+{
+    schema
+        .foreign
+        .as_slice()
+        .iter()
+        .any(|foreign| foreign.parent.as_slice() == name)
+}
+
+/// Whether some table's foreign key looks for rows of the table of this name.
+fn is_parent(tables: &[NamedTable], name: &[u8]) -> bool
+    ensures { result ≡ is_parent (map named_seen tables.now) name.now }
+{
+    match tables {
+        [] => false,
+        [first, rest @ ..] => looks_for(name, &first.table.schema) || is_parent(rest, name),
+    }
+}
+
+/// Whether all rows of a table are read: one of them may break a constraint, or a foreign key looks for them.
+fn is_whole(tables: &[NamedTable], name: &[u8], schema: &Schema) -> bool
+    ensures { result ≡ (is_judged schema.now || is_parent (map named_seen tables.now) name.now) }
+{
+    is_judged(schema) || is_parent(tables, name)
+}
+
+fn one_row(alloc: Global, row: Row) -> Result<Sequence<Row>, AllocError>
+    ensures { IfOk result (λ rows. rows ≡ row ∷ []) }
+{
+    let mut rows = Sequence::new(alloc);
+    rows.push(row)?;
+    Ok(rows)
+}
+
+/// The first row of the tree at an address, if it has one.
+fn first_row<D: Digester>(
+    alloc: Global,
+    draft: &Draft<D>,
+    schema: &Schema,
+    root: &Address,
+) -> Result<Sequence<Row>, AllocError>
+    requires schema { is_schema schema.now ≡ true }
+    requires tree { HasRowsAt D.address (chunks_of draft.now.chunks) root.now.0 schema.now }
+    ensures { (rows : List Cells) → AreRowsAt D.address (chunks_of draft.now.chunks) root.now.0 schema.now rows
+        → IfOk result (λ read. read ≡ take 1 rows) }
+{
+    let mut scan = scan_from(alloc, draft, root, &[])?;
+    match scan.next() {
+        None => Ok(Sequence::new(alloc)),
+        Some((key, value)) => one_row(alloc, row_of(alloc, schema, key, value)?),
+    }
+}
+
+/// All rows of the tree at an address, or the first alone.
+fn thin_rows<D: Digester>(
+    alloc: Global,
+    draft: &Draft<D>,
+    schema: &Schema,
+    root: &Address,
+    whole: bool,
+) -> Result<Sequence<Row>, AllocError>
+    requires schema { is_schema schema.now ≡ true }
+    requires tree { HasRowsAt D.address (chunks_of draft.now.chunks) root.now.0 schema.now }
+    ensures { (rows : List Cells) → AreRowsAt D.address (chunks_of draft.now.chunks) root.now.0 schema.now rows
+        → IfOk result (λ read. read ≡ (if whole then rows else take 1 rows)) }
+{
+    if whole {
+        read_rows(alloc, draft, schema, root)
+    } else {
+        first_row(alloc, draft, schema, root)
+    }
+}
+
+/// A table with the rows that may break a constraint. `schemas` are those of all tables.
+fn thin_read<D: Digester>(
+    alloc: Global,
+    draft: &Draft<D>,
+    schemas: &[NamedTable],
+    entry: &Entry,
+) -> Result<NamedTable, AllocError>
+    requires { (contents : PlainTable) × IsTableAt D.address (chunks_of draft.now.chunks) entry.now.table.0 contents }
+    ensures { (contents : PlainTable) → IsTableAt D.address (chunks_of draft.now.chunks) entry.now.table.0 contents
+        → IfOk result (λ named. named_seen named ≡ thin_named (map named_seen schemas.now) (record { name = entry.now.name; table = contents })) }
+{
+    law_of_tables();
+    let table = read_table(alloc, draft, &entry.table)?;
+    let whole = is_whole(schemas, entry.name.as_slice(), &table.schema);
+    let rows = thin_rows(alloc, draft, &table.schema, &table.rows, whole)?;
+    let name = Text::from_slice(alloc, entry.name.as_slice())?;
+    Ok(NamedTable {
+        name,
+        table: bare_table(alloc, table.schema, rows),
+    })
+}
+
+/// Reads each of these tables so. There are few tables, so the calls don't go deep.
+fn push_thin<D: Digester>(
+    alloc: Global,
+    draft: &Draft<D>,
+    schemas: &[NamedTable],
+    entries: &[Entry],
+    tables: &mut Sequence<NamedTable>,
+) -> Result<(), AllocError>
+    requires { (database : PlainDatabase) × AreThere D.address (chunks_of draft.now.chunks) database entries.now }
+    ensures { (database : PlainDatabase) → AreThere D.address (chunks_of draft.now.chunks) database entries.now
+        → OnOk result (map named_seen tables.new ≡ map named_seen tables.old ++ map (thin_named (map named_seen schemas.now)) database) }
+{
+    if let [first, rest @ ..] = entries {
+        tables.push(thin_read(alloc, draft, schemas, first)?)?;
+        push_thin(alloc, draft, schemas, rest, tables)?;
+    }
+    Ok(())
+}
+
+/// The tables of the database at an address, each with all of its rows or with the first alone: what may break a constraint, and what foreign keys
+/// look for.
+pub(crate) fn read_thinned<D: Digester>(
+    alloc: Global,
+    draft: &Draft<D>,
+    database: &Address,
+) -> Result<Sequence<NamedTable>, AllocError>
+    requires { CanRead D.address (chunks_of draft.now.chunks) database.now.0 }
+    ensures { (contents : PlainDatabase) → IsReadAt D.address (chunks_of draft.now.chunks) database.now.0 contents
+        → IfOk result (λ tables. map named_seen tables ≡ thinned contents) }
+{
+    law_of_databases();
+    let schemas = read_schemas(alloc, draft, database)?;
+    let entries = read_database(alloc, draft, database)?;
+    let mut tables = Sequence::new(alloc);
+    push_thin(
+        alloc,
+        draft,
+        schemas.as_slice(),
+        entries.as_slice(),
+        &mut tables,
+    )?;
+    Ok(tables)
+}
