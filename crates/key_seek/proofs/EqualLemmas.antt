@@ -1,8 +1,6 @@
 -- A column that isn't the literal it is compared with: the comparison has a worth, which isn't true.
-use Rattle.std.proofs.Common.{◌≡◌, ◌∙◌, inl, inr, sym, ap, refl, subst, ℕ, zero, suc, ℤ, pos, negsuc, ◌*ℤ◌, Bool, true, false, List, [], ◌∷◌, Some, map, slice_get, arith}
-use Rattle.std.specs.Ordering.{int_cmp, is_eq}
-use Rattle.std.specs.declared.cmp.Ordering.{Ordering}
-use Rattle.std.specs.declared.cmp.Ordering.TheVariants.{Less, Equal, Greater}
+use Rattle.std.proofs.Common.{◌≡◌, ◌∙◌, inl, inr, sym, ap, refl, subst, ℕ, zero, suc, ℤ, pos, ◌*ℤ◌, Bool, true, false, List, [], ◌∷◌, Some, map, slice_get}
+use Rattle.std.specs.Ordering.{int_cmp}
 use Rattle.std.proofs.lemmas.Bool.{and_parts}
 use Rattle.sql_ast.specs.declared.expressions.Comparison.TheVariants as op
 use Rattle.tuple_codec.specs.Rows.{Cells, cell_at, fits, fits_all, same_value}
@@ -13,19 +11,13 @@ use Rattle.tuple_codec.specs.declared.values.Value.TheVariants as cell
 use Rattle.tuple_codec.proofs.Orders.{values_told}
 use Rattle.schema_model.specs.declared.schemas.Column.{Column}
 use Rattle.sql_values.specs.declared.kinds.Kind.{Kind}
-use Rattle.sql_values.specs.Worths.{Worth, Truth, of_truth, worth_of}
+use Rattle.sql_values.specs.Worths.{of_truth, worth_of}
 use Rattle.expr_eval.specs.declared.bound.Node.{Node}
-use Rattle.expr_eval.specs.Valuing.{Worthy, compared, comparison, holds, two, worth}
+use Rattle.expr_eval.specs.Valuing.{compared, comparison, holds, two, worth}
 use Rattle.expr_eval.proofs.WorthNodes.{worth_column, worth_compare, worth_constant}
+use Rattle.plain_sql.specs.Passing.{IsMissed, is_so}
+use Rattle.plain_sql.proofs.MissedLemmas.{holds_not, times_one}
 use Rattle.key_seek.specs.Parts.{AreSides, IsEquality, is_exact}
-
-abbrev pub is_so : Worth → Bool
-is_so (Truth b) = b
-is_so worth = false
-
--- a worth that isn't true
-abbrev pub IsMissed : Worthy → Type 0
-IsMissed worthy = (w : Worth) × (worthy ≡ Some w) × (is_so w ≡ false)
 
 -- ---- which cells stand in one column
 
@@ -64,15 +56,6 @@ exact_plain (type.Decimal digits scale) (cell.Bytes bytes) p q = absurd (cc)
 exact_plain (type.Decimal digits scale) (cell.Decimal m) p q = absurd (cc)
 
 -- ---- two cells of one column that differ
-
-holds_not : (o : Ordering) → is_eq o ≡ false → holds op.Equal o ≡ false
-holds_not Less h = refl
-holds_not Equal h = absurd (cc)
-holds_not Greater h = refl
-
-times_one : (m : ℤ) → m *ℤ pos 1 ≡ m
-times_one (pos m) = ap (λ (k : ℕ). pos k) (omega arith)
-times_one (negsuc m) = grind arith
 
 -- the comparison isn't true
 abbrev Differs : Value → Value → Kind → Kind → Type 0

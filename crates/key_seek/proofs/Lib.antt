@@ -1,4 +1,3 @@
-pub mod CalmLemmas
 pub mod EqualLemmas
 pub mod KeyLemmas
 pub mod RowLemmas

@@ -9,14 +9,9 @@ use Rattle.tuple_codec.specs.declared.values.Value.TheVariants as cell
 use Rattle.schema_model.specs.declared.schemas.Column.{Column}
 use Rattle.schema_model.specs.declared.schemas.Schema.{Schema}
 use Rattle.sql_values.specs.declared.kinds.Kind.{Kind}
-use Rattle.sql_values.specs.Worths.{Worth}
 use Rattle.expr_eval.specs.declared.bound.Node.{Node}
 use Rattle.expr_eval.specs.declared.bound.Node.TheVariants as node
-use Rattle.expr_eval.specs.Valuing.{worth}
-
--- it is out of range on no row
-abbrev pub IsCalm : Node → Type 0
-IsCalm part = (row : Cells) → (w : Worth) × (worth row part ≡ Some w)
+use Rattle.plain_sql.specs.Passing.{IsCalm}
 
 -- a cell that equals it, in a column that both fit, is the same cell; decimals of a literal may have another scale
 abbrev pub is_exact : Value → Bool

@@ -3,7 +3,6 @@
 //! The crates above use `specs/Seeking.antt`: which rows a test passes over, and which row has a key.
 #![tactic(auto)]
 
-mod calm;
 mod reading;
 mod seeking;
 

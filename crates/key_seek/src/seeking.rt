@@ -8,8 +8,8 @@ ghost use Rattle.schema_model.specs.PlainTables.{key_types};
 ghost use Rattle.key_seek.specs.Parts.{AreSides, IsColumn, IsEquality, IsFixed, IsKeyIn, IsLiteral, IsSaid, is_exact};
 ghost use Rattle.key_seek.specs.Seeking.{SeeksKey};
 
-use crate::calm::{are_calm, is_calm};
 use expr_eval::{BoundExpr, Node};
+use plain_sql::{are_calm, is_calm};
 use schema_model::Schema;
 use sql_ast::Comparison;
 use std::alloc::{AllocError, Global};

@@ -5,3 +5,7 @@ pub mod SortedLemmas
 mod RankLemmas
 mod RunLemmas
 mod DistinctLemmas
+pub mod CalmLemmas
+pub mod MissedLemmas
+mod LinkLemmas
+mod LookupLemmas

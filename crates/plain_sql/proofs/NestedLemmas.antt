@@ -1,15 +1,16 @@
 -- Loops within one another keep what is kept of all combinations.
-use Rattle.std.proofs.Common.{◌≡◌, ◌∙◌, sym, ap, refl, List, [], ◌∷◌, ◌++◌, map, Ok, Err}
-use Rattle.std.proofs.lemmas.List.{append_assoc, append-nil}
+use Rattle.std.proofs.Common.{◌≡◌, ◌≤◌, ◌∙◌, sym, ap, refl, subst, ℕ, ◌+◌, ◌-◌, List, [], ◌∷◌, ◌++◌, length, take, drop, get_or, map, Ok, Err, arith}
+use Rattle.std.proofs.lemmas.List.{append_assoc, append-nil, length-drop, map-append, take_more}
 use Rattle.std.specs.List.{flat_map}
 use Rattle.tuple_codec.specs.Rows.{Cells}
 use Rattle.expr_eval.specs.Binding.{Outcome, and_then}
 use Rattle.plain_sql.specs.Lists.{all_of}
 use Rattle.plain_sql.specs.Answers.{Meaning, combinations, kept, kept_row}
 use Rattle.plain_sql.specs.Nesting.{kept_from}
+use Rattle.plain_sql.specs.declared.sources.Read.{Read}
 
 -- one list behind another
-abbrev behind : {A : Type 0} → Outcome (List A) → Outcome (List A) → Outcome (List A)
+abbrev pub behind : {A : Type 0} → Outcome (List A) → Outcome (List A) → Outcome (List A)
 behind a b = and_then a (λ xs. and_then b (λ ys. Ok (xs ++ ys)))
 
 behind_assoc : {A : Type 0} (a b c : Outcome (List A)) → behind (behind a b) c ≡ behind a (behind b c)
@@ -18,7 +19,7 @@ behind_assoc (Ok xs) (Err n) c = refl
 behind_assoc (Ok xs) (Ok ys) (Err n) = refl
 behind_assoc (Ok xs) (Ok ys) (Ok zs) = ap Ok (append_assoc xs ys zs)
 
-behind_nothing : {A : Type 0} (a : Outcome (List A)) → behind (Ok []) a ≡ a
+pub behind_nothing : {A : Type 0} (a : Outcome (List A)) → behind (Ok []) a ≡ a
 behind_nothing (Err n) = refl
 behind_nothing (Ok xs) = refl
 
@@ -53,3 +54,22 @@ nested tests (rows ∷ sources) row =
 
 pub kept_is : (tests : List Meaning) (sources : List (List Cells)) → kept_from tests sources [] ≡ kept tests (combinations sources)
 kept_is tests sources = nested tests sources []
+
+-- ---- the last source
+
+take_whole : {A : Type 0} (xs : List A) → take (length xs) xs ≡ xs
+take_whole [] = refl
+take_whole (x ∷ xs) = ap (λ l. x ∷ l) (take_whole xs)
+
+pub rest_is : {A : Type 0} (n : ℕ) (xs : List A) → take (length xs - n) (drop n xs) ≡ drop n xs
+rest_is n xs = subst (λ m. take m (drop n xs) ≡ drop n xs) (length-drop n xs) (take_whole (drop n xs))
+
+ends_with : {A : Type 0} (xs : List A) (x : A) → 1 ≤ length xs → x ≡ get_or xs (length xs - 1) x → take (length xs - 1) xs ++ x ∷ [] ≡ xs
+ends_with xs x some is =
+    let all : length xs - 1 + 1 ≡ length xs = omega (arith, some) in
+    ap (λ y. take (length xs - 1) xs ++ y ∷ []) is ∙ sym (take_more xs (length xs - 1) x (omega (arith, some))) ∙ ap (λ n. take n xs) all ∙ take_whole xs
+
+pub last_of : (sources : List Read) (last : Read) → 1 ≤ length sources → last ≡ get_or sources (length sources - 1) last
+    → map (λ (source : Read). source.rows) (take (length sources - 1) sources) ++ last.rows ∷ [] ≡ map (λ (source : Read). source.rows) sources
+last_of sources last some is =
+    sym (map-append (λ (source : Read). source.rows) (take (length sources - 1) sources) (last ∷ [])) ∙ ap (map (λ (source : Read). source.rows)) (ends_with sources last some is)

@@ -32,7 +32,7 @@ or_none : (b : Bool) → (b || false) ≡ b
 or_none true = refl
 or_none false = refl
 
-level_test : (o r : Ordering) → r ≡ ordering_reverse o → (not (is_lt o) && not (is_lt r)) ≡ is_eq o
+pub level_test : (o r : Ordering) → r ≡ ordering_reverse o → (not (is_lt o) && not (is_lt r)) ≡ is_eq o
 level_test Less r e = refl
 level_test Equal r e = ap (λ s. not (is_lt s)) e
 level_test Greater r e = ap (λ s. not (is_lt s)) e

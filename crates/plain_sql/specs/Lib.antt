@@ -7,3 +7,5 @@ pub mod Nesting
 pub mod Temporary
 pub mod Runs
 pub mod Distinct
+pub mod Passing
+pub mod Links

@@ -61,7 +61,7 @@ fn scope_columns(
     Ok(found)
 }
 
-fn copied_rows(alloc: Global, rows: &[Row]) -> Result<Sequence<Row>, AllocError>
+pub fn copied_rows(alloc: Global, rows: &[Row]) -> Result<Sequence<Row>, AllocError>
     ensures { IfOk result (λ copies. copies ≡ rows.now) }
 {
     let mut copies = Sequence::new(alloc);

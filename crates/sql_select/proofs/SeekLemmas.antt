@@ -25,7 +25,8 @@ use Rattle.plain_sql.specs.Plans.{answer, calls_aggregate, condition, conditions
 use Rattle.plain_sql.specs.Temporary.{source_name}
 use Rattle.plain_sql.specs.declared.sources.Known.{Known}
 use Rattle.plain_sql.specs.declared.sources.Read.{Read}
-use Rattle.key_seek.specs.Seeking.{IsPassedOver, SeeksKey, row_with}
+use Rattle.plain_sql.specs.Passing.{IsPassedOver}
+use Rattle.key_seek.specs.Seeking.{SeeksKey, row_with}
 use Rattle.sql_select.specs.Seeks.{AddsServing, AreNeeded, Serves, scope_in}
 use Rattle.sql_select.specs.Sources.{known_table}
 

@@ -12,7 +12,7 @@ use Rattle.expr_eval.specs.declared.bound.Node.{Node}
 use Rattle.expr_eval.specs.declared.bound.Node.TheVariants as n
 use Rattle.expr_eval.specs.Valuing.{Worthy, among, chained, comparison, conjunction, disjunction, matched, one, two, within, worth}
 use Rattle.expr_eval.proofs.WorthNodes.{worth_and, worth_between, worth_column, worth_compare, worth_constant, worth_in, worth_is_not_null, worth_is_null, worth_not, worth_or}
-use Rattle.key_seek.specs.Parts.{IsCalm}
+use Rattle.plain_sql.specs.Passing.{IsCalm}
 
 -- something is known
 abbrev Known : {A : Type 0} → Option A → Type 0

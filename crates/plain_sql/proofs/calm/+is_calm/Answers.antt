@@ -2,10 +2,10 @@ use Rattle.std.proofs.Common.{◌∙◌, sym, subst}
 use Rattle.std.specs.List.{All}
 use Rattle.std.proofs.lemmas.List.{take_all}
 use Rattle.std.proofs.lemmas.List.Elements.{All-more}
-use Rattle.key_seek.specs.Parts.{IsCalm}
-use Rattle.key_seek.proofs.CalmLemmas.{calm_and, calm_between, calm_column, calm_compare, calm_constant, calm_in, calm_is_not_null, calm_is_null, calm_not, calm_or}
-use Rattle.key_seek.proofs.calm.+is_calm.Goals as goal
-use Rattle.key_seek.proofs.calm.+is_calm.Goals.{is_calm-then-is_calm-5, is_calm-else-is_calm-5}
+use Rattle.plain_sql.specs.Passing.{IsCalm}
+use Rattle.plain_sql.proofs.CalmLemmas.{calm_and, calm_between, calm_column, calm_compare, calm_constant, calm_in, calm_is_not_null, calm_is_null, calm_not, calm_or}
+use Rattle.plain_sql.proofs.calm.+is_calm.Goals as goal
+use Rattle.plain_sql.proofs.calm.+is_calm.Goals.{is_calm-then-is_calm-5, is_calm-else-is_calm-5}
 
 pub are_calm-loop-part-preserved : goal.are_calm-loop-part-preserved
 are_calm-loop-part-preserved t c =

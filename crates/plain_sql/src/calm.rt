@@ -1,15 +1,13 @@
-//! Which expressions are out of range on no row.
-
 ghost use Rattle.std.specs.Prelude.{◌≡◌, true};
 ghost use Rattle.std.specs.List.{All};
-ghost use Rattle.key_seek.specs.Parts.{IsCalm};
+ghost use Rattle.plain_sql.specs.Passing.{IsCalm};
 
 use expr_eval::Node;
 
 /// Whether nothing is computed in it that may be out of range. An AND evaluates all its parts, so each of them has to be calm
 /// where rows are passed over unseen.
 #[cycle(is_calm)]
-pub(crate) fn is_calm(part: &Node) -> bool
+pub fn is_calm(part: &Node) -> bool
     ensures { result ≡ true → IsCalm part.now }
 {
     match part {
@@ -35,7 +33,7 @@ pub(crate) fn is_calm(part: &Node) -> bool
 
 /// Whether each of them is calm.
 #[cycle(is_calm)]
-pub(crate) fn are_calm(parts: &[Node]) -> bool
+pub fn are_calm(parts: &[Node]) -> bool
     ensures { result ≡ true → All IsCalm parts.now }
 {
     for part in parts {

@@ -1,0 +1,126 @@
+ghost use Rattle.std.specs.Prelude.{◌≡◌, IfOk, IfSome, List, filter, map};
+ghost use Rattle.std.specs.List.{list_all};
+ghost use Rattle.tuple_codec.specs.Rows.{Cells, cell_at, value_cmp};
+ghost use Rattle.plain_sql.specs.Links.{Serves, Sorts, cell_cmp, has_cell, suits, suits_at};
+ghost use Rattle.plain_sql.specs.Lists.{in_order};
+ghost use Rattle.plain_sql.specs.Plans.{meaning};
+
+use crate::linking::{Link, link_of};
+use crate::ranking::compare_cells;
+use crate::shown::is_null;
+use crate::sources::copied_rows;
+use expr_eval::BoundExpr;
+use sql_values::Kind;
+use std::alloc::{AllocError, Global};
+use std::cmp::Ordering;
+use tuple_codec::{Row, Sequence, Value};
+
+/// The last source's rows from the least to the greatest cell that a test compares with one before.
+#[derive(Drop)]
+pub struct Lookup {
+    pub link: Link,
+    /// How many cells stand before the last source's.
+    pub width: usize,
+    pub rows: Sequence<Row>,
+}
+
+/// Whether it is a cell of this kind, or NULL.
+pub fn suits(kind: &Kind, value: &Value) -> bool
+    ensures { result ≡ suits kind.now value.now }
+{
+    match value {
+        Value::Null => true,
+        Value::Int(_) => matches!(kind, Kind::Int),
+        Value::Bool(_) => matches!(kind, Kind::Bool),
+        Value::Text(_) => matches!(kind, Kind::Text),
+        Value::Bytes(_) => matches!(kind, Kind::Bytes),
+        Value::Decimal(_) => matches!(kind, Kind::Decimal(_)),
+    }
+}
+
+fn suits_at(kind: &Kind, place: usize, row: &[Value]) -> bool
+    ensures { result ≡ suits_at kind.now place row.now }
+{
+    match row.get(place) {
+        Some(cell) => suits(kind, cell),
+        None => true,
+    }
+}
+
+fn all_suit(kind: &Kind, place: usize, rows: &[Row]) -> bool
+    ensures { result ≡ list_all (suits_at kind.now place) rows.now }
+{
+    for row in rows {
+        if !suits_at(kind, place, row.as_slice()) {
+            return false;
+        }
+    }
+    true
+}
+
+/// The rows from the least to the greatest cell at a place; those with the same cell stay as they stood.
+fn sorted_at(alloc: Global, place: usize, mut rows: Vec<Row>) -> Result<Vec<Row>, AllocError>
+    ensures { IfOk result (λ found. found.items ≡ in_order (cell_cmp place) rows.items) }
+{
+    rows.as_mut_slice().sort_by(
+        alloc,
+        |a, b| compare_cells(place, a.as_slice(), b.as_slice()),
+    )?;
+    Ok(rows)
+}
+
+fn compare_cell(place: usize, row: &[Value], key: &Value) -> Ordering
+    ensures { result ≡ value_cmp (cell_at row.now place) key.now }
+{
+    match row.get(place) {
+        Some(cell) => cell.compare(key),
+        None => Value::Null.compare(key),
+    }
+}
+
+/// The rows whose cell at a place is this one, of rows in the order of these cells; NULL is no row's.
+pub fn rows_with<'a>(rows: &'a [Row], place: usize, key: &Value) -> &'a [Row]
+    ensures { (all : List Cells) → rows.now ≡ in_order (cell_cmp place) all → result.now ≡ filter (has_cell place key.now) all }
+{
+    if is_null(key) {
+        return &[];
+    }
+    let from = rows.partition_point(|row| compare_cell(place, row.as_slice(), key).is_lt());
+    let rest = &rows[from..];
+    let count = rest.partition_point(|row| compare_cell(place, row.as_slice(), key).is_le());
+    &rest[..count]
+}
+
+fn lookup_by(
+    alloc: Global,
+    link: Link,
+    width: usize,
+    last: &[Row],
+) -> Result<Option<Lookup>, AllocError>
+    ensures { IfOk result (λ found. IfSome found (Sorts link width last.now)) }
+{
+    if !all_suit(&link.kind, link.place, last) {
+        return Ok(None);
+    }
+    let rows = sorted_at(alloc, link.place, copied_rows(alloc, last)?.into_vec())?;
+    Ok(Some(Lookup {
+        link,
+        width,
+        rows: Sequence::from_vec(rows),
+    }))
+}
+
+/// The last source's rows in the order of a cell, where the tests pass over each row whose cell isn't equal to an earlier one.
+pub fn lookup_of(
+    alloc: Global,
+    tests: &[BoundExpr],
+    width: usize,
+    last: &[Row],
+) -> Result<Option<Lookup>, AllocError>
+    ensures { IfOk result (λ found. IfSome found (Serves (map meaning tests.now) last.now)) }
+{
+    match link_of(width, tests) {
+        None => Ok(None),
+        Some(link) => lookup_by(alloc, link, width, last),
+    }
+}
