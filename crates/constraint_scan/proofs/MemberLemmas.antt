@@ -126,3 +126,13 @@ module _ {A : Type 0} (p : A → Bool) where
       or_none : (b : Bool) → (b || false) ≡ b
       or_none true = refl
       or_none false = refl
+
+-- which of two lists is gone through first
+pub any_swapped : {A B : Type 0} (p : A → B → Bool) (xs : List A) (ys : List B) → list_any (λ x. list_any (λ y. p x y) ys) xs ≡ list_any (λ y. list_any (λ x. p x y) xs) ys
+any_swapped p xs ys = as_one (list_any (λ x. list_any (λ y. p x y) ys) xs) (list_any (λ y. list_any (λ x. p x y) xs) ys)
+    (λ e. let x = some_at (λ x. list_any (λ y. p x y) ys) xs e in
+    let y = some_at (λ y. p x.0 y) ys x.2 in
+    at_some (λ y. list_any (λ x. p x y) xs) ys y.0 y.1 (at_some (λ x. p x y.0) xs x.0 x.1 y.2))
+    (λ e. let y = some_at (λ y. list_any (λ x. p x y) xs) ys e in
+    let x = some_at (λ x. p x y.0) xs y.2 in
+    at_some (λ x. list_any (λ y. p x y) ys) xs x.0 x.1 (at_some (λ y. p x.0 y) ys y.0 y.1 x.2))

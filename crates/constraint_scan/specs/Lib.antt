@@ -7,3 +7,4 @@ pub mod Seeking
 pub mod Roots
 pub mod Changed
 pub mod Thinned
+pub mod Pairs

@@ -8,7 +8,9 @@ ghost use Rattle.plain_schemas.specs.Statements.{checks};
 ghost use Rattle.constraint_scan.specs.Scanning.{CanRead, IsReadAt, has_constraints, is_constrained};
 
 use crate::canonical::CanonicalChecks;
-use crate::laws::law_of_refusals;
+use crate::changing::told_by_pairs;
+use crate::laws::{law_of_changes, law_of_refusals};
+use crate::pairing::read_pairs;
 use crate::reading::{read_schemas, read_tables};
 use chunk_store::Draft;
 use plain_writes::{NamedTable, first_violation as first_of_tables};
@@ -72,12 +74,31 @@ fn judged<D: Digester>(
     first_of_tables::<CanonicalChecks>(alloc, before.as_slice(), after.as_slice())
 }
 
+/// The refusal by the rows that changed, where the databases have the same names and schemas, and else by all rows.
+fn told<D: Digester>(
+    alloc: Global,
+    draft: &Draft<D>,
+    old: &Address,
+    new: &Address,
+) -> Result<Option<u16>, AllocError>
+    requires old { CanRead D.address (chunks_of draft.now.chunks) old.now.0 }
+    requires new { CanRead D.address (chunks_of draft.now.chunks) new.now.0 }
+    ensures { (before after : PlainDatabase) → IsReadAt D.address (chunks_of draft.now.chunks) old.now.0 before → IsReadAt D.address (chunks_of draft.now.chunks) new.now.0 after
+        → IfOk result (λ number. number ≡ first_violation checks before after) }
+{
+    law_of_changes();
+    match read_pairs(alloc, draft, old, new)? {
+        Some(pairs) => told_by_pairs(alloc, draft, pairs.as_slice()),
+        None => judged(alloc, draft, old, new),
+    }
+}
+
 /// The refusal of a statement that turns the one database into the other: 1062, 3819, 1452 or 1451 by the first of these that the
 /// violations which it brings have, or none where it brings none. NULL in a NOT NULL column is no refusal here: such rows are refused where a row
 /// takes NULL.
 ///
-/// Both databases are read whole, but where the addresses are equal, or where no table of the new one has a unique index, a CHECK or a
-/// foreign key.
+/// Where both databases have the same names and schemas of tables, the rows that changed are judged alone. Else both are read whole,
+/// but where no table of the new one has a unique index, a CHECK or a foreign key.
 pub fn first_violation<D: Digester>(
     alloc: Global,
     draft: &Draft<D>,
@@ -95,7 +116,7 @@ pub fn first_violation<D: Digester>(
         return Ok(None);
     }
     if is_database_constrained(alloc, draft, new)? {
-        judged(alloc, draft, old, new)
+        told(alloc, draft, old, new)
     } else {
         Ok(None)
     }

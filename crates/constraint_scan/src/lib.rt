@@ -6,12 +6,15 @@
 //! database may record, and the database that has.
 #![tactic(auto)]
 
+mod alike;
 mod canonical;
 mod cells;
+mod changing;
 mod entries;
 mod judging;
 mod laws;
 mod listing;
+mod pairing;
 mod reading;
 mod recording;
 mod seeking;

@@ -225,6 +225,33 @@ fn has_parent_at<D: Digester>(
     }
 }
 
+/// Whether the parent table has this key in the columns that a foreign key names. It has none where a column isn't there, or is of another type.
+pub(crate) fn has_parent_key<D: Digester>(
+    alloc: Global,
+    draft: &Draft<D>,
+    parent: &Table,
+    schema: &Schema,
+    foreign: &ForeignKey,
+    key: &Row,
+) -> Result<bool, AllocError>
+    requires { (contents : PlainTable) × IsTableOf D.address (chunks_of draft.now.chunks) parent.now contents }
+    ensures { (contents : PlainTable) → IsTableOf D.address (chunks_of draft.now.chunks) parent.now contents
+        → IfOk result (λ found. found ≡ list_any (same_cells key.now) (keys_of_parent schema.now foreign.now contents)) }
+{
+    match places_of(alloc, &parent.schema, foreign.parent_columns.as_slice())? {
+        Some(places) => has_parent_at(
+            alloc,
+            draft,
+            parent,
+            schema,
+            foreign,
+            places.as_slice(),
+            key,
+        ),
+        None => Ok(false),
+    }
+}
+
 /// Whether the parent table has the key of this row of a table of the schema that has the foreign key. It has none where a column isn't there, or
 /// is of another type.
 pub fn has_parent<D: Digester>(
@@ -240,18 +267,7 @@ pub fn has_parent<D: Digester>(
         → IfOk result (λ found. found ≡ list_any (same_cells (key_of foreign.now.columns row.now)) (keys_of_parent schema.now foreign.now contents)) }
 {
     let key = key_of(alloc, foreign.columns.as_slice(), row)?;
-    match places_of(alloc, &parent.schema, foreign.parent_columns.as_slice())? {
-        Some(places) => has_parent_at(
-            alloc,
-            draft,
-            parent,
-            schema,
-            foreign,
-            places.as_slice(),
-            &key,
-        ),
-        None => Ok(false),
-    }
+    has_parent_key(alloc, draft, parent, schema, foreign, &key)
 }
 
 /// Whether a row of the table that has the foreign key has this key in its columns.

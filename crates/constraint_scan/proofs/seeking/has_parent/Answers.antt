@@ -1,17 +1,10 @@
-use Rattle.std.proofs.Common.{◌∙◌, List, ℕ, Some, ap, sym}
-use Rattle.chunk_store.specs.Drafts.{chunks_of}
-use Rattle.tuple_codec.specs.Rows.{key_of}
-use Rattle.schema_model.specs.declared.schemas.Schema.{Schema}
-use Rattle.plain_writes.specs.Violations.{places_of}
-use Rattle.constraint_scan.proofs.FoundLemmas.{parent_found}
-use Rattle.constraint_scan.proofs.TreeLemmas.{schema_same}
+use Rattle.std.proofs.Common.{◌≡◌, ◌∙◌, IfOk, List, ℕ, ap, subst}
+use Rattle.std.specs.List.{list_any}
+use Rattle.tuple_codec.specs.Rows.{Cells, key_of, same_cells}
+use Rattle.plain_writes.specs.Violations.{keys_of_parent}
 use Rattle.constraint_scan.proofs.seeking.has_parent.Goals as goal
 
-pub returns-in-Some : goal.returns-in-Some
-returns-in-Some g c = λ contents at.
-    let schema = schema_same g.D.Digester.address (chunks_of c.args.draft.now.chunks) c.args.parent.now contents at in
-    let foreign = c.args.foreign.now in
-    let places = ap (λ (s : Schema). places_of s foreign.parent_columns) (sym schema) ∙ ap (places_of c.args.parent.now.schema) (sym c.as_slice-2.ensures) ∙ sym c.in_ok-places.ensures ∙ c.in-Some.is
-    ∙ ap (λ (l : List ℕ). Some l) (sym c.as_slice-in-Some.ensures) in
-    parent_found c.has_parent_at.result c.args.schema.now foreign contents c.as_slice-in-Some.result.now c.in_ok-key.key (key_of foreign.columns c.args.row.now)
-    (c.in_ok-key.ensures ∙ ap (λ (p : List ℕ). key_of p c.args.row.now) c.as_slice.ensures) places (c.has_parent_at.ensures contents at)
+pub returns : goal.returns
+returns g c = λ contents at.
+    subst (λ (key : Cells). IfOk c.has_parent_key.result (λ found. found ≡ list_any (same_cells key) (keys_of_parent c.args.schema.now c.args.foreign.now contents)))
+    (c.in_ok-key.ensures ∙ ap (λ (p : List ℕ). key_of p c.args.row.now) c.as_slice.ensures) (c.has_parent_key.ensures contents at)
