@@ -6,6 +6,8 @@ pub mod PlaceLemmas
 pub mod SaidLemmas
 pub mod DifferenceLemmas
 pub mod TurningLemmas
+pub mod PassingLemmas
+pub mod ReadingLemmas
 pub mod TurnLemmas
 pub mod KeepLemmas
 pub mod SkeletonLemmas

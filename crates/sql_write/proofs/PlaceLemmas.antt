@@ -143,7 +143,7 @@ pub then_assoc : {A B C : Type 0} (o : Outcome A) (f : A → Outcome B) (g : B �
 then_assoc (Ok x) f g = refl
 then_assoc (Err number) f g = refl
 
-then_same : {A B : Type 0} (o : Outcome A) (f g : A → Outcome B) → ((x : A) → f x ≡ g x) → and_then o f ≡ and_then o g
+pub then_same : {A B : Type 0} (o : Outcome A) (f g : A → Outcome B) → ((x : A) → f x ≡ g x) → and_then o f ≡ and_then o g
 then_same (Ok x) f g same = same x
 then_same (Err number) f g same = refl
 

@@ -1,35 +1,49 @@
 -- The rows of a table after an UPDATE or a DELETE: rows of the table, within the limits, by rising key.
-use Rattle.std.proofs.Common.{◌≡◌, refl, sym, ap, ◌∙◌, subst, ℕ, ◌<◌, ◌^◌, true, List, length, map, None, Ok}
+use Rattle.std.proofs.Common.{◌≡◌, refl, sym, ap, ◌∙◌, subst, ℕ, ◌+◌, ◌<◌, ◌≤◌, ◌^◌, Bool, true, ◌&&◌, nat_le, List, [], ◌∷◌, ◌++◌, length, map, None, Ok, Err, append-nil, length-append, arith}
 use Rattle.std.specs.List.{AllByRecursion, count_by, list_all}
+use Rattle.std.proofs.lemmas.Bool.{leb-true}
 use Rattle.tuple_codec.specs.Edits.{EditsRiseAfter, edited}
+use Rattle.tuple_codec.specs.Nodes.{Rise}
 use Rattle.tuple_codec.specs.Rows.{Cells}
 use Rattle.tuple_codec.specs.declared.edits.Edit.{Edit}
-use Rattle.schema_model.specs.Limits.{is_row_within_limits}
+use Rattle.schema_model.specs.Limits.{is_conflict_within_limits, is_row_within_limits, is_table_within_limits, is_violation_within_limits, is_within_limits, most_rows}
 use Rattle.schema_model.specs.PlainTables.{PlainDatabase, PlainTable, is_row, rises, row_item}
 use Rattle.schema_model.specs.Schemas.{is_schema}
 use Rattle.schema_model.specs.declared.schemas.Schema.{Schema}
 use Rattle.sql_ast.specs.declared.statements.Delete.{Delete}
 use Rattle.sql_ast.specs.declared.statements.Update.{Update}
 use Rattle.chunk_store.specs.Chunks.{Chunks}
-use Rattle.expr_eval.specs.Binding.{and_then}
+use Rattle.edit_laws.specs.ByKey.{ChangesFollow}
+use Rattle.expr_eval.specs.Binding.{Outcome, and_then}
+use Rattle.plain_sql.specs.Answers.{Meaning}
+use Rattle.plain_sql.specs.Gives.{Gives, GivesBy}
 use Rattle.plain_sql.specs.Lists.{each}
-use Rattle.plain_writes.specs.Violations.{own_scope}
-use Rattle.plain_writes.specs.Writes.{bound_assignment, by_key, keyed_cmp, rest_of, stays, tests_of, turned_small}
+use Rattle.plain_sql.specs.declared.faults.Refused.{Refused}
+use Rattle.plain_sql.specs.declared.faults.Refused.TheVariants as refused
+use Rattle.plain_writes.specs.Violations.{Checks, own_scope}
+use Rattle.plain_writes.specs.Writes.{Assign, Effect, bound_assignment, by_key, deleted, filled, keyed_cmp, rest_of, stays, tests_of, turned_small, updated}
 use Rattle.plain_writes.specs.declared.updating.Later.{Later}
 use Rattle.table_root.specs.Standing.{IsTableOf}
-use Rattle.table_rows.specs.Rows.{AreRowsAt}
+use Rattle.table_rows.specs.Rows.{AreRowsAt, RowItemsFollow}
 use Rattle.table_root.specs.declared.records.Table.{Table}
-use Rattle.write_laws.proofs.DatabaseLemmas.{IsKeptTable, by_key_so, limits_so, rows_good}
+use Rattle.write_laws.proofs.DatabaseLemmas.{IsKeptTable, by_key_so, keyed_total, limits_so, rows_good}
+use Rattle.write_laws.proofs.OrderLemmas.{both_so, left_so, right_so, two}
 use Rattle.write_laws.proofs.OutcomeLemmas.{each_have, ok_same, then_so}
 use Rattle.write_laws.proofs.RowLemmas.{IsPlaced, all_left, all_rest, all_right, all_rows, assignment_placed, stay_all_good, turned_all_good}
+use Rattle.sql_write.specs.Changes.{AreToTurn, Turning, change_of, change_with}
+use Rattle.sql_write.specs.Differences.{row_edits}
 use Rattle.sql_write.specs.Finding.{IsFound}
 use Rattle.sql_write.specs.Inserting.{is_good}
+use Rattle.sql_write.specs.Passing.{AreRead, among, sets_key}
 use Rattle.sql_write.specs.Putting.{CanFill}
-use Rattle.sql_write.specs.Turning.{rows_deleted, rows_updated, rows_updated_by, turned_rows}
-use Rattle.sql_write.specs.Updating.{MayTurn}
+use Rattle.sql_write.specs.Turning.{RowsComeFirst, filling, rows_deleted, rows_deleted_by, rows_turned_by, rows_updated, rows_updated_by, turned_rows}
+use Rattle.sql_write.specs.Updating.{HasSome, MayTurn}
 use Rattle.sql_write.specs.declared.finding.Found.{Found}
 use Rattle.sql_write.specs.declared.turning.Turned.{Turned}
-use Rattle.sql_write.proofs.PlaceLemmas.{found_table, rows_tree, schema_same}
+use Rattle.sql_write.proofs.DifferenceLemmas.{edits_among}
+use Rattle.sql_write.proofs.PassingLemmas.{deleted_among, middle_rises, turned_of, updated_among}
+use Rattle.sql_write.proofs.PlaceLemmas.{found_table, rows_tree, schema_same, then_assoc, then_same}
+use Rattle.sql_write.proofs.RiseLemmas.{are_leaves, items_rise}
 use Rattle.sql_write.proofs.TableLemmas.{kept_listed, kept_read}
 
 -- rows of the table, within the limits, by rising key
@@ -77,79 +91,273 @@ rows_at address chunks table contents of =
 pub valid_schema : (address : List ℕ → List ℕ) (chunks : Chunks) (table : Table) (contents : PlainTable) → IsTableOf address chunks table contents → is_schema table.schema ≡ true
 valid_schema address chunks table contents of = ap is_schema (schema_same address chunks table contents of) ∙ of.is_table.schema
 
+-- ---- what was read, among what wasn't
+
+-- what a statement does to all rows is what it does to those that were read, among others before and behind them
+pub record Splits (all read : List Cells) (whole part : Outcome Turned) : Type 0 where
+  pub front : List Cells
+  pub back : List Cells
+  pub split : all ≡ front ++ (read ++ back)
+  pub same : whole ≡ and_then part (λ turned. Ok (among front back turned))
+
+among_none : (part : Outcome Turned) → part ≡ and_then part (λ turned. Ok (among [] [] turned))
+among_none (Ok turned) = ap (λ (l : List Cells). turned_of turned.count l) (sym (append-nil turned.rows))
+among_none (Err number) = refl
+
+-- an UPDATE, once it is known what it asks and sets
+abbrev changed_rows : Schema → List Cells → Turning → Outcome Turned
+changed_rows schema rows turning = rows_turned_by schema rows turning.sets turning.tests
+
+abbrev turning_of : List Assign → List Meaning → Outcome Turning
+turning_of sets tests = Ok (record { sets = sets; tests = tests })
+
+updated_steps : (schema : Schema) (rows : List Cells) (update : Update) → rows_updated schema rows update ≡ and_then (change_of schema update) (changed_rows schema rows)
+updated_steps schema rows update =
+    let scope = own_scope update.table schema in
+    let bound_ = each (bound_assignment schema scope) update.assignments in
+    then_same bound_ (rows_updated_by schema rows update.filter scope) (λ sets. and_then (change_with scope update.filter sets) (changed_rows schema rows))
+    (λ sets. sym (then_assoc (tests_of scope update.filter) (turning_of sets) (changed_rows schema rows)))
+    ∙ sym (then_assoc bound_ (change_with scope update.filter) (changed_rows schema rows))
+
+module _ (schema : Schema) (all read : List Cells) (rise : rises (keyed_cmp schema) all ≡ true) where
+  delete_parts : (delete : Delete) (tests : List Meaning) → tests_of (own_scope delete.table schema) delete.filter ≡ Ok tests → AreRead tests all read
+      → Splits all read (rows_deleted schema all delete) (rows_deleted_by schema read tests)
+  delete_parts delete tests tests_are are = record {
+    front = are.front;
+    back = are.back;
+    split = are.split;
+    same = ap (λ (o : Outcome (List Meaning)). and_then o (rows_deleted_by schema all)) tests_are ∙ deleted_among schema tests all read are rise;
+  }
+
+  turned_parts : (turning : Turning) → AreToTurn schema turning all read → Splits all read (changed_rows schema all turning) (changed_rows schema read turning)
+  turned_parts turning are = two (sets_key schema turning.sets)
+      (λ t. let is = are.whole t in record {
+        front = [];
+        back = [];
+        split = is ∙ sym (append-nil read);
+        same = ap (λ (l : List Cells). changed_rows schema l turning) is ∙ among_none (changed_rows schema read turning);
+      })
+      (λ t. let read_are = are.passed in record {
+        front = read_are.front;
+        back = read_are.back;
+        split = read_are.split;
+        same = updated_among schema turning.sets turning.tests all read read_are rise t;
+      })
+
+  update_parts : (update : Update) (turning : Turning) → change_of schema update ≡ Ok turning → AreToTurn schema turning all read
+      → Splits all read (rows_updated schema all update) (changed_rows schema read turning)
+  update_parts update turning turning_is are =
+      let parts = turned_parts turning are in record {
+        front = parts.front;
+        back = parts.back;
+        split = parts.split;
+        same = updated_steps schema all update ∙ ap (λ (o : Outcome Turning). and_then o (changed_rows schema all)) turning_is ∙ parts.same;
+      }
+
 -- ---- rows put
 
-module _ (address : List ℕ → List ℕ) (chunks : Chunks) (k name : List ℕ) (found : Found) (old : List Cells) (turned : Turned) (database : PlainDatabase) (contents : PlainTable)
-    (may : MayTurn address chunks k name found old turned database contents) where
-  same : found.table.schema ≡ contents.schema
+front_all : (p : Cells → Bool) (rows more : List Cells) → list_all p (rows ++ more) ≡ true → list_all p rows ≡ true
+front_all p [] more e = refl
+front_all p (row ∷ rows) more e = both_so (left_so (p row) (list_all p (rows ++ more)) e) (front_all p rows more (right_so (p row) (list_all p (rows ++ more)) e))
+
+back_all : (p : Cells → Bool) (rows more : List Cells) → list_all p (rows ++ more) ≡ true → list_all p more ≡ true
+back_all p [] more e = e
+back_all p (row ∷ rows) more e = back_all p rows more (right_so (p row) (list_all p (rows ++ more)) e)
+
+middle_all : (p : Cells → Bool) (front rows back : List Cells) → list_all p (front ++ (rows ++ back)) ≡ true → list_all p rows ≡ true
+middle_all p front rows back e = front_all p rows back (back_all p front (rows ++ back) e)
+
+few_rows : (table : PlainTable) → is_table_within_limits table ≡ true → length table.rows ≤ most_rows
+few_rows table within =
+    let violations = list_all (is_violation_within_limits table.schema) table.violations in
+    let conflicts = list_all (is_conflict_within_limits table.schema) table.conflicts in
+    let rows = list_all (is_row_within_limits table.schema) table.rows in
+    let few = nat_le (length table.rows) most_rows in
+    let four = left_so (is_within_limits table.schema && few && rows && conflicts) violations within in
+    let three = left_so (is_within_limits table.schema && few && rows) conflicts four in
+    let two_ = left_so (is_within_limits table.schema && few) rows three in
+    leb-true (length table.rows) most_rows (right_so (is_within_limits table.schema) few two_)
+
+parts_length : (front rows back all : List Cells) → all ≡ front ++ (rows ++ back) → length all ≡ length front + (length rows + length back)
+parts_length front rows back all is = ap (λ (l : List Cells). length l) is ∙ length-append front (rows ++ back) ∙ ap (λ n. length front + n) (length-append rows back)
+
+module _ (address : List ℕ → List ℕ) (chunks : Chunks) (k name : List ℕ) (found : Found) (old : List Cells) (turned : Turned) (database : PlainDatabase) (contents : PlainTable) (rows : List Cells)
+    (may : MayTurn address chunks k name found old turned database contents rows) where
+  abbrev schema : Schema
+  schema = found.table.schema
+
+  same : schema ≡ contents.schema
   same = schema_same address chunks found.table contents may.found_is.stands
 
   kept_table : IsKeptTable contents
   kept_table = found_table address chunks k name database contents found may.found_is
 
-  pub old_fit : list_all (is_row found.table.schema) old ≡ true
-  old_fit =
+  valid : is_schema schema ≡ true
+  valid = valid_schema address chunks found.table contents may.found_is.stands
+
+  olds_fit : list_all (is_row schema) (may.front ++ (old ++ may.back)) ≡ true
+  olds_fit =
       let of = may.found_is.stands in
-      ap (λ (l : List Cells). list_all (is_row found.table.schema) l) may.old_is ∙ ap (λ (s : Schema). list_all (is_row s) contents.rows) same ∙ of.is_table.rows
+      sym (ap (λ (l : List Cells). list_all (is_row schema) l) may.old_is) ∙ ap (λ (s : Schema). list_all (is_row s) contents.rows) same ∙ of.is_table.rows
 
-  pub old_rise : rises (keyed_cmp found.table.schema) old ≡ true
-  old_rise =
+  olds_rise : rises (keyed_cmp schema) (may.front ++ (old ++ may.back)) ≡ true
+  olds_rise =
       let of = may.found_is.stands in
-      ap (λ (l : List Cells). rises (keyed_cmp found.table.schema) l) may.old_is ∙ ap (λ (s : Schema). rises (keyed_cmp s) contents.rows) same ∙ of.is_table.keys
+      sym (ap (λ (l : List Cells). rises (keyed_cmp schema) l) may.old_is) ∙ ap (λ (s : Schema). rises (keyed_cmp s) contents.rows) same ∙ of.is_table.keys
 
-  pub new_fit : list_all (is_row found.table.schema) turned.rows ≡ true
-  new_fit = ap (λ (s : Schema). list_all (is_row s) turned.rows) same ∙ all_left (is_row contents.schema) (is_row_within_limits contents.schema) turned.rows may.good
+  news_fit : list_all (is_row schema) (may.front ++ (turned.rows ++ may.back)) ≡ true
+  news_fit =
+      sym (ap (λ (l : List Cells). list_all (is_row schema) l) may.new_is)
+      ∙ ap (λ (s : Schema). list_all (is_row s) rows) same ∙ all_left (is_row contents.schema) (is_row_within_limits contents.schema) rows may.good
 
-  pub new_rise : rises (keyed_cmp found.table.schema) turned.rows ≡ true
-  new_rise = ap (λ (s : Schema). rises (keyed_cmp s) turned.rows) same ∙ may.rise
+  news_rise : rises (keyed_cmp schema) (may.front ++ (turned.rows ++ may.back)) ≡ true
+  news_rise = sym (ap (λ (l : List Cells). rises (keyed_cmp schema) l) may.new_is) ∙ ap (λ (s : Schema). rises (keyed_cmp s) rows) same ∙ may.rise
 
-  pub can_turn : (edits : List Edit) (count : ℕ) → count ≡ length turned.rows → length turned.rows < 2 ^ 63 → EditsRiseAfter None edits
-      → edited (map (row_item found.table.schema) old) edits ≡ map (row_item found.table.schema) turned.rows
-      → CanFill address chunks k found.tables.items found.table edits count database contents turned.rows
-  can_turn edits count counted few rise is =
-      let table = kept_table in record {
+  pub old_fit : list_all (is_row schema) old ≡ true
+  old_fit = middle_all (is_row schema) may.front old may.back olds_fit
+
+  pub old_rise : rises (keyed_cmp schema) old ≡ true
+  old_rise = middle_rises (keyed_cmp schema) (keyed_total schema) may.front old may.back olds_rise
+
+  pub new_fit : list_all (is_row schema) turned.rows ≡ true
+  new_fit = middle_all (is_row schema) may.front turned.rows may.back news_fit
+
+  pub new_rise : rises (keyed_cmp schema) turned.rows ≡ true
+  new_rise = middle_rises (keyed_cmp schema) (keyed_total schema) may.front turned.rows may.back news_rise
+
+  pub has_some : HasSome address chunks found.table old contents
+  has_some =
+      let table = kept_table in
+      let split = parts_length may.front old may.back contents.rows may.old_is in record {
+        stands = may.found_is.stands;
+        some = omega (arith, split);
+        few = few_rows contents table.within;
+      }
+
+  -- the edits of the rows that were read are those of all rows
+  edits_all : RowItemsFollow → row_edits schema old turned.rows ≡ row_edits schema contents.rows rows
+  edits_all follow =
+      sym (edits_among schema may.front old turned.rows may.back (items_rise follow schema (may.front ++ (old ++ may.back)) valid olds_fit olds_rise)
+      (items_rise follow schema (may.front ++ (turned.rows ++ may.back)) valid news_fit news_rise))
+      ∙ (λ i. row_edits schema (sym may.old_is i) (sym may.new_is i))
+
+  edited_all : RowItemsFollow → ChangesFollow → edited (map (row_item schema) contents.rows) (row_edits schema contents.rows rows) ≡ map (row_item schema) rows
+  edited_all follow changes =
+      changes.back (map (row_item schema) contents.rows) (map (row_item schema) rows)
+      (subst (λ (l : List Cells). Rise (map (row_item schema) l)) (sym may.old_is) (items_rise follow schema (may.front ++ (old ++ may.back)) valid olds_fit olds_rise))
+      (subst (λ (l : List Cells). Rise (map (row_item schema) l)) (sym may.new_is) (items_rise follow schema (may.front ++ (turned.rows ++ may.back)) valid news_fit news_rise))
+      (are_leaves schema contents.rows) (are_leaves schema rows)
+
+  pub can_turn : RowItemsFollow → ChangesFollow → (edits : List Edit) (count : ℕ) → count + length old ≡ length contents.rows + length turned.rows → length turned.rows + 10000000 < 2 ^ 63
+      → EditsRiseAfter None edits → edits ≡ row_edits schema old turned.rows
+      → CanFill address chunks k found.tables.items found.table edits count database contents rows
+  can_turn follow changes edits count counted few rise is =
+      let table = kept_table in
+      let all_is = is ∙ edits_all follow in
+      let whole = ap (λ (l : List Edit). edited (map (row_item schema) contents.rows) l) all_is ∙ edited_all follow changes in
+      let old_length = parts_length may.front old may.back contents.rows may.old_is in
+      let new_length = parts_length may.front turned.rows may.back rows may.new_is in
+      let most : length contents.rows ≤ 10000000 = few_rows contents table.within in record {
         at = kept_read address chunks k database may.found_is.kept;
         put = record {
           listed = (kept_listed address chunks k database found.tables.items may.found_is.kept may.found_is.listed).listed;
           edit = record {
             stands = may.found_is.stands;
             rise = rise;
-            items = sym (sym (ap (λ (l : List Cells). edited (map (row_item contents.schema) l) edits) may.old_is)
-                ∙ subst (λ (s : Schema). edited (map (row_item s) old) edits ≡ map (row_item s) turned.rows) same is);
+            items = sym (subst (λ (s : Schema). edited (map (row_item s) contents.rows) edits ≡ map (row_item s) rows) same whole);
             rows_of = record {
               valid = table.is_table.schema;
-              fit = all_left (is_row contents.schema) (is_row_within_limits contents.schema) turned.rows may.good;
-              limits = all_right (is_row contents.schema) (is_row_within_limits contents.schema) turned.rows may.good;
-              few = few;
+              fit = all_left (is_row contents.schema) (is_row_within_limits contents.schema) rows may.good;
+              limits = all_right (is_row contents.schema) (is_row_within_limits contents.schema) rows may.good;
+              few = omega (arith, old_length, new_length, most, few);
             };
           };
           limits = (limits_so contents table.within).0;
         };
-        counted = counted;
+        counted = omega (arith, old_length, new_length, counted);
       }
 
--- ---- what a statement says of the rows that were read
+-- ---- what a statement comes to
 
-module _ (address : List ℕ → List ℕ) (chunks : Chunks) (k name : List ℕ) (found : Found) (old read : List Cells) (turned : Turned) (database : PlainDatabase) (contents : PlainTable)
-    (is : IsFound address chunks k name database contents found) (old_is : old ≡ contents.rows) (read_is : read ≡ contents.rows) where
+module _ (address : List ℕ → List ℕ) (chunks : Chunks) (k name : List ℕ) (found : Found) (old : List Cells) (database : PlainDatabase) (contents : PlainTable)
+    (is : IsFound address chunks k name database contents found) where
   all_good : list_all (is_good contents.schema) contents.rows ≡ true
   all_good = rows_good contents (found_table address chunks k name database contents found is)
 
-  may_turn : AreGood contents.schema turned.rows → MayTurn address chunks k name found old turned database contents
-  may_turn are = record { found_is = is; old_is = old_is; good = are.good; rise = are.rise }
+  all_rise : rises (keyed_cmp contents.schema) contents.rows ≡ true
+  all_rise = let of = is.stands in of.is_table.keys
 
-  pub update_said : (update : Update) → rows_updated found.table.schema read update ≡ Ok turned → rows_updated contents.schema contents.rows update ≡ Ok turned
-  update_said update e =
-      ap (λ (s : Schema). rows_updated s contents.rows update) (sym (schema_same address chunks found.table contents is.stands))
-      ∙ ap (λ (l : List Cells). rows_updated found.table.schema l update) (sym read_is) ∙ e
+  may_turn : (turned : Turned) (whole part : Outcome Turned) (splits : Splits contents.rows old whole part) → part ≡ Ok turned → ((t : Turned) → whole ≡ Ok t → AreGood contents.schema t.rows)
+      → MayTurn address chunks k name found old turned database contents (splits.front ++ (turned.rows ++ splits.back))
+  may_turn turned whole part splits e good =
+      let are = good (among splits.front splits.back turned) (splits.same ∙ ap (λ (o : Outcome Turned). and_then o (λ t. Ok (among splits.front splits.back t))) e) in record {
+        found_is = is;
+        front = splits.front;
+        back = splits.back;
+        old_is = splits.split;
+        new_is = refl;
+        good = are.good;
+        rise = are.rise;
+      }
 
-  pub may_update : (update : Update) → rows_updated found.table.schema read update ≡ Ok turned → MayTurn address chunks k name found old turned database contents
-  may_update update e = may_turn (updated_good contents.schema contents.rows update turned all_good (update_said update e))
+  pub delete_said : (delete : Delete) (tests : List Meaning) → tests_of (own_scope delete.table found.table.schema) delete.filter ≡ Ok tests → AreRead tests contents.rows old
+      → Splits contents.rows old (rows_deleted contents.schema contents.rows delete) (rows_deleted_by found.table.schema old tests)
+  delete_said delete tests tests_are are =
+      let same = schema_same address chunks found.table contents is.stands in
+      let own = subst (λ (s : Schema). tests_of (own_scope delete.table s) delete.filter ≡ Ok tests) same tests_are in
+      subst (λ (s : Schema). Splits contents.rows old (rows_deleted contents.schema contents.rows delete) (rows_deleted_by s old tests)) (sym same)
+      (delete_parts contents.schema contents.rows old all_rise delete tests own are)
 
-  pub delete_said : (delete : Delete) → rows_deleted found.table.schema read delete ≡ Ok turned → rows_deleted contents.schema contents.rows delete ≡ Ok turned
-  delete_said delete e =
-      ap (λ (s : Schema). rows_deleted s contents.rows delete) (sym (schema_same address chunks found.table contents is.stands))
-      ∙ ap (λ (l : List Cells). rows_deleted found.table.schema l delete) (sym read_is) ∙ e
+  pub may_delete : (turned : Turned) (delete : Delete) (part : Outcome Turned) (splits : Splits contents.rows old (rows_deleted contents.schema contents.rows delete) part) → part ≡ Ok turned
+      → MayTurn address chunks k name found old turned database contents (splits.front ++ (turned.rows ++ splits.back))
+  may_delete turned delete part splits e = may_turn turned (rows_deleted contents.schema contents.rows delete) part splits e (λ t said. deleted_good contents.schema contents.rows delete t all_good said)
 
-  pub may_delete : (delete : Delete) → rows_deleted found.table.schema read delete ≡ Ok turned → MayTurn address chunks k name found old turned database contents
-  may_delete delete e = may_turn (deleted_good contents.schema contents.rows delete turned all_good (delete_said delete e))
+  pub update_said : (update : Update) (turning : Turning) → change_of found.table.schema update ≡ Ok turning → AreToTurn found.table.schema turning contents.rows old
+      → Splits contents.rows old (rows_updated contents.schema contents.rows update) (rows_turned_by found.table.schema old turning.sets turning.tests)
+  update_said update turning turning_is are =
+      let same = schema_same address chunks found.table contents is.stands in
+      subst (λ (s : Schema). Splits contents.rows old (rows_updated contents.schema contents.rows update) (rows_turned_by s old turning.sets turning.tests)) (sym same)
+      (update_parts contents.schema contents.rows old all_rise update turning (subst (λ (s : Schema). change_of s update ≡ Ok turning) same turning_is)
+      (subst (λ (s : Schema). AreToTurn s turning contents.rows old) same are))
+
+  pub may_update : (turned : Turned) (update : Update) (part : Outcome Turned) (splits : Splits contents.rows old (rows_updated contents.schema contents.rows update) part) → part ≡ Ok turned
+      → MayTurn address chunks k name found old turned database contents (splits.front ++ (turned.rows ++ splits.back))
+  may_update turned update part splits e = may_turn turned (rows_updated contents.schema contents.rows update) part splits e (λ t said. updated_good contents.schema contents.rows update t all_good said)
+
+-- what comes of all rows, by what came of those that were read
+abbrev pub filled_among : (checks : Checks) (database : PlainDatabase) (name : List ℕ) (table : PlainTable) → List Cells → List Cells → Turned → Outcome Effect
+filled_among checks database name table front back turned = filled checks database name table turned.count (front ++ (turned.rows ++ back))
+
+splits_then : (all read : List Cells) (whole part : Outcome Turned) (splits : Splits all read whole part) (f : Turned → Outcome Effect)
+    → and_then whole f ≡ and_then part (λ turned. f (among splits.front splits.back turned))
+splits_then all read whole part splits f =
+    ap (λ (o : Outcome Turned). and_then o f) splits.same ∙ then_assoc part (λ turned. Ok (among splits.front splits.back turned)) f
+
+module _ (first : RowsComeFirst) (checks : Checks) (database : PlainDatabase) (table : PlainTable) (read : List Cells) where
+  pub deleted_is : (delete : Delete) (part : Outcome Turned) (splits : Splits table.rows read (rows_deleted table.schema table.rows delete) part)
+      → deleted checks database delete table ≡ and_then part (filled_among checks database delete.table table splits.front splits.back)
+  deleted_is delete part splits =
+      first.delete checks database delete table ∙ splits_then table.rows read (rows_deleted table.schema table.rows delete) part splits (filling checks database delete.table table)
+
+  pub updated_is : (update : Update) (part : Outcome Turned) (splits : Splits table.rows read (rows_updated table.schema table.rows update) part)
+      → updated checks database update table ≡ and_then part (filled_among checks database update.table table splits.front splits.back)
+  updated_is update part splits =
+      first.update checks database update table ∙ splits_then table.rows read (rows_updated table.schema table.rows update) part splits (filling checks database update.table table)
+
+-- an UPDATE that is refused before any row is read
+pub update_refused : (first : RowsComeFirst) (checks : Checks) (database : PlainDatabase) (table : PlainTable) (update : Update) (number : ℕ) → change_of table.schema update ≡ Err number
+    → updated checks database update table ≡ Err number
+update_refused first checks database table update number e =
+    first.update checks database update table
+    ∙ ap (λ (o : Outcome Turned). and_then o (filling checks database update.table table)) (updated_steps table.schema table.rows update ∙ ap (λ (o : Outcome Turning). and_then o (changed_rows table.schema table.rows)) e)
+
+-- a DELETE that is refused before any row is read
+pub delete_refused : (first : RowsComeFirst) (checks : Checks) (database : PlainDatabase) (table : PlainTable) (delete : Delete) (number : ℕ) → tests_of (own_scope delete.table table.schema) delete.filter ≡ Err number
+    → deleted checks database delete table ≡ Err number
+delete_refused first checks database table delete number e =
+    first.delete checks database delete table
+    ∙ ap (λ (o : Outcome (List Meaning)). and_then (and_then o (rows_deleted_by table.schema table.rows)) (filling checks database delete.table table)) e
+
+pub gives_err : {A B : Type 0} (view : A → B) (why : Refused) (outcome : Outcome B) → GivesBy view (Err why) outcome → Gives (Err why) outcome
+gives_err view refused.Memory outcome gives = tt
+gives_err view (refused.By number) outcome gives = gives

@@ -5,6 +5,8 @@ pub mod Finding
 pub mod Inserting
 pub mod Differences
 pub mod Turning
+pub mod Passing
+pub mod Changes
 pub mod Updating
 pub mod Skeletons
 pub mod Building

@@ -13,6 +13,7 @@ mod inserting;
 mod laws;
 mod listing;
 mod putting;
+mod reading;
 mod schemas;
 mod tables;
 mod turning;

@@ -4,12 +4,16 @@ ghost use Rattle.std.specs.Prelude.{◌≡◌, IfOk, count_by, map, true};
 ghost use Rattle.std.specs.List.{list_all};
 ghost use Rattle.tuple_codec.specs.Limits.{is_type};
 ghost use Rattle.schema_model.specs.Schemas.{is_schema};
-ghost use Rattle.plain_sql.specs.Gives.{Gives};
+ghost use Rattle.plain_sql.specs.Gives.{Gives, GivesBy};
+ghost use Rattle.plain_sql.specs.Plans.{meaning};
 ghost use Rattle.plain_writes.specs.Seen.{setting_seen};
-ghost use Rattle.plain_writes.specs.Writes.{rest_of};
-ghost use Rattle.sql_write.specs.Turning.{RowsComeFirst, rows_deleted, rows_updated, rows_updated_by, turned_rows};
+ghost use Rattle.plain_writes.specs.Violations.{own_scope};
+ghost use Rattle.plain_writes.specs.Writes.{assigns, rest_of, tests_of};
+ghost use Rattle.sql_write.specs.Passing.{sets_key};
+ghost use Rattle.sql_write.specs.Changes.{change_of, change_seen, change_with};
+ghost use Rattle.sql_write.specs.Turning.{RowsComeFirst, rows_deleted_by, rows_turned_by, turned_rows};
 
-use expr_eval::ScopeColumn;
+use expr_eval::{BoundExpr, ScopeColumn};
 use plain_sql::Refused;
 use plain_writes::{
     Later, Setting, all_chosen, all_turned, assignments, by_key, own_scope, tests_of,
@@ -68,33 +72,57 @@ fn rest_of(alloc: Global, later: &[Later]) -> Result<Sequence<Row>, AllocError>
     Ok(rows)
 }
 
-/// The rows after an UPDATE with these settings.
-fn updated_by(
+/// The tests of a DELETE, with names and kinds known.
+pub(crate) fn delete_tests(
     alloc: Global,
     schema: &Schema,
-    rows: &[Row],
-    filter: &Option<Expr>,
-    scope: &[ScopeColumn],
-    settings: &[Setting],
-) -> Result<Turned, Refused>
-    requires { list_all (λ one. is_type one.column.kind) settings.now ≡ true }
-    ensures { Gives result (rows_updated_by schema.now rows.now filter.now scope.now (map setting_seen settings.now)) }
+    delete: &Delete,
+) -> Result<Sequence<BoundExpr>, Refused>
+    ensures { GivesBy (map meaning) result (tests_of (own_scope delete.now.table schema.now) delete.now.filter) }
 {
-    let tests = tests_of(alloc, scope, filter)?;
-    let later = all_turned(alloc, schema, tests.as_slice(), settings, rows)?;
-    let count = count_of(later.as_slice());
-    turned_rows(alloc, schema, rows_of(alloc, later.as_slice())?, count)
+    let scope = own_scope(alloc, delete.table.as_slice(), schema)?;
+    tests_of(alloc, scope.as_slice(), &delete.filter)
 }
 
-/// The rows of a table after an UPDATE, or its first refusal up to there. It counts the rows that really differ.
-pub(crate) fn updated_rows(
+/// These rows after a DELETE with these tests, or its first refusal up to there. It counts the rows that went.
+pub(crate) fn deleted_by(
     alloc: Global,
     schema: &Schema,
+    tests: &[BoundExpr],
     rows: &[Row],
-    update: &Update,
 ) -> Result<Turned, Refused>
+    ensures { Gives result (rows_deleted_by schema.now rows.now (map meaning tests.now)) }
+{
+    let later = all_chosen(alloc, tests, rows)?;
+    let count = count_of(later.as_slice());
+    turned_rows(alloc, schema, rest_of(alloc, later.as_slice())?, count)
+}
+
+/// What an UPDATE asks of a row, and what it sets, with names and kinds known.
+#[derive(Drop)]
+pub(crate) struct Change {
+    pub(crate) tests: Sequence<BoundExpr>,
+    pub(crate) settings: Sequence<Setting>,
+}
+
+fn change_by(
+    alloc: Global,
+    scope: &[ScopeColumn],
+    settings: Sequence<Setting>,
+    filter: &Option<Expr>,
+) -> Result<Change, Refused>
+    ensures settings { IfOk result (λ change. change.settings ≡ settings) }
+    ensures is { GivesBy change_seen result (change_with scope.now filter.now (map setting_seen settings)) }
+{
+    let tests = tests_of(alloc, scope, filter)?;
+    Ok(Change { tests, settings })
+}
+
+/// What an UPDATE asks and sets, or its first refusal up to there.
+pub(crate) fn change_of(alloc: Global, schema: &Schema, update: &Update) -> Result<Change, Refused>
     requires { is_schema schema.now ≡ true }
-    ensures { Gives result (rows_updated schema.now rows.now update.now) }
+    ensures typed { IfOk result (λ change. list_all (λ one. is_type one.column.kind) change.settings ≡ true) }
+    ensures is { GivesBy change_seen result (change_of schema.now update.now) }
 {
     let scope = own_scope(alloc, update.table.as_slice(), schema)?;
     let settings = assignments(
@@ -103,30 +131,44 @@ pub(crate) fn updated_rows(
         scope.as_slice(),
         update.assignments.as_slice(),
     )?;
-    updated_by(
-        alloc,
-        schema,
-        rows,
-        &update.filter,
-        scope.as_slice(),
-        settings.as_slice(),
-    )
+    change_by(alloc, scope.as_slice(), settings, &update.filter)
 }
 
-/// The rows of a table after a DELETE, or its first refusal up to there. It counts the rows that went.
-pub(crate) fn deleted_rows(
+/// These rows after an UPDATE, or its first refusal up to there. It counts the rows that really differ.
+pub(crate) fn updated_by(
     alloc: Global,
     schema: &Schema,
+    change: &Change,
     rows: &[Row],
-    delete: &Delete,
 ) -> Result<Turned, Refused>
-    ensures { Gives result (rows_deleted schema.now rows.now delete.now) }
+    requires { list_all (λ one. is_type one.column.kind) change.now.settings ≡ true }
+    ensures { Gives result (rows_turned_by schema.now rows.now (map setting_seen change.now.settings) (map meaning change.now.tests)) }
 {
-    let scope = own_scope(alloc, delete.table.as_slice(), schema)?;
-    let tests = tests_of(alloc, scope.as_slice(), &delete.filter)?;
-    let later = all_chosen(alloc, tests.as_slice(), rows)?;
+    let settings = change.settings.as_slice();
+    let later = all_turned(alloc, schema, change.tests.as_slice(), settings, rows)?;
     let count = count_of(later.as_slice());
-    turned_rows(alloc, schema, rest_of(alloc, later.as_slice())?, count)
+    turned_rows(alloc, schema, rows_of(alloc, later.as_slice())?, count)
+}
+
+/// Whether an UPDATE sets a column of the primary key.
+pub(crate) fn sets_key(schema: &Schema, settings: &[Setting]) -> bool
+    ensures { result ≡ sets_key schema.now (map setting_seen settings.now) }
+{
+    for position in schema.key.as_slice() {
+        if assigns(settings, usize::from(*position)) {
+            return true;
+        }
+    }
+    false
+}
+
+fn assigns(settings: &[Setting], place: usize) -> bool
+    ensures { result ≡ assigns (map setting_seen settings.now) place }
+{
+    match settings {
+        [] => false,
+        [one, more @ ..] => one.place == place || assigns(more, place),
+    }
 }
 
 /// What an UPDATE or a DELETE makes of a database is what it makes of the rows, and then what comes of these. For proofs: call it

@@ -1,31 +1,42 @@
 //! UPDATE and DELETE.
 
-ghost use Rattle.std.specs.Prelude.{◌≡◌, IfOk};
+ghost use Rattle.std.specs.Prelude.{◌≡◌, ◌+◌, List, length};
+ghost use Rattle.tuple_codec.specs.Rows.{Cells};
 ghost use Rattle.schema_model.specs.PlainTables.{PlainDatabase, PlainTable};
 ghost use Rattle.chunk_store.specs.Drafts.{Grows, chunks_of};
-ghost use Rattle.table_root.specs.Standing.{IsTableOf};
-ghost use Rattle.plain_writes.specs.Writes.{delete_effect, deleted, update_effect, updated};
+ghost use Rattle.plain_writes.specs.Writes.{delete_effect, deleted, filled, update_effect, updated};
 ghost use Rattle.plain_schemas.specs.Statements.{checks};
 ghost use Rattle.constraint_scan.specs.Scanning.{HasKeptAt, IsKeptAt};
 ghost use Rattle.sql_write.specs.Finding.{IsFound};
 ghost use Rattle.sql_write.specs.Growing.{is_data};
 ghost use Rattle.sql_write.specs.Making.{Makes};
-ghost use Rattle.sql_write.specs.Turning.{filling};
-ghost use Rattle.sql_write.specs.Updating.{MayTurn};
+ghost use Rattle.sql_write.specs.Updating.{HasSome, MayTurn};
 
 use crate::differences::row_edits;
 use crate::faults::SqlFault;
 use crate::finding::{Found, find};
 use crate::putting::fill_table;
-use crate::turning::{Turned, deleted_rows, rows_come_first, updated_rows};
+use crate::reading::{rows_to_test, rows_to_turn};
+use crate::turning::{Turned, change_of, delete_tests, deleted_by, rows_come_first, updated_by};
 use crate::writing::Written;
 use chunk_store::Draft;
+use edit_laws::edits_by_key;
+use prolly_tree::count;
 use sql_ast::{Delete, Update};
-use std::alloc::{AllocError, Global};
-use table_rows::read_rows;
-use tuple_codec::{Address, Digester, Row, Sequence};
+use std::alloc::Global;
+use table_rows::law_of_row_items;
+use tuple_codec::{Address, Digester, Row};
 
-/// Puts the rows that a table has after a statement in place of those that it had: only rows that differ are written.
+/// How many rows the table that was found has with new rows in place of old ones of its own.
+fn rows_then<D: Digester>(draft: &Draft<D>, found: &Found, old: &[Row], new: &[Row]) -> u64
+    requires { (contents : PlainTable) × HasSome D.address (chunks_of draft.now.chunks) found.now.table old.now contents }
+    ensures { (contents : PlainTable) → HasSome D.address (chunks_of draft.now.chunks) found.now.table old.now contents
+        → result + length old.now ≡ length contents.rows + length new.now }
+{
+    count(draft, &found.table.rows) - old.len() as u64 + new.len() as u64
+}
+
+/// Puts the rows that were turned in place of those of the table that were read: only rows that differ are written.
 fn put_turned<D: Digester>(
     alloc: Global,
     draft: &mut Draft<D>,
@@ -35,13 +46,18 @@ fn put_turned<D: Digester>(
     old: &[Row],
     turned: &Turned,
 ) -> Result<Written, SqlFault>
-    requires { (before : PlainDatabase) × (contents : PlainTable) × MayTurn D.address (chunks_of draft.old.chunks) database.now.0 name.now found old.now turned.now before contents }
-    ensures done { (before : PlainDatabase) (contents : PlainTable) → MayTurn D.address (chunks_of draft.old.chunks) database.now.0 name.now found old.now turned.now before contents
-        → Makes D.address (chunks_of draft.new.chunks) result (filling checks before name.now contents turned.now) }
+    requires { (before : PlainDatabase) × (contents : PlainTable) × (rows : List Cells)
+        × MayTurn D.address (chunks_of draft.old.chunks) database.now.0 name.now found old.now turned.now before contents rows }
+    ensures done { (before : PlainDatabase) (contents : PlainTable) (rows : List Cells)
+        → MayTurn D.address (chunks_of draft.old.chunks) database.now.0 name.now found old.now turned.now before contents rows
+        → Makes D.address (chunks_of draft.new.chunks) result (filled checks before name.now contents turned.now.count rows) }
     ensures grows { Grows is_data draft.old draft.new }
 {
+    edits_by_key();
+    law_of_row_items();
     let rows = turned.rows.as_slice();
     let edits = row_edits(alloc, &found.table.schema, old, rows)?;
+    let count = rows_then(draft, &found, old, rows);
     fill_table(
         alloc,
         draft,
@@ -50,7 +66,7 @@ fn put_turned<D: Digester>(
         name,
         &found.table,
         edits.as_slice(),
-        rows.len() as u64,
+        count,
         turned.count,
     )
 }
@@ -68,8 +84,9 @@ fn update_found<D: Digester>(
     ensures grows { Grows is_data draft.old draft.new }
 {
     rows_come_first();
-    let old = rows_of(alloc, draft, &found)?;
-    let turned = updated_rows(alloc, &found.table.schema, old.as_slice(), update)?;
+    let change = change_of(alloc, &found.table.schema, update)?;
+    let old = rows_to_turn(alloc, draft, &found, &change)?;
+    let turned = updated_by(alloc, &found.table.schema, &change, old.as_slice())?;
     let name = update.table.as_slice();
     put_turned(alloc, draft, database, found, name, old.as_slice(), &turned)
 }
@@ -87,25 +104,15 @@ fn delete_found<D: Digester>(
     ensures grows { Grows is_data draft.old draft.new }
 {
     rows_come_first();
-    let old = rows_of(alloc, draft, &found)?;
-    let turned = deleted_rows(alloc, &found.table.schema, old.as_slice(), delete)?;
+    let tests = delete_tests(alloc, &found.table.schema, delete)?;
+    let old = rows_to_test(alloc, draft, &found, tests.as_slice())?;
+    let turned = deleted_by(alloc, &found.table.schema, tests.as_slice(), old.as_slice())?;
     let name = delete.table.as_slice();
     put_turned(alloc, draft, database, found, name, old.as_slice(), &turned)
 }
 
-/// All rows of the table that was found.
-fn rows_of<D: Digester>(
-    alloc: Global,
-    draft: &Draft<D>,
-    found: &Found,
-) -> Result<Sequence<Row>, AllocError>
-    requires { (contents : PlainTable) × IsTableOf D.address (chunks_of draft.now.chunks) found.now.table contents }
-    ensures { (contents : PlainTable) → IsTableOf D.address (chunks_of draft.now.chunks) found.now.table contents → IfOk result (λ rows. rows ≡ contents.rows) }
-{
-    read_rows(alloc, draft, &found.table.schema, &found.table.rows)
-}
-
-/// Changes rows of a table. All of its rows are read; those that differ are written.
+/// Changes rows of a table. Where the statement names the primary key, and sets no column of it, the row of that key alone is read, else all
+/// rows; those that differ are written.
 pub(crate) fn update<D: Digester>(
     alloc: Global,
     draft: &mut Draft<D>,
@@ -121,7 +128,7 @@ pub(crate) fn update<D: Digester>(
     update_found(alloc, draft, database, found, update)
 }
 
-/// Takes rows out of a table. All of its rows are read.
+/// Takes rows out of a table. Where the statement names the primary key, the row of that key alone is read, else all rows.
 pub(crate) fn delete<D: Digester>(
     alloc: Global,
     draft: &mut Draft<D>,
