@@ -4,6 +4,7 @@ pub mod FollowLemmas
 pub mod GoingLemmas
 pub mod LineLemmas
 pub mod OpenLemmas
+pub mod PlanningLemmas
 pub mod PlayerLemmas
 pub mod ReplayLemmas
 pub mod SpeakerLemmas

@@ -1,26 +1,28 @@
 //! One session on its way along a given order: its statements without a moment, and its next moment.
 
-ghost use Rattle.std.specs.Prelude.{◌≡◌, ◌⊎◌, ◌<◌, ◌≤◌, ◌≤ℤ◌, ◌+◌, ℕ, ℤ, pos, true, false, length};
+ghost use Rattle.std.specs.Prelude.{◌≡◌, ◌⊎◌, ◌<◌, ◌≤◌, ◌≤ℤ◌, ◌+◌, ℕ, ℤ, pos, true, false, length, IfSome};
+ghost use Rattle.chunk_store.specs.Chunks.{Lists};
+ghost use Rattle.chunk_store.specs.Stores.{all_chunks};
 ghost use Rattle.plain_sessions.specs.Records.{Shared};
 ghost use Rattle.plain_sessions.specs.Runs.{Runner};
 ghost use Rattle.session_laws.specs.Changes.{Parts};
 ghost use Rattle.shared_db.specs.Shared.{KeepsRoom};
+ghost use Rattle.serving.specs.Planning.{PlansPending};
 ghost use Rattle.serving.specs.Steps.{HasRoomStill};
 ghost use Rattle.script_run.specs.Following.{HasFollowed, IsAsked, IsFurther, IsLed, IsLedInto, IsPlayer, LedAs, is_free, is_next_at, is_settled, moments_left, steps_made};
+ghost use Rattle.script_run.specs.Planning.{PlansStage};
 ghost use Rattle.script_run.specs.declared.going.Led.TheVariants as led;
 ghost use Rattle.script_run.specs.declared.players.Stage.TheVariants as stage;
 
 use crate::asking::asked_by;
 use crate::lines::number_of;
+use crate::planning::{conclude_by, lead_planned, meet_by};
 use crate::players::{Player, Stage};
 use chunk_store::PutFault;
 use plain_sessions::Command;
-use serving::{
-    Begun, Met, Pending, answer_fault, come_to, conclude, drop_started, meet_start, work_started,
-};
+use serving::{Begun, Met, Pending, Planned, answer_fault, come_to, drop_started, work_started};
 use shared_db::SharedDb;
 use std::alloc::Global;
-use std::mem::replace;
 use tuple_codec::{Boxed, Digester};
 use wire_io::Pacer;
 
@@ -228,23 +230,22 @@ pub fn lead_in<D: Digester>(
     ensures room { KeepsRoom 1 db.old db.new }
     ensures room_kept { result ≡ led.Missed → HasRoomStill db.old db.new }
 {
-    match replace(&mut player.stage, Stage::Free) {
-        Stage::Free => unreachable!(),
-        Stage::Waits(asked) => meet_first(alloc, db, player, asked, epoch),
-        Stage::Between(asked, wanted) => decide(alloc, db, player, &asked, wanted, epoch),
-    }
+    lead_planned(alloc, db, player, None, epoch)
 }
 
-/// The first moment of its statement.
-fn meet_first<D: Digester>(
+/// The first moment of its statement, as it was planned where it was.
+pub(crate) fn meet_first<D: Digester>(
     alloc: Global,
     db: &mut SharedDb,
     player: &mut Player<D>,
     asked: Boxed<Command>,
+    planned: Option<Planned>,
     epoch: i64,
 ) -> Led
     requires player { (shared : Shared) × (place : ℕ) × (runner : Runner) × IsPlayer D.address db.old.parts shared place runner (record player.old { stage = stage.Waits asked }) }
     requires free { player.old.stage ≡ stage.Free }
+    requires planned { IfSome planned (PlansStage D.address epoch player.old.session (stage.Waits asked)) }
+    requires grown { IfSome planned (λ planned. Lists (all_chunks planned.look.store) db.old.parts.chunks) }
     requires epoch { pos 0 ≤ℤ epoch }
     requires moments { 0 < db.old.moments_room }
     requires segments { 0 < db.old.segments_room }
@@ -256,7 +257,7 @@ fn meet_first<D: Digester>(
     ensures room { KeepsRoom 1 db.old db.new }
     ensures room_kept { result ≡ led.Missed → HasRoomStill db.old db.new }
 {
-    match meet_start(alloc, db, &mut player.session, asked.get(), epoch) {
+    match meet_by(alloc, db, &mut player.session, asked.get(), planned, epoch) {
         Ok(Begun::Answered(reply)) => {
             player.replies.push_reserved(reply);
             Led::Made
@@ -283,17 +284,20 @@ pub fn work_out<D: Digester>(alloc: Global, player: &mut Player<D>, asked: Boxed
     }
 }
 
-/// The decision behind its start.
-fn decide<D: Digester>(
+/// The decision behind its start, as it was planned where it was.
+pub(crate) fn decide<D: Digester>(
     alloc: Global,
     db: &mut SharedDb,
     player: &mut Player<D>,
     asked: &Boxed<Command>,
     wanted: Pending,
+    planned: Option<Planned>,
     epoch: i64,
 ) -> Led
     requires player { (shared : Shared) × (place : ℕ) × (runner : Runner) × IsPlayer D.address db.old.parts shared place runner (record player.old { stage = stage.Between asked.now wanted }) }
     requires free { player.old.stage ≡ stage.Free }
+    requires planned { IfSome planned (λ planned. PlansPending D.address epoch player.old.session asked.now wanted planned.look planned.plan) }
+    requires grown { IfSome planned (λ planned. Lists (all_chunks planned.look.store) db.old.parts.chunks) }
     requires epoch { pos 0 ≤ℤ epoch }
     requires moments { 0 < db.old.moments_room }
     requires segments { 0 < db.old.segments_room }
@@ -305,7 +309,15 @@ fn decide<D: Digester>(
     ensures room { KeepsRoom 1 db.old db.new }
     ensures room_kept { result ≡ led.Missed → HasRoomStill db.old db.new }
 {
-    match conclude(alloc, db, &mut player.session, asked.get(), wanted, epoch) {
+    match conclude_by(
+        alloc,
+        db,
+        &mut player.session,
+        asked.get(),
+        wanted,
+        planned,
+        epoch,
+    ) {
         Ok(reply) => {
             player.replies.push_reserved(reply);
             Led::Made

@@ -1,5 +1,5 @@
 -- Calls that may have a decision of their own: from what the code's steps hand over to what the statement is served with.
-use Rattle.std.proofs.Common.{◌≡◌, refl, ◌∙◌, sym, ap, subst, inl, inr, ℕ, ℤ, Bool, true, false, List, [], ◌∷◌, Option, Some, None, Ok, Err, IfOk, IfErr, OnOk, is_some, not, option_map, slice_get, if◌then◌else◌}
+use Rattle.std.proofs.Common.{◌≡◌, refl, ◌∙◌, sym, ap, subst, inl, inr, ℕ, ℤ, Bool, true, false, List, [], ◌∷◌, Option, Some, None, Ok, Err, IfOk, IfErr, is_some, not, option_map, slice_get, if◌then◌else◌}
 use Rattle.std.specs.Prelude.{Result}
 use Rattle.std.specs.Arc.{arc_value}
 use Rattle.std.specs.Option.{option_and_then, option_map_or}
@@ -37,31 +37,31 @@ use Rattle.plain_sessions.specs.declared.commands.Work.{Work}
 use Rattle.plain_sessions.specs.declared.commands.Work.TheVariants as work
 use Rattle.run_laws.specs.Turns.{InOneTurn}
 use Rattle.session_laws.specs.Changes.{Parts, StateStands}
-use Rattle.session_laws.specs.Commits.{HasNoCommit}
+use Rattle.session_laws.specs.Commits.{AreAmong, HasNoCommit}
 use Rattle.session_laws.specs.Laws.{StatesFollow, with_record}
 use Rattle.session_laws.specs.Transactions.{IsLookOf, StartStands}
 use Rattle.session_state.specs.Standing.{SessionStands}
 use Rattle.session_state.specs.declared.sessions.Session.{Session}
-use Rattle.session_txn.specs.Answering.{Decides}
 use Rattle.session_txn.specs.Showing.{IsDue, is_sound_reply}
 use Rattle.session_txn.proofs.ShowLemmas.{plain_told}
 use Rattle.branch_procs.specs.Closing.{IsVerdict}
 use Rattle.merge_procs.specs.Closing.{IsAsBefore, is_closing}
 use Rattle.shared_db.specs.Plans.{PlanIs, brought}
-use Rattle.shared_db.specs.Shared.{AreWith, IsSettled, changed_lines, noted}
+use Rattle.shared_db.specs.Shared.{AreWith, IsSettled, changed_lines, noted, record_at}
 use Rattle.shared_db.specs.declared.changes.Change.{Change}
 use Rattle.shared_db.specs.declared.changes.Plan.{Plan}
 use Rattle.serving.specs.Answering.{Concluded, HasStartedTo}
 use Rattle.serving.specs.Branching.{Went}
 use Rattle.serving.specs.Closing.{ClosedAs, LeavesAs}
 use Rattle.serving.specs.Kinds.{may_close}
-use Rattle.serving.specs.Serving.{Fails, IsBefore, IsBetween, IsHere, turn_at}
+use Rattle.serving.specs.Planning.{IfSettled, IsPlanned, IsPlannedFor, by_closing}
+use Rattle.serving.specs.Serving.{Fails, IsBefore, IsBetween, turn_at}
 use Rattle.serving.specs.Starting.{HasStarted}
 use Rattle.serving.specs.Steps.{after_start, fault_reply, number_at}
 use Rattle.serving.specs.declared.meeting.Pending.TheVariants as pending
-use Rattle.serving.proofs.AnswerLemmas.{over_stands, same_number, short_alone, started_answered, went_of}
+use Rattle.serving.proofs.AnswerLemmas.{over_stands, short_alone, started_answered, went_of}
 use Rattle.serving.proofs.DecisionLemmas.{brought_is, stands_still, union_with}
-use Rattle.serving.proofs.LookLemmas.{Looks, decides}
+use Rattle.serving.proofs.GrowthLemmas.{SettlingFollows, commits_among, present_again, settled_own, still_closed}
 use Rattle.serving.proofs.MomentLemmas.{both_at, in_one_turn}
 use Rattle.serving.proofs.RuleLemmas.{refused_plainly}
 use Rattle.serving.proofs.StartLemmas.{fault_came, fault_refused, over_same}
@@ -209,27 +209,27 @@ module _ (address : List ℕ → List ℕ) (epoch : ℤ) (shared : Shared) (p : 
   named_by look plan (Ok change) planned = planned.stands.named
   named_by look plan (Err number) planned = subst (λ (sealed : Option _). AreNamed address (option_map_or arc_value sealed [])) (sym planned.sealed) tt
 
-  -- the plan was settled
-  closed_by : (ending : Ending) (follow : StatesFollow) (parts new : Parts) (look : Look) (plan : Plan) (outcome : Outcome machine.Change)
-      → closed address epoch shared.commits p t present ending ≡ outcome → state_of shared.branches p.branch ≡ Some present
-      → IsLookOf address look shared → look.branch ≡ p.branch → all_chunks look.store ≡ parts.chunks → StateStands address parts shared
+  -- the plan was settled, on a state that may have grown since the one that was looked at
+  closed_by : (found : Shared) (among : AreAmong shared.commits found.commits) (ending : Ending) (follow : StatesFollow) (parts new : Parts) (look : Look) (plan : Plan) (outcome : Outcome machine.Change)
+      → closed address epoch shared.commits p t present ending ≡ outcome → state_of found.branches p.branch ≡ Some present
+      → IsLookOf address look shared → look.branch ≡ p.branch → Lists (all_chunks look.store) parts.chunks → StateStands address parts found
       → PlanIs address look shared.commits plan outcome → IsSingle new.chunks
       → IsSettled p.number p.statement look.branch plan.change (option_map arc_value plan.sealed) parts new
-      → ClosedAs address epoch p t ending shared parts new plan.reply
-  closed_by ending follow parts new look plan (Ok change) is there look_is branch chunks stands planned single settled =
+      → ClosedAs address epoch p t ending found parts new plan.reply
+  closed_by found among ending follow parts new look plan (Ok change) is there look_is branch lists stands planned single settled =
       let union : IsUnion parts.chunks (brought plan) new.chunks = subst (λ (cs : List Chunk). IsUnion parts.chunks cs new.chunks) (brought_is plan) (union_with parts.chunks new.chunks _ settled.chunks) in
       let lines : new.branches ≡ with_record p.branch planned.rec parts.branches =
       settled.branches ∙ ap (λ (c : Change). changed_lines look.branch c parts.branches) planned.is ∙ ap (λ (name : List ℕ). with_record name planned.rec parts.branches) branch in
-      let left = follow.settled address (all_chunks look.store) (brought plan) shared.commits parts new shared p.branch look_is.state.head planned.rec present change
-      look_is.commits look_is.stands.head_known (subst (λ (cs : List Chunk). Lists cs parts.chunks) (sym chunks) (λ k bytes listed. listed)) planned.stands stands there lines settled.places union
+      let left = follow.settled address (all_chunks look.store) (brought plan) shared.commits parts new found p.branch look_is.state.head planned.rec present change
+      look_is.commits look_is.stands.head_known lists planned.stands stands there lines settled.places union
       single in
       record {
         present = present;
         there = there;
         outcome = Ok change;
-        is = is;
-        last = with_change p.branch change shared left.0;
-        leaves = (ap (option_map (with_change p.branch change shared)) left.1, planned.reply);
+        is = still_closed address epoch shared.commits found.commits among p t present ending look plan look_is.commits.stand.grown (Ok change) is planned;
+        last = with_change p.branch change found left.0;
+        leaves = (ap (option_map (with_change p.branch change found)) left.1, planned.reply);
         short = (planned_plainly look plan (Ok change) (plainly ending (Ok change) is) planned).short;
         places = refl;
         state_stands = left.2;
@@ -237,73 +237,72 @@ module _ (address : List ℕ → List ℕ) (epoch : ℤ) (shared : Shared) (p : 
         moments = settled.moments;
         numbers = settled.numbers;
       }
-  closed_by ending follow parts new look plan (Err number) is there look_is branch chunks stands planned single settled =
+  closed_by found among ending follow parts new look plan (Err number) is there look_is branch lists stands planned single settled =
       let lines : new.branches ≡ parts.branches = settled.branches ∙ ap (λ (c : Change). changed_lines look.branch c parts.branches) planned.change in
       let same : new.chunks ≡ parts.chunks = subst (λ (sealed : Option _). AreWith parts.chunks (option_map arc_value sealed) new.chunks) planned.sealed settled.chunks in
       record {
         present = present;
         there = there;
         outcome = Err number;
-        is = is;
-        last = shared;
+        is = still_closed address epoch shared.commits found.commits among p t present ending look plan look_is.commits.stand.grown (Err number) is planned;
+        last = found;
         leaves = (refl, planned.reply);
         short = (planned_plainly look plan (Err number) (plainly ending (Err number) is) planned).short;
         places = refl;
-        state_stands = stands_still follow address parts new p t shared present look plan settled lines same stands;
+        state_stands = stands_still follow address parts new p t found present look plan settled lines same stands;
         chunks = subst (Lists parts.chunks) (sym same) (λ k bytes listed. listed);
         moments = settled.moments;
         numbers = settled.numbers;
       }
 
--- ---- from the look to what was settled
+-- ---- from the plan to what was settled
 
-module _ {D : Type 0} (follow : StatesFollow) (address : List ℕ → List ℕ) (epoch : ℤ) (session : Session D) (parts : Parts) (look : Look) (looks : Looks session parts look) (asked : Work) (plan : Plan) where
-  abbrev pub IsPlanned : Type 0
-  IsPlanned = (p : plain.Session) (t : Transaction) (shared : Shared) (present : BranchState) (ending : Ending) → Decides address session look p t shared present
-      → worked p t asked ≡ Ok (Closes ending) → PlanIs address look shared.commits plan (closed address epoch shared.commits p t present ending)
+module _ {D : Type 0} (address : List ℕ → List ℕ) (epoch : ℤ) (session : Session D) (look : Look) (plan : Plan) (p : plain.Session) (t : Transaction) (ending : Ending) where
+  plan_plainly : IsPlanned address session look plan p t (by_closing address epoch p t ending) → IsPlainly address plan.reply
+  plan_plainly planned =
+      planned_plainly address epoch planned.seen p t planned.present look plan _ (plainly_closed address epoch planned.seen p t planned.present ending) planned.is
 
-  module _ (planned : IsPlanned) where
-    pub closed_ok : (new : Parts) (number : ℕ) → number ≡ number_at session.position → (result : Result Reply PutFault) → IfOk result (λ reply. reply ≡ plan.reply)
-        → OnOk result (IsSettled session.number number look.branch plan.change (option_map arc_value plan.sealed) parts new) → OnOk result (IsSingle new.chunks)
-        → IfOk result (λ reply. (p : plain.Session) (t : Transaction) (ending : Ending) (shared : Shared) → IsHere address session parts p shared → p.transaction ≡ Some t
-        → worked p t asked ≡ Ok (Closes ending) → ClosedAs address epoch p t ending shared parts new reply)
-    closed_ok new number is (Ok reply) said settled single = λ p t ending shared here transaction work_is.
-        let way = decides follow address session parts look looks p t shared here transaction in
-        let count : number ≡ p.statement = is ∙ same_number session.position p.statement p.place here.session_stands.position in
-        let made : IsSettled p.number p.statement look.branch plan.change (option_map arc_value plan.sealed) parts new =
-        subst (λ (n : ℕ). IsSettled p.number n look.branch plan.change (option_map arc_value plan.sealed) parts new) count
-        (subst (λ (n : ℕ). IsSettled n number look.branch plan.change (option_map arc_value plan.sealed) parts new) here.session_stands.number settled) in
-        subst (λ (r : Reply). ClosedAs address epoch p t ending shared parts new r) (sym said)
-        (closed_by address epoch shared p t way.0 ending follow parts new look plan _ refl way.1.present_is way.1.look_is way.1.branch looks.chunks here.state_stands
-        (planned p t shared way.0 ending way.1 work_is) single made)
-    closed_ok new number is (Err fault) said settled single = tt
+  pub closing_sound : IsPlanned address session look plan p t (by_closing address epoch p t ending) → (result : Result (Option Reply) PutFault) → IfSettled result (λ reply. reply ≡ plan.reply)
+      → IfSettled result (λ reply. is_sound_reply reply ≡ true)
+  closing_sound planned (Ok (Some reply)) said = ap is_sound_reply said ∙ (plan_plainly planned).sound
+  closing_sound planned (Ok None) said = tt
+  closing_sound planned (Err fault) said = tt
 
-    module _ (p : plain.Session) (t : Transaction) (ending : Ending) (shared : Shared) (here : IsHere address session parts p shared) (transaction : p.transaction ≡ Some t)
-        (work_is : worked p t asked ≡ Ok (Closes ending)) where
-      plan_plainly : IsPlainly address plan.reply
-      plan_plainly =
-          let way = decides follow address session parts look looks p t shared here transaction in
-          planned_plainly address epoch shared p t way.0 look plan _ (plainly_closed address epoch shared p t way.0 ending) (planned p t shared way.0 ending way.1 work_is)
+  pub closing_truly : IsPlanned address session look plan p t (by_closing address epoch p t ending) → (result : Result (Option Reply) PutFault) → IfSettled result (λ reply. reply ≡ plan.reply)
+      → IfSettled result (TellsTruly address)
+  closing_truly planned (Ok (Some reply)) said = subst (TellsTruly address) (sym said) (plan_plainly planned).truly
+  closing_truly planned (Ok None) said = tt
+  closing_truly planned (Err fault) said = tt
 
-      pub sound_ok : (result : Result Reply PutFault) → IfOk result (λ reply. reply ≡ plan.reply) → IfOk result (λ reply. is_sound_reply reply ≡ true)
-      sound_ok (Ok reply) said = ap is_sound_reply said ∙ plan_plainly.sound
-      sound_ok (Err fault) said = tt
+  pub closing_fault : ChunksFollow → (parts : Parts) (shared : Shared) → IsPlannedFor address session look plan p t (by_closing address epoch p t ending) parts shared
+      → (result : Result (Option Reply) PutFault) → IfErr result (IsCause (bytes_at parts.chunks) (bytes_at (brought plan))) → IfErr result (IsFault address)
+  closing_fault chunks_follow parts shared has (Ok settled) cause = tt
+  closing_fault chunks_follow parts shared has (Err Memory) cause = tt
+  closing_fault chunks_follow parts shared has (Err (Collision clash)) cause = record {
+    first = chunks_follow.is_named address parts.chunks clash.address.0 clash.first has.here.state_stands.named cause.is_held;
+    second = chunks_follow.is_named address (brought plan) clash.address.0 clash.second
+        (named_by address epoch has.planned.seen p t has.planned.present look plan _ has.planned.is) cause.is_brought;
+    differ = cause.differ;
+  }
 
-      pub truly_ok : (result : Result Reply PutFault) → IfOk result (λ reply. reply ≡ plan.reply) → IfOk result (TellsTruly address)
-      truly_ok (Ok reply) said = subst (TellsTruly address) (sym said) plan_plainly.truly
-      truly_ok (Err fault) said = tt
+  pub closed_planned : (laws : SettlingFollows) (parts new : Parts) (shared : Shared) → IsPlannedFor address session look plan p t (by_closing address epoch p t ending) parts shared
+      → record_at look.branch parts.branches ≡ Some look.rec → IsSingle new.chunks → IsSettled p.number p.statement look.branch plan.change (option_map arc_value plan.sealed) parts new
+      → ClosedAs address epoch p t ending shared parts new plan.reply
+  closed_planned laws parts new shared has there single settled =
+      let d = has.planned.decides in
+      closed_by address epoch has.planned.seen p t has.planned.present shared (commits_among laws address session look p t has.planned.seen has.planned.present d parts shared has.here.state_stands has.grown)
+      ending laws.states parts new look plan _ refl (present_again laws address session look p t has.planned.seen has.planned.present d parts shared has.here.state_stands has.grown there)
+      d.look_is d.branch has.grown has.here.state_stands has.planned.is single settled
 
-      pub fault_is : ChunksFollow → (result : Result Reply PutFault) → IfErr result (IsCause (bytes_at parts.chunks) (bytes_at (brought plan))) → IfErr result (IsFault address)
-      fault_is chunks_follow (Ok reply) cause = tt
-      fault_is chunks_follow (Err Memory) cause = tt
-      fault_is chunks_follow (Err (Collision clash)) cause =
-          let way = decides follow address session parts look looks p t shared here transaction in
-          record {
-            first = chunks_follow.is_named address parts.chunks clash.address.0 clash.first here.state_stands.named cause.is_held;
-            second = chunks_follow.is_named address (brought plan) clash.address.0 clash.second
-                (named_by address epoch shared p t way.0 look plan _ (planned p t shared way.0 ending way.1 work_is)) cause.is_brought;
-            differ = cause.differ;
-          }
+  pub closed_result : (laws : SettlingFollows) (parts new : Parts) (number : ℕ) → number ≡ number_at session.position → (result : Result (Option Reply) PutFault)
+      → IfSettled result (λ reply. reply ≡ plan.reply) → IfSettled result (λ reply. IsSettled session.number number look.branch plan.change (option_map arc_value plan.sealed) parts new)
+      → IfSettled result (λ reply. IsSingle new.chunks) → IfSettled result (λ reply. record_at look.branch parts.branches ≡ Some look.rec)
+      → IfSettled result (λ reply. (shared : Shared) → IsPlannedFor address session look plan p t (by_closing address epoch p t ending) parts shared → ClosedAs address epoch p t ending shared parts new reply)
+  closed_result laws parts new number is (Ok (Some reply)) said settled single there = λ shared has.
+      subst (λ (r : Reply). ClosedAs address epoch p t ending shared parts new r) (sym said)
+      (closed_planned laws parts new shared has there single (settled_own address session p has.here.session_stands number is look.branch plan.change (option_map arc_value plan.sealed) parts new settled))
+  closed_result laws parts new number is (Ok None) said settled single there = tt
+  closed_result laws parts new number is (Err fault) said settled single there = tt
 
 -- ---- the moment of the decision
 

@@ -1,4 +1,4 @@
--- A decision that was planned on a look and settled on the very state that was looked at.
+-- A decision that was planned on a look and settled on the state that was looked at, or on one that has grown since.
 use Rattle.std.proofs.Common.{◌≡◌, refl, ◌∙◌, sym, ap, subst, inl, ℕ, true, List, [], Option, Some, None, Ok, Err}
 use Rattle.std.specs.Option.{option_map, option_map_or}
 use Rattle.std.specs.Arc.{arc_value}
@@ -65,18 +65,18 @@ module _ (follow : StatesFollow) (address : List ℕ → List ℕ) (parts new : 
       λ i. record { branches = sym branches i; places = sym settled.places i; numbers = sym settled.numbers i; moments = new.moments; chunks = sym chunks i } in
       subst (λ (q : Parts). StateStands address q shared) same bare
 
-  settled_by : (verdict : Outcome BranchState) → decide t.start present t.own p.variables ≡ verdict → state_of shared.branches p.branch ≡ Some present
-      → IsLookOf address look shared → look.branch ≡ p.branch → all_chunks look.store ≡ parts.chunks → StateStands address parts shared
-      → PlanIs address look shared.commits plan (and_then verdict (λ state. Ok (without_commit done state))) → IsSingle new.chunks
+  settled_by : (seen : Shared) (verdict : Outcome BranchState) → decide t.start present t.own p.variables ≡ verdict → state_of shared.branches p.branch ≡ Some present
+      → IsLookOf address look seen → look.branch ≡ p.branch → Lists (all_chunks look.store) parts.chunks → StateStands address parts shared
+      → PlanIs address look seen.commits plan (and_then verdict (λ state. Ok (without_commit done state))) → IsSingle new.chunks
       → IsSettled p.number p.statement look.branch plan.change (option_map arc_value plan.sealed) parts new
       → Decided address p t shared parts new plan.reply
-  settled_by (Ok state) is there look_is branch chunks stands planned single settled =
+  settled_by seen (Ok state) is there look_is branch lists stands planned single settled =
       let change = without_commit done state in
       let union : IsUnion parts.chunks (brought plan) new.chunks = subst (λ (cs : List Chunk). IsUnion parts.chunks cs new.chunks) (brought_is plan) (union_with parts.chunks new.chunks _ settled.chunks) in
       let lines : new.branches ≡ with_record p.branch planned.rec parts.branches =
       settled.branches ∙ ap (λ (c : Change). changed_lines look.branch c parts.branches) planned.is ∙ ap (λ (name : List ℕ). with_record name planned.rec parts.branches) branch in
-      let left = follow.settled address (all_chunks look.store) (brought plan) shared.commits parts new shared p.branch look_is.state.head planned.rec present change
-      look_is.commits look_is.stands.head_known (subst (λ (cs : List Chunk). Lists cs parts.chunks) (sym chunks) (λ k bytes listed. listed)) planned.stands stands there lines settled.places union
+      let left = follow.settled address (all_chunks look.store) (brought plan) seen.commits parts new shared p.branch look_is.state.head planned.rec present change
+      look_is.commits look_is.stands.head_known lists planned.stands stands there lines settled.places union
       single in
       record {
         present = present;
@@ -90,7 +90,7 @@ module _ (follow : StatesFollow) (address : List ℕ → List ℕ) (parts new : 
         moments = settled.moments;
         numbers = settled.numbers;
       }
-  settled_by (Err number) is there look_is branch chunks stands planned single settled =
+  settled_by seen (Err number) is there look_is branch lists stands planned single settled =
       let lines : new.branches ≡ parts.branches = settled.branches ∙ ap (λ (c : Change). changed_lines look.branch c parts.branches) planned.change in
       let same : new.chunks ≡ parts.chunks = subst (λ (sealed : Option _). AreWith parts.chunks (option_map arc_value sealed) new.chunks) planned.sealed settled.chunks in
       record {
@@ -115,21 +115,28 @@ module _ (follow : StatesFollow) (address : List ℕ → List ℕ) (parts new : 
   named_by (Ok state) planned = planned.stands.named
   named_by (Err number) planned = subst (λ (sealed : Option _). AreNamed address (option_map_or arc_value sealed [])) (sym planned.sealed) tt
 
-  -- the plan of a COMMIT was settled
+  -- the plan of a COMMIT was settled, on a state that may have grown since the one that was looked at
+  pub settled_over : (seen : Shared) → state_of shared.branches p.branch ≡ Some present → IsLookOf address look seen → look.branch ≡ p.branch → Lists (all_chunks look.store) parts.chunks
+      → StateStands address parts shared → PlanIs address look seen.commits plan (ruled p t present done) → IsSingle new.chunks
+      → IsSettled p.number p.statement look.branch plan.change (option_map arc_value plan.sealed) parts new
+      → Decided address p t shared parts new plan.reply
+  settled_over seen = settled_by seen (decide t.start present t.own p.variables) refl
+
+  -- on the very state that was looked at
   pub settled_as : state_of shared.branches p.branch ≡ Some present → IsLookOf address look shared → look.branch ≡ p.branch → all_chunks look.store ≡ parts.chunks → StateStands address parts shared
       → PlanIs address look shared.commits plan (ruled p t present done) → IsSingle new.chunks
       → IsSettled p.number p.statement look.branch plan.change (option_map arc_value plan.sealed) parts new
       → Decided address p t shared parts new plan.reply
-  settled_as = settled_by (decide t.start present t.own p.variables) refl
+  settled_as there look_is branch chunks = settled_over shared there look_is branch (subst (λ (cs : List Chunk). Lists cs parts.chunks) (sym chunks) (λ k bytes listed. listed))
 
   pub planned_sound : PlanIs address look shared.commits plan (ruled p t present done) → is_sound_reply plan.reply ≡ true
   planned_sound = sound_by (decide t.start present t.own p.variables) refl
 
   -- what was met when it was settled is a collision
-  pub clash_met : ChunksFollow → (clash : Clash) → StateStands address parts shared → PlanIs address look shared.commits plan (ruled p t present done)
+  pub clash_met : ChunksFollow → (clash : Clash) → AreNamed address parts.chunks → PlanIs address look shared.commits plan (ruled p t present done)
       → IsClash (bytes_at parts.chunks) (bytes_at (brought plan)) clash → IsCollision address clash
-  clash_met chunks_follow clash stands planned met = record {
-    first = chunks_follow.is_named address parts.chunks clash.address.0 clash.first stands.named met.is_held;
+  clash_met chunks_follow clash named planned met = record {
+    first = chunks_follow.is_named address parts.chunks clash.address.0 clash.first named met.is_held;
     second = chunks_follow.is_named address (brought plan) clash.address.0 clash.second (named_by (decide t.start present t.own p.variables) planned) met.is_brought;
     differ = met.differ;
   }

@@ -8,9 +8,13 @@ pub mod ClosingLemmas
 pub mod ComingLemmas
 pub mod ConcludeLemmas
 pub mod DecisionLemmas
+pub mod GrowthLemmas
 pub mod LookLemmas
 pub mod MeetLemmas
 pub mod MomentLemmas
+pub mod OpenLemmas
+pub mod PlannedLemmas
+pub mod PlanningLemmas
 pub mod PointLemmas
 pub mod RuleLemmas
 pub mod ServeLemmas

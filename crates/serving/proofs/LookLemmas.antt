@@ -94,7 +94,7 @@ module _ {D : Type 0} (follow : StatesFollow) (address : List ℕ → List ℕ) 
       fault_is chunks_follow (Err Memory) cause = tt
       fault_is chunks_follow (Err (Collision clash)) cause =
           let way = decides p t shared here transaction in
-          clash_met follow address parts parts p t shared way.0 look plan chunks_follow clash here.state_stands (planned p t shared way.0 way.1) cause
+          clash_met follow address parts parts p t shared way.0 look plan chunks_follow clash here.state_stands.named (planned p t shared way.0 way.1) cause
 
 module _ {D : Type 0} (follow : StatesFollow) (address : List ℕ → List ℕ) (epoch : ℤ) (old session : Session D) (parts : Parts) (look : Look) (looks : Looks old parts look) where
   -- BEGIN took its start at this look

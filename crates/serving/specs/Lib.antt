@@ -3,6 +3,7 @@ pub mod Answering
 pub mod Branching
 pub mod Closing
 pub mod Kinds
+pub mod Planning
 pub mod Serving
 pub mod Starting
 pub mod Steps

@@ -1,29 +1,28 @@
 //! Calls that may have a decision of their own: DOLT_COMMIT, and DOLT_MERGE of a name.
 
-ghost use Rattle.std.specs.Prelude.{◌≡◌, ◌<◌, ◌≤ℤ◌, ℤ, pos, true, IfErr, IfOk, OnErr, Ok, Some};
+ghost use Rattle.std.specs.Prelude.{◌≡◌, ◌≢◌, ◌<◌, ◌≤ℤ◌, ℤ, pos, true, IfErr, IfOk, OnErr, Ok, Some};
 ghost use Rattle.script_text.specs.Collisions.{IsFault, TellsTruly};
 ghost use Rattle.plain_sessions.specs.Fitness.{IsFitWork};
 ghost use Rattle.plain_sessions.specs.Merging.{Closes, Ending};
-ghost use Rattle.plain_sessions.specs.Moments.{closed};
-ghost use Rattle.plain_sessions.specs.Records.{BranchState, Shared};
+ghost use Rattle.plain_sessions.specs.Records.{Shared};
 ghost use Rattle.plain_sessions.specs.Sessions as plain;
 ghost use Rattle.plain_sessions.specs.Statements.{worked};
 ghost use Rattle.plain_sessions.specs.declared.commands.Command.TheVariants as command;
 ghost use Rattle.session_laws.specs.Changes.{Parts};
-ghost use Rattle.session_txn.specs.Answering.{Decides};
+ghost use Rattle.session_state.specs.Standing.{SessionStands};
 ghost use Rattle.session_txn.specs.Showing.{is_sound_reply};
-ghost use Rattle.shared_db.specs.Plans.{PlanIs};
-ghost use Rattle.shared_db.specs.Shared.{KeepsRoom};
+ghost use Rattle.shared_db.specs.Shared.{KeepsRoom, record_at};
 ghost use Rattle.serving.specs.Answering.{HasMet};
 ghost use Rattle.serving.specs.Branching.{Went};
 ghost use Rattle.serving.specs.Closing.{ClosedAs};
 ghost use Rattle.serving.specs.Kinds.{may_close};
+ghost use Rattle.serving.specs.Planning.{HasLooked, IfLost, IfSettled, IsPlanned, IsPlannedFor, UnlessSettled, by_closing};
 ghost use Rattle.serving.specs.Serving.{IsBefore, IsHere, IsSoundMet, MetTellsTruly};
 ghost use Rattle.serving.specs.Starting.{HasStarted};
 ghost use Rattle.serving.specs.Steps.{HasRoomStill};
 
 use crate::courses::{Course, find_course};
-use crate::deciding::settle;
+use crate::deciding::settle_planned;
 use crate::faults::reply_to;
 use crate::meeting::{Met, Pending};
 use crate::places::number_of;
@@ -33,7 +32,7 @@ use chunk_store::{PutFault, law_of_chunks};
 use merge_procs::{merge_local, plan_merge};
 use plain_sessions::Work;
 use script_text::Reply;
-use session_laws::law_of_states;
+use session_laws::{law_of_records, law_of_standing_commits, law_of_states};
 use session_state::Session;
 use session_txn::due;
 use shared_db::{Plan, SharedDb};
@@ -122,29 +121,60 @@ pub(crate) fn close<D: Digester>(
     ensures room { KeepsRoom 1 db.old db.new }
     ensures room_kept { OnErr result (HasRoomStill db.old db.new) }
 {
-    law_of_chunks();
     law_of_states();
     let look = db.look(alloc, &session.branch)?;
     let plan = plan_closing(alloc, session, asked, &look, epoch)?;
-    let number = number_of(session.position);
-    settle(db, session.number, number, &look, plan)
+    match settle_closing(db, session, &look, plan)? {
+        Some(reply) => Ok(reply),
+        None => unreachable!(),
+    }
 }
 
-/// What is decided, planned on a look.
-fn plan_closing<D: Digester>(
+/// Makes the moment of a closing call's decision that was planned on this look, where the branch still has the record that was looked at, whatever else
+/// has come in since. None where the record has moved: the try is lost, and all is as it was, as it is where there is a fault.
+pub fn settle_closing<D: Digester>(
+    db: &mut SharedDb,
+    session: &Session<D>,
+    look: &Look,
+    plan: Plan,
+) -> Result<Option<Reply>, PutFault>
+    requires planned { (epoch : ℤ) × (p : plain.Session) × (t : plain.Transaction) × (ending : Ending) × (shared : Shared)
+        × IsPlannedFor D.address session.now look.now plan p t (by_closing D.address epoch p t ending) db.old.parts shared }
+    requires moments { 0 < db.old.moments_room }
+    requires segments { 0 < db.old.segments_room }
+    ensures closed { (epoch : ℤ) (p : plain.Session) (t : plain.Transaction) (ending : Ending) → IfSettled result (λ reply. (shared : Shared)
+        → IsPlannedFor D.address session.now look.now plan p t (by_closing D.address epoch p t ending) db.old.parts shared → ClosedAs D.address epoch p t ending shared db.old.parts db.new.parts reply) }
+    ensures lost { IfLost result (record_at look.now.branch db.old.parts.branches ≢ Some look.now.rec) }
+    ensures sound { IfSettled result (λ reply. is_sound_reply reply ≡ true) }
+    ensures truly { IfSettled result (TellsTruly D.address) }
+    ensures fault { IfErr result (IsFault D.address) }
+    ensures same { UnlessSettled result (db.new.parts ≡ db.old.parts) }
+    ensures room { KeepsRoom 1 db.old db.new }
+    ensures room_kept { UnlessSettled result (HasRoomStill db.old db.new) }
+{
+    law_of_chunks();
+    law_of_records();
+    law_of_standing_commits();
+    law_of_states();
+    let number = number_of(session.position);
+    settle_planned(db, session.number, number, look, plan)
+}
+
+/// Plans a closing call's decision by a look at the session's branch, without the database.
+pub fn plan_closing<D: Digester>(
     alloc: Global,
     session: &Session<D>,
     asked: &Work,
     look: &Look,
     epoch: i64,
 ) -> Result<Plan, PutFault>
-    requires decides { (p : plain.Session) × (t : plain.Transaction) × (shared : Shared) × (present : BranchState) × Decides D.address session.now look.now p t shared present }
+    requires open { (p : plain.Session) × (t : plain.Transaction) × SessionStands D.address session.now p × (p.transaction ≡ Some t) }
+    requires looked { HasLooked D.address session.now look.now }
     requires closes { may_close asked.now ≡ true }
     requires fit { IsFitWork asked.now }
     requires epoch { pos 0 ≤ℤ epoch }
-    ensures planned { (p : plain.Session) (t : plain.Transaction) (shared : Shared) (present : BranchState) (ending : Ending) → Decides D.address session.now look.now p t shared present
-        → worked p t asked.now ≡ Ok (Closes ending)
-        → IfOk result (λ plan. PlanIs D.address look.now shared.commits plan (closed D.address epoch shared.commits p t present ending)) }
+    ensures planned { (p : plain.Session) (t : plain.Transaction) (ending : Ending) → SessionStands D.address session.now p → p.transaction ≡ Some t
+        → worked p t asked.now ≡ Ok (Closes ending) → IfOk result (λ plan. IsPlanned D.address session.now look.now plan p t (by_closing D.address epoch p t ending)) }
     ensures fault { IfErr result (IsFault D.address) }
 {
     match asked {

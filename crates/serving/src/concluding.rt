@@ -157,7 +157,7 @@ fn conclude_closing<D: Digester>(
 }
 
 /// The statement's own reply in place of the decision's, where that is well.
-fn with_reply(reply: Reply, verdict: Reply) -> Reply
+pub(crate) fn with_reply(reply: Reply, verdict: Reply) -> Reply
     ensures { result ≡ with_reply reply verdict }
 {
     match verdict {

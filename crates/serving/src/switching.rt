@@ -50,7 +50,7 @@ pub(crate) fn switch_changed<D: Digester>(
 }
 
 /// Ends the transaction, and sets autocommit where the decision is well.
-fn end_with<D: Digester>(session: &mut Session<D>, on: bool, reply: &Reply)
+pub(crate) fn end_with<D: Digester>(session: &mut Session<D>, on: bool, reply: &Reply)
     ensures { session.new ≡ ended_with on reply.now session.old }
 {
     session.start = None;

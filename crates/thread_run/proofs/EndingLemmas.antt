@@ -45,10 +45,10 @@ use Rattle.script_run.specs.declared.players.Player.{Player}
 use Rattle.script_run.proofs.ReplayLemmas.{are_over, are_printable, are_shown, are_truly, are_waiting, as_many_test, shown_is}
 use Rattle.shared_history.specs.declared.gated.GatedDb.{GatedDb}
 use Rattle.thread_run.specs.Ending.{HasEnded, HaveWorked}
-use Rattle.thread_run.specs.Going.{HasWorked, IsAtWork, IsGoing, told_turn}
+use Rattle.thread_run.specs.Going.{HasWorked, IsAtWork, IsGoing, IsMeeting, told_turn}
 use Rattle.thread_run.specs.Opening.{IsOpenAtGate}
 use Rattle.thread_run.specs.declared.opening.AtGate.{AtGate}
-use Rattle.thread_run.proofs.GoingLemmas.{IsMeeting, meets}
+use Rattle.thread_run.proofs.GoingLemmas.{meets}
 
 -- ---- the gate's history and the machine's
 

@@ -1,13 +1,18 @@
 -- A session comes to the gate, has its turn and goes on.
-use Rattle.std.proofs.Common.{◌≡◌, refl, sym, ◌∙◌, ap, subst, ℕ, ℤ, ◌+◌, ◌*◌, ◌<◌, ◌≤◌, ◌^◌, ◌==◌, cond, false, true, List, [], ◌∷◌, ◌++◌, length, map, slice_get, arith}
+use Rattle.std.proofs.Common.{◌≡◌, refl, sym, ◌∙◌, ap, subst, ℕ, ℤ, ◌+◌, ◌*◌, ◌<◌, ◌≤◌, ◌^◌, ◌==◌, cond, false, true, List, [], ◌∷◌, ◌++◌, length, map, slice_get, arith, Option, None, Some, IfSome}
 use Rattle.std.specs.Prelude.{slice_index_or}
 use Rattle.std.proofs.lemmas.List.{length-append, map-append}
+use Rattle.chunk_store.specs.Chunks.{Chunk, Listed, Lists}
+use Rattle.chunk_store.specs.Stores.{all_chunks}
+use Rattle.table_root.specs.declared.heads.Look.{Look}
 use Rattle.plain_sessions.specs.Records.{Shared}
 use Rattle.plain_sessions.specs.Runs.{Runner}
 use Rattle.plain_sessions.specs.Sessions as plain
 use Rattle.plain_sessions.specs.declared.commands.Command.{Command}
 use Rattle.run_laws.specs.Histories.{ToldTurn, Way}
-use Rattle.session_laws.specs.Changes.{StateStands}
+use Rattle.session_laws.specs.Changes.{Parts, StateStands}
+use Rattle.serving.specs.Planning.{HasLooked}
+use Rattle.serving.specs.declared.planned.Planned.{Planned}
 use Rattle.serving.specs.Serving.{Passes}
 use Rattle.serving.specs.Steps.{HasRoomStill}
 use Rattle.shared_db.specs.Shared.{Db, KeepsRoom}
@@ -17,12 +22,14 @@ use Rattle.seat_gate.proofs.Telling.{left_append, told_on_entering, told_on_leav
 use Rattle.shared_history.specs.Fitting.{Fits, HasCome, HasTurned, HasTurnLeft, seat_of}
 use Rattle.shared_history.specs.Spelling.{SpellsState, spelling_of}
 use Rattle.shared_history.proofs.FittingLemmas.{fits_left, fits_on, fits_still, has_come, has_room}
+use Rattle.shared_history.proofs.SpellingLemmas.{spelled_one}
 use Rattle.seat_gate.specs.Working.{KeepsPlace}
 use Rattle.script_run.specs.Following.{IsFurther, IsLed, IsPlayer, is_free, is_settled, is_through, moments_left}
+use Rattle.script_run.specs.Planning.{PlansNext}
 use Rattle.script_run.specs.declared.players.Player.{Player}
 use Rattle.script_run.proofs.FollowLemmas.{player_stays}
 use Rattle.script_run.proofs.GoingLemmas.{may_number, more_left, number_is_at, said_of, state_of}
-use Rattle.thread_run.specs.Going.{IsGoing, told_turn, turns_of}
+use Rattle.thread_run.specs.Going.{HasLookedAt, HasSeen, IsGoing, IsMeeting, IsPlannedAt, told_turn, turns_of}
 use Rattle.thread_run.proofs.WayLemmas.{way_on, way_turns}
 
 -- seeing more, in which are no entries of its own, tells of no more turns
@@ -43,15 +50,24 @@ through_of player settled free = sym (ap (λ b. cond b (length player.replies.it
 pub keeps_none : (v : View) → KeepsPlace v v
 keeps_none v = record { opened = refl; number = refl; joined = refl; given = refl }
 
--- the session stands at the gate, in the parts of the database that it holds, which fits the history
-pub record IsMeeting {D : Type 0} (address : List ℕ → List ℕ) (epoch : ℤ) (place : ℕ) (first : plain.Session) (all : List Command) (view : View) (db : Db) (player : Player D) : Type 0 where
-  pub number : view.number ≡ seat_of place
-  pub fits : Fits address db view.opened view.seen
-  pub own : HasMade view
-  pub runner : Runner
-  pub is : IsPlayer address db.parts fits.shared place runner player
-  pub way : Way (SpellsState address) address epoch first all (turns_of view) runner
-  pub counted : length view.made + moments_left player ≤ 2 * slice_index_or db.parts.numbers place 0
+-- ---- looks and plans
+
+-- the parts that are held have what is seen there
+pub seen_held : (address : List ℕ → List ℕ) (view : View) (db : Db) (look : Look) → Fits address db view.opened view.seen → all_chunks look.store ≡ db.parts.chunks → HasSeen view look
+seen_held address view db look fits there parts spelled =
+    let same : db.parts ≡ parts = spelled_one db.parts parts (fits_left address db view.opened view.seen fits ∙ sym spelled) in
+    λ k bytes listed. subst (λ (p : Parts). Listed p.chunks k bytes) same (subst (λ (chunks : List Chunk). Listed chunks k bytes) there listed)
+
+module _ {D : Type 0} (address : List ℕ → List ℕ) (view : View) (player : Player D) where
+  pub looked_at : (db : Db) (look : Option Look) → Fits address db view.opened view.seen → IfSome look (HasLooked address player.session)
+      → IfSome look (λ look. all_chunks look.store ≡ db.parts.chunks) → IfSome look (HasLookedAt address view player)
+  looked_at db None fits looked there = looked
+  looked_at db (Some look) fits looked there = record { looked = looked; seen = seen_held address view db look fits there }
+
+  pub planned_at : (epoch : ℤ) (look : Look) (planned : Option Planned) → HasSeen view look → IfSome planned (PlansNext address epoch player) → IfSome planned (λ planned. planned.look ≡ look)
+      → IfSome planned (IsPlannedAt address epoch view player)
+  planned_at epoch look None seen plans same = plans
+  planned_at epoch look (Some planned) seen plans same = record { plans = plans; seen = subst (λ (l : Look). HasSeen view l) (sym same) seen }
 
 module _ {D : Type 0} (address : List ℕ → List ℕ) (epoch : ℤ) (place : ℕ) (first : plain.Session) (all : List Command) where
   -- statements without a moment
@@ -92,6 +108,34 @@ module _ {D : Type 0} (address : List ℕ → List ℕ) (epoch : ℤ) (place : �
       → entries_of v.number now.seen ≡ v.made → IsGoing address epoch place first all v player → IsMeeting address epoch place first all now db player
   meets_as v now db player made is fits starts own going =
       subst (λ (w : View). IsMeeting address epoch place first all w db player) (sym is) (meets v now.seen db player made fits starts own going)
+
+  -- it goes on as it is, having seen more
+  pub waits_goes : (view : View) (db : Db) (player : Player D) → IsMeeting address epoch place first all view db player → IsGoing address epoch place first all view player
+  waits_goes view db player meeting = record {
+    number = meeting.number;
+    parts = db.parts;
+    spelled = fits_left address db view.opened view.seen meeting.fits;
+    shared = meeting.fits.shared;
+    runner = meeting.runner;
+    is = meeting.is;
+    way = meeting.way;
+    counted = meeting.counted;
+  }
+
+  -- what it saw at a look is there when its turn has come
+  seen_come : (v now : View) (db : Db) (player : Player D) (look : Look) → HasMade v → Fits address db v.opened now.seen → StartsWith now.seen v.seen → entries_of v.number now.seen ≡ v.made
+      → IsGoing address epoch place first all v player → HasSeen v look → Lists (all_chunks look.store) db.parts.chunks
+  seen_come v now db player look made fits starts own going saw =
+      let same : entries_of (seat_of place) now.seen ≡ entries_of (seat_of place) v.seen
+      = subst (λ n. entries_of n now.seen ≡ entries_of n v.seen) going.number (own ∙ sym made) in
+      let come : HasCome place going.parts db.parts = has_come address db v.opened now.seen v.seen place going.parts fits starts going.spelled same in
+      λ k bytes listed. come.grown k bytes (saw going.parts going.spelled k bytes listed)
+
+  pub planned_come : (v now : View) (db : Db) (player : Player D) (planned : Option Planned) → HasMade v → Fits address db v.opened now.seen → StartsWith now.seen v.seen
+      → entries_of v.number now.seen ≡ v.made → IsGoing address epoch place first all v player → IfSome planned (IsPlannedAt address epoch v player)
+      → IfSome planned (λ planned. Lists (all_chunks planned.look.store) db.parts.chunks)
+  planned_come v now db player None made fits starts own going at = at
+  planned_come v now db player (Some planned) made fits starts own going at = seen_come v now db player planned.look made fits starts own going at.seen
 
   turn_left : (view : View) (db : Db) (player : Player D) → is_free player.stage ≡ false → IsMeeting address epoch place first all view db player → HasTurnLeft place db.parts view.seen
   turn_left view db player waits meeting =

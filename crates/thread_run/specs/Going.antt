@@ -1,19 +1,26 @@
 -- A session at work in its thread: what its seat tells is the way that the machine's session goes.
 use Rattle.std.specs.Prelude.{◌≡◌, ℕ, ℤ, ◌+◌, ◌*◌, ◌≤◌, true, List, length, map, slice_index_or}
+use Rattle.chunk_store.specs.Chunks.{Lists}
+use Rattle.chunk_store.specs.Stores.{all_chunks}
+use Rattle.table_root.specs.declared.heads.Look.{Look}
 use Rattle.plain_sessions.specs.Records.{Shared}
 use Rattle.plain_sessions.specs.Runs.{Runner}
 use Rattle.plain_sessions.specs.Sessions as plain
 use Rattle.plain_sessions.specs.declared.commands.Command.{Command}
 use Rattle.run_laws.specs.Histories.{ToldTurn, Way}
 use Rattle.session_laws.specs.Changes.{Parts}
+use Rattle.shared_db.specs.Shared.{Db}
+use Rattle.serving.specs.Planning.{HasLooked}
+use Rattle.serving.specs.declared.planned.Planned.{Planned}
 use Rattle.seat_gate.specs.History.{Spelling, View, HasMade}
 use Rattle.seat_gate.specs.Told.{Turn, left_last, told_of}
 use Rattle.seat_gate.specs.Words.{GateId}
 use Rattle.seat_gate.specs.Working.{IsSeated, KeepsPlace, view_in}
 use Rattle.seat_gate.specs.declared.workers.Worker.{Worker}
-use Rattle.shared_history.specs.Fitting.{seat_of}
+use Rattle.shared_history.specs.Fitting.{Fits, seat_of}
 use Rattle.shared_history.specs.Spelling.{SpellsState, spelling_of}
 use Rattle.script_run.specs.Following.{IsPlayer, is_free, is_through, moments_left}
+use Rattle.script_run.specs.Planning.{PlansNext}
 use Rattle.script_run.specs.declared.players.Player.{Player}
 
 -- a turn's note is its statement's number
@@ -36,6 +43,30 @@ pub record IsGoing {D : Type 0} (address : List ℕ → List ℕ) (epoch : ℤ) 
   pub way : Way (SpellsState address) address epoch first all (turns_of view) runner
   -- two moments for each of its statements are enough
   pub counted : length view.made + moments_left player ≤ 2 * slice_index_or parts.numbers place 0
+
+-- the session stands at the gate, in the parts of the database that it holds, which fits the history
+pub record IsMeeting {D : Type 0} (address : List ℕ → List ℕ) (epoch : ℤ) (place : ℕ) (first : plain.Session) (all : List Command) (view : View) (db : Db) (player : Player D) : Type 0 where
+  pub number : view.number ≡ seat_of place
+  pub fits : Fits address db view.opened view.seen
+  pub own : HasMade view
+  pub runner : Runner
+  pub is : IsPlayer address db.parts fits.shared place runner player
+  pub way : Way (SpellsState address) address epoch first all (turns_of view) runner
+  pub counted : length view.made + moments_left player ≤ 2 * slice_index_or db.parts.numbers place 0
+
+-- the parts that the seat saw last have all chunks that the look's store has
+abbrev pub HasSeen : View → Look → Type 0
+HasSeen view look = (parts : Parts) → spelling_of parts ≡ left_last view.opened view.seen → Lists (all_chunks look.store) parts.chunks
+
+-- the session has looked at its branch in what its seat has seen
+pub record HasLookedAt {D : Type 0} (address : List ℕ → List ℕ) (view : View) (player : Player D) (look : Look) : Type 0 where
+  pub looked : HasLooked address player.session look
+  pub seen : HasSeen view look
+
+-- its next decision is planned on such a look
+pub record IsPlannedAt {D : Type 0} (address : List ℕ → List ℕ) (epoch : ℤ) (view : View) (player : Player D) (planned : Planned) : Type 0 where
+  pub plans : PlansNext address epoch player planned
+  pub seen : HasSeen view planned.look
 
 -- the worker has its seat, and its session is on its way
 pub record IsAtWork {D : Type 0} (address : List ℕ → List ℕ) (epoch : ℤ) (id : GateId) (worker : Worker (Player D)) : Type 0 where

@@ -9,17 +9,17 @@ use Rattle.script_run.specs.declared.players.Stage.TheVariants as stage
 use Rattle.script_run.proofs.GoingLemmas.{fewer_left, has_decided, has_room, may_number, more_of, more_said, was_dropped}
 use Rattle.script_run.proofs.going.decide.Goals as goal
 
-pub conclude-requires-clause-between : goal.conclude-requires-clause-between
-conclude-requires-clause-between g c κs within =
+pub conclude_by-requires-clause-between : goal.conclude_by-requires-clause-between
+conclude_by-requires-clause-between g c κs within =
     let p = c.requires.player in
     (p.2.session, p.0, subst (λ (one : Command). IsBetween g.D.Digester.address c.args.player.now.session c.args.db.now.parts p.2.session one c.args.wanted p.0) (sym c.get.ensures) p.3.stands.0)
 
-pub conclude-requires-clause-place : goal.conclude-requires-clause-place
-conclude-requires-clause-place g c κs within =
+pub conclude_by-requires-clause-place : goal.conclude_by-requires-clause-place
+conclude_by-requires-clause-place g c κs within =
     let p = c.requires.player in may_number p.3 (more_of p.3 c.args.asked.now p.3.stands.2.0 p.3.stands.2.1)
 
-pub conclude-requires-clause-fit : goal.conclude-requires-clause-fit
-conclude-requires-clause-fit g c κs within = subst IsFitCommand (sym c.get.ensures) c.requires.player.3.stands.1
+pub conclude_by-requires-clause-fit : goal.conclude_by-requires-clause-fit
+conclude_by-requires-clause-fit g c κs within = subst IsFitCommand (sym c.get.ensures) c.requires.player.3.stands.1
 
 pub push_reserved-requires : goal.push_reserved-requires
 push_reserved-requires g c =
@@ -27,9 +27,9 @@ push_reserved-requires g c =
 
 pub returns-in-Ok-clause-led : goal.returns-in-Ok-clause-led
 returns-in-Ok-clause-led g c = λ shared place runner is.
-    has_decided is c.args.epoch c.args.asked.now is.stands.2.0 is.stands.2.1 c.args.wanted is.stands.0 c.conclude.new.db.parts c.in-Ok.reply _
-    (subst (λ (one : Command). Concludes g.D.Digester.address c.args.epoch runner.session one shared c.args.db.now.parts c.conclude.new.db.parts c.conclude.new.session c.in-Ok.reply) c.get.ensures
-    (subst (λ (e : ℤ). Concludes g.D.Digester.address e runner.session c.get.result.now shared c.args.db.now.parts c.conclude.new.db.parts c.conclude.new.session c.in-Ok.reply)
+    has_decided is c.args.epoch c.args.asked.now is.stands.2.0 is.stands.2.1 c.args.wanted is.stands.0 c.conclude_by.new.db.parts c.in-Ok.reply _
+    (subst (λ (one : Command). Concludes g.D.Digester.address c.args.epoch runner.session one shared c.args.db.now.parts c.conclude_by.new.db.parts c.conclude_by.new.session c.in-Ok.reply) c.get.ensures
+    (subst (λ (e : ℤ). Concludes g.D.Digester.address e runner.session c.get.result.now shared c.args.db.now.parts c.conclude_by.new.db.parts c.conclude_by.new.session c.in-Ok.reply)
     (to_z-of_z w64 c.args.epoch c.ranges.epoch)
     (c.in-Ok.ensures.concluded runner.session shared
     (subst (λ (one : Command). IsBetween g.D.Digester.address c.args.player.now.session c.args.db.now.parts runner.session one c.args.wanted shared) (sym c.get.ensures) is.stands.0))))
@@ -38,7 +38,7 @@ returns-in-Ok-clause-led g c = λ shared place runner is.
 pub returns-in-Ok-clause-left : goal.returns-in-Ok-clause-left
 returns-in-Ok-clause-left g c =
     let p = c.requires.player in
-    fewer_left (record c.args.player.now { stage = stage.Between c.args.asked.now c.args.wanted }) (record c.args.player.now { session = c.conclude.new.session; replies = c.push_reserved.new.self }) c.in-Ok.reply
+    fewer_left (record c.args.player.now { stage = stage.Between c.args.asked.now c.args.wanted }) (record c.args.player.now { session = c.conclude_by.new.session; replies = c.push_reserved.new.self }) c.in-Ok.reply
     (more_said p.3 c.args.asked.now p.3.stands.2.0 p.3.stands.2.1) c.push_reserved.ensures.items refl c.requires.free
 
 pub drop_started-reply-requires-clause-between : goal.drop_started-reply-requires-clause-between

@@ -1,39 +1,9 @@
-use Rattle.std.proofs.Common.{◌∙◌, ◌+◌, ◌≤◌, ℤ, sym, ap, subst, w64}
-use Rattle.std.proofs.lemmas.Bool.{false≢true}
+use Rattle.std.proofs.Common.{ℤ, subst, w64}
 use Rattle.std.proofs.lemmas.Int.{to_z-of_z}
-use Rattle.script_run.specs.Following.{IsPlayer, LedAs, is_free, moments_left, steps_made}
-use Rattle.script_run.specs.declared.players.Stage.{Stage}
+use Rattle.script_run.specs.Following.{LedAs}
 use Rattle.script_run.proofs.going.lead_in.Goals as goal
 
-pub unreachable-requires : goal.unreachable-requires
-unreachable-requires g c = false≢true (sym c.requires.waits ∙ ap is_free (sym c.replace.ensures.value ∙ c.in-Free.is))
-
-pub meet_first-requires-clause-player : goal.meet_first-requires-clause-player
-meet_first-requires-clause-player g c κs within =
-    let p = c.requires.player in
-    (p.0, p.1, p.2, subst (λ (s : Stage). IsPlayer g.D.Digester.address c.args.db.now.parts p.0 p.1 p.2 (record c.args.player.now { stage = s })) (sym c.replace.ensures.value ∙ c.in-Waits.is) p.3)
-
-pub returns-in-Waits-clause-led : goal.returns-in-Waits-clause-led
-returns-in-Waits-clause-led g c = λ shared place runner is.
-    subst (λ (e : ℤ). LedAs g.D.Digester.address e place runner shared c.args.db.now.parts c.meet_first.new.db.parts c.meet_first.new.player c.meet_first.result) (to_z-of_z w64 c.args.epoch c.ranges.epoch)
-    (c.meet_first.ensures.led shared place runner
-    (subst (λ (s : Stage). IsPlayer g.D.Digester.address c.args.db.now.parts shared place runner (record c.args.player.now { stage = s })) (sym c.replace.ensures.value ∙ c.in-Waits.is) is))
-
-pub returns-in-Waits-clause-left : goal.returns-in-Waits-clause-left
-returns-in-Waits-clause-left g c =
-    subst (λ (s : Stage). moments_left c.meet_first.new.player + steps_made c.meet_first.result ≤ moments_left (record c.args.player.now { stage = s })) (sym (sym c.replace.ensures.value ∙ c.in-Waits.is)) c.meet_first.ensures.left
-
-pub decide-requires-clause-player : goal.decide-requires-clause-player
-decide-requires-clause-player g c κs within =
-    let p = c.requires.player in
-    (p.0, p.1, p.2, subst (λ (s : Stage). IsPlayer g.D.Digester.address c.args.db.now.parts p.0 p.1 p.2 (record c.args.player.now { stage = s })) (sym c.replace.ensures.value ∙ c.in-Between.is) p.3)
-
-pub returns-in-Between-clause-led : goal.returns-in-Between-clause-led
-returns-in-Between-clause-led g c = λ shared place runner is.
-    subst (λ (e : ℤ). LedAs g.D.Digester.address e place runner shared c.args.db.now.parts c.decide.new.db.parts c.decide.new.player c.decide.result) (to_z-of_z w64 c.args.epoch c.ranges.epoch)
-    (c.decide.ensures.led shared place runner
-    (subst (λ (s : Stage). IsPlayer g.D.Digester.address c.args.db.now.parts shared place runner (record c.args.player.now { stage = s })) (sym c.replace.ensures.value ∙ c.in-Between.is) is))
-
-pub returns-in-Between-clause-left : goal.returns-in-Between-clause-left
-returns-in-Between-clause-left g c =
-    subst (λ (s : Stage). moments_left c.decide.new.player + steps_made c.decide.result ≤ moments_left (record c.args.player.now { stage = s })) (sym (sym c.replace.ensures.value ∙ c.in-Between.is)) c.decide.ensures.left
+pub returns-clause-led : goal.returns-clause-led
+returns-clause-led g c = λ shared place runner is.
+    subst (λ (e : ℤ). LedAs g.D.Digester.address e place runner shared c.args.db.now.parts c.lead_planned.new.db.parts c.lead_planned.new.player c.lead_planned.result) (to_z-of_z w64 c.args.epoch c.ranges.epoch)
+    (c.lead_planned.ensures.led shared place runner is)

@@ -13,17 +13,17 @@ use Rattle.script_run.specs.declared.players.Stage.TheVariants as stage
 use Rattle.script_run.proofs.GoingLemmas.{answers, fewer_left, has_room, may_number, met_once, more_of, more_said, started_left}
 use Rattle.script_run.proofs.going.meet_first.Goals as goal
 
-pub meet_start-requires-clause-before : goal.meet_start-requires-clause-before
-meet_start-requires-clause-before g c κs within =
+pub meet_by-requires-clause-before : goal.meet_by-requires-clause-before
+meet_by-requires-clause-before g c κs within =
     let p = c.requires.player in
     (p.2.session, p.0, p.3.stands.0, subst (λ (one : Command). alone None p.2.session one ≡ None) (sym c.get.ensures) p.3.stands.1)
 
-pub meet_start-requires-clause-place : goal.meet_start-requires-clause-place
-meet_start-requires-clause-place g c κs within =
+pub meet_by-requires-clause-place : goal.meet_by-requires-clause-place
+meet_by-requires-clause-place g c κs within =
     let p = c.requires.player in may_number p.3 (more_of p.3 c.args.asked p.3.stands.3.0 p.3.stands.3.1)
 
-pub meet_start-requires-clause-fit : goal.meet_start-requires-clause-fit
-meet_start-requires-clause-fit g c κs within = subst IsFitCommand (sym c.get.ensures) c.requires.player.3.stands.2
+pub meet_by-requires-clause-fit : goal.meet_by-requires-clause-fit
+meet_by-requires-clause-fit g c κs within = subst IsFitCommand (sym c.get.ensures) c.requires.player.3.stands.2
 
 pub push_reserved-requires : goal.push_reserved-requires
 push_reserved-requires g c =
@@ -31,11 +31,11 @@ push_reserved-requires g c =
 
 pub returns-in-Ok-Answered-clause-led : goal.returns-in-Ok-Answered-clause-led
 returns-in-Ok-Answered-clause-led g c = λ shared place runner is.
-    met_once is c.args.epoch c.args.asked is.stands.3.0 is.stands.3.1 (ap is_before_statement is.stands.0.before) c.meet_start.new.db.parts c.in-Ok-Answered.reply _
-    (subst (λ (one : Command). MeetsOnce g.D.Digester.address c.args.epoch runner.session one shared c.args.db.now.parts c.meet_start.new.db.parts c.meet_start.new.session c.in-Ok-Answered.reply) c.get.ensures
-    (subst (λ (e : ℤ). MeetsOnce g.D.Digester.address e runner.session c.get.result.now shared c.args.db.now.parts c.meet_start.new.db.parts c.meet_start.new.session c.in-Ok-Answered.reply)
+    met_once is c.args.epoch c.args.asked is.stands.3.0 is.stands.3.1 (ap is_before_statement is.stands.0.before) c.meet_by.new.db.parts c.in-Ok-Answered.reply _
+    (subst (λ (one : Command). MeetsOnce g.D.Digester.address c.args.epoch runner.session one shared c.args.db.now.parts c.meet_by.new.db.parts c.meet_by.new.session c.in-Ok-Answered.reply) c.get.ensures
+    (subst (λ (e : ℤ). MeetsOnce g.D.Digester.address e runner.session c.get.result.now shared c.args.db.now.parts c.meet_by.new.db.parts c.meet_by.new.session c.in-Ok-Answered.reply)
     (to_z-of_z w64 c.args.epoch c.ranges.epoch)
-    (subst (λ (begun : Begun). Begins g.D.Digester.address (to_z w64 (of_z w64 c.args.epoch)) runner.session c.get.result.now shared c.args.db.now.parts c.meet_start.new.db.parts c.meet_start.new.session begun) c.in-Ok-Answered.field-0-is
+    (subst (λ (begun : Begun). Begins g.D.Digester.address (to_z w64 (of_z w64 c.args.epoch)) runner.session c.get.result.now shared c.args.db.now.parts c.meet_by.new.db.parts c.meet_by.new.session begun) c.in-Ok-Answered.field-0-is
     (c.in-Ok-Answered.ensures.begun runner.session shared is.stands.0 (subst (λ (one : Command). alone None runner.session one ≡ None) (sym c.get.ensures) is.stands.1)))))
     c.push_reserved.ensures.items c.push_reserved.ensures.capacity refl c.requires.free
     (subst IsSoundBegun c.in-Ok-Answered.field-0-is c.in-Ok-Answered.ensures.sound) (subst (BegunTellsTruly g.D.Digester.address) c.in-Ok-Answered.field-0-is c.in-Ok-Answered.ensures.truly)
@@ -43,7 +43,7 @@ returns-in-Ok-Answered-clause-led g c = λ shared place runner is.
 pub returns-in-Ok-Answered-clause-left : goal.returns-in-Ok-Answered-clause-left
 returns-in-Ok-Answered-clause-left g c =
     let p = c.requires.player in
-    fewer_left (record c.args.player.now { stage = stage.Waits c.args.asked }) (record c.args.player.now { session = c.meet_start.new.session; replies = c.push_reserved.new.self }) c.in-Ok-Answered.reply
+    fewer_left (record c.args.player.now { stage = stage.Waits c.args.asked }) (record c.args.player.now { session = c.meet_by.new.session; replies = c.push_reserved.new.self }) c.in-Ok-Answered.reply
     (more_said p.3 c.args.asked p.3.stands.3.0 p.3.stands.3.1) c.push_reserved.ensures.items refl c.requires.free
 
 pub returns-in-Ok-Started-clause-led : goal.returns-in-Ok-Started-clause-led
@@ -51,15 +51,15 @@ returns-in-Ok-Started-clause-led g c = λ shared place runner is. record {
   was = c.args.player.now.session;
   is = is;
   started =
-      subst (λ (one : Command). IsStarted g.D.Digester.address runner.session one shared c.args.db.now.parts c.meet_start.new.db.parts c.meet_start.new.session) c.get.ensures
-      (subst (λ (begun : Begun). Begins g.D.Digester.address (to_z w64 (of_z w64 c.args.epoch)) runner.session c.get.result.now shared c.args.db.now.parts c.meet_start.new.db.parts c.meet_start.new.session begun) c.in-Ok-Started.field-0-is
+      subst (λ (one : Command). IsStarted g.D.Digester.address runner.session one shared c.args.db.now.parts c.meet_by.new.db.parts c.meet_by.new.session) c.get.ensures
+      (subst (λ (begun : Begun). Begins g.D.Digester.address (to_z w64 (of_z w64 c.args.epoch)) runner.session c.get.result.now shared c.args.db.now.parts c.meet_by.new.db.parts c.meet_by.new.session begun) c.in-Ok-Started.field-0-is
       (c.in-Ok-Started.ensures.begun runner.session shared is.stands.0 (subst (λ (one : Command). alone None runner.session one ≡ None) (sym c.get.ensures) is.stands.1)));
   free = c.requires.free;
 }
 
 pub returns-in-Ok-Started-clause-left : goal.returns-in-Ok-Started-clause-left
 returns-in-Ok-Started-clause-left g c =
-    started_left (record c.args.player.now { stage = stage.Waits c.args.asked }) (record c.args.player.now { session = c.meet_start.new.session }) c.args.asked refl refl refl c.requires.free
+    started_left (record c.args.player.now { stage = stage.Waits c.args.asked }) (record c.args.player.now { session = c.meet_by.new.session }) c.args.asked refl refl refl c.requires.free
 
 pub answer_fault-reply-requires-clause-before : goal.answer_fault-reply-requires-clause-before
 answer_fault-reply-requires-clause-before g c κs within =

@@ -1,90 +1,28 @@
-use Rattle.std.proofs.Common.{◌∙◌, ◌+◌, ◌++◌, ◌∷◌, [], ◌≤◌, ℤ, sym, ap, subst, w64, arith}
+use Rattle.std.proofs.Common.{ℤ, subst, sym, w64}
 use Rattle.std.proofs.lemmas.Int.{to_z-of_z}
-use Rattle.seat_gate.specs.History.{View, entry, with_entry}
-use Rattle.seat_gate.specs.Words.{held_value, held_view, seat_view}
-use Rattle.shared_history.specs.Spelling.{spelling_of}
-use Rattle.shared_history.specs.Fitting.{Fits}
-use Rattle.script_run.specs.Following.{IsLed, moments_left}
-use Rattle.script_run.proofs.GoingLemmas.{into_passes, into_stands, number_is_at}
+use Rattle.seat_gate.specs.Words.{seat_view}
 use Rattle.thread_run.specs.Going.{IsGoing}
-use Rattle.thread_run.proofs.GoingLemmas.{finds_room, meets_as, missed_goes, turned_fits, turned_goes}
 use Rattle.thread_run.proofs.session.take_turn.Goals as goal
 
-pub lead_held-requires-clause-player : goal.lead_held-requires-clause-player
-lead_held-requires-clause-player g c κs within =
-    let p = c.requires.going in
-    let m = meets_as g.D.Digester.address c.args.epoch p.0 p.1 p.2 (seat_view c.args.seat) (held_view c.enter-held.result) (held_value c.enter-held.result).db c.args.player.now c.requires.own
-    c.enter-held.ensures.view c.enter-held.ensures.fits c.enter-held.ensures.prefix c.enter-held.ensures.own p.3 in
-    (m.fits.shared, p.0, m.runner, m.is)
+pub returns-then-not-can_plan-clause-going : goal.returns-then-not-can_plan-clause-going
+returns-then-not-can_plan-clause-going g c = λ place first all going.
+    subst (λ (e : ℤ). IsGoing g.D.Digester.address e place first all (seat_view c.settle_turn.result) c.settle_turn.new.player) (to_z-of_z w64 c.args.epoch c.ranges.epoch)
+    (c.settle_turn.ensures.going place first all
+    (subst (λ (e : ℤ). IsGoing g.D.Digester.address e place first all (seat_view c.args.seat) c.args.player.now) (sym (to_z-of_z w64 c.args.epoch c.ranges.epoch)) going))
 
-pub lead_held-requires-clause-moments : goal.lead_held-requires-clause-moments
-lead_held-requires-clause-moments g c κs within =
-    let p = c.requires.going in
-    let m = meets_as g.D.Digester.address c.args.epoch p.0 p.1 p.2 (seat_view c.args.seat) (held_view c.enter-held.result) (held_value c.enter-held.result).db c.args.player.now c.requires.own
-    c.enter-held.ensures.view c.enter-held.ensures.fits c.enter-held.ensures.prefix c.enter-held.ensures.own p.3 in
-    (finds_room g.D.Digester.address c.args.epoch p.0 p.1 p.2 (held_view c.enter-held.result) (held_value c.enter-held.result).db c.args.player.now c.requires.waits m).0
+pub settle_turn-requires-2-clause-going : goal.settle_turn-requires-2-clause-going
+settle_turn-requires-2-clause-going g c κs within =
+    let p = c.requires.going in (
+      p.0,
+      p.1,
+      p.2,
+      subst (λ (e : ℤ). IsGoing g.D.Digester.address e p.0 p.1 p.2 (seat_view c.look_turn-seat.result.0) c.args.player.now) (sym (to_z-of_z w64 c.args.epoch c.ranges.epoch))
+          (c.look_turn-seat.ensures.going c.args.epoch p.0 p.1 p.2 p.3),
+    )
 
-pub lead_held-requires-clause-segments : goal.lead_held-requires-clause-segments
-lead_held-requires-clause-segments g c κs within =
-    let p = c.requires.going in
-    let m = meets_as g.D.Digester.address c.args.epoch p.0 p.1 p.2 (seat_view c.args.seat) (held_view c.enter-held.result) (held_value c.enter-held.result).db c.args.player.now c.requires.own
-    c.enter-held.ensures.view c.enter-held.ensures.fits c.enter-held.ensures.prefix c.enter-held.ensures.own p.3 in
-    (finds_room g.D.Digester.address c.args.epoch p.0 p.1 p.2 (held_view c.enter-held.result) (held_value c.enter-held.result).db c.args.player.now c.requires.waits m).1
-
-pub leave_marked-requires-clause-fits : goal.leave_marked-requires-clause-fits
-leave_marked-requires-clause-fits g c κs within =
-    let p = c.requires.going in
-    let m = meets_as g.D.Digester.address c.args.epoch p.0 p.1 p.2 (seat_view c.args.seat) (held_view c.enter-held.result) (held_value c.enter-held.result).db c.args.player.now c.requires.own
-    c.enter-held.ensures.view c.enter-held.ensures.fits c.enter-held.ensures.prefix c.enter-held.ensures.own p.3 in
-    let led = subst (λ (e : ℤ). IsLed g.D.Digester.address e p.0 m.runner m.fits.shared (held_value c.enter-held.result).db.parts (held_value c.lead_held.new.held).db.parts c.lead_held.new.player)
-    (to_z-of_z w64 c.args.epoch c.ranges.epoch) (c.in-Made.ensures.led m.fits.shared p.0 m.runner m.is) in
-    subst (λ (v : View). Fits g.D.Digester.address (held_value c.lead_held.new.held).db v.opened (v.seen ++ entry v.number c.from.result (spelling_of (held_value c.lead_held.new.held).db.parts) ∷ [])) (sym c.lead_held.ensures.same_view)
-    (turned_fits g.D.Digester.address c.args.epoch p.0 p.1 p.2 (held_view c.enter-held.result) (held_value c.enter-held.result).db (held_value c.lead_held.new.held).db c.args.player.now c.requires.waits m led.left led.state_stands led.passes
-    c.from.result (c.from.ensures ∙ (c.number_of-statement.ensures ∙ number_is_at m.is)) c.lead_held.ensures.room)
-
-pub leave_marked-seat-requires-clause-fits : goal.leave_marked-seat-requires-clause-fits
-leave_marked-seat-requires-clause-fits g c κs within =
-    let p = c.requires.going in
-    let m = meets_as g.D.Digester.address c.args.epoch p.0 p.1 p.2 (seat_view c.args.seat) (held_view c.enter-held.result) (held_value c.enter-held.result).db c.args.player.now c.requires.own
-    c.enter-held.ensures.view c.enter-held.ensures.fits c.enter-held.ensures.prefix c.enter-held.ensures.own p.3 in
-    let into = c.in-Started.ensures.led m.fits.shared p.0 m.runner m.is in
-    subst (λ (v : View). Fits g.D.Digester.address (held_value c.lead_held.new.held).db v.opened (v.seen ++ entry v.number c.from-in-Started.result (spelling_of (held_value c.lead_held.new.held).db.parts) ∷ [])) (sym c.lead_held.ensures.same_view)
-    (turned_fits g.D.Digester.address c.args.epoch p.0 p.1 p.2 (held_view c.enter-held.result) (held_value c.enter-held.result).db (held_value c.lead_held.new.held).db c.args.player.now c.requires.waits m m.fits.shared (into_stands into) (into_passes into)
-    c.from-in-Started.result (c.from-in-Started.ensures ∙ (c.number_of-statement.ensures ∙ number_is_at m.is)) c.lead_held.ensures.room)
-
-pub work_out-requires-after_bounds : goal.work_out-requires-after_bounds
-work_out-requires-after_bounds g c κs within =
-    let p = c.requires.going in
-    let m = meets_as g.D.Digester.address c.args.epoch p.0 p.1 p.2 (seat_view c.args.seat) (held_view c.enter-held.result) (held_value c.enter-held.result).db c.args.player.now c.requires.own
-    c.enter-held.ensures.view c.enter-held.ensures.fits c.enter-held.ensures.prefix c.enter-held.ensures.own p.3 in
-    (p.0, m.runner, m.fits.shared, (held_value c.enter-held.result).db.parts, (held_value c.lead_held.new.held).db.parts, c.in-Started.ensures.led m.fits.shared p.0 m.runner m.is)
-
-pub returns-in-Missed-clause-going : goal.returns-in-Missed-clause-going
-returns-in-Missed-clause-going g c = λ place first all going.
-    let m = meets_as g.D.Digester.address c.args.epoch place first all (seat_view c.args.seat) (held_view c.enter-held.result) (held_value c.enter-held.result).db c.args.player.now c.requires.own
-    c.enter-held.ensures.view c.enter-held.ensures.fits c.enter-held.ensures.prefix c.enter-held.ensures.own going in
-    subst (λ (v : View). IsGoing g.D.Digester.address c.args.epoch place first all v c.lead_held.new.player) (sym (c.leave.ensures.view ∙ c.lead_held.ensures.same_view))
-    (missed_goes g.D.Digester.address c.args.epoch place first all (held_view c.enter-held.result) (held_value c.enter-held.result).db c.args.player.now c.lead_held.new.player m
-    (c.in-Missed.ensures.led m.fits.shared place m.runner m.is) c.in-Missed.ensures.left)
-
-pub returns-in-Made-clause-going : goal.returns-in-Made-clause-going
-returns-in-Made-clause-going g c = λ place first all going.
-    let m = meets_as g.D.Digester.address c.args.epoch place first all (seat_view c.args.seat) (held_view c.enter-held.result) (held_value c.enter-held.result).db c.args.player.now c.requires.own
-    c.enter-held.ensures.view c.enter-held.ensures.fits c.enter-held.ensures.prefix c.enter-held.ensures.own going in
-    let led = subst (λ (e : ℤ). IsLed g.D.Digester.address e place m.runner m.fits.shared (held_value c.enter-held.result).db.parts (held_value c.lead_held.new.held).db.parts c.lead_held.new.player)
-    (to_z-of_z w64 c.args.epoch c.ranges.epoch) (c.in-Made.ensures.led m.fits.shared place m.runner m.is) in
-    subst (λ (v : View). IsGoing g.D.Digester.address c.args.epoch place first all v c.lead_held.new.player)
-    (sym (c.leave_marked.ensures.view ∙ ap (λ (v : View). with_entry (entry v.number c.from.result (spelling_of (held_value c.lead_held.new.held).db.parts)) v) c.lead_held.ensures.same_view))
-    (turned_goes g.D.Digester.address c.args.epoch place first all (held_view c.enter-held.result) (held_value c.enter-held.result).db (held_value c.lead_held.new.held).db c.args.player.now c.requires.waits m c.lead_held.new.player led
-    c.from.result (c.from.ensures ∙ (c.number_of-statement.ensures ∙ number_is_at m.is)) c.in-Made.ensures.left)
-
-pub returns-in-Started-clause-going : goal.returns-in-Started-clause-going
-returns-in-Started-clause-going g c = λ place first all going.
-    let m = meets_as g.D.Digester.address c.args.epoch place first all (seat_view c.args.seat) (held_view c.enter-held.result) (held_value c.enter-held.result).db c.args.player.now c.requires.own
-    c.enter-held.ensures.view c.enter-held.ensures.fits c.enter-held.ensures.prefix c.enter-held.ensures.own going in
-    let led = c.work_out.ensures.led c.args.epoch place m.runner m.fits.shared (held_value c.enter-held.result).db.parts (held_value c.lead_held.new.held).db.parts (c.in-Started.ensures.led m.fits.shared place m.runner m.is) in
-    let less : moments_left c.work_out.new.player + 1 ≤ moments_left c.args.player.now = omega (arith, c.work_out.ensures.left, c.in-Started.ensures.left) in
-    subst (λ (v : View). IsGoing g.D.Digester.address c.args.epoch place first all v c.work_out.new.player)
-    (sym (c.leave_marked-seat.ensures.view ∙ ap (λ (v : View). with_entry (entry v.number c.from-in-Started.result (spelling_of (held_value c.lead_held.new.held).db.parts)) v) c.lead_held.ensures.same_view))
-    (turned_goes g.D.Digester.address c.args.epoch place first all (held_view c.enter-held.result) (held_value c.enter-held.result).db (held_value c.lead_held.new.held).db c.args.player.now c.requires.waits m c.work_out.new.player led
-    c.from-in-Started.result (c.from-in-Started.ensures ∙ (c.number_of-statement.ensures ∙ number_is_at m.is)) less)
+pub returns-clause-going : goal.returns-clause-going
+returns-clause-going g c = λ place first all going.
+    subst (λ (e : ℤ). IsGoing g.D.Digester.address e place first all (seat_view c.settle_turn-2.result) c.settle_turn-2.new.player) (to_z-of_z w64 c.args.epoch c.ranges.epoch)
+    (c.settle_turn-2.ensures.going place first all
+    (subst (λ (e : ℤ). IsGoing g.D.Digester.address e place first all (seat_view c.look_turn-seat.result.0) c.args.player.now) (sym (to_z-of_z w64 c.args.epoch c.ranges.epoch))
+    (c.look_turn-seat.ensures.going c.args.epoch place first all going)))

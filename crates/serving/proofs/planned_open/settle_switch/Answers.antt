@@ -1,0 +1,53 @@
+use Rattle.std.proofs.Common.{◌≡◌, subst, sym, true}
+use Rattle.script_text.specs.declared.replies.Reply.{Reply}
+use Rattle.plain_sessions.specs.declared.commands.Command.TheVariants as command
+use Rattle.session_state.specs.declared.sessions.Session.{Session}
+use Rattle.session_txn.specs.Showing.{is_sound_reply}
+use Rattle.serving.specs.Answering.{Answered}
+use Rattle.serving.specs.Steps.{Decided}
+use Rattle.serving.proofs.AnswerLemmas.{decided_truly}
+use Rattle.serving.proofs.PlannedLemmas.{for_rule, lost, rule_settled}
+use Rattle.serving.proofs.PlanningLemmas.{settled_some}
+use Rattle.serving.proofs.StateLemmas.{here_before}
+use Rattle.serving.proofs.SwitchLemmas.{switch_answered}
+use Rattle.serving.proofs.planned_open.settle_switch.Goals as goal
+
+pub settle_decision-requires-clause-planned : goal.settle_decision-requires-clause-planned
+settle_decision-requires-clause-planned g c κs within =
+    let held = c.requires.open in (
+      held.0,
+      held.1,
+      held.2,
+      for_rule g.D.Digester.address c.args.session.now c.args.look.now c.args.plan c.args.db.now.parts c.requires.grown c.requires.planned held.0 held.1 held.2
+          (here_before g.D.Digester.address c.args.session.now c.args.db.now.parts held.0 held.2 held.3) held.4,
+    )
+
+pub returns-in-Some-clause-answered : goal.returns-in-Some-clause-answered
+returns-in-Some-clause-answered g c = λ epoch p t shared before transaction changed ends.
+    let address = g.D.Digester.address in
+    let old = c.args.session.now in
+    let d : Decided address p t shared c.args.db.now.parts c.settle_decision.new.db.parts c.in-Some.reply =
+    rule_settled address old c.args.look.now c.args.plan c.args.db.now.parts c.requires.grown c.settle_decision.new.db.parts c.requires.planned
+    c.in_ok-reply.field-0 c.in-Some.reply c.in-Some.is p t (c.in_ok-reply.ensures.decided p t) shared (here_before address old c.args.db.now.parts p shared before) transaction in
+    subst (λ (s : Session _). Answered address epoch p (command.Switch c.args.setting.now) shared c.args.db.now.parts c.settle_decision.new.db.parts s c.in-Some.reply) (sym c.end_with.ensures)
+    (switch_answered address epoch old c.args.db.now.parts p shared before c.args.setting.now t c.settle_decision.new.db.parts c.in-Some.reply transaction changed ends d)
+
+pub returns-in-Some-clause-sound : goal.returns-in-Some-clause-sound
+returns-in-Some-clause-sound g c =
+    settled_some (λ (r : Reply). is_sound_reply r ≡ true) c.in_ok-reply.field-0 c.in-Some.reply c.in-Some.is c.in_ok-reply.ensures.sound
+
+pub returns-in-Some-clause-truly : goal.returns-in-Some-clause-truly
+returns-in-Some-clause-truly g c =
+    let held = c.requires.open in
+    let address = g.D.Digester.address in
+    let old = c.args.session.now in
+    decided_truly address held.0 held.1 held.2 c.args.db.now.parts c.settle_decision.new.db.parts c.in-Some.reply
+    (rule_settled address old c.args.look.now c.args.plan c.args.db.now.parts c.requires.grown c.settle_decision.new.db.parts c.requires.planned
+    c.in_ok-reply.field-0 c.in-Some.reply c.in-Some.is held.0 held.1 (c.in_ok-reply.ensures.decided held.0 held.1) held.2
+    (here_before address old c.args.db.now.parts held.0 held.2 held.3) held.4)
+
+pub returns-in-None-clause-same : goal.returns-in-None-clause-same
+returns-in-None-clause-same g c = lost c.in_ok-reply.field-0 c.in-None.is c.in_ok-reply.ensures.same
+
+pub returns-in-None-clause-room_kept : goal.returns-in-None-clause-room_kept
+returns-in-None-clause-room_kept g c = lost c.in_ok-reply.field-0 c.in-None.is c.in_ok-reply.ensures.room_kept
