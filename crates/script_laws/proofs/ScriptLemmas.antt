@@ -14,7 +14,7 @@ use Rattle.script_text.specs.declared.scripts.Line.{Line}
 use Rattle.script_text.specs.declared.scripts.OrderItem.{OrderItem}
 use Rattle.script_text.specs.declared.scripts.Script.{Script}
 use Rattle.script_run.specs.Scripts.{IsSoundScript, is_line_within}
-use Rattle.doltrun.proofs.ListLemmas.{both, join, all_weaker, all_append}
+use Rattle.run_laws.proofs.ListLemmas.{both, join, all_weaker, all_append}
 
 name_bytes : (bytes : List ℕ) → list_all is_name_byte (take_while is_name_byte bytes) ≡ true
 name_bytes [] = refl
