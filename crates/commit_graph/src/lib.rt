@@ -11,8 +11,6 @@ mod fields;
 mod laws;
 mod parts;
 mod reading;
-#[cfg(test)]
-mod tests;
 mod walks;
 mod writing;
 

@@ -17,8 +17,6 @@ mod signing;
 mod signs;
 mod statements;
 mod tables;
-#[cfg(test)]
-mod tests;
 mod tokens;
 mod words;
 

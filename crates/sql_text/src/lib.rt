@@ -6,8 +6,6 @@
 mod canon;
 mod pieces;
 mod sizes;
-#[cfg(test)]
-mod tests;
 
 pub use canon::canonical_text;
 pub use sizes::text_size;

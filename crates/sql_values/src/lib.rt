@@ -7,8 +7,6 @@ mod kinds;
 mod logic;
 mod numbers;
 mod scales;
-#[cfg(test)]
-mod tests;
 mod totals;
 mod worths;
 

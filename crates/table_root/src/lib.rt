@@ -13,8 +13,6 @@ mod names;
 mod parts;
 mod records;
 mod tables;
-#[cfg(test)]
-mod tests;
 
 pub use branches::{read_branch, write_branch};
 pub use databases::{read_database, write_database};

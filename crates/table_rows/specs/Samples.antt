@@ -1,4 +1,4 @@
--- A schema and rows for tests.
+-- A schema and rows for the vectors.
 use Rattle.std.specs.Prelude.{ℤ, true, false, [], ◌∷◌, None, codes}
 use Rattle.tuple_codec.specs.Rows.{Cells}
 use Rattle.tuple_codec.specs.declared.values.SqlType.TheVariants as kind

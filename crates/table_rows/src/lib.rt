@@ -13,5 +13,3 @@ pub use items::{row_item, row_of};
 pub use laws::law_of_row_items;
 pub use reading::read_rows;
 
-#[cfg(test)]
-mod tests;

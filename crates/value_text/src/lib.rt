@@ -4,7 +4,5 @@
 #![tactic(auto)]
 
 mod printed_values;
-#[cfg(test)]
-mod tests;
 
 pub use printed_values::{push_byte_string, push_number, push_quoted, push_row, push_scaled};
