@@ -6,7 +6,6 @@
 //! database may record, and the database that has.
 #![tactic(auto)]
 
-mod alike;
 mod canonical;
 mod cells;
 mod changing;

@@ -12,10 +12,9 @@ ghost use Rattle.constraint_scan.specs.Pairs.{ArePairs, HasRoot, IsPair, come_of
 ghost use Rattle.constraint_scan.specs.Recording.{IsEntry};
 ghost use Rattle.constraint_scan.specs.Scanning.{AreThere, CanRead, IsReadAt};
 
-use crate::alike::same_schema;
 use chunk_store::Draft;
 use pair_walk::{Reads, changes};
-use schema_model::{Schema, law_of_sameness};
+use schema_model::{Schema, is_same_schema, law_of_sameness};
 use std::alloc::{AllocError, Global};
 use table_root::{
     NamedTable as Entry, Table, law_of_databases, law_of_tables, read_database, read_table,
@@ -88,7 +87,7 @@ fn rows_root<D: Digester>(
     law_of_tables();
     law_of_sameness();
     let table = read_table(alloc, draft, address)?;
-    let same = same_schema(&table.schema, schema);
+    let same = is_same_schema(&table.schema, schema);
     if same { Ok(Some(table.rows)) } else { Ok(None) }
 }
 

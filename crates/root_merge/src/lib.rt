@@ -13,7 +13,6 @@ mod laws;
 mod merging;
 mod names;
 mod reading;
-mod sameness;
 mod settling;
 mod tables;
 

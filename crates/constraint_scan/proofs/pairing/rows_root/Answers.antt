@@ -14,7 +14,7 @@ read_table-requires-after_bounds g c κs within =
 pub returns-then-same : goal.returns-then-same
 returns-then-same g c = λ contents at.
     let stands = c.law_of_tables.ensures.values.read g.D.Digester.address (chunks_of c.args.draft.now.chunks) c.args.address.now.0 contents c.in_ok-table.table at c.in_ok-table.ensures in
-    let same = (c.law_of_sameness.ensures.schemas c.in_ok-table.table.schema c.args.schema.now).0 (sym c.same_schema-same.ensures ∙ c.if-same.true) in
+    let same = (c.law_of_sameness.ensures.schemas c.in_ok-table.table.schema c.args.schema.now).0 (sym c.is_same_schema-same.ensures ∙ c.if-same.true) in
     record {
       same = sym (schema_at g.D.Digester.address (chunks_of c.args.draft.now.chunks) c.in_ok-table.table contents stands) ∙ same;
       rows = subst (λ (s : Schema). AreRowsAt g.D.Digester.address (chunks_of c.args.draft.now.chunks) c.in_ok-table.table.rows.0 s contents.rows) same (rows_at g.D.Digester.address (chunks_of c.args.draft.now.chunks) c.in_ok-table.table contents stands);

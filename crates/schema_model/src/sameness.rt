@@ -6,7 +6,7 @@ ghost use Rattle.std.specs.Option.{option_copied};
 ghost use Rattle.tuple_codec.specs.Rows.{same_value};
 ghost use Rattle.schema_model.specs.Sameness.{is_same_check, is_same_column, is_same_foreign, is_same_index, is_same_kind, is_same_option, is_same_schema, is_same_truth};
 
-use schema_model::{CheckDef, Column, ForeignKey, IndexDef, Schema};
+use crate::schemas::{CheckDef, Column, ForeignKey, IndexDef, Schema};
 use tuple_codec::{SqlType, Text, Value, same_value};
 
 fn is_same_kind(a: &SqlType, b: &SqlType) -> bool
@@ -121,7 +121,8 @@ fn are_same_foreign(a: &[ForeignKey], b: &[ForeignKey]) -> bool
     }
 }
 
-pub(crate) fn is_same_schema(a: &Schema, b: &Schema) -> bool
+/// Whether two schemas are the same: each column, the key, each index, CHECK and foreign key, names and order too.
+pub fn is_same_schema(a: &Schema, b: &Schema) -> bool
     ensures { result ≡ is_same_schema a.now b.now }
 {
     are_same_columns(a.columns.as_slice(), b.columns.as_slice())

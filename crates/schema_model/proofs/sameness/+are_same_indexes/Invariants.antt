@@ -1,5 +1,5 @@
 use Rattle.std.proofs.Common.{length}
-use Rattle.root_merge.proofs.sameness.+are_same_indexes.Given as goal
+use Rattle.schema_model.proofs.sameness.+are_same_indexes.Given as goal
 
 abbrev pub decreases-are_same_indexes : goal.decreases-are_same_indexes
 decreases-are_same_indexes l = length l.a.now

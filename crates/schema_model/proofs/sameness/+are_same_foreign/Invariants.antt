@@ -1,5 +1,5 @@
 use Rattle.std.proofs.Common.{length}
-use Rattle.root_merge.proofs.sameness.+are_same_foreign.Given as goal
+use Rattle.schema_model.proofs.sameness.+are_same_foreign.Given as goal
 
 abbrev pub decreases-are_same_foreign : goal.decreases-are_same_foreign
 decreases-are_same_foreign l = length l.a.now
