@@ -132,7 +132,7 @@ pub(crate) fn close<D: Digester>(
 
 /// Makes the moment of a closing call's decision that was planned on this look, where the branch still has the record that was looked at, whatever else
 /// has come in since. None where the record has moved: the try is lost, and all is as it was, as it is where there is a fault.
-pub fn settle_closing<D: Digester>(
+pub(crate) fn settle_closing<D: Digester>(
     db: &mut SharedDb,
     session: &Session<D>,
     look: &Look,
@@ -161,7 +161,7 @@ pub fn settle_closing<D: Digester>(
 }
 
 /// Plans a closing call's decision by a look at the session's branch, without the database.
-pub fn plan_closing<D: Digester>(
+pub(crate) fn plan_closing<D: Digester>(
     alloc: Global,
     session: &Session<D>,
     asked: &Work,

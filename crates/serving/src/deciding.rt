@@ -55,7 +55,7 @@ pub(crate) fn decide<D: Digester>(
 }
 
 /// Plans the decision on the open transaction by a look at the session's branch, without the database.
-pub fn plan_decision<D: Digester>(
+pub(crate) fn plan_decision<D: Digester>(
     alloc: Global,
     session: &Session<D>,
     look: &Look,
@@ -71,7 +71,7 @@ pub fn plan_decision<D: Digester>(
 
 /// Makes the moment of a decision that was planned on this look, where the branch still has the record that was looked at, whatever else has come in
 /// since. None where the record has moved: the try is lost, and all is as it was, as it is where there is a fault.
-pub fn settle_decision<D: Digester>(
+pub(crate) fn settle_decision<D: Digester>(
     db: &mut SharedDb,
     session: &Session<D>,
     look: &Look,

@@ -23,12 +23,10 @@ mod switching;
 mod working;
 
 pub use answering::serve;
-pub use closing::{plan_closing, settle_closing};
 pub use coming::come_to;
 pub use concluding::{conclude, drop_started};
-pub use deciding::{plan_decision, settle_decision};
 pub use faults::answer_fault;
-pub use meeting::{Begun, Met, Pending, meet, meet_start};
+pub use meeting::{Begun, Met, Pending, meet_start};
 pub use planned::{Planned, conclude_planned, look_anew, look_for, plan_pending};
 pub use planned_open::{may_end_open, meet_planned, plan_open};
 pub use working::work_started;

@@ -57,7 +57,7 @@ pub enum Pending {
 
 /// Leads a statement that needs a moment to its first one, on the state found, and a database statement that takes a start through its work. Where
 /// memory was wanting or an address failed there is no moment, and all is as it was.
-pub fn meet<D: Digester>(
+pub(crate) fn meet<D: Digester>(
     alloc: Global,
     db: &mut SharedDb,
     session: &mut Session<D>,
