@@ -3,6 +3,7 @@ use Rattle.std.proofs.Common.{◌≡◌, refl, ◌∙◌, sym, ap, subst, inl, i
 use Rattle.std.specs.Prelude.{IfOk, IfErr, IsErr, IsErrAnd, is_some, if◌then◌else◌, bytes_eq}
 use Rattle.std.specs.List.{list_all, list_any}
 use Rattle.std.specs.Option.{option_map_or, option_to_list}
+use Rattle.basic_laws.proofs.Bytes.{bytes_same}
 use Rattle.tuple_codec.specs.declared.addresses.Address.{Address}
 use Rattle.tuple_codec.specs.declared.records.BranchRecord.{BranchRecord}
 use Rattle.chunk_store.specs.Chunks.{AreNamed, Chunk, Chunks, Extends, IsSingle, Lists, bytes_at}
@@ -14,7 +15,7 @@ use Rattle.chunk_store.specs.Standing.{IsThere}
 use Rattle.chunk_store.specs.Stores.{all_chunks, joined}
 use Rattle.chunk_store.specs.declared.faults.PutFault.{PutFault}
 use Rattle.chunk_store.specs.declared.faults.PutFault.TheVariants.{Memory, Collision}
-use Rattle.chunk_store.proofs.ChunkLemmas.{at_join, bytes_same, either_some, one_at}
+use Rattle.chunk_store.proofs.ChunkLemmas.{at_join, either_some, one_at}
 use Rattle.commit_graph.specs.Commits.{IsCommitFound, parts_of}
 use Rattle.commit_graph.specs.Standing.{IsCommitThere}
 use Rattle.commit_graph.specs.declared.commits.CommitRecord.{CommitRecord}
@@ -51,10 +52,11 @@ use Rattle.shared_db.specs.declared.changes.Plan.{Plan}
 use Rattle.session_txn.specs.Answering.{Decides}
 use Rattle.session_txn.specs.Committing.{IsWorkOf}
 use Rattle.session_txn.proofs.CommitLemmas as decisions
+use Rattle.session_txn.proofs.CommitLemmas.{gives, ok_same, past_unless}
 use Rattle.branch_procs.specs.Committing.{CanCommit, CanDecide, IsCommitted, IsPlannedOf, IsWritten, hash_reply, parents_on, staged_in}
 use Rattle.branch_procs.proofs.ClosingLemmas.{worked_commit}
-use Rattle.branch_procs.proofs.LocalLemmas.{Known, gives, record_in}
-use Rattle.branch_procs.proofs.StageLemmas.{kept_later, ok_same, past_unless}
+use Rattle.branch_procs.proofs.LocalLemmas.{Known, record_in}
+use Rattle.branch_procs.proofs.StageLemmas.{kept_later}
 
 -- ---- what the work becomes
 

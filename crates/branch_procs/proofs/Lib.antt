@@ -3,7 +3,7 @@ mod OpenLemmas
 mod TakingLemmas
 pub mod StageLemmas
 mod RootLemmas
-mod LocalLemmas
+pub mod LocalLemmas
 mod ClosingLemmas
 mod MakingLemmas
 pub mod CommittingLemmas

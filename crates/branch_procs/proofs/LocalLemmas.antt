@@ -1,10 +1,11 @@
 -- A session after a call that stages tables or sets them back.
-use Rattle.std.proofs.Common.{◌≡◌, refl, sym, ◌∙◌, ap, subst, inl, inr, ℕ, Bool, true, false, List, [], ◌∷◌, ◌++◌, length, nat_lt, Option, None, Some, Ok, Err, arith}
+use Rattle.std.proofs.Common.{◌≡◌, refl, sym, ◌∙◌, ap, subst, inl, inr, ℕ, true, false, List, [], ◌∷◌, ◌++◌, length, nat_lt, Option, None, Some, Ok, Err, arith}
 use Rattle.std.specs.Option.{option_map_or}
 use Rattle.std.proofs.lemmas.Bool.Decides.{nat_tests}
+use Rattle.basic_laws.proofs.Options.{some_there as has_one}
 use Rattle.tuple_codec.specs.declared.addresses.Address.{Address}
 use Rattle.tuple_codec.specs.declared.records.BranchRecord.{BranchRecord}
-use Rattle.chunk_store.specs.Chunks.{Chunk, Chunks, Listed, bytes_at}
+use Rattle.chunk_store.specs.Chunks.{Chunk, Chunks, bytes_at}
 use Rattle.chunk_store.specs.Clashes.{IsReason}
 use Rattle.chunk_store.specs.Drafts.{AreOfKind, Drafting, DraftParts, Grows, IsNamed, IsSound, Longer, chunks_of, cut_to}
 use Rattle.chunk_store.specs.Kinds.{is_commit, is_database}
@@ -13,7 +14,7 @@ use Rattle.chunk_store.specs.declared.faults.PutFault.{PutFault}
 use Rattle.chunk_store.specs.declared.faults.PutFault.TheVariants.{Memory, Collision}
 use Rattle.chunk_store.proofs.ChunkLemmas.{at_join, either_some}
 use Rattle.constraint_scan.specs.Scanning.{IsKeptAt}
-use Rattle.expr_eval.specs.Binding.{Outcome, and_then}
+use Rattle.expr_eval.specs.Binding.{Outcome}
 use Rattle.schema_model.specs.Limits.{most_tables}
 use Rattle.schema_model.specs.PlainCommits.{Commits, is_known}
 use Rattle.schema_model.specs.PlainTables.{PlainDatabase}
@@ -49,20 +50,15 @@ use Rattle.session_state.specs.declared.sessions.Session.{Session}
 use Rattle.session_txn.specs.Answering.{AnswersAlone}
 use Rattle.session_txn.specs.Showing.{IsDue, is_sound_reply}
 use Rattle.session_txn.proofs.AloneLemmas.{answers_due, answers_so, collides, starves, takes_none, worked_ill, worked_well}
-use Rattle.session_txn.proofs.SessionLemmas.{has_one}
 use Rattle.session_txn.proofs.ShowLemmas.{due_truly}
+use Rattle.session_txn.proofs.CommitLemmas.{ok_same, past_unless, gives, of_kind}
 use Rattle.branch_procs.specs.Calls.{IsExcused, IsTold, OwnStands, Settles, Stages, staged_by, stages, status_reply}
 use Rattle.branch_procs.specs.Staging.{StandsOn}
-use Rattle.branch_procs.proofs.StageLemmas.{ok_same, past_unless}
 
 -- ---- what the state names
 
 abbrev pub Known : Commits → BranchState → Type 0
 Known commits state = (is_known commits state.head ≡ true) × (option_map_or (is_known commits) state.merging true ≡ true)
-
-pub gives : {A B : Type 0} (P : Type 0) (x : Outcome A) (f : A → Outcome B) (y : B) → and_then x f ≡ Ok y → ((a : A) → x ≡ Ok a → f a ≡ Ok y → P) → P
-gives P (Ok a) f y is next = next a refl is
-gives P (Err number) f y is next = absurd (cc)
 
 module _ (commits : Commits) (own made : BranchState) (known : Known commits own) where
   known_staged : (database : PlainDatabase) → staged_as own database ≡ Ok made → Known commits made
@@ -125,11 +121,6 @@ on_head address draft own commits state at root kept =
     }
 
 -- ---- the draft
-
-of_kind : (kind : List ℕ → Bool) (cs : List Chunk) (k bytes : List ℕ) → AreOfKind kind cs → Listed cs k bytes → kind bytes ≡ true
-of_kind kind [] k bytes all listed = absurd listed
-of_kind kind (c ∷ cs) k bytes all (inl is) = ap kind (sym is.1) ∙ all.0
-of_kind kind (c ∷ cs) k bytes all (inr listed) = of_kind kind cs k bytes all.1 listed
 
 database_apart : (bytes : List ℕ) → is_database bytes ≡ true → is_commit bytes ≡ true → ⊥
 database_apart [] h is = absurd (cc)
@@ -214,7 +205,7 @@ base_back old mid new mark same cut = ap (λ (d : DraftParts). d.base) cut ∙ s
 -- ---- the session
 
 -- its own record stands in its draft
-own_by : (address : List ℕ → List ℕ) (draft : DraftParts) (start : Option Look) (own : BranchRecord) (found : Option Transaction) (t : Transaction) → found ≡ Some t
+pub own_by : (address : List ℕ → List ℕ) (draft : DraftParts) (start : Option Look) (own : BranchRecord) (found : Option Transaction) (t : Transaction) → found ≡ Some t
     → StartStands address draft start own found → OwnStands address draft own t.commits t.own
 own_by address draft None own None t is stands = absurd (cc)
 own_by address draft None own (Some other) t is stands = absurd stands
@@ -227,7 +218,7 @@ pub own_in : {D : Type 0} (address : List ℕ → List ℕ) (session : Session D
     → OwnStands address session.draft.chunks session.own t.commits t.own
 own_in address session p t stands there = own_by address session.draft.chunks session.start session.own p.transaction t there stands.transaction
 
-grown_by : (address : List ℕ → List ℕ) (old new : DraftParts) (start : Option Look) (own rec : BranchRecord) (found : Option Transaction) (t : Transaction) (state : BranchState)
+pub grown_by : (address : List ℕ → List ℕ) (old new : DraftParts) (start : Option Look) (own rec : BranchRecord) (found : Option Transaction) (t : Transaction) (state : BranchState)
     → TransactionsFollow → found ≡ Some t → Longer old new → StartStands address old start own found → RecordStands address (chunks_of new) t.commits rec state
     → StartStands address new start rec (Some (with_own state t))
 grown_by address old new None own rec None t state follow is longer stands made = absurd (cc)

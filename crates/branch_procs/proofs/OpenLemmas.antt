@@ -1,14 +1,13 @@
 -- What tables have recorded.
-use Rattle.std.proofs.Common.{◌≡◌, ◌<◌, refl, sym, ap, ◌∙◌, subst, ℕ, suc, Bool, true, false, ◌||◌, not, ◌==◌, List, [], ◌∷◌, length, arith}
+use Rattle.std.proofs.Common.{◌≡◌, refl, sym, ap, ◌∙◌, subst, ℕ, suc, Bool, true, false, ◌||◌, not, ◌==◌, List, ◌∷◌, length}
 use Rattle.std.proofs.lemmas.List.{length-map}
 use Rattle.schema_model.specs.PlainTables as plain
 use Rattle.schema_model.specs.PlainTables.{PlainDatabase, PlainTable, conflict_item, conflict_items, violation_item, violation_items}
 use Rattle.chunk_store.specs.Chunks.{Chunks}
 use Rattle.chunk_store.specs.Standing.{IsTree}
-use Rattle.table_root.specs.Standing.{IsTableOf, named_tables}
+use Rattle.table_root.specs.Standing.{IsTableOf}
 use Rattle.table_root.specs.declared.records.NamedTable.{NamedTable}
 use Rattle.table_root.specs.declared.records.Table.{Table}
-use Rattle.constraint_scan.specs.Scanning.{AreThere}
 use Rattle.plain_sessions.specs.Branching.{is_open, is_open_table}
 use Rattle.plain_sessions.specs.CommitRule.{has_conflicts, has_violations, is_none}
 
@@ -37,18 +36,6 @@ pub open_by_violations : (contents : PlainTable) (conflicts violations : Bool) �
     → violations ≡ not (length (violation_items contents) == 0) → violations ≡ is_open_table contents
 open_by_violations contents conflicts violations told fails found =
     sym (ap (λ (b : Bool). b || violations) fails) ∙ some_open contents conflicts violations told found
-
-pub none_below : {A : Type 0} (xs : List A) → length xs < 1 → xs ≡ []
-none_below [] few = refl
-none_below (x ∷ xs) few = absurd (nothing (length xs) few) where
-  nothing : (n : ℕ) → suc n < 1 → ⊥
-  nothing n few = omega (arith, few)
-
-pub there_none : (address : List ℕ → List ℕ) (chunks : Chunks) (database : PlainDatabase) (all : List NamedTable) → all ≡ [] → AreThere address chunks database all → database ≡ []
-there_none address chunks [] all is there = refl
-there_none address chunks (named ∷ more) all is there = absurd (nothing (sym is ∙ there.listed)) where
-  nothing : [] ≡ named_tables address (named ∷ more) → ⊥
-  nothing e = cc
 
 open_first : (c v d w : Bool) → (c || v) ≡ true → ((c || d) || (v || w)) ≡ true
 open_first true v d w e = refl

@@ -12,6 +12,7 @@ use Rattle.constraint_scan.specs.Scanning.{AreThere, IsKeptAt}
 use Rattle.expr_eval.specs.Binding.{Outcome, and_then}
 use Rattle.table_root.specs.Standing.{DatabasesStand, named_tables}
 use Rattle.table_root.specs.declared.records.NamedTable.{NamedTable}
+use Rattle.table_root.proofs.ListingLemmas.{made_count as count_names}
 use Rattle.plain_sql.specs.Lists.{each, unless}
 use Rattle.plain_writes.specs.Violations.{table_in}
 use Rattle.plain_sessions.specs.Branching.{add, is_open, is_open_table, may_reset, may_stage, reset_to, staged_as, taking_all}
@@ -22,24 +23,13 @@ use Rattle.root_merge.specs.declared.candidates.Candidate.TheVariants as made
 use Rattle.sql_procedures.specs.declared.requests.Reset.TheVariants as reset
 use Rattle.sql_procedures.specs.declared.requests.Tables.TheVariants as tables
 use Rattle.sql_write.specs.Putting.{address_in}
-use Rattle.sql_write.proofs.TableLemmas.{count_names}
 use Rattle.branch_procs.specs.Listing.{AreFewTables, AreTables}
 use Rattle.branch_procs.specs.Staging.{AreBoth, CanStage, absence, first_absence, refusal_of, reset_absence}
 use Rattle.branch_procs.specs.Taking.{taking_all as chunk_taking_all}
 use Rattle.branch_procs.proofs.TakingLemmas.{at, found_named, taken_are}
+use Rattle.session_txn.proofs.CommitLemmas.{ok_same, past_unless}
 
 -- ---- refusals
-
-abbrev ok_or : {A : Type 0} → Outcome A → A → A
-ok_or (Ok a) other = a
-ok_or (Err number) other = other
-
-pub ok_same : {A : Type 0} (a b : A) → ◌≡◌ {A = Outcome A} (Ok a) (Ok b) → a ≡ b
-ok_same a b e = ap (λ o. ok_or o a) e
-
-pub past_unless : {A : Type 0} (wrong : Bool) (number : ℕ) (next : Outcome A) (y : A) → unless wrong number next ≡ Ok y → next ≡ Ok y
-past_unless true number next y is = absurd (cc)
-past_unless false number next y is = is
 
 some_same : (a b : ℕ) → ◌≡◌ {A = Option ℕ} (Some a) (Some b) → a ≡ b
 some_same a b e = cc

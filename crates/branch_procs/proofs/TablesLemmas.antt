@@ -4,11 +4,12 @@ use Rattle.std.specs.List.{list_all}
 use Rattle.std.proofs.lemmas.Bool.{le-leb}
 use Rattle.schema_model.specs.Limits.{is_database_within_limits, is_named_within_limits, most_tables}
 use Rattle.schema_model.specs.PlainTables.{PlainDatabase}
+use Rattle.schema_model.proofs.SizeLemmas.{kept_few}
 use Rattle.chunk_store.specs.Chunks.{Chunks, Extends}
 use Rattle.constraint_scan.specs.Scanning.{IsKeptAt}
 use Rattle.table_root.specs.Standing.{TablesStand, named_tables}
 use Rattle.table_root.specs.declared.records.NamedTable.{NamedTable}
-use Rattle.sql_write.proofs.TableLemmas.{kept_few, stand_later}
+use Rattle.sql_write.proofs.TableLemmas.{stand_later}
 use Rattle.write_laws.proofs.OrderLemmas.{both_so, right_so}
 use Rattle.branch_procs.specs.Listing.{AreFewTables, AreTables}
 

@@ -5,10 +5,7 @@ use Rattle.std.specs.Option.{option_map}
 use Rattle.std.specs.Ordering.{ordering_reverse}
 use Rattle.std.specs.declared.cmp.Ordering.{Ordering}
 use Rattle.std.specs.declared.cmp.Ordering.TheVariants.{Less, Equal, Greater}
-use Rattle.std.proofs.lemmas.Bool.{not-true}
-use Rattle.std.proofs.lemmas.Map.Text.{is_eq-slice_cmp}
 use Rattle.tuple_codec.specs.declared.addresses.Address.{Address}
-use Rattle.schema_model.specs.Limits.{is_named_within_limits}
 use Rattle.schema_model.specs.PlainTables as plain
 use Rattle.schema_model.specs.PlainTables.{IsTable, PlainDatabase, PlainTable, rises}
 use Rattle.schema_model.specs.Schemas.{is_name}
@@ -21,14 +18,12 @@ use Rattle.plain_writes.specs.Violations.{is_called, table_in}
 use Rattle.plain_schemas.specs.Effects.{placed_in}
 use Rattle.plain_sessions.specs.Branching as plain_branching
 use Rattle.plain_sessions.specs.Branching.{put_table, table_cmp, without_table}
-use Rattle.schema_laws.proofs.ListLemmas.{filter_keep}
 use Rattle.sql_write.specs.Listing as listing
 use Rattle.sql_write.specs.Putting.{address_in}
 use Rattle.sql_write.proofs.ListingLemmas.{all_without, named_placed, named_without}
-use Rattle.write_laws.proofs.OrderLemmas.{both_so, clash, either_way, left_not, placed_past, placed_stop, right_not, turned, two}
-use Rattle.state_laws.proofs.KeptLemmas.{AreKept, IsKeptNamed, are_kept, by_name, have_so}
-use Rattle.state_laws.proofs.OnceLemmas.{none_tied}
-use Rattle.state_laws.proofs.PutLemmas.{found_well, in_order_have, name_total, put_kept, tables_rise, taking_kept}
+use Rattle.write_laws.proofs.OrderLemmas.{both_so, clash, left_not, placed_past, placed_stop, right_not, turned, two}
+use Rattle.state_laws.proofs.KeptLemmas.{AreKept, IsKeptNamed, are_kept, by_name, have_so, within_are}
+use Rattle.state_laws.proofs.PutLemmas.{found_well, in_order_have, name_total, put_kept, tables_rise, taking_kept, apart_from}
 use Rattle.state_laws.proofs.RootLemmas.{TablesRise, tables_lower}
 use Rattle.branch_procs.specs.Listing.{AreFewTables, AreTables}
 use Rattle.branch_procs.specs.Taking.{put, taking, taking_all}
@@ -78,13 +73,6 @@ filter_rise keep low (named ∷ database) r =
       | true ↦ (r.0, kept)
       | false ↦ left
     ]
-
-apart_from : (name : List ℕ) (table : PlainTable) (database : PlainDatabase) → has by_name (without_table name database) (record { name = name; table = table }) ≡ false
-apart_from name table database =
-    let keep = λ (named : plain.NamedTable). not (is_called name named) in
-    let new : plain.NamedTable = record { name = name; table = table } in
-    none_tied by_name keep new (filter keep database)
-    (λ y h. either_way by_name name_total new y ∙ is_eq-slice_cmp y.name name ∙ not-true _ h) (filter_keep keep database)
 
 -- ---- lists that name the tables of databases
 
@@ -147,10 +135,6 @@ module _ (Q : PlainTable → Type 0) where
 names_are : (database : PlainDatabase) → AllByRecursion IsKeptNamed database → list_all (λ (named : plain.NamedTable). is_name named.name) database ≡ true
 names_are [] h = refl
 names_are (named ∷ database) h = let here = h.0 in both_so here.is_name (names_are database h.1)
-
-within_are : (database : PlainDatabase) → AllByRecursion IsKeptNamed database → list_all is_named_within_limits database ≡ true
-within_are [] h = refl
-within_are (named ∷ database) h = let here = h.0 in let table = here.table in both_so (both_so here.short table.within) (within_are database h.1)
 
 pub kept_of : (address : List ℕ → List ℕ) (chunks : Chunks) (tables : List NamedTable) (database : PlainDatabase) → AreFewTables address chunks tables database → AreKept database
 kept_of address chunks tables database few =

@@ -1,6 +1,6 @@
 -- Bytes and the tokens that they begin, end and go on with.
 use Rattle.std.proofs.Common.{◌≡◌, ◌∙◌, ◌⊎◌, inl, inr, sym, ap, refl, subst, ℕ, Bool, true, false, ◌==◌, ◌||◌, List, [], ◌∷◌, Some, None}
-use Rattle.std.proofs.lemmas.Bool.{eqb-true, false≢true}
+use Rattle.std.proofs.lemmas.Bool.{eqb-true, false≢true, or_from as or_false}
 use Rattle.sql_ast.specs.Bytes.{is_blank, is_word_byte, is_word_start}
 use Rattle.sql_ast.specs.Tokens.{first_place, next_place}
 use Rattle.sql_ast.specs.declared.places.Place.TheVariants as place
@@ -12,9 +12,6 @@ differs test byte other is not_ =
       | true ↦ λ e. absurd (false≢true (sym not_ ∙ ap test (sym (eqb-true byte other e)) ∙ is))
       | false ↦ λ e. refl
     ] refl
-
-pub or_false : (a b : Bool) → a ≡ false → b ≡ false → (a || b) ≡ false
-or_false a b x y = rw (x, y) refl
 
 -- the places at which a word stands
 pub begins_word : (byte : ℕ) → is_word_start byte ≡ true → (is_blank byte ≡ false) × ((first_place byte ≡ Some place.AfterX) ⊎ (first_place byte ≡ Some place.InWord))

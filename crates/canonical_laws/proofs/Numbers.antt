@@ -3,7 +3,7 @@ use Rattle.std.proofs.Common.{◌≡◌, ◌≤◌, ◌<◌, ◌+◌, ◌-◌, �
 use Rattle.std.specs.Prelude.{nat_le}
 use Rattle.std.specs.Fmt.{decimal}
 use Rattle.std.specs.List.{list_all}
-use Rattle.std.proofs.lemmas.Bool.{and_parts, le-leb, leb-true}
+use Rattle.std.proofs.lemmas.Bool.{and_parts, le-leb, leb-true, or_from as or_false}
 use Rattle.std.proofs.lemmas.Fmt.{decimal_by_steps}
 use Rattle.std.proofs.lemmas.List.{length-append}
 use Rattle.std.proofs.lemmas.List.Folds.{list_all-append}
@@ -20,7 +20,7 @@ use Rattle.sql_grammar.specs.declared.pieces.Piece.TheVariants as piece
 use Rattle.sql_pieces.specs.Values.{canonical_value, number_from}
 use Rattle.canonical_laws.specs.Written as written
 use Rattle.canonical_laws.proofs.Lexing.{Closes, Lexes, Stops, between, closes, goes, one_token, opens, same_pieces, token_at}
-use Rattle.canonical_laws.proofs.Marks.{AfterExpr, at_end, differs, or_false}
+use Rattle.canonical_laws.proofs.Marks.{AfterExpr, at_end, differs}
 
 -- a number that is written by digits, as behind those of `value`
 

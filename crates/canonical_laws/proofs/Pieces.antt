@@ -3,6 +3,7 @@ use Rattle.std.proofs.Common.{◌≡◌, ◌≤◌, ◌+◌, ◌∙◌, sym, ap,
 use Rattle.std.specs.List.{AllByRecursion, list_all}
 use Rattle.std.proofs.lemmas.Bool.{and_parts, false≢true}
 use Rattle.std.proofs.lemmas.List.{append-nil}
+use Rattle.basic_laws.proofs.Truths.{not_true}
 use Rattle.sql_ast.specs.declared.expressions.Comparison.TheVariants as comparison
 use Rattle.sql_ast.specs.declared.expressions.Expr.{Expr, fold-roll-Expr, roll-Expr}
 use Rattle.sql_ast.specs.declared.expressions.Expr.TheOpen.{Expr-F}
@@ -193,10 +194,6 @@ node_read (Expr-F.Variable n) parts tree =
 
 tree_read : (x : Expr) → IfTree x
 tree_read = by_layers IfTree node_read
-
-not_true : (b : Bool) → not b ≡ true → b ≡ false
-not_true true e = absurd (cc)
-not_true false e = refl
 
 follows : (rest : List Piece) → ends_canonical rest ≡ true → Follows rest
 follows rest ends =

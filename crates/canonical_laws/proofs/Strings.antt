@@ -5,6 +5,7 @@ use Rattle.std.specs.List.{flat_map, list_all}
 use Rattle.std.proofs.lemmas.Bool.{and_parts, cases_lt, eqb-true, ltb-true}
 use Rattle.std.proofs.lemmas.List.{append_assoc, length-append}
 use Rattle.std.proofs.lemmas.List.Concat.{flat_map-cons}
+use Rattle.basic_laws.proofs.Truths.{not_true as is_false}
 use Rattle.hex.specs.Hex.{encode_lower, encode_with, lower_digits}
 use Rattle.sql_ast.specs.Bytes.{escape, hex_value}
 use Rattle.sql_ast.specs.Tokens.{next_place, tokens_from}
@@ -144,10 +145,6 @@ reads_back_at (suc n) d all low =
 some_of : (o : Option ℕ) (d : ℕ) → d < 16 → unwrap_or o 99 ≡ d → o ≡ Some d
 some_of (Some value) d low is = ap Some is
 some_of None d low is = absurd (omega arith)
-
-is_false : (b : Bool) → not b ≡ true → b ≡ false
-is_false true is = absurd (cc)
-is_false false is = refl
 
 digit_reads : (d : ℕ) → d < 16 → (hex_value (slice_index lower_digits d) ≡ Some d) × ((slice_index lower_digits d == 39) ≡ false)
 digit_reads d low =

@@ -1,9 +1,9 @@
-use Rattle.std.proofs.Common.{◌≡◌, ℕ, zero, suc, ◌+◌, ◌-◌, ◌<◌, ◌≤◌, ◌&&◌, nat_le, nat_lt, Bool, true, false, cond, List, [], ◌∷◌, ◌++◌, length, take, drop, get_or, set, Option, Some, None, IsSome, sym, refl, ap, ◌∙◌, subst, arith, slice_get}
+use Rattle.std.proofs.Common.{◌≡◌, ℕ, zero, suc, ◌+◌, ◌-◌, ◌<◌, ◌≤◌, nat_le, nat_lt, Bool, true, false, cond, List, [], ◌∷◌, ◌++◌, length, take, drop, get_or, set, Option, Some, None, IsSome, sym, refl, ap, ◌∙◌, subst, arith, slice_get}
 use Rattle.std.specs.Option.{option_and_then}
 use Rattle.std.proofs.Math.Seq.{drop-append_seam, take-set-lt}
 use Rattle.std.proofs.lemmas.List.{append-nil, append_assoc, length-append, length-take-le, get_or-take, take_all, take-append-le, drop-append-le, length-drop, length-take, drop-take, take-take, take-append-drop}
 use Rattle.std.proofs.lemmas.Option.{cond_some}
-use Rattle.std.proofs.lemmas.Bool.{and_from, leb-true, le-leb, lt-ltb, ltb-true}
+use Rattle.std.proofs.lemmas.Bool.{and_from, leb-true, le-leb, lt-ltb, ltb-true, and_parts as and_both}
 use Rattle.chunk_region.specs.declared.span.Span.{Span}
 use Rattle.chunk_region.specs.declared.mark.Mark.{Mark}
 use Rattle.chunk_region.specs.Pages.{Pages, bytes_at, part_of, Stands, has_room, on_last_page, mark_of, cut, cut_page, cut_pages, place_on, write_on_last, IsLater, IsLaterPage, IsBefore, IsWritten, WritesOn}
@@ -143,10 +143,6 @@ cut_of_taken (p ∷ pages) (suc n) zero last within = absurd (omega arith)
 cut_of_taken (p ∷ pages) (suc n) (suc used) last within = ap (λ l. cut_page n last p ∷ l) (cut_of_taken pages n used last (omega arith))
 
 -- ---- writing on the last page
-
-and_both : (t u : Bool) → t && u ≡ true → (t ≡ true) × (u ≡ true)
-and_both true u is = (refl, is)
-and_both false u is = cc
 
 pub used_some : (pages : Pages) (used : ℕ) → 0 < length (take used pages) → used ≡ 0 → ⊥
 used_some pages zero some _ = omega arith

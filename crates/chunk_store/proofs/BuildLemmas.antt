@@ -1,7 +1,6 @@
 -- Chunks gathered into a segment.
 use Rattle.std.proofs.Common.{◌≡◌, ◌⊎◌, inl, inr, ℕ, ◌+◌, ◌≤◌, Bool, true, false, cond, List, [], ◌∷◌, ◌++◌, length, drop, Option, Some, None, is_some, sym, refl, ap, ◌∙◌, subst, slice_get, arith}
-use Rattle.std.proofs.lemmas.List.{append-nil, drop_more, length-append}
-use Rattle.std.proofs.lemmas.Option.{slice_get_within, get_or_from_slice_get}
+use Rattle.std.proofs.lemmas.List.{append-nil, length-append}
 use Rattle.chunk_region.specs.Pages.{Pages, Stands, IsWritten, Keeps}
 use Rattle.chunk_region.proofs.PageLemmas.{is_written}
 use Rattle.chunk_store.specs.declared.index.Placed.{Placed}
@@ -11,6 +10,7 @@ use Rattle.chunk_store.specs.Placing.{AllFit, ArePlaced, chunks_in, span_at, wri
 use Rattle.chunk_store.proofs.ChunkLemmas.{found_listed, listed_either, listed_left, listed_right, single_fewer, single_left, single_push}
 use Rattle.chunk_store.proofs.PlacingLemmas.{absent_span, all_push, all_stay, chunks_push, found_at, kept_written}
 use Rattle.std.specs.Option.{option_map}
+use Rattle.basic_laws.proofs.Lists.{drop_at_get as drop_next}
 
 -- one more chunk was placed
 pub placed_push : (old new : Pages) (cs : List Placed) (c : Placed) (bytes : List ℕ) → ArePlaced old cs → Keeps old new → Stands new c.span bytes → length bytes ≤ 65536
@@ -33,9 +33,6 @@ with_there cs c x held = ap (λ (o : Option (List ℕ)). cond (is_some o) cs (cs
 
 pub with_absent : (cs : List Chunk) (c : Chunk) → bytes_at cs c.0 ≡ None → with_chunk cs c ≡ cs ++ c ∷ []
 with_absent cs c none = ap (λ (o : Option (List ℕ)). cond (is_some o) cs (cs ++ c ∷ [])) none
-
-pub drop_next : {X : Type 0} (xs : List X) (n : ℕ) (x : X) → slice_get xs n ≡ Some x → drop n xs ≡ x ∷ drop (n + 1) xs
-drop_next xs n x is = drop_more xs n x (slice_get_within xs n x is) ∙ ap (λ y. y ∷ drop (n + 1) xs) (get_or_from_slice_get xs n x x is)
 
 pub gather_next : (cs more : List Chunk) (n : ℕ) (c : Chunk) → slice_get more n ≡ Some c → gather (with_chunk cs c) (drop (n + 1) more) ≡ gather cs (drop n more)
 gather_next cs more n c is = sym (ap (gather cs) (drop_next more n c is))

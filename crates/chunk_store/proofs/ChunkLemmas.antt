@@ -1,16 +1,10 @@
 use Rattle.std.proofs.Common.{◌≡◌, ◌⊎◌, inl, inr, ℕ, zero, suc, ◌<◌, Bool, true, false, cond, List, [], ◌∷◌, ◌++◌, ◌+◌, length, take, drop, map, get_or, Option, Some, None, sym, refl, ap, ◌∙◌, slice_get, bytes_eq}
 use Rattle.std.proofs.lemmas.Bool.{cond-true}
-use Rattle.std.proofs.lemmas.Option.{cond_some, same_Some, slice_get_within, get_or_from_slice_get}
-use Rattle.std.proofs.lemmas.List.{append-nil, append_assoc, drop_more, take_more}
-use Rattle.std.proofs.lemmas.Slice.Eq.{bytes_eq-Decides}
+use Rattle.std.proofs.lemmas.Option.{cond_some, same_Some}
+use Rattle.std.proofs.lemmas.List.{append-nil, append_assoc, drop_more}
+use Rattle.basic_laws.proofs.Bytes.{bytes_same, same_bytes}
 use Rattle.chunk_store.specs.Chunks.{Chunk, Chunks, bytes_at, Listed, Lists, IsSingle, Agree, AreNamed}
 use Rattle.chunk_store.specs.Stores.{joined}
-
-pub same_bytes : (a b : List ℕ) → bytes_eq a b ≡ true → a ≡ b
-same_bytes a b = (bytes_eq-Decides a b).0
-
-pub bytes_same : (a b : List ℕ) → a ≡ b → bytes_eq a b ≡ true
-bytes_same a b = (bytes_eq-Decides a b).1
 
 -- ---- looking up in a list
 
@@ -182,12 +176,6 @@ named_at a [] n k bytes named is = cc
 named_at a (c ∷ cs) zero k bytes named is =
     let same = same_Some c (k, bytes) is in ap a (sym (ap (λ (d : Chunk). d.1) same)) ∙ named.0 ∙ ap (λ (d : Chunk). d.0) same
 named_at a (c ∷ cs) (suc n) k bytes named is = named_at a cs n k bytes named.1 is
-
--- ---- places in lists
-
-pub take_next : {X : Type 0} (xs : List X) (n : ℕ) (x : X) → slice_get xs n ≡ Some x → take (n + 1) xs ≡ take n xs ++ x ∷ []
-take_next xs n x is =
-    take_more xs n x (slice_get_within xs n x is) ∙ ap (λ y. take n xs ++ y ∷ []) (get_or_from_slice_get xs n x x is)
 
 -- ---- segments
 

@@ -2,12 +2,13 @@
 use Rattle.std.proofs.Common.{◌≡◌, ◌⊎◌, inl, inr, ℕ, zero, suc, ◌+◌, ◌*◌, ◌^◌, ◌-◌, ◌<◌, ◌≤◌, nat_lt, Bool, true, false, ◌&&◌, cond, List, [], ◌∷◌, ◌++◌, length, map, get_or, take, drop, Option, Some, None, is_some, sym, refl, ap, ◌∙◌, subst, slice_get, arith}
 use Rattle.std.specs.List.{AllByRecursion, list_all}
 use Rattle.std.proofs.lemmas.List.{append-nil, length-append}
-use Rattle.std.proofs.lemmas.Bool.{ltb-true}
+use Rattle.std.proofs.lemmas.Bool.{ltb-true, and_parts as and_both}
+use Rattle.basic_laws.proofs.Lists.{drop_at_get as drop_next, take_at_get as take_next}
 use Rattle.chunk_store.specs.Building.{gather}
 use Rattle.chunk_store.specs.Chunks.{Agree, Chunk, bytes_at, IsSingle, Listed, Lists}
 use Rattle.chunk_store.specs.Stores.{AreSome, IsSealed, IsUnion, StaysFew, drop_held, has_none, is_within, joined, joins, with_segment}
-use Rattle.chunk_store.proofs.BuildLemmas.{drop_next, gather_has, gather_join, gather_keeps, gather_only, gather_size}
-use Rattle.chunk_store.proofs.ChunkLemmas.{found_listed, joined_push, listed_either, listed_finds, listed_is, listed_left, listed_right, single_fewer, single_join, take_next}
+use Rattle.chunk_store.proofs.BuildLemmas.{gather_has, gather_join, gather_keeps, gather_only, gather_size}
+use Rattle.chunk_store.proofs.ChunkLemmas.{found_listed, joined_push, listed_either, listed_finds, listed_is, listed_left, listed_right, single_fewer, single_join}
 
 -- ---- dropping from the end
 
@@ -57,10 +58,6 @@ drop_fewer other (s ∷ ss) k bytes listed =
 some_case : (o : Option (List ℕ)) → is_some o ≡ true → (y : List ℕ) × (o ≡ Some y)
 some_case None is = absurd (cc)
 some_case (Some y) is = (y, refl)
-
-and_both : (t u : Bool) → t && u ≡ true → (t ≡ true) × (u ≡ true)
-and_both true u is = (refl, is)
-and_both false u is = cc
 
 -- a chunk of a segment that is within another one has an address there
 pub within_finds : (segment other : List Chunk) (k bytes : List ℕ) → is_within segment other ≡ true → Listed segment k bytes → (y : List ℕ) × (bytes_at other k ≡ Some y)

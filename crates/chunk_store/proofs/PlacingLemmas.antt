@@ -2,6 +2,8 @@ use Rattle.std.proofs.Common.{◌≡◌, ℕ, zero, suc, Bool, true, false, cond
 use Rattle.std.specs.List.{AllByRecursion}
 use Rattle.std.proofs.lemmas.List.{map-append, take-map}
 use Rattle.std.proofs.lemmas.Option.{slice_get-map, same_Some}
+use Rattle.basic_laws.proofs.Bytes.{same_bytes, bytes_same}
+use Rattle.basic_laws.proofs.Lists.{have_at as all_get}
 use Rattle.chunk_region.specs.declared.span.Span.{Span}
 use Rattle.chunk_region.specs.declared.mark.Mark.{Mark}
 use Rattle.chunk_region.specs.Pages as region
@@ -10,7 +12,7 @@ use Rattle.chunk_region.proofs.PageLemmas.{is_written}
 use Rattle.chunk_store.specs.declared.index.Placed.{Placed}
 use Rattle.chunk_store.specs.Chunks.{Chunk, bytes_at, IsSingle}
 use Rattle.chunk_store.specs.Placing.{span_at, AreApart, IsIndex, written, chunk_of, chunks_in, AllWritten, InOrder}
-use Rattle.chunk_store.proofs.ChunkLemmas.{same_bytes, bytes_same, listed_is, listed_at}
+use Rattle.chunk_store.proofs.ChunkLemmas.{listed_is, listed_at}
 
 -- ---- each of a list
 
@@ -22,11 +24,6 @@ pub all_take : {X : Type 0} (P : X → Type 0) (n : ℕ) (xs : List X) → AllBy
 all_take P zero xs all = tt
 all_take P (suc n) [] all = tt
 all_take P (suc n) (x ∷ xs) all = (all.0, all_take P n xs all.1)
-
-pub all_get : {X : Type 0} (P : X → Type 0) (xs : List X) (n : ℕ) (x : X) → AllByRecursion P xs → slice_get xs n ≡ Some x → P x
-all_get P [] n x all is = cc
-all_get P (y ∷ ys) zero x all is = subst P (same_Some y x is) all.0
-all_get P (y ∷ ys) (suc n) x all is = all_get P ys n x all.1 is
 
 -- ---- finding by address
 

@@ -6,6 +6,7 @@ use Rattle.std.specs.Int.{w64, cast_signed, cast_unsigned, from_be_bytes, to_be_
 use Rattle.std.proofs.lemmas.Bool.{and_parts, eqb-true}
 use Rattle.std.proofs.lemmas.List.{length-append}
 use Rattle.std.proofs.lemmas.Nat.{from_be_bytes-to_be_bytes_8}
+use Rattle.basic_laws.proofs.Options.{some_is}
 use Rattle.tuple_codec.specs.Fields.{bytes_at}
 use Rattle.tuple_codec.specs.RowBytes.{counted}
 use Rattle.tuple_codec.specs.Fronts.{uncounted}
@@ -14,10 +15,11 @@ use Rattle.tuple_codec.proofs.NumberLemmas.{bits_fit, number_back}
 use Rattle.tuple_codec.proofs.TextLemmas.{counted_again}
 use Rattle.schema_model.specs.Reading.{◌>>=◌}
 use Rattle.schema_model.specs.WrittenForms.{CommitParts, commit_bytes}
-use Rattle.schema_model.proofs.PartLemmas.{IsReader, bytes_again, bytes_takes, items_again, nothing, some_is, takes}
+use Rattle.schema_model.proofs.PartLemmas.{IsReader, bytes_takes, items_again, nothing, takes}
 use Rattle.commit_graph.specs.Commits.{HasOneSpelling, IsCommit, is_address, parts_of}
 use Rattle.commit_graph.specs.declared.commits.CommitRecord.{CommitRecord}
 use Rattle.tuple_codec.specs.declared.addresses.Address.{Address}
+use Rattle.tuple_codec.proofs.FieldLemmas.{bytes_again}
 use Rattle.commit_graph.specs.Reading.{address_at, after_parents as parents_passed, commit_of, height_in, number_at, parents_at, root_in}
 
 -- ---- addresses

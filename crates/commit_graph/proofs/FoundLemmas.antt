@@ -1,19 +1,14 @@
 -- What is found of commits that stand.
 use Rattle.std.proofs.Common.{◌≡◌, refl, sym, ◌∙◌, ap, subst, ℕ, ◌≤◌, true, List, length, Option, Some, None}
-use Rattle.std.specs.Prelude.{is_some}
 use Rattle.std.specs.List.{list_all}
+use Rattle.basic_laws.proofs.Options.{some_is, some_there as some_known}
 use Rattle.schema_model.specs.PlainCommits.{AreGrown, Commits, PlainCommit, commit_parts, height_in, height_of, is_known, parents_in, parents_of}
 use Rattle.schema_model.specs.WrittenForms.{CommitParts}
-use Rattle.schema_model.proofs.PartLemmas.{some_is}
 use Rattle.chunk_store.specs.Chunks.{Chunks}
 use Rattle.commit_graph.specs.Commits.{HasCommit, IsCommitFound}
 use Rattle.commit_graph.specs.Standing.{CommitsStand}
 use Rattle.commit_graph.proofs.CommitLemmas.{one_spelling}
 use Rattle.commit_graph.proofs.StandingLemmas.{commit_found}
-
-some_known : (o : Option PlainCommit) → is_some o ≡ true → (commit : PlainCommit) × (o ≡ Some commit)
-some_known None h = absurd cc
-some_known (Some commit) h = (commit, refl)
 
 all_known_by : (commits : Commits) → AreGrown commits → (k : List ℕ) (o : Option PlainCommit) → commits k ≡ o → list_all (is_known commits) (parents_in o) ≡ true
 all_known_by commits grown k None e = refl

@@ -1,5 +1,5 @@
 -- What is left of a walk, and how it steps.
-use Rattle.std.proofs.Common.{◌≡◌, refl, sym, ◌∙◌, ap, subst, ◌⊎◌, inl, inr, ℕ, zero, suc, ◌+◌, ◌*◌, ◌^◌, ◌<◌, ◌≤◌, Bool, true, false, cond, ◌||◌, ltb, eqb-true, List, [], ◌∷◌, ◌++◌, length, map, Option, None, Some, is_lt, arith}
+use Rattle.std.proofs.Common.{◌≡◌, refl, sym, ◌∙◌, ap, subst, ◌⊎◌, inl, inr, ℕ, zero, suc, ◌+◌, ◌*◌, ◌^◌, ◌<◌, ◌≤◌, Bool, true, false, cond, ◌||◌, eqb-true, List, [], ◌∷◌, ◌++◌, length, map, Option, None, Some, is_lt, arith}
 use Rattle.std.specs.Prelude.{bytes_eq, is_some}
 use Rattle.std.specs.List.{flat_map, list_all}
 use Rattle.std.specs.BTreeSet.{insert_key}
@@ -7,15 +7,19 @@ use Rattle.std.specs.Cmp.Lexicographic.{slice_cmp}
 use Rattle.std.specs.Ordering.{nat_cmp, is_eq, match_ordering, ordering_then}
 use Rattle.std.specs.declared.cmp.Ordering.{Ordering}
 use Rattle.std.specs.declared.cmp.Ordering.TheVariants.{Less, Equal, Greater}
-use Rattle.std.proofs.lemmas.Bool.{and_parts, and_from, ltb-true, ltb-false}
+use Rattle.std.proofs.lemmas.Bool.{and_parts, and_from, or_cases as either, or_left, or_right}
 use Rattle.std.proofs.lemmas.List.Folds.{list_any-append}
 use Rattle.std.proofs.Math.Nat.{one-le-pow, pow-le-pow_right, pow-suc}
+use Rattle.basic_laws.proofs.Truths.{alike_truths}
+use Rattle.basic_laws.proofs.Bytes.{bytes_itself as itself, same_bytes as same_address}
+use Rattle.basic_laws.proofs.Numbers.{at_least}
 use Rattle.schema_model.specs.PlainTables.{rises}
 use Rattle.schema_model.specs.PlainCommits.{AncestorsFollow, AreGrown, Commits, IsAncestor, IsAncestorBy, PlainCommit, ancestors, commit_cmp, greatest, has_address, height_in, height_of, is_known, parents_in, parents_of, put_commit}
+use Rattle.schema_model.proofs.AncestorLemmas.{before_all, has_ordered, has_put, in_all, in_some, ordered_rises, put_rises, rest_rises, parent_lower}
 use Rattle.tuple_codec.specs.declared.addresses.Address.{Address}
 use Rattle.commit_graph.specs.Walks.{AreRanks, Begins, Steps, Waits, address_in, addresses_of, first_address, height_at, is_rank, left, weight, weight_of}
 use Rattle.commit_graph.specs.declared.walks.Rank.{Rank}
-use Rattle.commit_graph.proofs.OrderLemmas.{alike_truths, before_all, before_later, either, front_rises, has_ordered, has_put, higher_first, in_all, in_some, itself, or_left, or_right, ordered_rises, put_rises, rest_rises, same_address, same_lists}
+use Rattle.commit_graph.proofs.OrderLemmas.{before_later, front_rises, higher_first, same_lists}
 
 -- ---- places among those that wait
 
@@ -127,27 +131,6 @@ waits_more commits ks k old mid new first second =
     }
 
 -- ---- parents are lower
-
-known_parent : (o : Option PlainCommit) (p : List ℕ) → has_address (parents_in o) p ≡ true → is_some o ≡ true
-known_parent None p h = absurd cc
-known_parent (Some commit) p h = refl
-
-at_least : (b : Bool) (n g : ℕ) → ltb g n ≡ b → (n ≤ cond b n g) × (g ≤ cond b n g)
-at_least true n g e = (omega arith, omega (arith, ltb-true g n e))
-at_least false n g e = (ltb-false g n e, omega arith)
-
-greatest_of : (commits : Commits) (parents : List (List ℕ)) (p : List ℕ) → has_address parents p ≡ true → height_of commits p ≤ greatest (map (height_of commits) parents)
-greatest_of commits [] p h = absurd cc
-greatest_of commits (parent ∷ parents) p h =
-    let two = at_least _ (height_of commits parent) (greatest (map (height_of commits) parents)) refl in
-    elim (either (bytes_eq p parent) (has_address parents p) h) [
-      | inl same ↦ let e : height_of commits p ≡ height_of commits parent = ap (height_of commits) (same_address p parent same) in omega (arith, e, two.0)
-      | inr later ↦ omega (arith, greatest_of commits parents p later, two.1)
-    ]
-
-parent_lower : (commits : Commits) → AreGrown commits → (k p : List ℕ) (o : Option PlainCommit) → commits k ≡ o → has_address (parents_in o) p ≡ true → height_of commits p < height_in o
-parent_lower commits grown k p None e h = absurd cc
-parent_lower commits grown k p (Some commit) e h = omega (arith, (grown k commit e).height, greatest_of commits commit.parents p h)
 
 parent_later : (commits : Commits) → AreGrown commits → (k p : List ℕ) → has_address (parents_of commits k) p ≡ true → is_lt (commit_cmp commits k p) ≡ true
 parent_later commits grown k p h = higher_first commits k p (parent_lower commits grown k p (commits k) refl h)

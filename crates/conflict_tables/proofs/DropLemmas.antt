@@ -1,12 +1,15 @@
 -- Removals leave the other items, and a table without some of its conflicts stands.
 use Rattle.std.proofs.Common.{◌≡◌, ◌≤◌, ◌<◌, ◌^◌, refl, sym, ap, ◌∙◌, subst, arith, ℕ, suc, Bool, true, false, cond, not, List, [], ◌∷◌, ◌++◌, Option, None, Some, filter, length, map, append_assoc, append-nil}
 use Rattle.std.specs.Cmp.{IsTotalOrder}
-use Rattle.std.specs.List.{AllByRecursion, list_all}
+use Rattle.std.specs.List.{AllByRecursion}
 use Rattle.std.specs.Ordering.{is_lt, match_ordering}
 use Rattle.std.specs.declared.cmp.Ordering.{Ordering}
 use Rattle.std.specs.declared.cmp.Ordering.TheVariants.{Less, Equal, Greater}
 use Rattle.std.proofs.lemmas.Bool.{and_from, and_parts}
 use Rattle.std.proofs.lemmas.Cmp.{nat_list_cmp_total, on_total}
+use Rattle.basic_laws.proofs.Orderings.{less_is}
+use Rattle.basic_laws.proofs.Lists.{all_left}
+use Rattle.basic_laws.proofs.Truths.{two}
 use Rattle.tuple_codec.specs.Edits.{EditsRiseAfter, edited, edits_at, order, putting}
 use Rattle.tuple_codec.specs.Nodes.{Item, RiseAfter}
 use Rattle.tuple_codec.specs.Rows.{key_cmp}
@@ -22,13 +25,9 @@ use Rattle.table_root.specs.declared.records.Table.{Table}
 use Rattle.prolly_edit.specs.Editing.{CanEdit, PutsRow}
 use Rattle.prolly_tree.specs.Lists.{from_key, pair_of}
 use Rattle.table_rows.proofs.ReadingLemmas.{from_first}
-use Rattle.edit_laws.proofs.Orders.{greater, less_is}
+use Rattle.edit_laws.proofs.Orders.{greater}
 use Rattle.edit_laws.proofs.Rising.{edits_lower}
 use Rattle.conflict_tables.specs.Conflicts.{is_dropped, removal, removal_if, removal_of, removals, stays, without_conflicts}
-
-two : {A : Type 0} (b : Bool) → (b ≡ true → A) → (b ≡ false → A) → A
-two true f g = f refl
-two false f g = g refl
 
 module _ (keys : List (List ℕ)) where
   abbrev is_left : Item → Bool
@@ -155,16 +154,6 @@ module _ (keys : List (List ℕ)) where
           ≡ map (conflict_item schema) (cond b (conflict ∷ filter (stays keys) conflicts) (filter (stays keys) conflicts))
       by_test true e = ap (λ l. conflict_item schema conflict ∷ l) e
       by_test false e = e
-
-all_left : {A : Type 0} (p q : A → Bool) (xs : List A) → list_all q xs ≡ true → list_all q (filter p xs) ≡ true
-all_left p q [] all = refl
-all_left p q (x ∷ xs) all =
-    let parts = and_parts (q x) (list_all q xs) all in
-    by_test (p x) parts.0 (all_left p q xs parts.1)
-  where
-    by_test : (b : Bool) → q x ≡ true → list_all q (filter p xs) ≡ true → list_all q (cond b (x ∷ filter p xs) (filter p xs)) ≡ true
-    by_test true one more = and_from _ _ one more
-    by_test false one more = more
 
 module _ {A : Type 0} (compare : A → A → Ordering) (total : IsTotalOrder compare) (p : A → Bool) where
   rise_past : (x y : A) (xs : List A) → rises compare (x ∷ y ∷ xs) ≡ true → rises compare (x ∷ xs) ≡ true

@@ -1,6 +1,8 @@
 -- What a violation of a database comes of: a row of a table, and what it breaks.
 use Rattle.std.proofs.Common.{◌≡◌, refl, sym, ap, ◌∙◌, subst, ◌⊎◌, inl, inr, ℕ, Bool, true, false, cond, ◌||◌, List, [], ◌∷◌, ◌++◌, filter, map}
 use Rattle.std.specs.List.{enumerate_from, flat_map, list_any}
+use Rattle.std.proofs.lemmas.Bool.{or_cases, or_left}
+use Rattle.basic_laws.proofs.Truths.{or_late as or_right}
 use Rattle.tuple_codec.specs.Rows.{Cells}
 use Rattle.schema_model.specs.declared.schemas.CheckDef.{CheckDef}
 use Rattle.schema_model.specs.declared.schemas.Column.{Column}
@@ -11,8 +13,7 @@ use Rattle.schema_model.specs.PlainTables.{NamedTable, PlainDatabase, Violation,
 use Rattle.plain_writes.specs.Violations.{Checks, Found, breaks_check, breaks_not_null, breaks_unique, broken, found_in, of_check, of_column, of_foreign, of_index, violation, violations, violations_in}
 use Rattle.write_laws.proofs.OrderLemmas.{clash, two}
 use Rattle.constraint_scan.specs.Changed.{is_orphan_by}
-use Rattle.constraint_scan.proofs.MemberLemmas.{Stands, any_flat, any_in_order, any_joined, any_mapped, at_filter, at_some, filter_at, or_cases, or_left, some_at}
-use Rattle.constraint_scan.proofs.RefusalLemmas.{or_right}
+use Rattle.constraint_scan.proofs.MemberLemmas.{Stands, any_flat, any_in_order, any_joined, any_mapped, at_filter, at_some, filter_at, some_at}
 
 -- a row of the table that breaks a constraint of this kind and name
 abbrev pub found : NamedTable → ℕ → List ℕ → Cells → Found

@@ -6,8 +6,9 @@ use Rattle.std.specs.Option.{option_map_or}
 use Rattle.std.specs.Ordering.{is_eq, ordering_then}
 use Rattle.std.specs.declared.cmp.Ordering.{Ordering}
 use Rattle.std.specs.declared.cmp.Ordering.TheVariants.{Less, Equal, Greater}
-use Rattle.std.proofs.lemmas.Bool.{and_parts}
+use Rattle.std.proofs.lemmas.Bool.{and_parts, false_from_ne_true as not_so}
 use Rattle.std.proofs.lemmas.Map.Text.{is_eq-slice_cmp}
+use Rattle.basic_laws.proofs.Truths.{alike_truths as as_one, not_true as not_false}
 use Rattle.tuple_codec.specs.Rows.{Cells, key_cmp, key_of, same_cells}
 use Rattle.tuple_codec.proofs.Orders.{cells_told}
 use Rattle.schema_model.specs.declared.schemas.CheckDef.{CheckDef}
@@ -21,7 +22,7 @@ use Rattle.write_laws.proofs.OrderLemmas.{both_so, clash, left_so, right_so, two
 use Rattle.constraint_scan.specs.Changed.{AreAlike, has_just, is_failed, is_left, is_orphan, is_orphan_by, is_repeated, some_changed, some_kept, told_by_rows}
 use Rattle.constraint_scan.specs.Scanning.{empty_named}
 use Rattle.constraint_scan.proofs.CauseLemmas.{Cause, ByCheck, ByColumn, ByForeign, ByIndex, cause_of, found, of_failed, of_orphan, of_repeated, row_of}
-use Rattle.constraint_scan.proofs.MemberLemmas.{Stands, all_at, any_filtered, any_mapped, as_one, at_map, at_some, map_at, not_false, not_so, some_at}
+use Rattle.constraint_scan.proofs.MemberLemmas.{Stands, all_at, any_filtered, any_mapped, at_map, at_some, map_at, some_at}
 use Rattle.constraint_scan.proofs.NameLemmas.{Finds, Rise, each_found}
 use Rattle.constraint_scan.proofs.RefusalLemmas.{cells_itself, same_itself}
 

@@ -3,11 +3,13 @@ use Rattle.std.proofs.Common.{◌≡◌, ◌<◌, ◌+◌, refl, sym, ap, ◌∙
 use Rattle.std.proofs.lemmas.List.{drop_more}
 use Rattle.std.specs.List.{list_all, list_any}
 use Rattle.std.specs.Option.{option_map_or}
-use Rattle.std.specs.Ordering.{is_eq, is_lt, match_ordering}
+use Rattle.std.specs.Ordering.{is_lt, match_ordering}
 use Rattle.std.specs.declared.cmp.Ordering.{Ordering}
 use Rattle.std.specs.declared.cmp.Ordering.TheVariants.{Less, Equal, Greater}
-use Rattle.std.proofs.lemmas.Bool.{and_parts}
-use Rattle.std.proofs.lemmas.Map.Text.{is_eq-slice_cmp}
+use Rattle.std.proofs.lemmas.Bool.{and_parts, or_left}
+use Rattle.basic_laws.proofs.Bytes.{same_bytes as eq_key, bytes_itself as itself}
+use Rattle.basic_laws.proofs.Orderings.{less_is}
+use Rattle.basic_laws.proofs.Truths.{alike_truths as as_one}
 use Rattle.tuple_codec.specs.Edits.{against, added, all_added, changed, order, removed, replaced}
 use Rattle.tuple_codec.specs.Nodes.{Item, Rise, RiseAfter, leaf_item}
 use Rattle.tuple_codec.specs.Rows.{Cells, same_cells}
@@ -17,28 +19,17 @@ use Rattle.schema_model.specs.PlainTables.{is_row, row_item}
 use Rattle.schema_model.specs.Schemas.{is_schema}
 use Rattle.schema_model.specs.declared.schemas.Schema.{Schema}
 use Rattle.prolly_tree.specs.Lists.{pair_of}
-use Rattle.edit_laws.proofs.Orders.{eq_key, itself, less_is, same_key, turned}
+use Rattle.edit_laws.proofs.Orders.{same_key, turned, unlike, apart as unlike_back}
 use Rattle.edit_laws.proofs.Rising.{rows_lower}
 use Rattle.table_rows.specs.Rows.{RowItemsFollow}
 use Rattle.write_laws.proofs.OrderLemmas.{both_so, left_so, neither_so, right_so}
 use Rattle.constraint_scan.specs.Pairs.{come_of, come_pairs, row_pairs}
-use Rattle.constraint_scan.proofs.MemberLemmas.{as_one, or_left}
 
 abbrev is_same_item : Item → Item → Bool
 is_same_item item other = bytes_eq other.key item.key && bytes_eq other.body item.body
 
 abbrev is_new_item : List Item → Item → Bool
 is_new_item items item = not (list_any (is_same_item item) items)
-
-unlike : (a b : List ℕ) → order a b ≡ Less → bytes_eq a b ≡ false
-unlike a b e = sym (is_eq-slice_cmp a b) ∙ ap is_eq e
-
-unlike_back : (a b : List ℕ) → order a b ≡ Less → bytes_eq b a ≡ false
-unlike_back a b e = no_same (bytes_eq b a) refl
-  where
-    no_same : (t : Bool) → bytes_eq b a ≡ t → t ≡ false
-    no_same true s = sym (ap (λ k. bytes_eq a k) (eq_key b a s) ∙ itself a) ∙ unlike a b e
-    no_same false s = refl
 
 -- none of the items behind it is the same
 absent : (item : Item) (items : List Item) → RiseAfter (Some item.key) items → list_any (is_same_item item) items ≡ false

@@ -1,7 +1,9 @@
 -- A row that stayed and leads to no parent any more had one that changed or went.
-use Rattle.std.proofs.Common.{◌≡◌, refl, sym, ap, ◌∙◌, subst, ◌⊎◌, inl, inr, ℕ, Bool, true, false, cond, ◌&&◌, ◌||◌, not, List, [], ◌∷◌, find, map, Option, Some, None}
+use Rattle.std.proofs.Common.{◌≡◌, refl, sym, ap, ◌∙◌, subst, ◌⊎◌, inl, inr, ℕ, Bool, true, false, cond, ◌&&◌, not, List, [], ◌∷◌, find, map, Option, Some, None}
 use Rattle.std.specs.List.{list_any}
 use Rattle.std.specs.Option.{option_map, option_map_or}
+use Rattle.std.proofs.lemmas.Bool.{false_from_ne_true as not_so}
+use Rattle.basic_laws.proofs.Truths.{alike_truths as as_one, not_true as not_false, or_none}
 use Rattle.tuple_codec.specs.Rows.{Cells, key_of, same_cells}
 use Rattle.tuple_codec.proofs.Orders.{cells_told}
 use Rattle.schema_model.specs.declared.schemas.ForeignKey.{ForeignKey}
@@ -12,7 +14,7 @@ use Rattle.write_laws.proofs.OrderLemmas.{both_so, clash, left_so, right_so, two
 use Rattle.constraint_scan.specs.Changed.{AreAlike, has_just, is_deserted, is_failed, is_left, is_missed, is_missed_row, is_orphan, is_orphan_by, is_repeated, some_changed, some_deserted, some_kept, told_by_changes, told_by_rows, with_row}
 use Rattle.constraint_scan.specs.Scanning.{empty_named, empty_table, skeleton}
 use Rattle.constraint_scan.proofs.ChangedLemmas.{changed_there, kept_at, kept_there, rows_tell}
-use Rattle.constraint_scan.proofs.MemberLemmas.{Stands, any_mapped, as_one, at_some, not_false, not_so, some_at}
+use Rattle.constraint_scan.proofs.MemberLemmas.{Stands, any_mapped, at_some, some_at}
 use Rattle.constraint_scan.proofs.RefusalLemmas.{cells_itself}
 
 -- ---- schemas by names
@@ -27,10 +29,6 @@ found_empty name (named ∷ database) =
     ]
 
 -- ---- the keys of a parent are those of its rows
-
-or_none : (b : Bool) → (b || false) ≡ b
-or_none true = refl
-or_none false = refl
 
 none_some : {A : Type 0} (xs : List A) → list_any (λ x. false) xs ≡ false
 none_some [] = refl

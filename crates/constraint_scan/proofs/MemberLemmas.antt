@@ -1,39 +1,17 @@
 -- What stands in a list, and tests that some item passes.
-use Rattle.std.proofs.Common.{◌≡◌, refl, sym, ap, ◌∙◌, subst, ◌⊎◌, inl, inr, ℕ, ◌+◌, Bool, true, false, cond, ◌&&◌, ◌||◌, not, List, [], ◌∷◌, ◌++◌, filter, fold, map}
+use Rattle.std.proofs.Common.{◌≡◌, refl, sym, ap, ◌∙◌, subst, ◌⊎◌, inl, inr, ℕ, ◌+◌, Bool, true, false, cond, ◌&&◌, ◌||◌, List, [], ◌∷◌, ◌++◌, filter, fold, map}
 use Rattle.std.specs.List.{AllByRecursion, enumerate_from, flat_map, list_all, list_any}
 use Rattle.std.specs.declared.cmp.Ordering.{Ordering}
+use Rattle.std.proofs.lemmas.Bool.{or_cases, or_left}
+use Rattle.basic_laws.proofs.Truths.{or_late as or_right, alike_truths as as_one}
 use Rattle.plain_sql.specs.Lists.{in_order, placed}
 use Rattle.write_laws.proofs.OrderLemmas.{both_so, clash, left_so, placed_any, right_so, two}
-use Rattle.constraint_scan.proofs.RefusalLemmas.{or_right}
 
 abbrev pub Stands : {A : Type 0} → A → List A → Type 0
 Stands x [] = ⊥
 Stands x (y ∷ ys) = (x ≡ y) ⊎ Stands x ys
 
 -- ---- tests
-
-pub not_so : (b : Bool) → (b ≡ true → ⊥) → b ≡ false
-not_so true f = absurd (f refl)
-not_so false f = refl
-
--- two tests are one where each follows from the other
-pub as_one : (a b : Bool) → (a ≡ true → b ≡ true) → (b ≡ true → a ≡ true) → a ≡ b
-as_one true true f g = refl
-as_one true false f g = sym (f refl)
-as_one false true f g = g refl
-as_one false false f g = refl
-
-pub or_left : (a b : Bool) → a ≡ true → (a || b) ≡ true
-or_left true b e = refl
-or_left false b e = clash e refl
-
-pub or_cases : (a b : Bool) → (a || b) ≡ true → (a ≡ true) ⊎ (b ≡ true)
-or_cases true b e = inl refl
-or_cases false b e = inr e
-
-pub not_false : (b : Bool) → not b ≡ true → b ≡ false
-not_false true e = clash e refl
-not_false false e = refl
 
 module _ {A : Type 0} (p : A → Bool) where
   -- some item that passes

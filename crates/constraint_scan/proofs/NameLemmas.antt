@@ -1,21 +1,15 @@
 -- Each table of a database is found by its name.
-use Rattle.std.proofs.Common.{◌≡◌, refl, sym, ap, ◌∙◌, true, false, cond, true≢false, nat_cmp, is_lt, List, [], ◌∷◌, Some}
+use Rattle.std.proofs.Common.{◌≡◌, refl, sym, ap, ◌∙◌, true, false, cond, nat_cmp, is_lt, List, [], ◌∷◌, Some}
 use Rattle.std.specs.Cmp.Lexicographic.{bytes_decides, slice_cmp}
 use Rattle.std.specs.List.{AllByRecursion, find, list_all}
 use Rattle.std.specs.Option.{option_map}
 use Rattle.std.specs.Ordering.{is_eq}
-use Rattle.std.specs.declared.cmp.Ordering.{Ordering}
-use Rattle.std.specs.declared.cmp.Ordering.TheVariants.{Less, Equal, Greater}
 use Rattle.std.proofs.lemmas.Bool.{and_from, and_parts}
 use Rattle.std.proofs.lemmas.Cmp.{nat_list_cmp_total}
 use Rattle.std.proofs.lemmas.Map.Text.{is_eq-slice_cmp}
+use Rattle.basic_laws.proofs.Orderings.{less_is}
 use Rattle.schema_model.specs.PlainTables.{NamedTable, rises}
 use Rattle.plain_writes.specs.Violations.{is_called, table_in}
-
-less_is : (o : Ordering) → is_lt o ≡ true → o ≡ Less
-less_is Less e = refl
-less_is Equal e = absurd (true≢false (sym e))
-less_is Greater e = absurd (true≢false (sym e))
 
 pub apart : (x y : NamedTable) → is_lt (slice_cmp nat_cmp x.name y.name) ≡ true → is_called y.name x ≡ false
 apart x y less = sym (is_eq-slice_cmp x.name y.name) ∙ ap is_eq (less_is (slice_cmp nat_cmp x.name y.name) less)

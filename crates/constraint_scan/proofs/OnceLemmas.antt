@@ -4,12 +4,11 @@ use Rattle.std.specs.Cmp.{IsTotalOrder}
 use Rattle.std.specs.Cmp.Lexicographic.{bytes_decides, slice_cmp}
 use Rattle.std.specs.List.{enumerate_from, flat_map, list_all, list_any}
 use Rattle.std.specs.Ordering.{is_eq, ordering_then}
-use Rattle.std.specs.declared.cmp.Ordering.{Ordering}
 use Rattle.std.specs.declared.cmp.Ordering.TheVariants.{Less, Equal, Greater}
 use Rattle.std.proofs.lemmas.Bool.{and_from, and_parts, eqb-true}
 use Rattle.std.proofs.lemmas.Cmp.{nat_cmp_total, nat_list_cmp_total, on_total, then_total}
 use Rattle.std.proofs.lemmas.List.Folds.{list_all-append, list_any-append}
-use Rattle.std.proofs.lemmas.Map.Text.{is_eq-slice_cmp}
+use Rattle.basic_laws.proofs.Orderings.{then_left, then_right}
 use Rattle.tuple_codec.specs.Rows.{Cells, key_cmp}
 use Rattle.tuple_codec.proofs.Orders.{key_cmp_total}
 use Rattle.schema_model.specs.declared.schemas.CheckDef.{CheckDef}
@@ -19,6 +18,7 @@ use Rattle.schema_model.specs.declared.schemas.IndexDef.{IndexDef}
 use Rattle.schema_model.specs.declared.schemas.Schema.{Schema}
 use Rattle.schema_model.specs.PlainTables.{PlainDatabase, Violation, primary_key, rises, violation_cmp}
 use Rattle.schema_model.specs.Schemas.{are_checks, are_columns, are_distinct, are_foreign, are_indexes, is_key, is_schema}
+use Rattle.schema_model.proofs.ViolationLemmas.{names_apart}
 use Rattle.plain_sql.specs.Lists.{has, repeats}
 use Rattle.plain_writes.specs.Violations.{Checks, breaks_check, breaks_foreign, breaks_not_null, breaks_unique, broken, of_check, of_column, of_foreign, of_index, parent_keys, violation, violations_in}
 use Rattle.plain_writes.specs.Writes.{keyed_cmp}
@@ -27,16 +27,6 @@ use Rattle.write_laws.proofs.OrderLemmas.{in_order_rises, left_not, neither_so, 
 use Rattle.constraint_scan.proofs.FreeLemmas.{all_flat}
 
 -- ---- violations apart
-
-then_left : (o p : Ordering) → is_eq o ≡ false → is_eq (ordering_then o p) ≡ false
-then_left Less p e = refl
-then_left Equal p e = absurd (true≢false e)
-then_left Greater p e = refl
-
-then_right : (o p : Ordering) → is_eq p ≡ false → is_eq (ordering_then o p) ≡ false
-then_right Less p e = refl
-then_right Equal p e = e
-then_right Greater p e = refl
 
 abbrev of_kind : ℕ → Violation → Bool
 of_kind kind one = one.kind == kind
@@ -52,11 +42,6 @@ kinds_apart : (kind : ℕ) (a b : Violation) → kind_below kind a ≡ true → 
 kinds_apart kind a b less same =
     then_left (nat_cmp a.kind b.kind) (ordering_then (slice_cmp nat_cmp a.constraint b.constraint) (key_cmp a.key b.key))
     (ap (λ n. is_eq (nat_cmp a.kind n)) (eqb-true b.kind kind same) ∙ ap (λ t. is_eq (cond t Less (cond (a.kind == kind) Equal Greater))) less)
-
-names_apart : (a b : Violation) → bytes_eq a.constraint b.constraint ≡ false → is_eq (violation_cmp a b) ≡ false
-names_apart a b apart =
-    then_right (nat_cmp a.kind b.kind) (ordering_then (slice_cmp nat_cmp a.constraint b.constraint) (key_cmp a.key b.key))
-    (then_left (slice_cmp nat_cmp a.constraint b.constraint) (key_cmp a.key b.key) (is_eq-slice_cmp a.constraint b.constraint ∙ apart))
 
 -- ---- lists of them
 

@@ -9,6 +9,7 @@ use Rattle.std.specs.declared.cmp.Ordering.TheVariants.{Less, Equal, Greater}
 use Rattle.std.proofs.lemmas.Bool.{and_from, and_parts}
 use Rattle.std.proofs.lemmas.Cmp.{nat_list_cmp_total, tied_itself}
 use Rattle.std.proofs.lemmas.List.Folds.{list_all-append, list_all-map}
+use Rattle.basic_laws.proofs.Lists.{all_both as both_where}
 use Rattle.tuple_codec.specs.Rows.{Cells}
 use Rattle.schema_model.specs.Limits.{has_short_names, is_named_within_limits, is_row_within_limits, is_short_in, is_short_key, is_short_name, is_short_row, is_table_within_limits, is_violation_within_limits, is_within_limits, most_rows, most_tables}
 use Rattle.schema_model.specs.PlainTables.{IsTable, NamedTable, PlainDatabase, PlainTable, Violation, is_row, primary_key, rises, violation_cmp}
@@ -35,13 +36,6 @@ all_where q p f each [] all = refl
 all_where q p f each (x ∷ xs) all =
     let parts = and_parts (q x) (list_all q xs) all in
     list_all-append p (f x) (flat_map f xs) ∙ and_from _ _ (each x parts.0) (all_where q p f each xs parts.1)
-
-both_where : {A : Type 0} (p q : A → Bool) (xs : List A) → list_all p xs ≡ true → list_all q xs ≡ true → list_all (λ x. p x && q x) xs ≡ true
-both_where p q [] one other = refl
-both_where p q (x ∷ xs) one other =
-    let first = and_parts (p x) (list_all p xs) one in
-    let second = and_parts (q x) (list_all q xs) other in
-    and_from _ _ (and_from _ _ first.0 second.0) (both_where p q xs first.1 second.1)
 
 numbered_all : (p : Column → Bool) (n : ℕ) (columns : List Column) → list_all p columns ≡ true → list_all (λ (x : ℕ × Column). p x.1) (enumerate_from n columns) ≡ true
 numbered_all p n [] all = refl

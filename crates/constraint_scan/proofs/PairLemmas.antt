@@ -2,6 +2,9 @@
 use Rattle.std.proofs.Common.{append-nil, ◌≡◌, ◌≤◌, ◌<◌, ◌-◌, refl, sym, ap, ◌∙◌, subst, arith, ℕ, suc, Bool, true, false, cond, ◌&&◌, ◌||◌, not, List, [], ◌∷◌, ◌++◌, find, bytes_eq, length, take, drop, slice_index_or, Option, Some, None}
 use Rattle.std.specs.List.{AllByRecursion, list_any}
 use Rattle.std.specs.Option.{option_map, option_map_or}
+use Rattle.std.proofs.lemmas.Bool.{or_left as or_true}
+use Rattle.basic_laws.proofs.Numbers.{none_long, one_less}
+use Rattle.basic_laws.proofs.Lists.{take_whole as take_all}
 use Rattle.tuple_codec.specs.Rows.{Cells, key_of, same_cells}
 use Rattle.tuple_codec.specs.declared.addresses.Address.{Address}
 use Rattle.schema_model.specs.declared.schemas.CheckDef.{CheckDef}
@@ -22,16 +25,6 @@ use Rattle.constraint_scan.specs.declared.pairing.Pair.{Pair}
 use Rattle.constraint_scan.proofs.LostLemmas.{keys_alike}
 use Rattle.constraint_scan.proofs.MemberLemmas.{any_filtered}
 use Rattle.constraint_scan.proofs.NameLemmas.{Finds, each_found}
-
-none_long : (n : ℕ) → 1 ≤ n → n ≡ 0 → ⊥
-none_long n long none = omega arith
-
-one_less : (n : ℕ) → suc n - 1 ≡ n
-one_less n = omega arith
-
-take_all : {A : Type 0} (xs : List A) → take (length xs) xs ≡ xs
-take_all [] = refl
-take_all (x ∷ xs) = ap (λ l. x ∷ l) (take_all xs)
 
 -- what the first of some pairs and the others are of
 pub record PairParts (address : List ℕ → List ℕ) (chunks : Chunks) (before after : PlainDatabase) (first : Pair) (rest : List Pair) : Type 0 where
@@ -205,9 +198,6 @@ module _ (schema : Schema) (foreign : ForeignKey) (a : NamedTable) (after : Plai
 
 -- ---- what functions over pairs find
 
-or_true : (a b : Bool) → a ≡ true → (a || b) ≡ true
-or_true a b e = ap (λ t. t || b) e
-
 or_false : (a b : Bool) → a ≡ false → (a || b) ≡ b
 or_false a b e = ap (λ t. t || b) e
 
@@ -250,23 +240,10 @@ module _ (address : List ℕ → List ℕ) (chunks : Chunks) where
 pub none_below : {A : Type 0} (xs : List A) → length xs < 1 → length xs ≡ 0
 none_below xs few = omega arith
 
-pub any_first : {A : Type 0} (test : A → Bool) (items : List A) (item : A) (more : List A) (found : Bool) → items ≡ item ∷ more → found ≡ test item → found ≡ true → true ≡ list_any test items
-any_first test items item more found is told holds = sym (ap (list_any test) is ∙ ap (λ (b : Bool). b || list_any test more) (sym told ∙ holds))
-
-pub any_later : {A : Type 0} (test : A → Bool) (items : List A) (item : A) (more : List A) (found rest : Bool) → items ≡ item ∷ more → found ≡ test item → found ≡ false → rest ≡ list_any test more
-    → rest ≡ list_any test items
-any_later test items item more found rest is told fails later = later ∙ sym (ap (list_any test) is ∙ ap (λ (b : Bool). b || list_any test more) (sym told ∙ fails))
-
 -- a list by its first item and those behind it
 pub by_first : {A : Type 0} (xs : List A) (first : A) → first ≡ slice_index_or xs 0 first → 1 ≤ length xs → xs ≡ first ∷ take (length xs - 1) (drop 1 xs)
 by_first {A = A} [] first is long = absurd (none_long (length {A = A} []) long refl)
 by_first (x ∷ xs) first is long = λ i. sym is i ∷ sym (ap (λ n. take n xs) (one_less (length xs)) ∙ take_all xs) i
-
-pub no_items : {A : Type 0} (xs : List A) → length xs < 1 → xs ≡ []
-no_items [] few = refl
-no_items (x ∷ xs) few = absurd (nothing (length xs) few) where
-  nothing : (n : ℕ) → suc n < 1 → ⊥
-  nothing n few = omega arith
 
 module _ (address : List ℕ → List ℕ) (chunks : Chunks) (foreign : ForeignKey) (old new : PlainDatabase) (first : Pair) (rest : List Pair) (parts : PairParts address chunks old new first rest) where
   name_is : (t : Bool) → bytes_eq first.name foreign.parent ≡ t → bytes_eq parts.new.name foreign.parent ≡ t

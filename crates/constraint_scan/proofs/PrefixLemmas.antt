@@ -2,23 +2,21 @@
 use Rattle.std.proofs.Common.{◌≡◌, ◌<◌, ℕ, Bool, true, false, cond, List, [], ◌∷◌, map, Some, refl, sym, ap, ◌∙◌, subst, arith}
 use Rattle.std.specs.Prelude.{◌==◌, ◌&&◌, ◌||◌, not, bytes_eq}
 use Rattle.std.specs.List.{list_any}
-use Rattle.std.specs.Ordering.{nat_cmp, is_eq, is_lt, ordering_reverse, ordering_then}
+use Rattle.std.specs.Ordering.{nat_cmp, is_lt, ordering_then}
 use Rattle.std.specs.declared.cmp.Ordering.{Ordering}
 use Rattle.std.specs.declared.cmp.Ordering.TheVariants.{Less, Equal, Greater}
 use Rattle.std.proofs.lemmas.Bool.Decides.{Decides-eqb}
-use Rattle.std.proofs.lemmas.Cmp.{nat_list_cmp_total, ranked}
-use Rattle.std.proofs.lemmas.Map.Text.{is_eq-slice_cmp}
-use Rattle.std.proofs.lemmas.Slice.Eq.{bytes_eq-Decides}
+use Rattle.std.proofs.lemmas.Cmp.{ranked}
+use Rattle.std.proofs.lemmas.Bool.{and_right as both_off}
+use Rattle.basic_laws.proofs.Orderings.{less_is}
+use Rattle.basic_laws.proofs.Bytes.{same_bytes as eq_key}
 use Rattle.tuple_codec.specs.Nodes.{Item, Rise, RiseAfter}
-use Rattle.tree_laws.proofs.StandingOrder.{order, less_is, lt_trans, rise_any}
+use Rattle.tree_laws.proofs.StandingOrder.{order, lt_trans, rise_any}
 use Rattle.prolly_tree.specs.Lists.{from_key, pair_of}
 use Rattle.constraint_scan.specs.Seeking.{begins, begins_first, begins_other, is_another}
+use Rattle.edit_laws.proofs.Orders.{apart}
 
 -- ---- numbers
-
-both_off : (b c : Bool) → c ≡ false → (b && c) ≡ false
-both_off true c e = e
-both_off false c e = refl
 
 off : (b c : Bool) → b ≡ true → (b && c) ≡ false → c ≡ false
 off true c e h = h
@@ -59,13 +57,6 @@ same_off a x y e f =
     apart_by a y (λ same. omega arith)
 
 -- ---- keys
-
-eq_key : (a b : List ℕ) → bytes_eq a b ≡ true → a ≡ b
-eq_key a b e = (bytes_eq-Decides a b).0 e
-
--- keys that one orders apart are not equal
-apart : (a b : List ℕ) → order a b ≡ Less → bytes_eq b a ≡ false
-apart a b e = sym (is_eq-slice_cmp b a) ∙ ap is_eq (nat_list_cmp_total.antisymm b a ∙ ap ordering_reverse e)
 
 -- a key below some bytes doesn't begin with them
 pub below_not : (p k : List ℕ) → is_lt (order k p) ≡ true → begins p k ≡ false

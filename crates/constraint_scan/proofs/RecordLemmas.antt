@@ -1,5 +1,5 @@
 -- Tables and databases whose lists of violations are put in place of others.
-use Rattle.std.proofs.Common.{◌≡◌, ◌<◌, ◌^◌, refl, sym, ap, ◌∙◌, subst, ℕ, suc, arith, Bool, true, false, cond, ◌&&◌, nat_le, nat_cmp, List, [], ◌∷◌, ◌++◌, append_assoc, length, map, filter, flat_map, Option, Some, None, true≢false}
+use Rattle.std.proofs.Common.{◌≡◌, refl, sym, ap, ◌∙◌, subst, ℕ, suc, arith, Bool, true, false, cond, ◌&&◌, nat_le, nat_cmp, List, [], ◌∷◌, ◌++◌, append_assoc, length, map, filter, flat_map, Option, Some, None}
 use Rattle.std.specs.Cmp.{IsTotalOrder}
 use Rattle.std.specs.Cmp.Lexicographic.{bytes_decides, slice_cmp}
 use Rattle.std.specs.List.{AllByRecursion, find, list_all}
@@ -7,13 +7,15 @@ use Rattle.std.specs.Option.{option_map, option_map_or}
 use Rattle.std.specs.Ordering.{is_lt, ordering_then}
 use Rattle.std.specs.declared.cmp.Ordering.{Ordering}
 use Rattle.std.specs.declared.cmp.Ordering.TheVariants.{Less, Equal, Greater}
-use Rattle.std.proofs.lemmas.Bool.{and_from, and_parts, leb-true}
+use Rattle.std.proofs.lemmas.Bool.{and_from, and_parts}
 use Rattle.std.proofs.lemmas.Cmp.{nat_cmp_total, nat_list_cmp_total, on_total, then_total}
 use Rattle.std.proofs.lemmas.List.{length-map}
+use Rattle.basic_laws.proofs.Truths.{both_so as both, two}
+use Rattle.basic_laws.proofs.Orderings.{less_is as is_less}
 use Rattle.tuple_codec.specs.Nodes.{Item}
 use Rattle.tuple_codec.specs.declared.addresses.Address.{Address}
 use Rattle.tuple_codec.proofs.Orders.{key_cmp_total}
-use Rattle.schema_model.specs.Limits.{is_database_within_limits, is_named_within_limits, is_short_name, is_table_within_limits, is_violation_within_limits, most_tables}
+use Rattle.schema_model.specs.Limits.{is_named_within_limits, is_short_name, is_table_within_limits, is_violation_within_limits, most_tables}
 use Rattle.schema_model.specs.PlainTables.{IsTable, NamedTable, PlainDatabase, PlainTable, Violation, is_violation, rises, violation_cmp, violation_item}
 use Rattle.schema_model.specs.Schemas.{is_name}
 use Rattle.schema_model.specs.WrittenForms.{table_address}
@@ -32,13 +34,6 @@ use Rattle.constraint_scan.specs.Written.{written, written_in}
 use Rattle.constraint_scan.specs.declared.listing.Violation as listing
 use Rattle.constraint_scan.proofs.NameLemmas.{each_found}
 use Rattle.constraint_scan.proofs.StandLemmas.{Parts}
-
-two : {A : Type 0} (b : Bool) → (b ≡ true → A) → (b ≡ false → A) → A
-two true f g = f refl
-two false f g = g refl
-
-both : {a b : Bool} → a ≡ true → b ≡ true → (a && b) ≡ true
-both p q = λ i. p i && q i
 
 -- ---- one table
 
@@ -135,12 +130,6 @@ rise_names address [] = refl
 rise_names address (named ∷ []) = refl
 rise_names address (named ∷ next ∷ database) = ap (λ b. is_lt (slice_cmp nat_cmp named.name next.name) && b) (rise_names address (next ∷ database))
 
-pub short_in : (database : PlainDatabase) → list_all is_named_within_limits database ≡ true → list_all (λ (named : NamedTable). is_short_name named.name) database ≡ true
-short_in [] h = refl
-short_in (named ∷ database) h =
-    let parts = and_parts (is_named_within_limits named) (list_all is_named_within_limits database) h in
-    both (and_parts (is_short_name named.name) (is_table_within_limits named.table) parts.0).0 (short_in database parts.1)
-
 -- ---- the database that has recorded them
 
 listed_within : (table : PlainTable) (found : List Violation) → is_table_within_limits table ≡ true → list_all (may_stand table.schema) found ≡ true → is_table_within_limits (with_list table found) ≡ true
@@ -180,11 +169,6 @@ found_total =
     then_total (on_total (λ (one : Found). one.table) nat_list_cmp_total)
     (on_total (λ (one : Found). one.violation) (then_total (on_total (λ (v : Violation). v.kind) nat_cmp_total)
     (then_total (on_total (λ (v : Violation). v.constraint) nat_list_cmp_total) (on_total (λ (v : Violation). v.key) key_cmp_total))))
-
-is_less : (o : Ordering) → is_lt o ≡ true → o ≡ Less
-is_less Less e = refl
-is_less Equal e = absurd (true≢false (sym e))
-is_less Greater e = absurd (true≢false (sym e))
 
 less_on : (a b c : Found) → is_lt (found_cmp a b) ≡ true → is_lt (found_cmp b c) ≡ true → is_lt (found_cmp a c) ≡ true
 less_on a b c p q = let total = found_total in ap is_lt (total.trans a b c (is_less (found_cmp a b) p) (is_less (found_cmp b c) q))
@@ -369,8 +353,3 @@ may_write address old new k list database found tables can there =
           (recorded_within list found database each.limits each.may);
       there = there;
     }
-
-pub few_tables : (database : PlainDatabase) → is_database_within_limits database ≡ true → length database < 2 ^ 16
-few_tables database within =
-    let few = leb-true (length database) most_tables (and_parts (nat_le (length database) most_tables) (list_all is_named_within_limits database) within).0 in
-    omega (arith, few)

@@ -1,13 +1,14 @@
 -- A refusal is told by schemas and rows alone, and a database that stays as it is brings none.
-use Rattle.std.proofs.Common.{◌≡◌, refl, sym, ap, ◌∙◌, ℕ, ◌==◌, Bool, true, false, cond, not, ◌&&◌, ◌||◌, List, [], ◌∷◌, ◌++◌, map, filter, bytes_eq, append_assoc, Option, Some, None}
+use Rattle.std.proofs.Common.{◌≡◌, refl, sym, ap, ◌∙◌, ℕ, ◌==◌, true, false, cond, not, ◌&&◌, ◌||◌, List, [], ◌∷◌, ◌++◌, map, filter, append_assoc, Option, Some, None}
 use Rattle.std.specs.Cmp.{tied_itself}
-use Rattle.std.specs.Cmp.Lexicographic.{bytes_decides}
 use Rattle.std.specs.List.{enumerate_from, find, flat_map, list_any}
 use Rattle.std.specs.Option.{option_map, option_map_or}
 use Rattle.std.specs.Ordering.{is_eq, ordering_then}
 use Rattle.std.specs.declared.cmp.Ordering.TheVariants.{Equal}
 use Rattle.std.proofs.lemmas.Cmp.{nat_cmp_total, nat_list_cmp_total}
 use Rattle.std.proofs.lemmas.List.Folds.{flat_map-map}
+use Rattle.basic_laws.proofs.Bytes.{bytes_itself}
+use Rattle.basic_laws.proofs.Truths.{or_late as or_right}
 use Rattle.tuple_codec.specs.Rows.{Cells, same_cells}
 use Rattle.tuple_codec.proofs.Orders.{cells_told, key_cmp_total}
 use Rattle.schema_model.specs.declared.schemas.ForeignKey.{ForeignKey}
@@ -66,9 +67,6 @@ module _ (checks : Checks) where
 
 -- ---- nothing is new beside itself
 
-pub bytes_itself : (bytes : List ℕ) → bytes_eq bytes bytes ≡ true
-bytes_itself bytes = (bytes_decides bytes bytes).1 refl
-
 cmp_itself : (found : Violation) → violation_cmp found found ≡ Equal
 cmp_itself found = λ i. ordering_then (tied_itself nat_cmp_total found.kind i) (ordering_then (tied_itself nat_list_cmp_total found.constraint i) (tied_itself key_cmp_total found.key i))
 
@@ -77,10 +75,6 @@ cells_itself cells = (cells_told cells cells).1 refl
 
 pub same_itself : (found : Found) → same_violation found found ≡ true
 same_itself found = λ i. bytes_itself found.table i && is_eq (cmp_itself found.violation i) && cells_itself found.violation.row i
-
-pub or_right : (a : Bool) {b : Bool} → b ≡ true → (a || b) ≡ true
-or_right true e = refl
-or_right false e = e
 
 stands_there : (front : List Found) (one : Found) (rest : List Found) → list_any (same_violation one) (front ++ one ∷ rest) ≡ true
 stands_there [] one rest = ap (λ b. b || list_any (same_violation one) rest) (same_itself one)

@@ -1,16 +1,15 @@
 -- The rows that have some cells are those whose entries begin with the bytes of these.
-use Rattle.std.proofs.Common.{◌≡◌, ◌<◌, ℕ, zero, suc, Bool, true, false, List, [], ◌∷◌, ◌++◌, length, map, drop, get_or, ltb, Option, Some, refl, sym, ap, ◌∙◌, subst, arith}
+use Rattle.std.proofs.Common.{◌≡◌, ℕ, zero, suc, Bool, true, false, List, [], ◌∷◌, ◌++◌, length, map, drop, get_or, ltb, Option, refl, sym, ap, ◌∙◌, subst}
 use Rattle.std.specs.Prelude.{◌&&◌, ◌||◌, not, bytes_eq, if◌then◌else◌}
 use Rattle.std.specs.List.{flat_map, list_all, list_any, slice_get}
 use Rattle.std.specs.Option.{option_to_list}
 use Rattle.std.specs.Ordering.{is_lt}
 use Rattle.std.proofs.lemmas.Bool.{and_parts, and_from, ltb-true}
 use Rattle.std.proofs.lemmas.Bool.Decides.{Decides-eqb}
-use Rattle.std.proofs.lemmas.Grind.{flat_map-append}
 use Rattle.std.proofs.lemmas.List.{map-append}
-use Rattle.std.proofs.lemmas.List.Folds.{list_all-append}
 use Rattle.std.proofs.lemmas.Slice.Eq.{bytes_eq-Decides, starts_is}
-use Rattle.tuple_codec.specs.KeyBytes.{key_bytes, key_cell}
+use Rattle.basic_laws.proofs.Truths.{alike_truths as as_one, or_swap as turn}
+use Rattle.tuple_codec.specs.KeyBytes.{key_bytes}
 use Rattle.tuple_codec.specs.Limits.{are_types, is_type}
 use Rattle.tuple_codec.specs.Nodes.{Item}
 use Rattle.tuple_codec.specs.Rows.{Cells, fits, fits_all, key_of, same_cells}
@@ -19,19 +18,17 @@ use Rattle.tuple_codec.specs.declared.values.SqlType.{SqlType}
 use Rattle.tuple_codec.specs.declared.values.Value.TheVariants as cell
 use Rattle.tuple_codec.proofs.CellLemmas.{one_spelling}
 use Rattle.tuple_codec.proofs.Orders.{cells_told}
+use Rattle.tuple_codec.proofs.FieldLemmas.{key_bytes_joined as bytes_joined}
 use Rattle.schema_model.specs.PlainTables.{is_row, placed, primary_key, sorted}
 use Rattle.schema_model.specs.Schemas.{is_column, is_schema}
 use Rattle.schema_model.specs.declared.schemas.Column.{Column}
 use Rattle.schema_model.specs.declared.schemas.Schema.{Schema}
-use Rattle.schema_model.proofs.FitLemmas.{form_of}
+use Rattle.schema_model.proofs.FitLemmas.{form_of, cell_at as cell_fits, kind_fits as kind_of, types_joined}
 use Rattle.plain_writes.specs.Violations.{is_twin, types_at}
 use Rattle.constraint_scan.specs.Seeking.{begins, is_another}
 use Rattle.tree_laws.proofs.StandingOrder.{order}
 
 -- ---- cells at places
-
-kind_of : (column : Column) → is_column column ≡ true → is_type column.kind ≡ true
-kind_of column h = (and_parts _ (is_type column.kind) (and_parts _ _ h).0).1
 
 abbrev types_of_place : List Column → ℕ → List SqlType
 types_of_place columns place = map (λ (column : Column). column.kind) (option_to_list (slice_get columns place))
@@ -41,25 +38,12 @@ types_at_place [] place h = refl
 types_at_place (column ∷ columns) zero h = and_from (is_type column.kind) true (kind_of column (and_parts (is_column column) _ h).0) refl
 types_at_place (column ∷ columns) (suc place) h = types_at_place columns place (and_parts (is_column column) _ h).1
 
-types_joined : (a b : List SqlType) → are_types a ≡ true → are_types b ≡ true → are_types (a ++ b) ≡ true
-types_joined a b p q = list_all-append is_type a b ∙ and_from (are_types a) (are_types b) p q
-
 types_are : (columns : List Column) (places : List ℕ) → list_all is_column columns ≡ true → are_types (flat_map (types_of_place columns) places) ≡ true
 types_are columns [] h = refl
 types_are columns (place ∷ places) h = types_joined (types_of_place columns place) (flat_map (types_of_place columns) places) (types_at_place columns place h) (types_are columns places h)
 
 pub types_fit : (s : Schema) (places : List ℕ) → is_schema s ≡ true → are_types (types_at s places) ≡ true
 types_fit s places h = types_are s.columns places (form_of s h).columns
-
--- the cell at a column's place fits it
-cell_fits : (columns : List Column) (row : Cells) (place : ℕ) → fits_all (map (λ column. column.kind) columns) row ≡ true → place < length columns
-    → (column : Column) × (slice_get columns place ≡ Some column) × (fits column.kind (get_or row place cell.Null) ≡ true)
-cell_fits [] row place h below = absurd (omega arith)
-cell_fits (column ∷ columns) [] place h below = absurd (cc)
-cell_fits (column ∷ columns) (value ∷ row) zero h below = (column, refl, (and_parts (fits column.kind value) _ h).0)
-cell_fits (column ∷ columns) (value ∷ row) (suc place) h below =
-    let below2 : place < length columns = omega arith in
-    cell_fits columns row place (and_parts (fits column.kind value) _ h).1 below2
 
 pub cells_fit : (columns : List Column) (row : Cells) (places : List ℕ) → fits_all (map (λ column. column.kind) columns) row ≡ true
     → list_all (λ place. ltb place (length columns)) places ≡ true → fits_all (flat_map (types_of_place columns) places) (key_of places row) ≡ true
@@ -73,12 +57,6 @@ cells_fit columns row (place ∷ places) h within =
     (and_from (fits at.0.kind value) (fits_all rest (key_of places row)) at.2 (cells_fit columns row places h parts.1))
 
 -- ---- bytes
-
--- two tests are one where each follows from the other
-pub as_one : (b c : Bool) → (b ≡ true → c ≡ true) → (c ≡ true → b ≡ true) → b ≡ c
-as_one true c f g = sym (f refl)
-as_one false true f g = g refl
-as_one false false f g = refl
 
 -- the bytes of cells followed by others begin with those of cells of the same types exactly where these are the same
 pub begins_joined : (types : List SqlType) (a b : Cells) (y : List ℕ) → are_types types ≡ true → fits_all types a ≡ true → fits_all types b ≡ true
@@ -165,12 +143,6 @@ any_twin s places row valid within fit fit_key entry is (other ∷ rows) all =
 
 -- ---- sorted items
 
-turn : (a b c : Bool) → (a || (b || c)) ≡ (b || (a || c))
-turn true true c = refl
-turn true false c = refl
-turn false true c = refl
-turn false false c = refl
-
 any_placed : (test : Item → Bool) (item : Item) (items : List Item) → list_any test (placed item items) ≡ (test item || list_any test items)
 any_placed test item [] = refl
 any_placed test item (other ∷ items) =
@@ -185,9 +157,6 @@ any_sorted test [] = refl
 any_sorted test (item ∷ items) = any_placed test item (sorted items) ∙ ap (λ t. test item || t) (any_sorted test items)
 
 -- ---- bytes of more cells
-
-pub bytes_joined : (a b : Cells) → key_bytes (a ++ b) ≡ key_bytes a ++ key_bytes b
-bytes_joined a b = flat_map-append key_cell a b
 
 -- cells at places, the first of which are these
 pub cells_first : (places columns : List ℕ) (row : Cells) → begins places columns ≡ true

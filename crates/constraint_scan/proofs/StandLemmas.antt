@@ -1,6 +1,8 @@
 -- Tables that stand are found, and have what they stand for.
-use Rattle.std.proofs.Common.{◌≡◌, ◌≤◌, ◌-◌, refl, sym, ap, ◌∙◌, subst, arith, ℕ, suc, List, [], ◌∷◌, ◌++◌, append_assoc, length, map, take, drop, slice_index_or}
+use Rattle.std.proofs.Common.{◌≡◌, ◌≤◌, ◌-◌, refl, sym, ap, ◌∙◌, subst, ℕ, suc, List, [], ◌∷◌, ◌++◌, append_assoc, length, map, take, drop, slice_index_or}
 use Rattle.std.proofs.lemmas.List.{map-append}
+use Rattle.basic_laws.proofs.Numbers.{none_long, one_less}
+use Rattle.basic_laws.proofs.Lists.{take_whole as take_all}
 use Rattle.schema_model.specs.PlainTables as plain
 use Rattle.schema_model.specs.PlainTables.{PlainDatabase, PlainTable}
 use Rattle.schema_model.specs.WrittenForms.{table_address}
@@ -28,16 +30,6 @@ module _ (address : List ℕ → List ℕ) (chunks : Chunks) (k : List ℕ) wher
       subst (λ (t : Table). AreRowsAt address chunks t.rows.0 t.schema table.rows) (sym (table_same stand table at read found)) (record { fit = is.rows; tree = trees.rows })
 
 -- ---- the first table, and the others
-
-none_long : (n : ℕ) → 1 ≤ n → n ≡ 0 → ⊥
-none_long n long none = omega arith
-
-one_less : (n : ℕ) → suc n - 1 ≡ n
-one_less n = omega arith
-
-take_all : {A : Type 0} (xs : List A) → take (length xs) xs ≡ xs
-take_all [] = refl
-take_all (x ∷ xs) = ap (λ l. x ∷ l) (take_all xs)
 
 abbrev entry_of : (List ℕ → List ℕ) → plain.NamedTable → entries.NamedTable
 entry_of address named = record { name = named.name; table = record { 0 = table_address address named.table } }

@@ -7,6 +7,7 @@ use Rattle.std.specs.Ordering.{ordering_then}
 use Rattle.std.specs.declared.cmp.Ordering.{Ordering}
 use Rattle.std.specs.declared.cmp.Ordering.TheVariants.{Less, Equal, Greater}
 use Rattle.std.proofs.lemmas.Bool.{and_parts, eqb-true}
+use Rattle.basic_laws.proofs.Truths.{or_late as or_true, not_false as sole_so}
 use Rattle.tuple_codec.specs.Rows.{Cells, cell_at, key_cmp, key_of, value_cmp}
 use Rattle.tuple_codec.specs.declared.values.Value.{Value}
 use Rattle.tuple_codec.specs.declared.values.Value.TheVariants as cell
@@ -65,10 +66,6 @@ sole_is [] place sole = absurd (true≢false (sym sole))
 sole_is (only ∷ []) place sole = ap (λ (n : ℕ). n ∷ []) (eqb-true only place sole)
 sole_is (first ∷ second ∷ key) place sole = absurd (true≢false (sym sole))
 
-sole_so : (b : Bool) → not b ≡ false → b ≡ true
-sole_so true e = refl
-sole_so false e = absurd (true≢false e)
-
 column_thin : (schema : Schema) (rows : List Cells) → RiseBy schema.key rows → (x : ℕ × Column) → is_guarded schema.key x ≡ false → of_column schema (take 1 rows) x ≡ of_column schema rows x
 column_thin schema rows rise x = by x.1.not_null where
   by : (b : Bool) → (b && not (is_sole schema.key x.0)) ≡ false
@@ -87,10 +84,6 @@ columns_thin schema rows rise (x ∷ xs) free =
     λ i. one i ++ more i
 
 -- ---- foreign keys look for all rows
-
-or_true : (a : Bool) {b : Bool} → b ≡ true → (a || b) ≡ true
-or_true true e = refl
-or_true false e = e
 
 true_or : {a : Bool} (b : Bool) → a ≡ true → (a || b) ≡ true
 true_or b e = ap (λ a. a || b) e

@@ -3,11 +3,13 @@ use Rattle.std.proofs.Common.{◌≡◌, ℕ, zero, suc, Bool, true, false, ltb,
 use Rattle.std.specs.Prelude.{if◌then◌else◌}
 use Rattle.std.specs.List.{AllByRecursion, list_all, list_any, slice_get}
 use Rattle.std.proofs.lemmas.Bool.{and_parts}
+use Rattle.basic_laws.proofs.Options.{some_is}
 use Rattle.tuple_codec.specs.KeyBytes.{key_bytes}
 use Rattle.tuple_codec.specs.Nodes.{Item, Rise}
 use Rattle.tuple_codec.specs.Rows.{Cells, fits_all, key_of, same_cells}
 use Rattle.tuple_codec.specs.Trees.{root}
 use Rattle.tuple_codec.specs.declared.addresses.Address.{Address}
+use Rattle.tuple_codec.proofs.FieldLemmas.{key_bytes_joined as bytes_joined}
 use Rattle.schema_model.specs.PlainTables.{PlainTable, index_item, index_items, primary_key, row_item, row_items}
 use Rattle.schema_model.specs.declared.schemas.IndexDef.{IndexDef}
 use Rattle.schema_model.specs.declared.schemas.Schema.{Schema}
@@ -20,7 +22,7 @@ use Rattle.table_root.specs.declared.records.Table.{Table}
 use Rattle.table_rows.specs.Rows.{AreRowsAt}
 use Rattle.constraint_scan.specs.Seeking.{begins, can_seek, is_another, sought}
 use Rattle.constraint_scan.specs.Roots.{IsIndexedAt, root_for}
-use Rattle.constraint_scan.proofs.SeekLemmas.{any_sorted, any_twin, any_with, bytes_joined, cells_first}
+use Rattle.constraint_scan.proofs.SeekLemmas.{any_sorted, any_twin, any_with, cells_first}
 
 -- ---- keys that are sought
 
@@ -58,9 +60,6 @@ module _ (address : List ℕ → List ℕ) (chunks : Chunks) (table : Table) (co
 
 abbrev roots : (List ℕ → List ℕ) → PlainTable → List IndexDef → List Address
 roots address contents indexes = map (λ index. record { 0 = root address (index_items contents index) }) indexes
-
-some_is : {A : Type 0} (a b : A) → Some a ≡ Some b → a ≡ b
-some_is a b e = cc
 
 one_is : (address : List ℕ → List ℕ) (chunks : Chunks) (contents : PlainTable) (indexes : List IndexDef) (place : ℕ) (index : IndexDef) (found : Address)
     → AllByRecursion (λ index. IsTree address chunks (root address (index_items contents index)) (index_items contents index)) indexes

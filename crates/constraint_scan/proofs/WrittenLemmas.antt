@@ -1,9 +1,9 @@
 -- Rows that violate are rows of the tables of their names; and what is written of them, one by one.
-use Rattle.std.proofs.Common.{◌≡◌, ◌<◌, ◌+◌, refl, sym, ap, ◌∙◌, subst, arith, ℕ, zero, suc, length, drop, get_or, add-one, append_assoc, Bool, true, false, cond, List, [], ◌∷◌, ◌++◌, map, filter}
-use Rattle.std.proofs.Math.Seq.{drop-cons}
+use Rattle.std.proofs.Common.{◌≡◌, ◌<◌, ◌+◌, refl, sym, ap, ◌∙◌, arith, ℕ, zero, suc, length, drop, get_or, append_assoc, Bool, true, false, cond, List, [], ◌∷◌, ◌++◌, map, filter}
 use Rattle.std.specs.List.{AllByRecursion, enumerate_from, flat_map, list_all}
 use Rattle.std.specs.Option.{option_map_or}
 use Rattle.std.proofs.lemmas.List.Folds.{list_all-append, list_all-map}
+use Rattle.basic_laws.proofs.Lists.{next_at}
 use Rattle.tuple_codec.specs.Rows.{Cells}
 use Rattle.schema_model.specs.declared.schemas.CheckDef.{CheckDef}
 use Rattle.schema_model.specs.declared.schemas.Column.{Column}
@@ -94,9 +94,6 @@ next_fits p (y ∷ xs) zero x within is all = ap (λ (z : listing.Found). p (fou
 next_fits p (y ∷ xs) (suc i) x within is all =
     let less : i < length xs = omega arith in
     next_fits p xs i x less is (right_so (p (found_seen y)) (list_all p (map found_seen xs)) all)
-
-next_at : {A : Type 0} (xs : List A) (i : ℕ) (x : A) → i < length xs → x ≡ get_or xs i x → drop i xs ≡ x ∷ drop (i + 1) xs
-next_at {A = A} xs i x within is = subst (λ (y : A). drop i xs ≡ y ∷ drop (i + 1) xs) (sym is) (rw (drop-cons xs i x, add-one i) refl)
 
 pub next_written : {V : Type 0} (f : Found → List V) (total done new : List V) (xs : List listing.Found) (i : ℕ) (x : listing.Found) → i < length xs → x ≡ get_or xs i x
     → total ≡ done ++ flat_map f (map found_seen (drop i xs)) → new ≡ done ++ f (found_seen x) → total ≡ new ++ flat_map f (map found_seen (drop (i + 1) xs))

@@ -5,14 +5,15 @@ use Rattle.std.specs.List.{AllByRecursion}
 use Rattle.std.specs.Ordering.{is_lt, match_ordering}
 use Rattle.std.specs.declared.cmp.Ordering.{Ordering}
 use Rattle.std.specs.declared.cmp.Ordering.TheVariants.{Less, Equal, Greater}
+use Rattle.basic_laws.proofs.Orderings.{less_is}
 use Rattle.tuple_codec.specs.Nodes.{Item, RiseAfter, is_after, leaf_item}
 use Rattle.tuple_codec.specs.Edits.{EditsRiseAfter, added, against, all_added, changed, edited, edits_at, order, putting, puts, removed, replaced}
 use Rattle.tuple_codec.specs.declared.edits.Change.{Change}
 use Rattle.tuple_codec.specs.declared.edits.Edit.{Edit}
 use Rattle.edit_laws.specs.ByKey.{as_edits}
-use Rattle.edit_laws.proofs.Orders.{less_is, less_trans, same_key, turned}
+use Rattle.edit_laws.proofs.Orders.{less_trans, same_key, turned}
 
-after_less : (before : Option (List ℕ)) (some other : List ℕ) → is_after before some ≡ true → order some other ≡ Less → is_after before other ≡ true
+pub after_less : (before : Option (List ℕ)) (some other : List ℕ) → is_after before some ≡ true → order some other ≡ Less → is_after before other ≡ true
 after_less None some other one two = refl
 after_less (Some k) some other one two = ap is_lt (less_trans k some other (less_is (order k some) one) two)
 
@@ -27,7 +28,7 @@ edits_lower before key (edit ∷ edits) after rise = (after_less before key edit
 
 -- ---- what edits make
 
-put_rise : (before : Option (List ℕ)) (key : List ℕ) (value : Option (List ℕ)) (rows : List Item) → is_after before key ≡ true → RiseAfter (Some key) rows
+pub put_rise : (before : Option (List ℕ)) (key : List ℕ) (value : Option (List ℕ)) (rows : List Item) → is_after before key ≡ true → RiseAfter (Some key) rows
     → RiseAfter before (putting key value rows)
 put_rise before key None rows after rise = rows_lower before key rows after rise
 put_rise before key (Some value) rows after rise = (after, rise)

@@ -4,12 +4,15 @@ use Rattle.std.specs.Prelude.{bytes_eq, if◌then◌else◌}
 use Rattle.std.specs.Ordering.{is_lt, match_ordering}
 use Rattle.std.specs.declared.cmp.Ordering.{Ordering}
 use Rattle.std.specs.declared.cmp.Ordering.TheVariants.{Less, Equal, Greater}
+use Rattle.basic_laws.proofs.Bytes.{same_bytes as eq_key, bytes_itself as itself}
+use Rattle.basic_laws.proofs.Orderings.{less_is}
+use Rattle.basic_laws.proofs.Options.{some_is as some_same}
 use Rattle.tuple_codec.specs.Nodes.{Item, Rise, RiseAfter}
 use Rattle.tuple_codec.specs.Edits.{EditsRiseAfter, added, against, all_added, changed, edited, edits_at, order, putting, puts, removed, replaced, value_at}
 use Rattle.tuple_codec.specs.declared.edits.Change.{Change}
 use Rattle.tuple_codec.specs.declared.edits.Edit.{Edit}
 use Rattle.edit_laws.specs.ByKey.{AreLeafRows, as_edits, between, change_at, edit_at, over}
-use Rattle.edit_laws.proofs.Orders.{apart, eq_key, itself, less_is, same_key, turned}
+use Rattle.edit_laws.proofs.Orders.{apart, same_key, turned}
 use Rattle.edit_laws.proofs.Rising.{changed_rise, edited_all, edited_rise, edits_lower, puts_rise, rows_lower}
 
 -- where all keys are above a key, nothing stands at it
@@ -165,9 +168,6 @@ tail_value key row other rows others same one two e = by (bytes_eq row.key key) 
 
 here : (row : Item) (rows : List Item) → value_at row.key (row ∷ rows) ≡ Some row.body
 here row rows = ap (λ b. if b then Some row.body else value_at row.key rows) (itself row.key)
-
-some_same : (a b : List ℕ) → Some a ≡ Some b → a ≡ b
-some_same a b e = cc
 
 abbrev item : List ℕ → List ℕ → ℕ → Item
 item key body rows = record { key = key; body = body; rows = rows }

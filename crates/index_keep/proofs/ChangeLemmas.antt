@@ -4,6 +4,8 @@ use Rattle.std.specs.Prelude.{bytes_eq, if◌then◌else◌, ◌||◌}
 use Rattle.std.specs.List.{AllByRecursion, list_all, list_any}
 use Rattle.std.specs.Option.{option_map}
 use Rattle.std.proofs.lemmas.Bool.{and_from}
+use Rattle.basic_laws.proofs.Bytes.{same_bytes as eq_key, bytes_itself as itself}
+use Rattle.basic_laws.proofs.Options.{some_is}
 use Rattle.tuple_codec.specs.Edits.{EditsRiseAfter, edited, value_at}
 use Rattle.tuple_codec.specs.Nodes.{Item, Rise}
 use Rattle.tuple_codec.specs.Rows.{Cells}
@@ -12,13 +14,12 @@ use Rattle.schema_model.specs.PlainTables.{body_bytes, is_row, row_item}
 use Rattle.schema_model.specs.Schemas.{is_schema}
 use Rattle.schema_model.specs.declared.schemas.Schema.{Schema}
 use Rattle.edit_laws.specs.ByKey.{edit_at, over}
-use Rattle.edit_laws.proofs.Orders.{eq_key, itself}
 use Rattle.edit_laws.proofs.Values.{edited_value, edits_above}
 use Rattle.table_rows.specs.Rows.{RowItemsFollow}
 use Rattle.index_keep.specs.Entries.{changes_at, found, keys_of, row_change, row_key}
 use Rattle.index_keep.specs.Steps.{AreChanged, AreOnce, change_fits, is_row_or_none}
 use Rattle.index_keep.specs.declared.changes.RowChange.{RowChange}
-use Rattle.index_keep.proofs.FoundLemmas.{Apart, apart, found_fits, found_name, some_is, value_found}
+use Rattle.index_keep.proofs.FoundLemmas.{Apart, apart, found_fits, found_name, value_found}
 
 abbrev has : List ℕ → List (List ℕ) → Bool
 has key keys = list_any (λ other. bytes_eq other key) keys

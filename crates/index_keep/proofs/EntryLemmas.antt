@@ -7,12 +7,13 @@ use Rattle.std.specs.Ordering.{is_lt}
 use Rattle.std.specs.declared.cmp.Ordering.{Ordering}
 use Rattle.std.specs.declared.cmp.Ordering.TheVariants.{Less, Equal, Greater}
 use Rattle.std.proofs.lemmas.Bool.{and_parts}
+use Rattle.basic_laws.proofs.Bytes.{same_bytes as eq_key, bytes_itself as itself}
 use Rattle.tuple_codec.specs.Edits.{EditsRiseAfter, edited, order, value_at}
 use Rattle.tuple_codec.specs.Nodes.{Item, Rise, RiseAfter, is_after, leaf_item}
 use Rattle.tuple_codec.specs.declared.edits.Edit.{Edit}
 use Rattle.schema_model.specs.PlainTables.{placed, sorted}
 use Rattle.edit_laws.specs.ByKey.{AreLeafRows, edit_at, over}
-use Rattle.edit_laws.proofs.Orders.{apart as keys_apart, eq_key, itself, same_key, turned}
+use Rattle.edit_laws.proofs.Orders.{same_key, turned, unlike as not_back}
 use Rattle.edit_laws.proofs.Rising.{edited_all, edited_rise}
 use Rattle.edit_laws.proofs.Values.{edited_value, same_rows}
 use Rattle.index_keep.specs.Entries.{entry_edits, found, put_entry, remove_entry}
@@ -70,13 +71,6 @@ value_sorted key [] bare = refl
 value_sorted key (item ∷ items) bare =
     value_placed key item (sorted items) bare.0 (all_sorted (λ item. item.body ≡ []) items bare.1)
     ∙ ap (λ v. if bytes_eq item.key key then Some item.body else v) (value_sorted key items bare.1)
-
--- keys that one orders apart are not equal, the other way round
-not_back : (a b : List ℕ) → order a b ≡ Less → bytes_eq a b ≡ false
-not_back a b e = two (bytes_eq a b) refl where
-  two : (t : Bool) → bytes_eq a b ≡ t → bytes_eq a b ≡ false
-  two false is = is
-  two true is = let same = eq_key a b is in let none = keys_apart a b e in absurd (cc (sym none ∙ ap (λ k. bytes_eq b k) same ∙ itself b))
 
 rise_placed : (before : Option (List ℕ)) (item : Item) (items : List Item) → is_after before item.key ≡ true → RiseAfter before items → value_at item.key items ≡ None
     → RiseAfter before (placed item items)

@@ -4,18 +4,12 @@ use Rattle.std.specs.Prelude.{bytes_eq, if◌then◌else◌}
 use Rattle.std.specs.List.{list_all}
 use Rattle.std.specs.Option.{option_map}
 use Rattle.std.proofs.lemmas.Bool.{and_parts}
+use Rattle.basic_laws.proofs.Bytes.{same_bytes as eq_key}
+use Rattle.basic_laws.proofs.Options.{none_mapped as nothing, some_is}
 use Rattle.tuple_codec.specs.Edits.{value_at}
 use Rattle.tuple_codec.specs.Nodes.{RiseAfter, leaf_item}
-use Rattle.edit_laws.proofs.Orders.{eq_key}
 use Rattle.edit_laws.proofs.Values.{above}
 use Rattle.index_keep.specs.Entries.{found}
-
-pub some_is : {A : Type 0} (a b : A) → Some a ≡ Some b → a ≡ b
-some_is a b e = cc
-
-nothing : {A B : Type 0} (f : A → B) (o : Option A) → option_map f o ≡ None → o ≡ None
-nothing f None e = refl
-nothing f (Some a) e = absurd (cc)
 
 module _ {A : Type 0} (name : A → List ℕ) where
   -- no two have one name

@@ -5,7 +5,7 @@ mod KeyLemmas
 mod ChangeLemmas
 mod IndexLemmas
 mod PutLemmas
-mod StandLemmas
+pub mod StandLemmas
 mod TableLemmas
 mod MakingLemmas
 mod ReadLemmas

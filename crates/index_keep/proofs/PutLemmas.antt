@@ -11,6 +11,7 @@ use Rattle.tuple_codec.specs.KeyBytes.{key_bytes}
 use Rattle.tuple_codec.specs.Nodes.{Item}
 use Rattle.tuple_codec.specs.Rows.{Cells, key_of}
 use Rattle.tuple_codec.specs.declared.edits.Edit.{Edit}
+use Rattle.tuple_codec.proofs.FieldLemmas.{key_bytes_joined as bytes_joined}
 use Rattle.schema_model.specs.Limits.{is_row_within_limits, is_short_in, is_short_key, is_short_row}
 use Rattle.schema_model.specs.PlainTables.{index_items, is_row, primary_key, sorted}
 use Rattle.schema_model.specs.declared.schemas.IndexDef.{IndexDef}
@@ -24,7 +25,7 @@ use Rattle.index_keep.specs.declared.changes.RowChange.{RowChange}
 use Rattle.index_keep.proofs.EntryLemmas.{entries, length_sorted}
 use Rattle.index_keep.proofs.FoundLemmas.{found_fits}
 use Rattle.index_keep.proofs.IndexLemmas.{list_follows}
-use Rattle.index_keep.proofs.KeyLemmas.{bytes_joined, entry_one}
+use Rattle.index_keep.proofs.KeyLemmas.{entry_one}
 use Rattle.index_keep.proofs.SortLemmas.{all_edits_sorted}
 
 all_join : {A : Type 0} (P : A → Type 0) (xs ys : List A) → AllByRecursion P xs → AllByRecursion P ys → AllByRecursion P (xs ++ ys)

@@ -3,6 +3,8 @@ use Rattle.std.proofs.Common.{◌≡◌, ◌<◌, ◌+◌, ℕ, zero, suc, Bool,
 use Rattle.std.proofs.lemmas.List.{drop_more}
 use Rattle.std.specs.Prelude.{bytes_eq, if◌then◌else◌}
 use Rattle.std.specs.Option.{option_map}
+use Rattle.basic_laws.proofs.Bytes.{same_bytes as eq_key, bytes_itself as itself}
+use Rattle.basic_laws.proofs.Options.{some_is}
 use Rattle.tuple_codec.specs.Edits.{EditsRiseAfter, value_at}
 use Rattle.tuple_codec.specs.Nodes.{Item}
 use Rattle.tuple_codec.specs.Rows.{Cells}
@@ -11,13 +13,12 @@ use Rattle.schema_model.specs.PlainTables.{body_bytes, is_row, row_item}
 use Rattle.schema_model.specs.declared.schemas.Schema.{Schema}
 use Rattle.chunk_store.specs.Chunks.{Chunks}
 use Rattle.edit_laws.specs.ByKey.{edit_at, over}
-use Rattle.edit_laws.proofs.Orders.{eq_key, itself}
 use Rattle.edit_laws.proofs.Values.{edited_value, edits_above}
 use Rattle.table_rows.specs.Rows.{IsRowOf}
 use Rattle.index_keep.specs.Entries.{changes_at, found, keys_of, row_change, row_key}
 use Rattle.index_keep.specs.Steps.{IsRowEdit, IsRowsEdit, IsValueAt}
 use Rattle.index_keep.specs.declared.changes.RowChange.{RowChange}
-use Rattle.index_keep.proofs.FoundLemmas.{found_fits, found_name, some_is, value_found}
+use Rattle.index_keep.proofs.FoundLemmas.{found_fits, found_name, value_found}
 
 -- the row of a value that stands at a key
 pub record IsRowThere (schema : Schema) (rows : List Cells) (key value : List ℕ) : Type 0 where

@@ -6,6 +6,7 @@ use Rattle.std.specs.Ordering.{is_lt, match_ordering}
 use Rattle.std.specs.declared.cmp.Ordering.{Ordering}
 use Rattle.std.specs.declared.cmp.Ordering.TheVariants.{Less, Equal, Greater}
 use Rattle.std.proofs.lemmas.Bool.{and_from, and_parts, leb-true}
+use Rattle.basic_laws.proofs.Lists.{all_weaker}
 use Rattle.tuple_codec.specs.Edits.{edited, edits_at, order, putting, puts}
 use Rattle.tuple_codec.specs.Nodes.{Item, RiseAfter}
 use Rattle.tuple_codec.specs.Rows.{Cells, key_cmp}
@@ -54,14 +55,14 @@ module _ (P : Item → Type 0) where
   edited_back [] edits all = puts_back edits all
   edited_back (row ∷ rows) edits all = at_back row (edited rows) (edited_back rows) edits all
 
-row_is : (schema : Schema) (row : Cells) → is_row_within_limits schema row ≡ true → IsRow (row_item schema row)
+pub row_is : (schema : Schema) (row : Cells) → is_row_within_limits schema row ≡ true → IsRow (row_item schema row)
 row_is schema row within =
     let parts = and_parts _ (is_short_row schema row) within in
     let key = leb-true (length (row_key schema row)) 1024 (and_parts (is_short_key (primary_key schema row)) _ parts.0).0 in
     let body = leb-true (length (body_bytes schema row)) 8192 parts.1 in
     record { key = omega (arith, key); size = omega (arith, key, body); one = refl }
 
-rows_are : (schema : Schema) (rows : List Cells) → list_all (is_row_within_limits schema) rows ≡ true → AllByRecursion IsRow (map (row_item schema) rows)
+pub rows_are : (schema : Schema) (rows : List Cells) → list_all (is_row_within_limits schema) rows ≡ true → AllByRecursion IsRow (map (row_item schema) rows)
 rows_are schema [] within = tt
 rows_are schema (row ∷ rows) within =
     let parts = and_parts (is_row_within_limits schema row) (list_all (is_row_within_limits schema) rows) within in
@@ -86,10 +87,6 @@ keys_rise follow schema is before (row ∷ next ∷ rows) fit rise =
     (keys_rise follow schema is (Some (row_key schema row)) (next ∷ rows) parts.1 rise.1)
 
 -- ---- indexes one after another
-
-all_weaker : {A : Type 0} (p q : A → Bool) → ((x : A) → p x ≡ true → q x ≡ true) → (xs : List A) → list_all p xs ≡ true → list_all q xs ≡ true
-all_weaker p q h [] all = refl
-all_weaker p q h (x ∷ xs) all = let parts = and_parts (p x) (list_all p xs) all in and_from (q x) (list_all q xs) (h x parts.0) (all_weaker p q h xs parts.1)
 
 all_swap : {A B : Type 0} (f : A → B → Bool) (xs : List A) (ys : List B) → list_all (λ x. list_all (f x) ys) xs ≡ true → list_all (λ y. list_all (λ x. f x y) xs) ys ≡ true
 all_swap f xs [] all = refl

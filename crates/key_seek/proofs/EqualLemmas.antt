@@ -1,5 +1,5 @@
 -- A column that isn't the literal it is compared with: the comparison has a worth, which isn't true.
-use Rattle.std.proofs.Common.{◌≡◌, ◌∙◌, inl, inr, sym, ap, refl, subst, ℕ, zero, suc, ℤ, pos, ◌*ℤ◌, Bool, true, false, List, [], ◌∷◌, Some, map, slice_get}
+use Rattle.std.proofs.Common.{◌≡◌, ◌∙◌, inl, inr, ap, refl, subst, ℕ, zero, suc, ℤ, pos, ◌*ℤ◌, Bool, true, false, List, [], ◌∷◌, Some, map, slice_get}
 use Rattle.std.specs.Ordering.{int_cmp}
 use Rattle.std.proofs.lemmas.Bool.{and_parts}
 use Rattle.sql_ast.specs.declared.expressions.Comparison.TheVariants as op
@@ -8,7 +8,6 @@ use Rattle.tuple_codec.specs.declared.values.SqlType.{SqlType}
 use Rattle.tuple_codec.specs.declared.values.SqlType.TheVariants as type
 use Rattle.tuple_codec.specs.declared.values.Value.{Value}
 use Rattle.tuple_codec.specs.declared.values.Value.TheVariants as cell
-use Rattle.tuple_codec.proofs.Orders.{values_told}
 use Rattle.schema_model.specs.declared.schemas.Column.{Column}
 use Rattle.sql_values.specs.declared.kinds.Kind.{Kind}
 use Rattle.sql_values.specs.Worths.{of_truth, worth_of}
@@ -17,6 +16,7 @@ use Rattle.expr_eval.specs.Valuing.{compared, comparison, holds, two, worth}
 use Rattle.expr_eval.proofs.WorthNodes.{worth_column, worth_compare, worth_constant}
 use Rattle.plain_sql.specs.Passing.{IsMissed, is_so}
 use Rattle.plain_sql.proofs.MissedLemmas.{holds_not, times_one}
+use Rattle.plain_sql.proofs.LinkLemmas.{turned}
 use Rattle.key_seek.specs.Parts.{AreSides, IsEquality, is_exact}
 
 -- ---- which cells stand in one column
@@ -95,16 +95,6 @@ differ t (cell.Bytes bytes) (cell.Text text) k l plain p q h = refl
 differ t (cell.Bytes bytes) (cell.Bytes other) k l plain p q h = holds_not _ h
 differ t (cell.Bytes bytes) (cell.Decimal o) k l plain p q h = refl
 differ t (cell.Decimal m) b k l plain p q h = absurd (no_decimal t m plain p)
-
-turned_step : (a b : Value) (c : Bool) → same_value b a ≡ c → same_value a b ≡ false → c ≡ false
-turned_step a b false e h = refl
-turned_step a b true e h = absurd (differs ((values_told a b).1 (sym ((values_told b a).0 e))))
-  where
-    differs : same_value a b ≡ true → ⊥
-    differs g = absurd (cc)
-
-turned : (a b : Value) → same_value a b ≡ false → same_value b a ≡ false
-turned a b h = turned_step a b (same_value b a) refl h
 
 -- ---- a row's cell
 

@@ -1,10 +1,11 @@
 -- The row of a key among rows, and the value of its bytes among their items.
-use Rattle.std.proofs.Common.{◌≡◌, ◌∙◌, sym, ap, refl, ℕ, Bool, true, false, cond, List, [], ◌∷◌, Option, None, Some, map, bytes_eq}
+use Rattle.std.proofs.Common.{◌≡◌, ◌∙◌, sym, ap, refl, ℕ, Bool, true, false, cond, List, [], ◌∷◌, None, Some, map, bytes_eq}
 use Rattle.std.specs.List.{list_all}
 use Rattle.std.specs.Option.{option_map}
 use Rattle.std.specs.Ordering.{is_eq}
 use Rattle.std.proofs.lemmas.Bool.{and_parts}
 use Rattle.std.proofs.lemmas.Map.Text.{is_eq-slice_cmp}
+use Rattle.basic_laws.proofs.Options.{none_mapped as none_there, some_is}
 use Rattle.tuple_codec.specs.Edits.{value_at}
 use Rattle.tuple_codec.specs.KeyBytes.{key_bytes}
 use Rattle.tuple_codec.specs.Rows.{Cells, fits_all, same_cells}
@@ -46,9 +47,6 @@ pub record IsThere (schema : Schema) (key : Cells) (rows : List Cells) (body : L
   pub key_is : primary_key schema row ≡ key
   pub body_is : body_bytes schema row ≡ body
 
-some_is : {A : Type 0} (a b : A) → Some a ≡ Some b → a ≡ b
-some_is a b e = cc
-
 pub is_there : (schema : Schema) (key : Cells) (rows : List Cells) (body : List ℕ) → list_all (is_row schema) rows ≡ true
     → option_map (body_bytes schema) (row_with schema key rows) ≡ Some body → IsThere schema key rows body
 is_there schema key [] body fit e = absurd (cc)
@@ -75,10 +73,6 @@ is_there schema key (row ∷ rows) body fit e =
 
 pub row_of_it : (schema : Schema) (key : Cells) (rows : List Cells) (body : List ℕ) (there : IsThere schema key rows body) → IsRowOf schema (key_bytes key) body there.row
 row_of_it schema key rows body there = record { fits = there.fit; key = ap key_bytes there.key_is; value = there.body_is }
-
-none_there : {A B : Type 0} (f : A → B) (o : Option A) → option_map f o ≡ None → o ≡ None
-none_there f None e = refl
-none_there f (Some x) e = absurd (cc)
 
 -- what is read at the key's bytes
 pub value_found : KeepsOrder → (schema : Schema) (key : Cells) (rows : List Cells) (bytes value : List ℕ) → is_schema schema ≡ true → fits_all (key_types schema) key ≡ true → list_all (is_row schema) rows ≡ true

@@ -1,16 +1,17 @@
 -- Cells of a kind: those of a row that fits, what an expression's value is, and what a column keeps.
-use Rattle.std.proofs.Common.{◌≡◌, ◌≤◌, ◌∙◌, sym, ap, refl, subst, ◌^◌, ◌==◌, ◌&&◌, ℤ, zero, suc, pos, negsuc, Bool, true, false, cond, List, [], ◌∷◌, Some, Result, Ok, Err, arith}
+use Rattle.std.proofs.Common.{◌≡◌, ◌≤◌, ◌∙◌, sym, ap, refl, subst, ◌^◌, ◌==◌, ◌&&◌, ℤ, zero, suc, pos, Bool, true, false, cond, List, [], ◌∷◌, Some, Result, Ok, Err, arith}
 use Rattle.std.specs.Prelude.{nat_le, nat_lt, unsigned_abs}
 use Rattle.std.specs.List.{list_all}
 use Rattle.std.proofs.Math.Nat.{pow-le-pow_right}
 use Rattle.std.proofs.lemmas.Bool.{and_from, and_parts, eq-eqb, eqb-true, leb-true, lt-ltb, ltb-true}
 use Rattle.tuple_codec.specs.Limits.{is_type}
-use Rattle.tuple_codec.specs.Rows.{Cells, fits, fits_all, fits_bits}
+use Rattle.tuple_codec.specs.Rows.{Cells, fits, fits_all}
 use Rattle.tuple_codec.specs.Texts.{char_count, is_utf8}
 use Rattle.tuple_codec.specs.declared.values.SqlType.{SqlType}
 use Rattle.tuple_codec.specs.declared.values.SqlType.TheVariants as type
 use Rattle.tuple_codec.specs.declared.values.Value.{Value}
 use Rattle.tuple_codec.specs.declared.values.Value.TheVariants as cell
+use Rattle.tuple_codec.proofs.CellLemmas.{bits_more}
 use Rattle.sql_values.specs.declared.assigning.Misfit.{Misfit}
 use Rattle.sql_values.specs.declared.assigning.Misfit.TheVariants.{Mismatch, TooLong}
 use Rattle.sql_values.specs.declared.kinds.Kind.{Kind}
@@ -64,11 +65,6 @@ number_match type.Bool n takes = bool_match (rounded 0 n)
 number_match (type.Decimal digits scale) n takes = if_match _ _
 number_match (type.Varchar most) n takes = absurd takes
 number_match (type.Varbinary most) n takes = absurd takes
-
--- small bounds
-bits_more : (n : ℤ) → fits_bits 31 n ≡ true → fits_bits 63 n ≡ true
-bits_more (pos n) is = lt-ltb n (2 ^ 63) (omega (arith, ltb-true n (2 ^ 31) is))
-bits_more (negsuc n) is = lt-ltb n (2 ^ 63) (omega (arith, ltb-true n (2 ^ 31) is))
 
 cell_kind : (t : SqlType) (k : Kind) (v : Value) → is_type t ≡ true → fits t v ≡ true → kind_of t ≡ Some k → has_kind k (worth_of k v) ≡ true
 cell_kind t k cell.Null typed_ is kinds = unknown_of k

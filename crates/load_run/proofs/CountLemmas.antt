@@ -6,6 +6,7 @@ use Rattle.std.proofs.lemmas.List.{append-nil, length-map}
 use Rattle.std.proofs.lemmas.Option.{same_Some}
 use Rattle.schema_model.specs.PlainCommits.{Commits}
 use Rattle.schema_model.specs.PlainTables.{NamedTable, PlainDatabase, PlainTable, row_item, row_items}
+use Rattle.schema_model.proofs.SizeLemmas.{few_tables}
 use Rattle.chunk_store.specs.Chunks.{Chunk, Chunks, bytes_at}
 use Rattle.chunk_store.specs.Drafts.{DraftParts, chunks_of}
 use Rattle.chunk_store.specs.Standing.{IsTree}
@@ -18,7 +19,6 @@ use Rattle.table_root.specs.declared.heads.Look.{Look}
 use Rattle.table_root.specs.declared.records.NamedTable as entries
 use Rattle.table_root.specs.declared.records.Table.{Table}
 use Rattle.constraint_scan.specs.Scanning.{AreThere, HasKeptAt, IsKeptAt}
-use Rattle.constraint_scan.proofs.RecordLemmas.{few_tables}
 use Rattle.plain_sessions.specs.Records.{Branch, BranchState, Shared, is_branch, state_of}
 use Rattle.session_laws.specs.Changes.{BranchStands, Paired, Parts, StateStands}
 use Rattle.session_laws.specs.Laws.{StatesFollow, head_in}
@@ -126,10 +126,6 @@ module _ (address : List ℕ → List ℕ) (parts : Parts) (shared : Shared) (st
 pub some_same : {A B : Type 0} (f : A → B) (found : Option A) → is_some (option_map f found) ≡ is_some found
 some_same f None = refl
 some_same f (Some x) = refl
-
-pub none_of : {A : Type 0} (found : Option A) → is_some found ≡ false → found ≡ None
-none_of None none = refl
-none_of (Some x) none = absurd (cc)
 
 pub record_there : (lines : List BranchLine) (name : List ℕ) → name ≡ main → is_some (find is_main lines) ≡ true → record_at name lines ≢ None
 record_there lines name is found none = by (find is_main lines) found (sym (ap (λ (n : List ℕ). record_at n lines) is) ∙ none) where

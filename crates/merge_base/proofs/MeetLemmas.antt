@@ -1,16 +1,20 @@
 -- Two walks that meet at the base.
 use Rattle.std.proofs.Common.{◌≡◌, refl, sym, ◌∙◌, ap, subst, ◌⊎◌, inl, inr, ℕ, zero, suc, Bool, true, false, cond, ◌||◌, ◌<◌, List, [], ◌∷◌, Option, None, Some, is_lt}
-use Rattle.std.specs.Prelude.{bytes_eq, is_some}
+use Rattle.std.specs.Prelude.{bytes_eq}
 use Rattle.std.specs.List.{slice_get}
 use Rattle.std.specs.declared.cmp.Ordering.{Ordering}
 use Rattle.std.specs.declared.cmp.Ordering.TheVariants.{Less, Equal, Greater}
-use Rattle.std.proofs.lemmas.Bool.{and_parts}
+use Rattle.std.proofs.lemmas.Bool.{and_parts, or_cases as either, or_left}
+use Rattle.basic_laws.proofs.Bytes.{bytes_itself as itself, same_bytes as same_address}
+use Rattle.basic_laws.proofs.Truths.{right_not as rest_false}
+use Rattle.basic_laws.proofs.Options.{some_is}
 use Rattle.schema_model.specs.PlainTables.{rises}
-use Rattle.schema_model.specs.PlainCommits.{AncestorsFollow, AreGrown, Commits, IsAncestorBy, IsBaseOrNone, PlainCommit, ancestors, base, commit_cmp, first_in, has_address, is_known, parents_in}
+use Rattle.schema_model.specs.PlainCommits.{AncestorsFollow, AreGrown, Commits, IsBaseOrNone, ancestors, base, commit_cmp, first_in, has_address, is_known}
+use Rattle.schema_model.proofs.AncestorLemmas.{alike, before_all, not_before, not_itself, turned, known_here as known_by}
 use Rattle.commit_graph.specs.Walks.{AreRanks, Begins, Steps, address_in, left, weight_of}
 use Rattle.commit_graph.specs.declared.walks.Rank.{Rank}
 use Rattle.tuple_codec.specs.declared.addresses.Address.{Address}
-use Rattle.commit_graph.proofs.OrderLemmas.{alike, before_all, either, itself, not_before, not_itself, or_left, same_address, true_false, turned}
+use Rattle.commit_graph.proofs.OrderLemmas.{true_false}
 use Rattle.commit_graph.proofs.WalkLemmas.{first_known, first_or_later, left_rises, rank_cmp, same_cmp, to_left}
 use Rattle.merge_base.specs.Common.{HasCommon}
 
@@ -38,10 +42,6 @@ not_other x k b h = ap (λ (c : Bool). c || b) h
 bool_or : (b c d : Bool) → (b || c) ≡ d → d ≡ false → b ≡ false
 bool_or true c d e h = absurd cc
 bool_or false c d e h = refl
-
-rest_false : (b c : Bool) → (b || c) ≡ false → c ≡ false
-rest_false true c h = absurd cc
-rest_false false c h = h
 
 turn : (x k : List ℕ) (b : Bool) → bytes_eq x k ≡ b → bytes_eq k x ≡ false → b ≡ false
 turn x k true e h = true_false (bytes_eq k x) (subst (λ (y : List ℕ). bytes_eq y x ≡ true) (same_address x k e) (itself x)) h
@@ -71,18 +71,7 @@ none_of (x ∷ rest) e = absurd cc
 no_rank : (r : Rank) (rs : List Rank) → r ∷ rs ≡ [] → ⊥
 no_rank r rs e = cc
 
-some_is : (x y : List ℕ) → Some x ≡ Some y → x ≡ y
-some_is x y e = cc
-
 -- ---- known commits
-
-known_parent : (o : Option PlainCommit) (p : List ℕ) → has_address (parents_in o) p ≡ true → is_some o ≡ true
-known_parent None p h = absurd cc
-known_parent (Some commit) p h = refl
-
-known_by : (commits : Commits) (steps : ℕ) (k x : List ℕ) → IsAncestorBy commits steps k x → is_known commits k ≡ true
-known_by commits zero k x by = by.0
-known_by commits (suc steps) k x by = known_parent (commits k) by.0 by.1
 
 pub known_a : (commits : Commits) (a b : List ℕ) → HasCommon commits a b → is_known commits a ≡ true
 known_a commits a b common = known_by commits common.1.0 a common.0 common.1.1

@@ -5,7 +5,6 @@ use Rattle.std.specs.Option.{option_map_or}
 use Rattle.std.proofs.lemmas.Bool.{and_parts}
 use Rattle.std.proofs.lemmas.Bool.Decides.{nat_tests}
 use Rattle.chunk_store.specs.Chunks.{Chunks}
-use Rattle.constraint_scan.proofs.RecordLemmas.{few_tables}
 use Rattle.constraint_scan.specs.Recorded.{AllAreRecorded}
 use Rattle.constraint_scan.specs.Recording as recording
 use Rattle.constraint_scan.specs.Recording.{may_stand, may_stand_in}
@@ -13,10 +12,11 @@ use Rattle.constraint_scan.specs.Scanning.{IsKeptAt, IsReadAt}
 use Rattle.constraint_scan.specs.Written.{written, written_in}
 use Rattle.constraint_scan.specs.declared.listing.Violation.{Violation}
 use Rattle.expr_eval.specs.Binding.{Outcome, and_then}
-use Rattle.schema_model.specs.PlainTables.{IsDatabase, PlainDatabase, PlainTable}
+use Rattle.schema_model.specs.PlainTables.{PlainDatabase, PlainTable}
+use Rattle.schema_model.proofs.SizeLemmas.{few_tables}
 use Rattle.plain_merge.specs.RootMerge.{MergedDatabase, SchemaConflict}
 use Rattle.plain_schemas.specs.Statements.{checks}
-use Rattle.plain_sessions.specs.CommitRule.{is_none, recorded}
+use Rattle.plain_sessions.specs.CommitRule.{is_none}
 use Rattle.plain_sessions.specs.Merging.{if_within_limits, or_schema_conflict}
 use Rattle.plain_sql.specs.Lists.{unless}
 use Rattle.plain_writes.specs.Violations.{Found, table_in, violations}
@@ -37,10 +37,6 @@ can_record address chunks k list database laws all = record {
   kept = all.kept;
   recordable = subst (λ (l : List Violation). recording.IsRecordable database l (violations checks database)) (sym all.all) (laws.recordable address chunks k database all.kept);
 }
-
-pub all_recorded : AllAreRecorded → (database : PlainDatabase) → IsDatabase database → recording.recorded_as (violations checks database) database ≡ recorded database
-unfolding recorded
-all_recorded laws database is = laws.recorded database is
 
 -- one whose table is there is written
 one_written : (table : Option PlainTable) (one : Found) → option_map_or (λ t. may_stand t.schema one.violation) table false ≡ true

@@ -7,12 +7,13 @@ use Rattle.std.proofs.lemmas.Bool.{and_parts}
 use Rattle.std.proofs.lemmas.List.{length-map}
 use Rattle.tuple_codec.specs.declared.addresses.Address.{Address}
 use Rattle.tuple_codec.specs.declared.records.BranchRecord.{BranchRecord}
-use Rattle.schema_model.specs.Limits.{is_named_within_limits, is_short_name, is_table_within_limits, most_rows}
+use Rattle.schema_model.specs.Limits.{is_named_within_limits, is_short_name, most_rows}
 use Rattle.schema_model.specs.PlainCommits.{Commits}
 use Rattle.schema_model.specs.PlainTables as plain
 use Rattle.schema_model.specs.PlainTables.{IsTable, PlainDatabase, PlainTable, rises, row_item, row_items}
 use Rattle.schema_model.specs.Schemas.{is_name}
 use Rattle.schema_model.specs.WrittenForms.{table_address}
+use Rattle.schema_model.proofs.SizeLemmas.{kept_few}
 use Rattle.chunk_store.specs.Chunks.{Chunks, Extends}
 use Rattle.chunk_store.specs.Drafts.{Drafting, Grows}
 use Rattle.chunk_store.specs.Kinds.{is_database, is_either, is_node, is_table}
@@ -29,16 +30,16 @@ use Rattle.plain_sessions.specs.Branching.{is_in}
 use Rattle.plain_sessions.specs.Merging.{Answers, breaks_index, breaks_null, database_after, has_too_many_rows, may_settle, names_meant, resolve, table_after, takes_bad_row, unless_violated}
 use Rattle.plain_sessions.specs.Records.{BranchState}
 use Rattle.plain_sessions.specs.Statements.{resolve_worked}
-use Rattle.root_merge.specs.Merging.{are_within, is_data}
+use Rattle.root_merge.specs.Merging.{is_data}
+use Rattle.root_merge.proofs.MergedLemmas.{within_named as all_within}
 use Rattle.script_text.specs.declared.replies.Reply.{Reply}
 use Rattle.session_laws.specs.Laws.{RecordsFollow}
 use Rattle.session_laws.specs.Records.{RecordStands}
 use Rattle.session_txn.specs.Showing.{is_plain_reply}
 use Rattle.sql_procedures.specs.declared.requests.Resolution.{Resolution}
 use Rattle.sql_write.specs.Putting.{AreListed}
-use Rattle.sql_write.proofs.TableLemmas.{kept_few, kept_read, kept_short}
+use Rattle.sql_write.proofs.TableLemmas.{kept_read, kept_short}
 use Rattle.state_laws.proofs.ResolveLemmas.{resolved_kept}
-use Rattle.write_laws.proofs.OrderLemmas.{both_so}
 use Rattle.write_laws.specs.Laws.{IsKept}
 use Rattle.branch_procs.specs.Calls.{status_reply}
 use Rattle.branch_procs.specs.Staging.{refusal_of}
@@ -138,12 +139,6 @@ fine_so request database e =
     fine_by (each (may_settle database) (names_meant request.tables)) (takes_bad_row breaks_null request database) (takes_bad_row breaks_index request database) (outcome request database) e
 
 -- ---- the tables that may be settled, and the database that they are then
-
-all_within : (database : PlainDatabase) → list_all is_named_within_limits database ≡ true → are_within database ≡ true
-all_within [] h = refl
-all_within (named ∷ database) h =
-    let parts = and_parts (is_named_within_limits named) (list_all is_named_within_limits database) h in
-    both_so (and_parts (is_short_name named.name) (is_table_within_limits named.table) parts.0).1 (all_within database parts.1)
 
 pub can_settle : (address : List ℕ → List ℕ) (chunks : Chunks) (commits : Commits) (own : BranchRecord) (tables : List entries.NamedTable) (request : Resolution) (state : BranchState)
     → CanResolve address chunks commits own tables request state → CanSettleEach address chunks tables request state.working

@@ -4,6 +4,8 @@ use Rattle.std.specs.Prelude.{◌≤◌, IfOk, if◌then◌else◌, bytes_eq, is
 use Rattle.std.proofs.lemmas.Bool.{and_parts, leb-true}
 use Rattle.std.specs.List.{list_all, list_any}
 use Rattle.std.specs.Option.{option_map_or}
+use Rattle.basic_laws.proofs.Bytes.{bytes_same}
+use Rattle.basic_laws.proofs.Truths.{alike_truths as one_test}
 use Rattle.tuple_codec.specs.declared.addresses.Address.{Address}
 use Rattle.tuple_codec.specs.declared.records.BranchRecord.{BranchRecord}
 use Rattle.chunk_store.specs.Chunks.{AreNamed, Chunk, Chunks, Extends, IsSingle, Lists, bytes_at}
@@ -13,7 +15,6 @@ use Rattle.chunk_store.specs.Laws.{ChunksFollow, DraftsFollow, SegmentsFollow}
 use Rattle.chunk_store.specs.Standing.{IsThere}
 use Rattle.chunk_store.specs.Stores.{IsSealed, all_chunks, joined}
 use Rattle.chunk_store.specs.declared.faults.PutFault.{PutFault}
-use Rattle.chunk_store.proofs.ChunkLemmas.{bytes_same}
 use Rattle.commit_graph.specs.Standing.{IsCommitThere}
 use Rattle.constraint_scan.specs.Scanning.{IsKeptAt}
 use Rattle.expr_eval.specs.Binding.{Outcome, and_then}
@@ -46,11 +47,12 @@ use Rattle.session_state.proofs.ChangeLemmas.{record_by, record_told, same_recor
 use Rattle.session_txn.specs.Answering.{Decides}
 use Rattle.session_txn.specs.Committing.{IsWorkOf}
 use Rattle.session_txn.proofs.CommitLemmas as decisions
+use Rattle.session_txn.proofs.CommitLemmas.{ok_same}
 use Rattle.shared_db.specs.Plans.{IsPlannedAs, IsRefusedBy, PlanIs, brought}
 use Rattle.shared_db.specs.declared.changes.Plan.{Plan}
 use Rattle.branch_procs.specs.Committing.{CanCommit, IsPlannedOf, IsWritten}
 use Rattle.branch_procs.proofs.CommittingLemmas.{one_put}
-use Rattle.branch_procs.proofs.StageLemmas.{kept_later, ok_same}
+use Rattle.branch_procs.proofs.StageLemmas.{kept_later}
 use Rattle.merge_procs.specs.Databases.{IsMet}
 use Rattle.merge_procs.specs.Planning.{CanMerge, IsForwarded, IsJoined, IsMerged, clean_record, joining_record, success}
 use Rattle.merge_procs.specs.Ways.{IsThree, IsWay}
@@ -109,14 +111,6 @@ module _ (address : List ℕ → List ℕ) (found : Chunks) (p : plain.Session) 
 
   pub is_joining : (three : Three) → IsThree address found t request three → IsClean p request three.other.0 (merged_with t three.other.0) ending
   is_joining three is = clean_by p t request three.other.0 (merged_with t three.other.0) ending (sym (is.is p) ∙ merges)
-
--- ---- tests
-
--- tests of two things that come to the same are the same
-one_test : (a b : Bool) → (a ≡ true → b ≡ true) → (b ≡ true → a ≡ true) → a ≡ b
-one_test true b h g = sym (h refl)
-one_test false true h g = g refl
-one_test false false h g = refl
 
 -- ---- a branch that moved
 

@@ -1,13 +1,12 @@
 -- What calls that aren't decided on make of a session's own record, and the session after them.
-use Rattle.std.proofs.Common.{◌≡◌, refl, sym, ◌∙◌, ap, subst, inl, inr, ℕ, Bool, true, false, not, List, [], ◌∷◌, ◌++◌, length, codes, Option, None, Some, is_some, Result, Ok, Err, IfOk, IfErr, if◌then◌else◌, arith}
+use Rattle.std.proofs.Common.{◌≡◌, refl, sym, ◌∙◌, ap, subst, inl, inr, ℕ, Bool, true, not, List, [], ◌++◌, length, codes, Option, None, Some, is_some, Result, Ok, Err, IfOk, IfErr, if◌then◌else◌}
 use Rattle.std.specs.Option.{option_map}
-use Rattle.std.proofs.lemmas.Bool.Decides.{nat_tests}
+use Rattle.basic_laws.proofs.Options.{some_there as has_one}
 use Rattle.tuple_codec.specs.declared.addresses.Address.{Address}
 use Rattle.tuple_codec.specs.declared.records.BranchRecord.{BranchRecord}
-use Rattle.chunk_store.specs.Chunks.{Chunk, Chunks, Listed, bytes_at}
+use Rattle.chunk_store.specs.Chunks.{Chunk, Chunks, bytes_at}
 use Rattle.chunk_store.specs.Clashes.{IsReason}
-use Rattle.chunk_store.specs.Drafts.{AreOfKind, Drafting, DraftParts, Grows, IsNamed, IsSound, Longer, chunks_of, cut_to}
-use Rattle.chunk_store.specs.Kinds.{is_commit}
+use Rattle.chunk_store.specs.Drafts.{AreOfKind, Drafting, DraftParts, Grows, IsNamed, IsSound, chunks_of, cut_to}
 use Rattle.chunk_store.specs.Laws.{ChunksFollow, DraftsFollow, DraftsGrow}
 use Rattle.chunk_store.specs.declared.faults.Clash.{Clash}
 use Rattle.chunk_store.specs.declared.faults.PutFault.{PutFault}
@@ -21,7 +20,6 @@ use Rattle.script_text.specs.Collisions.{TellsTruly}
 use Rattle.script_text.specs.Output.{shortage}
 use Rattle.script_text.specs.declared.replies.Reply.{Reply}
 use Rattle.script_text.specs.declared.replies.Reply.TheVariants.{Refused, Collided}
-use Rattle.table_root.specs.declared.heads.Look.{Look}
 use Rattle.sql_procedures.specs.declared.requests.MergeOf.{MergeOf}
 use Rattle.sql_procedures.specs.declared.requests.MergeRequest.TheVariants as merging
 use Rattle.plain_merge.specs.RootMerge.{MergedDatabase}
@@ -38,15 +36,15 @@ use Rattle.root_merge.specs.Merging.{AreRoots, is_data}
 use Rattle.session_laws.specs.Commits.{CommitsAreThere, HasNoCommit}
 use Rattle.session_laws.specs.Laws.{RecordsFollow, TransactionsFollow}
 use Rattle.session_laws.specs.Records.{RecordStands}
-use Rattle.session_laws.specs.Transactions.{StartStands, TransactionStands}
+use Rattle.session_laws.specs.Transactions.{StartStands}
 use Rattle.session_state.specs.Standing.{IsInTransaction, SessionStands}
 use Rattle.session_state.specs.declared.sessions.Session.{Session}
 use Rattle.session_txn.specs.Answering.{AnswersAlone}
 use Rattle.session_txn.specs.Showing.{is_plain_reply}
 use Rattle.session_txn.proofs.AloneLemmas.{answers_due, answers_so, collides, starves, takes_none, worked_ill, worked_well}
-use Rattle.session_txn.proofs.SessionLemmas.{has_one}
 use Rattle.session_txn.proofs.ShowLemmas.{due_truly, plain_told}
-use Rattle.branch_procs.specs.Calls.{OwnStands}
+use Rattle.session_txn.proofs.CommitLemmas.{data_apart, of_kind}
+use Rattle.branch_procs.proofs.LocalLemmas.{grown_by, own_in}
 use Rattle.merge_procs.specs.Databases.{IsMet}
 use Rattle.merge_procs.specs.Steps.{IsBack, IsMade, IsPlain, IsSame, IsStep, Settles}
 use Rattle.merge_procs.specs.Ways.{IsThree}
@@ -68,19 +66,6 @@ pub later : (address : List ℕ → List ℕ) (old new : Drafting) (commits : Co
 later address old new commits rec state drafts growth records grows stands =
     records.later address (chunks_of old.chunks) (chunks_of new.chunks) commits commits rec state
     (drafts.longer_extends old.chunks new.chunks (growth.is_longer is_data old new grows)) (λ k known. known) stands
-
-own_by : (address : List ℕ → List ℕ) (draft : DraftParts) (start : Option Look) (own : BranchRecord) (found : Option Transaction) (t : Transaction) → found ≡ Some t
-    → StartStands address draft start own found → OwnStands address draft own t.commits t.own
-own_by address draft None own None t is stands = absurd (cc)
-own_by address draft None own (Some other) t is stands = absurd stands
-own_by address draft (Some look) own None t is stands = absurd stands
-own_by address draft (Some look) own (Some other) t is stands =
-    let same : other ≡ t = cc in
-    subst (λ (u : Transaction). OwnStands address draft own u.commits u.own) same (record { stands = stands.own_stands; all_there = stands.commits })
-
-own_in : {D : Type 0} (address : List ℕ → List ℕ) (session : Session D) (p : plain.Session) (t : Transaction) → SessionStands address session p → p.transaction ≡ Some t
-    → OwnStands address session.draft.chunks session.own t.commits t.own
-own_in address session p t stands there = own_by address session.draft.chunks session.start session.own p.transaction t there stands.transaction
 
 pub own_stands : {D : Type 0} (address : List ℕ → List ℕ) (session : Session D) (p : plain.Session) (t : Transaction) → SessionStands address session p → p.transaction ≡ Some t
     → RecordStands address (chunks_of session.draft.chunks) t.commits session.own t.own
@@ -156,17 +141,6 @@ opens address old new own p t request three working made drafts growth records s
 
 -- ---- the draft
 
-of_kind : (kind : List ℕ → Bool) (cs : List Chunk) (k bytes : List ℕ) → AreOfKind kind cs → Listed cs k bytes → kind bytes ≡ true
-of_kind kind [] k bytes all listed = absurd listed
-of_kind kind (c ∷ cs) k bytes all (inl is) = ap kind (sym is.1) ∙ all.0
-of_kind kind (c ∷ cs) k bytes all (inr listed) = of_kind kind cs k bytes all.1 listed
-
-data_apart : (bytes : List ℕ) → is_data bytes ≡ true → is_commit bytes ≡ true → ⊥
-data_apart [] h is = absurd (cc)
-data_apart (byte ∷ bytes) h is =
-    let five : byte ≡ 5 = grind (arith, nat_tests) in
-    let wrong : false ≡ true = ap (λ (n : ℕ). is_data (n ∷ bytes)) (sym five) ∙ h in absurd (cc)
-
 -- data more are no commits
 no_commit_more : ChunksFollow → (own more : List Chunk) → HasNoCommit own → AreOfKind is_data more → HasNoCommit (own ++ more)
 no_commit_more laws own more none all k bytes there is =
@@ -194,16 +168,6 @@ with_draft session d = record session { draft = d }
 
 abbrev with_made : {D : Type 0} → Session D → BranchRecord → Drafting → Session D
 with_made session own d = record session { own = own; draft = d }
-
-grown_by : (address : List ℕ → List ℕ) (old new : DraftParts) (start : Option Look) (own rec : BranchRecord) (found : Option Transaction) (t : Transaction) (state : BranchState)
-    → TransactionsFollow → found ≡ Some t → Longer old new → StartStands address old start own found → RecordStands address (chunks_of new) t.commits rec state
-    → StartStands address new start rec (Some (with_own state t))
-grown_by address old new None own rec None t state follow is longer stands made = absurd (cc)
-grown_by address old new None own rec (Some other) t state follow is longer stands made = absurd stands
-grown_by address old new (Some look) own rec None t state follow is longer stands made = absurd stands
-grown_by address old new (Some look) own rec (Some other) t state follow is longer stands made =
-    let same : other ≡ t = cc in
-    follow.grown address old new look own rec t state longer (subst (λ (u : Transaction). TransactionStands address old look own u) same stands) made
 
 made_stands : {D : Type 0} (address : List ℕ → List ℕ) (old : Session D) (d : Drafting) (own : BranchRecord) (p : plain.Session) (t : Transaction) (state : BranchState)
     → ChunksFollow → DraftsFollow → DraftsGrow → TransactionsFollow → p.transaction ≡ Some t → SessionStands address old p

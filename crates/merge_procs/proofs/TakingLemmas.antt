@@ -1,6 +1,6 @@
 -- The rows that edits put which make rows theirs.
-use Rattle.std.proofs.Common.{◌≡◌, refl, sym, ap, ◌∙◌, subst, ℕ, zero, suc, ◌+◌, ◌<◌, Bool, true, false, ◌||◌, List, [], ◌∷◌, ◌++◌, drop, get_or, length, map, Option, None, Some, arith, append_assoc}
-use Rattle.std.specs.List.{list_all, list_any}
+use Rattle.std.proofs.Common.{◌≡◌, refl, sym, ap, ◌∙◌, subst, ℕ, zero, suc, ◌+◌, ◌<◌, true, List, [], ◌∷◌, ◌++◌, drop, get_or, length, map, Option, None, Some, arith, append_assoc}
+use Rattle.std.specs.List.{list_all}
 use Rattle.std.specs.Option.{option_map, option_to_list}
 use Rattle.std.specs.Ordering.{is_eq}
 use Rattle.std.proofs.lemmas.Bool.{and_parts}
@@ -100,11 +100,3 @@ pub takings_of : (address : List ℕ → List ℕ) (chunks : Chunks) (table : Ta
 takings_of address chunks table contents edits stands is =
     let of = stands.is_table in
     subst (λ (s : Schema). AreTakings s edits contents.conflicts) (sym (schema_same address chunks table contents stands)) (record { conflicts_are = of.conflicts; edits_are = is })
-
--- ---- of the first of a list, and the others
-
-pub any_first : {A : Type 0} (p : A → Bool) (xs : List A) (x : A) (rest : List A) (b : Bool) → xs ≡ x ∷ rest → b ≡ p x → b ≡ true → true ≡ list_any p xs
-any_first p xs x rest b is told holds = sym (ap (list_any p) is ∙ ap (λ t. t || list_any p rest) (sym told ∙ holds))
-
-pub any_later : {A : Type 0} (p : A → Bool) (xs : List A) (x : A) (rest : List A) (b c : Bool) → xs ≡ x ∷ rest → b ≡ p x → b ≡ false → c ≡ list_any p rest → c ≡ list_any p xs
-any_later p xs x rest b c is told fails later = later ∙ sym (ap (list_any p) is ∙ ap (λ t. t || list_any p rest) (sym told ∙ fails))

@@ -7,6 +7,9 @@ use Rattle.std.specs.Option.{option_map, option_to_list}
 use Rattle.std.specs.Ordering.{is_lt}
 use Rattle.std.proofs.lemmas.Bool.{and_parts, leb-true}
 use Rattle.std.proofs.lemmas.List.{length-map}
+use Rattle.basic_laws.proofs.Bytes.{same_bytes as eq_key}
+use Rattle.basic_laws.proofs.Orderings.{less_is}
+use Rattle.basic_laws.proofs.Lists.{filter_few}
 use Rattle.tuple_codec.specs.Edits.{EditsRiseAfter, edited, order, value_at}
 use Rattle.tuple_codec.specs.KeyBytes.{key_bytes}
 use Rattle.tuple_codec.specs.Nodes.{Item, Rise, RiseAfter, is_after}
@@ -22,7 +25,7 @@ use Rattle.schema_model.proofs.FitLemmas.{key_types_fit, primary_key_fits}
 use Rattle.chunk_store.specs.Chunks.{Chunks}
 use Rattle.conflict_tables.specs.Conflicts.{theirs_edit, theirs_edits}
 use Rattle.edit_laws.specs.ByKey.{edit_at, over}
-use Rattle.edit_laws.proofs.Orders.{eq_key, greater, less_is}
+use Rattle.edit_laws.proofs.Orders.{greater}
 use Rattle.edit_laws.proofs.Rising.{edited_all, edited_rise, edits_lower, rows_lower}
 use Rattle.edit_laws.proofs.Values.{edited_value, edits_above, same_rows}
 use Rattle.index_keep.specs.Entries.{comes_before}
@@ -49,13 +52,6 @@ use Rattle.merge_procs.proofs.TakingLemmas.{at_key}
 all_behind : {A : Type 0} (p : A → Bool) (xs ys : List A) → list_all p (xs ++ ys) ≡ true → list_all p ys ≡ true
 all_behind p [] ys h = h
 all_behind p (x ∷ xs) ys h = all_behind p xs ys (and_parts (p x) (list_all p (xs ++ ys)) h).1
-
-filter_few : {A : Type 0} (p : A → Bool) (xs : List A) → length (filter p xs) ≤ length xs
-filter_few p [] = omega arith
-filter_few p (x ∷ xs) = by (p x) (filter_few p xs) where
-  by : (b : Bool) → length (filter p xs) ≤ length xs → length (cond b (x ∷ filter p xs) (filter p xs)) ≤ suc (length xs)
-  by true less = omega (arith, less)
-  by false less = omega (arith, less)
 
 theirs_few : (conflicts : List Conflict) → length (theirs_of conflicts) ≤ length conflicts
 theirs_few [] = omega arith

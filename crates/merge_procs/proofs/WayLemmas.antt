@@ -1,10 +1,11 @@
 -- Where a merge leads: the base against ancestors, what the plain merge comes to, and what stands in a session's transaction.
-use Rattle.std.proofs.Common.{◌≡◌, refl, sym, ap, ◌∙◌, subst, ◌⊎◌, inl, inr, ℕ, zero, suc, Bool, true, false, cond, ◌&&◌, ◌||◌, ◌==◌, not, is_some, is_lt, List, [], ◌∷◌, Option, Some, None, Ok, Err, map}
+use Rattle.std.proofs.Common.{◌≡◌, refl, sym, ap, ◌∙◌, subst, ◌⊎◌, inl, inr, ℕ, zero, suc, Bool, true, false, cond, ◌&&◌, ◌||◌, ◌==◌, not, is_lt, List, [], ◌∷◌, Option, Some, None, Ok, Err, map}
 use Rattle.std.specs.Prelude.{IfOk, Result, bytes_eq, codes}
 use Rattle.std.specs.Cmp.Lexicographic.{bytes_decides}
 use Rattle.std.specs.Option.{option_map_or}
-use Rattle.std.proofs.lemmas.Bool.{and_from, eqb-false}
+use Rattle.std.proofs.lemmas.Bool.{and_from, eqb-false, or_left}
 use Rattle.std.proofs.lemmas.Result.{IfOk-weaker}
+use Rattle.basic_laws.proofs.Bytes.{bytes_itself as itself}
 use Rattle.tuple_codec.specs.declared.addresses.Address.{Address}
 use Rattle.tuple_codec.specs.declared.records.BranchRecord.{BranchRecord}
 use Rattle.chunk_store.specs.Chunks.{Chunks, bytes_at}
@@ -13,13 +14,13 @@ use Rattle.chunk_store.specs.Laws.{ChunksFollow}
 use Rattle.commit_graph.specs.Standing as graph
 use Rattle.commit_graph.specs.Standing.{CommitsStand}
 use Rattle.commit_graph.specs.declared.walks.Rank.{Rank}
-use Rattle.commit_graph.proofs.OrderLemmas.{itself, or_left}
 use Rattle.commit_graph.proofs.WalkLemmas.{first_or_later, to_left}
 use Rattle.constraint_scan.specs.Scanning.{IsKeptAt}
 use Rattle.expr_eval.specs.Binding.{Outcome, and_then}
 use Rattle.merge_base.specs.Common.{HasCommon}
-use Rattle.schema_model.specs.PlainCommits.{AncestorsFollow, AreGrown, Commits, IsAncestor, IsAncestorBy, IsBase, IsBaseOrNone, PlainCommit, base, commit_cmp, has_address, height_of, is_ancestor, is_known, parents_in}
+use Rattle.schema_model.specs.PlainCommits.{AncestorsFollow, AreGrown, Commits, IsAncestor, IsBase, IsBaseOrNone, base, commit_cmp, height_of, is_ancestor, is_known}
 use Rattle.schema_model.specs.PlainTables.{PlainDatabase}
+use Rattle.schema_model.proofs.AncestorLemmas.{known_here, known_there}
 use Rattle.plain_sql.specs.Lists.{or_refuse, unless}
 use Rattle.plain_writes.proofs.InsertionLemmas.{two, clash, left_so, right_so}
 use Rattle.plain_sessions.specs.Branching.{resolved}
@@ -44,19 +45,6 @@ use Rattle.merge_procs.specs.declared.ways.Way.TheVariants as way
 use Rattle.merge_procs.proofs.WayNames.{known_told}
 
 -- ---- the base of two commits, of which one may be the other's ancestor
-
-known_parent : (o : Option PlainCommit) (p : List ℕ) → has_address (parents_in o) p ≡ true → is_some o ≡ true
-known_parent None p h = absurd cc
-known_parent (Some commit) p h = refl
-
--- both ends of a way are known
-known_here : (commits : Commits) (steps : ℕ) (k x : List ℕ) → IsAncestorBy commits steps k x → is_known commits k ≡ true
-known_here commits zero k x by = by.0
-known_here commits (suc steps) k x by = known_parent (commits k) by.0 by.1
-
-known_there : (commits : Commits) (steps : ℕ) (k x : List ℕ) → IsAncestorBy commits steps k x → is_known commits x ≡ true
-known_there commits zero k x by = subst (λ (j : List ℕ). is_known commits j ≡ true) by.1 by.0
-known_there commits (suc steps) k x by = known_there commits steps by.0 x by.2
 
 eqb_itself : (n : ℕ) → (n == n) ≡ true
 eqb_itself n = two (n == n) (λ t. t) (λ f. absurd (eqb-false n n f refl))

@@ -1,11 +1,10 @@
 -- The commit that a name tells, by its branches and its commits' chunks.
-use Rattle.std.proofs.Common.{◌≡◌, refl, sym, ap, ◌∙◌, subst, ℕ, zero, suc, ◌*◌, ◌<◌, Bool, true, false, cond, ◌&&◌, List, [], ◌∷◌, ◌++◌, length, find, is_some, Option, Some, None, option_map, arith}
+use Rattle.std.proofs.Common.{◌≡◌, refl, sym, ap, ◌∙◌, subst, ℕ, zero, suc, ◌<◌, Bool, true, false, cond, ◌&&◌, List, [], ◌∷◌, ◌++◌, length, find, is_some, Option, Some, None, option_map, arith}
 use Rattle.std.specs.Prelude.{bytes_eq, slice_index}
 use Rattle.std.specs.List.{list_all}
 use Rattle.std.specs.Cmp.Lexicographic.{bytes_decides}
 use Rattle.std.proofs.lemmas.Option.{same_Some}
 use Rattle.tuple_codec.specs.AddressTexts.{IsAddress, ReadsAddress, address_bytes, address_text, five_bytes, number_of_eight}
-use Rattle.tuple_codec.proofs.AddressLemmas.{one_text, one_address, text_length}
 use Rattle.schema_model.specs.PlainCommits.{Commits, PlainCommit, is_known}
 use Rattle.chunk_store.specs.Chunks.{Chunks}
 use Rattle.chunk_store.specs.Kinds.{is_commit}
@@ -15,6 +14,7 @@ use Rattle.plain_sessions.specs.Branching.{commit_named, or_commit, resolved}
 use Rattle.plain_sessions.specs.Sessions.{Head}
 use Rattle.session_laws.specs.Commits.{CommitsAreThere}
 use Rattle.merge_procs.specs.Ways.{head_at}
+use Rattle.shared_db.proofs.PointLemmas.{read_back}
 
 -- ---- the bytes of a text
 
@@ -36,25 +36,6 @@ small (a ∷ b ∷ c ∷ d ∷ e ∷ []) i = omega arith
 small (a ∷ b ∷ c ∷ d ∷ e ∷ f ∷ []) i = omega arith
 small (a ∷ b ∷ c ∷ d ∷ e ∷ f ∷ g ∷ []) i = omega arith
 small (a ∷ b ∷ c ∷ d ∷ e ∷ f ∷ g ∷ h ∷ rest) i = small_five (number_of_eight (a ∷ b ∷ c ∷ d ∷ e ∷ f ∷ g ∷ h ∷ [])) (address_bytes rest) (small rest) i
-
-bytes_length : (k : ℕ) (xs : List ℕ) → length xs ≡ 8 * k → length (address_bytes xs) ≡ 5 * k
-bytes_length zero [] e = refl
-bytes_length zero (a ∷ xs) e = absurd (omega arith)
-bytes_length (suc k) [] e = absurd (omega arith)
-bytes_length (suc k) (a ∷ []) e = absurd (omega arith)
-bytes_length (suc k) (a ∷ b ∷ []) e = absurd (omega arith)
-bytes_length (suc k) (a ∷ b ∷ c ∷ []) e = absurd (omega arith)
-bytes_length (suc k) (a ∷ b ∷ c ∷ d ∷ []) e = absurd (omega arith)
-bytes_length (suc k) (a ∷ b ∷ c ∷ d ∷ e' ∷ []) e = absurd (omega arith)
-bytes_length (suc k) (a ∷ b ∷ c ∷ d ∷ e' ∷ f ∷ []) e = absurd (omega arith)
-bytes_length (suc k) (a ∷ b ∷ c ∷ d ∷ e' ∷ f ∷ g ∷ []) e = absurd (omega arith)
-bytes_length (suc k) (a ∷ b ∷ c ∷ d ∷ e' ∷ f ∷ g ∷ h ∷ rest) e = let more : length (address_bytes rest) ≡ 5 * k = bytes_length k rest (omega arith) in omega (arith, more)
-
--- the bytes of an address's text are the address
-read_back : (a name : List ℕ) → IsAddress a → address_text a ≡ name → address_bytes name ≡ a
-read_back a name is e =
-    let long : length name ≡ 8 * 4 = ap length (sym e) ∙ text_length a is in
-    one_text (address_bytes name) a (bytes_length 4 name long, small name) is (one_address a name is e ∙ sym e)
 
 -- ---- commits by their chunks
 

@@ -15,6 +15,7 @@ use Rattle.tuple_codec.specs.Nodes.{Item, Rise, RiseAfter, is_after}
 use Rattle.tuple_codec.specs.Trees.{bytes_of, closes, cut, cut_from, last_key, name, names, rows_in, tower, tree_chunks}
 use Rattle.tree_laws.proofs.Cuts.{names_short, top_enough, chunks_enough}
 use Rattle.tree_laws.proofs.Growing.{held_later, tree_later}
+use Rattle.tree_laws.proofs.StandingLists.{name_key}
 use Rattle.chunk_store.specs.Chunks.{Chunks, Extends}
 use Rattle.chunk_store.specs.Standing.{AreHeld, IsThere, IsTree}
 use Rattle.node_chunker.specs.Towers.{is_empty, is_single, first_of, is_root, after, chunks_after, row_top, row_chunks}
@@ -22,7 +23,7 @@ use Rattle.node_chunker.specs.Growth.{IsEntry, IsGrown, AreOpen, IsTopped, sprea
 use Rattle.node_chunker.specs.Steps.{IsClosed, IsNamed}
 use Rattle.node_chunker.specs.Closing.{IsClosing}
 use Rattle.node_chunker.proofs.TowerLemmas.{all_join, extends_both}
-use Rattle.node_chunker.proofs.GrowthLemmas.{name_key, name_body, name_rows, rows_join, entry_key, entry_rows, entries, open_small, more_writable, writable, low_level, rise_split, rise_join, rise_alone, after_less}
+use Rattle.node_chunker.proofs.GrowthLemmas.{name_body, name_rows, rows_join, entry_key, entry_rows, entries, open_small, more_writable, writable, low_level, rise_split, rise_join, rise_alone, after_less}
 
 module _ (a : List ℕ → List ℕ) where
   -- ---- levels are few

@@ -2,14 +2,14 @@
 use Rattle.std.proofs.Common.{◌≡◌, ◌≤◌, ◌<◌, ◌+◌, ◌*◌, ◌^◌, ℕ, zero, suc, true, false, cond, List, [], ◌∷◌, ◌++◌, length, Option, None, Some, inl, inr, sym, refl, ap, subst, ◌∙◌, arith}
 use Rattle.std.specs.List.{AllByRecursion}
 use Rattle.std.specs.Ordering.{nat_cmp, is_lt}
-use Rattle.std.specs.Int.{w16, w64, to_be_bytes}
+use Rattle.std.specs.Int.{w64, to_be_bytes}
 use Rattle.std.specs.Cmp.Lexicographic.{slice_cmp}
 use Rattle.std.specs.declared.cmp.Ordering.{Ordering}
 use Rattle.std.specs.declared.cmp.Ordering.TheVariants.{Less, Equal, Greater}
 use Rattle.std.proofs.lemmas.Bool.{cases_lt}
 use Rattle.std.proofs.lemmas.Cmp.{nat_list_cmp_total}
 use Rattle.std.proofs.lemmas.List.{append-nil, append_assoc, length-append}
-use Rattle.std.proofs.lemmas.Grind.{flat_map-append, pow_more}
+use Rattle.std.proofs.lemmas.Grind.{pow_more}
 use Rattle.std.proofs.Math.Nat.{pow-le-pow_right}
 use Rattle.tuple_codec.specs.Nodes.{Item, IsItem, Rise, RiseAfter, is_after, sized, item_bytes, items_bytes, header_bytes}
 use Rattle.tuple_codec.specs.Trees.{AreRows, IsRow, bytes_of, closes, last_key, name, rows_in}
@@ -17,6 +17,8 @@ use Rattle.node_format.proofs.BuildLemmas.{last_is}
 use Rattle.node_format.proofs.FieldLemmas.{wide16, wide64}
 use Rattle.node_format.proofs.EndLemmas as rule
 use Rattle.tree_laws.proofs.Cuts.{closes_none, closes_one, some_before}
+use Rattle.tree_laws.proofs.StandingNodes.{items_cons as items_first, items_one as items_more, sized_length}
+use Rattle.tree_laws.proofs.StandingLists.{name_key}
 use Rattle.node_chunker.specs.Towers.{is_empty, pushes, ended_chunks}
 use Rattle.chunk_store.specs.Chunks.{Chunks, Extends}
 use Rattle.node_chunker.specs.Growth.{IsEntry, IsGrown, AreOpen, IsTopped, above_of, spread, last_after, IsWritable, Fits, IsTower}
@@ -24,10 +26,6 @@ use Rattle.chunk_store.specs.Standing.{AreHeld}
 use Rattle.node_chunker.proofs.TowerLemmas.{all_join, all_split, never_empty, continues_push, kept_push}
 
 -- ---- names
-
-pub name_key : (a : List ℕ → List ℕ) (level : ℕ) (items : List Item) → (name a level items).key ≡ last_key items
-unfolding name
-name_key a level items = refl
 
 pub name_body : (a : List ℕ → List ℕ) (level : ℕ) (items : List Item) → (name a level items).body ≡ a (bytes_of level items)
 unfolding name
@@ -42,9 +40,6 @@ rows_join [] ys = omega arith
 rows_join (x ∷ xs) ys = omega (arith, rows_join xs ys)
 
 -- ---- sizes
-
-sized_length : (bytes : List ℕ) → length (sized bytes) ≡ 2 + length bytes
-sized_length bytes = omega (arith, length-append (to_be_bytes w16 (length bytes)) bytes, wide16.len (length bytes))
 
 pub entry_key : (level : ℕ) (item : Item) → IsEntry level item → length item.key ≤ 4096
 entry_key zero item entry = entry.key
@@ -69,14 +64,6 @@ entry_size (suc level) item entry =
     let few = entry.0 in
     let body = entry.1 in
     (omega arith, omega arith)
-
-pub items_more : (level : ℕ) (items : List Item) (x : Item) → length (items_bytes level (items ++ x ∷ [])) ≡ length (items_bytes level items) + length (item_bytes level x)
-items_more level items x =
-    ap length (flat_map-append (item_bytes level) items (x ∷ [])) ∙ length-append (items_bytes level items) (items_bytes level (x ∷ []))
-    ∙ ap (λ l. length (items_bytes level items) + length l) (append-nil (item_bytes level x))
-
-items_first : (level : ℕ) (x : Item) (items : List Item) → length (items_bytes level (x ∷ items)) ≡ length (item_bytes level x) + length (items_bytes level items)
-items_first level x items = length-append (item_bytes level x) (items_bytes level items)
 
 four_each : (level : ℕ) (items : List Item) → AllByRecursion (IsEntry level) items → 4 * length items ≤ length (items_bytes level items)
 four_each level [] each = omega arith

@@ -14,8 +14,9 @@ use Rattle.node_format.specs.Views.{leaf_of, ref_of}
 use Rattle.chunk_store.specs.Kinds.{is_node}
 use Rattle.node_chunker.specs.Growth.{IsWritable}
 use Rattle.node_format.proofs.BuildLemmas.{last_is}
-use Rattle.node_chunker.proofs.GrowthLemmas.{items_more, rows_join}
+use Rattle.node_chunker.proofs.GrowthLemmas.{rows_join}
 use Rattle.node_chunker.proofs.TowerLemmas.{all_split}
+use Rattle.tree_laws.proofs.StandingNodes.{items_one as items_more}
 
 -- what is written is of the kind of nodes
 pub node_kind : (level : ℕ) (items : List Item) → is_node (bytes_of level items) ≡ true

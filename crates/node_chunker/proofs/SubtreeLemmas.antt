@@ -9,6 +9,7 @@ use Rattle.tuple_codec.specs.Trees.{AreRows, IsRow, bytes_of, closes, cut, cut_f
 use Rattle.tree_laws.specs.Found.{left, lift, Ended}
 use Rattle.tree_laws.proofs.Cuts.{closes_none, cut_apart, names_apart}
 use Rattle.tree_laws.proofs.Growing.{held_later}
+use Rattle.tree_laws.proofs.StandingLists.{name_key}
 use Rattle.chunk_store.specs.Chunks.{Chunks, Extends}
 use Rattle.chunk_store.specs.Standing.{AreHeld, IsThere}
 use Rattle.node_chunker.specs.Towers.{is_empty, is_single, after, chunks_after, row_top, row_chunks, chunks_after_rows, pushes, ended_chunks, Continues, IsKept}
@@ -17,7 +18,7 @@ use Rattle.node_chunker.specs.Steps.{IsPushedAt}
 use Rattle.node_chunker.specs.Subtrees.{IsSubtree, is_clear, lift_chunks}
 use Rattle.node_chunker.proofs.TowerLemmas.{all_join, all_split, extends_both, held_push, never_empty, skip_left}
 use Rattle.node_format.proofs.BuildLemmas.{last_is}
-use Rattle.node_chunker.proofs.GrowthLemmas.{name_key, name_rows, rows_join, name_grown, after_less, rise_split, rise_join, last_join, one_lower, found_named, AreNamed, open_push, rises_push, last_push, counted_push, topped_push}
+use Rattle.node_chunker.proofs.GrowthLemmas.{name_rows, rows_join, name_grown, after_less, rise_split, rise_join, last_join, one_lower, found_named, AreNamed, open_push, rises_push, last_push, counted_push, topped_push}
 use Rattle.node_chunker.proofs.ClosingLemmas.{lower}
 use Rattle.node_chunker.proofs.RefLemmas.{under, up, some_under, some_lifted, joined_some, ended_many, after_ref, after_first, held_ref}
 

@@ -1,21 +1,14 @@
 -- Items one after another: what is read is written so, what is written so is read, and where the reading stops.
-use Rattle.std.proofs.Common.{◌≡◌, ℕ, zero, suc, ◌+◌, ◌<◌, Bool, true, false, cond, List, [], ◌∷◌, ◌++◌, length, Option, Some, None, ◌⊎◌, inl, inr, refl, sym, ap, subst, ◌∙◌, append_assoc, arith}
-use Rattle.std.specs.Prelude.{◌&&◌, nat_lt}
+use Rattle.std.proofs.Common.{◌≡◌, ℕ, zero, suc, ◌+◌, ◌<◌, true, cond, List, [], ◌∷◌, ◌++◌, length, Option, Some, None, ◌⊎◌, inl, inr, refl, sym, ap, subst, ◌∙◌, append_assoc, arith}
+use Rattle.std.specs.Prelude.{nat_lt}
 use Rattle.std.specs.Option.{option_map}
 use Rattle.std.specs.List.{slice_get, AllByRecursion}
-use Rattle.std.proofs.lemmas.Bool.{ltb-true, lt-ltb}
+use Rattle.std.proofs.lemmas.Bool.{ltb-true, lt-ltb, and_parts as both_true}
 use Rattle.std.proofs.lemmas.List.Concat.{flat_map-cons}
+use Rattle.basic_laws.proofs.Options.{some_is, chosen_some}
 use Rattle.tuple_codec.specs.Nodes.{Item, item_bytes, items_bytes, IsItem, is_after, RiseAfter}
 use Rattle.node_format.specs.Reading.{item_at, may_follow, next_at, stopping, stop_at_end, stop_at, rest_of, skip, listed, items_from}
-use Rattle.node_format.proofs.FieldLemmas.{IsBytes, bind_some, some_is, Takes, Holds-IsItem, IsItem-rows, item_takes, item_again}
-
-pub both_true : (a b : Bool) → (a && b) ≡ true → (a ≡ true) × (b ≡ true)
-both_true true b e = (refl, e)
-both_true false b e = absurd cc
-
-pub chosen_some : {A : Type 0} (b : Bool) (x y : A) → cond b (Some x) None ≡ Some y → (b ≡ true) × (x ≡ y)
-chosen_some true x y e = (refl, cc)
-chosen_some false x y e = absurd cc
+use Rattle.node_format.proofs.FieldLemmas.{IsBytes, bind_some, Takes, Holds-IsItem, IsItem-rows, item_takes, item_again}
 
 -- ---- the next item
 

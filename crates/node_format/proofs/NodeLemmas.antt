@@ -1,23 +1,20 @@
 -- Whole nodes: what is read is a node, what is no node is refused at its place, and equal bytes are of one node.
-use Rattle.std.proofs.Common.{◌≡◌, ℕ, zero, suc, ◌+◌, ◌-◌, ◌<◌, ◌≤◌, ◌^◌, Bool, true, false, cond, List, [], ◌∷◌, ◌++◌, length, Some, None, ◌⊎◌, inl, inr, refl, sym, ap, subst, ◌∙◌, append_assoc, arith}
-use Rattle.std.specs.Prelude.{◌&&◌, ◌||◌, ◌==◌, nat_lt}
+use Rattle.std.proofs.Common.{◌≡◌, ℕ, zero, suc, ◌+◌, ◌-◌, ◌<◌, ◌≤◌, ◌^◌, true, cond, List, [], ◌∷◌, ◌++◌, length, Some, None, inl, inr, refl, sym, ap, subst, ◌∙◌, append_assoc, arith}
+use Rattle.std.specs.Prelude.{◌&&◌, ◌==◌, nat_lt}
 use Rattle.std.specs.Int.{w16, to_be_bytes}
-use Rattle.std.proofs.lemmas.Bool.{ltb-true, lt-ltb, eqb-true, eq-eqb}
+use Rattle.std.proofs.lemmas.Bool.{ltb-true, lt-ltb, eqb-true, eq-eqb, and_parts as both_true, or_cases as one_true}
 use Rattle.std.proofs.lemmas.List.{length-append}
 use Rattle.std.proofs.lemmas.Option.{none-some}
+use Rattle.basic_laws.proofs.Options.{some_is, chosen_some}
 use Rattle.tuple_codec.specs.Nodes.{Item, Node, IsHeader, IsNode, header_bytes, items_bytes, kind_of, node_bytes}
 use Rattle.node_format.specs.Reading.{number_at, is_header, header_at, stop_at, items_from}
 use Rattle.node_format.specs.Marks.{node_from}
 use Rattle.node_format.specs.Found.{FindsItems, items_in}
 use Rattle.node_format.specs.Faults.{HasNoHeader, HasOneSpelling, IsNoNode, StopsAt}
-use Rattle.node_format.proofs.FieldLemmas.{IsBytes, bind_some, some_is, wide16, number_takes, number_again}
-use Rattle.node_format.proofs.ItemLemmas.{both_true, chosen_some, all_read, read_again, stops_at}
+use Rattle.node_format.proofs.FieldLemmas.{IsBytes, bind_some, wide16, number_takes, number_again}
+use Rattle.node_format.proofs.ItemLemmas.{all_read, read_again, stops_at}
 
 -- ---- the header
-
-one_true : (a b : Bool) → (a || b) ≡ true → (a ≡ true) ⊎ (b ≡ true)
-one_true true b e = inl refl
-one_true false b e = inr e
 
 abbrev Agree : ℕ → ℕ → ℕ → Type 0
 Agree kind level count = (kind ≡ kind_of level) × (0 < level → 0 < count)

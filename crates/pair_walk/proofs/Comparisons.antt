@@ -8,8 +8,8 @@ use Rattle.chunk_store.specs.Standing.{IsTree}
 use Rattle.tree_laws.specs.Found.{Nodes}
 use Rattle.tree_laws.specs.Standing.{Chunks, IsStored, rows_below}
 use Rattle.tree_laws.proofs.Standing.{trees_lead}
+use Rattle.tree_laws.proofs.One.{one_node}
 use Rattle.prolly_tree.specs.Fronts.{Front, nodes_of, on_level, rows_ahead, rows_of}
-use Rattle.prolly_tree.proofs.Descents.{one_node}
 use Rattle.pair_walk.specs.Counts.{IsCount, counted}
 use Rattle.pair_walk.specs.Heads.{Begins}
 use Rattle.pair_walk.specs.Pairs.{AllPairs, AreAlike, AreAligned, HaveSameKeys, differing, differing_ahead, differing_from, pair_sum}

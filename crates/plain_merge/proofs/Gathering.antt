@@ -2,11 +2,11 @@
 use Rattle.std.proofs.Common.{◌≡◌, ℕ, Bool, true, false, List, [], ◌∷◌, Option, None, Some, refl, sym, ap, ◌∙◌, subst}
 use Rattle.std.specs.Prelude.{bytes_eq, if◌then◌else◌}
 use Rattle.std.specs.Option.{option_map, option_and_then}
+use Rattle.basic_laws.proofs.Bytes.{same_bytes as eq_key}
 use Rattle.tuple_codec.specs.Nodes.{Item, Rise, RiseAfter, leaf_item}
 use Rattle.tuple_codec.specs.Edits.{EditsRiseAfter, changed, edited, order, value_at}
 use Rattle.tuple_codec.specs.declared.edits.Change.{Change}
 use Rattle.edit_laws.specs.ByKey.{AreLeafRows, as_edits, between, change_at, edit_at, over}
-use Rattle.edit_laws.proofs.Orders.{eq_key}
 use Rattle.edit_laws.proofs.Rising.{changed_rise, edited_all, edited_rise, edits_lower, rows_lower}
 use Rattle.edit_laws.proofs.Values.{above, changed_value, edited_value, edits_above, same_rows}
 use Rattle.plain_merge.specs.KeyByKey.{all_keys, before, gathered, kept, keys_with}

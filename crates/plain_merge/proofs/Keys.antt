@@ -4,6 +4,7 @@ use Rattle.std.specs.Prelude.{bytes_eq, ◌||◌}
 use Rattle.std.specs.Ordering.{is_lt, match_ordering}
 use Rattle.std.specs.declared.cmp.Ordering.{Ordering}
 use Rattle.std.specs.declared.cmp.Ordering.TheVariants.{Less, Equal, Greater}
+use Rattle.std.proofs.lemmas.Bool.{or_from as false_or, or_parts as or_false}
 use Rattle.tuple_codec.specs.Nodes.{Item, RiseAfter, is_after}
 use Rattle.tuple_codec.specs.Edits.{order, value_at}
 use Rattle.edit_laws.proofs.Orders.{same_key, turned}
@@ -39,13 +40,6 @@ with_rise [] low others one two = two
 with_rise (key ∷ keys) low others one two = among_rise key keys (with_rise keys) low others one two
 
 -- ---- which keys it has
-
-or_false : (a b : Bool) → (a || b) ≡ false → (a ≡ false) × (b ≡ false)
-or_false true b e = absurd cc
-or_false false b e = (refl, e)
-
-false_or : (a b : Bool) → a ≡ false → b ≡ false → (a || b) ≡ false
-false_or a b one two = rw one two
 
 -- a key that isn't in the union is in neither list
 among_lacks : (at key : List ℕ) (keys : List (List ℕ))

@@ -1,9 +1,10 @@
 -- Places of columns fit in a byte where the columns are few, and the keys of a schema are those of its parts.
-use Rattle.std.proofs.Common.{◌≡◌, ℕ, ◌≤◌, ◌<◌, Bool, true, false, cond, List, [], ◌∷◌, ◌++◌, length, map, filter, Some, None, refl, arith, ltb}
+use Rattle.std.proofs.Common.{◌≡◌, ℕ, ◌≤◌, ◌<◌, Bool, true, false, cond, List, [], ◌∷◌, length, map, filter, Some, None, refl, arith, ltb}
 use Rattle.std.specs.List.{flat_map, list_all, list_any}
 use Rattle.std.specs.Option.{option_to_list}
-use Rattle.std.proofs.lemmas.Bool.{and_from, and_parts, lt-ltb}
+use Rattle.std.proofs.lemmas.Bool.{and_from, lt-ltb}
 use Rattle.std.proofs.lemmas.List.Quantifiers.{position-Some}
+use Rattle.basic_laws.proofs.Lists.{all_append}
 use Rattle.tuple_codec.specs.declared.values.SqlType.TheVariants as type
 use Rattle.schema_model.specs.declared.schemas.Column.{Column}
 use Rattle.sql_ast.specs.declared.tables.Element.{Element}
@@ -12,11 +13,6 @@ use Rattle.sql_rules.specs.Tables.{is_key_mark}
 use Rattle.plain_schemas.specs.declared.naming.IndexPart.{IndexPart}
 use Rattle.plain_schemas.specs.Lists.{fits_byte, place_in, places}
 use Rattle.plain_schemas.specs.Made.{index_of, indexes_named, key_in, name_for, unique_places}
-
-all_append : {A : Type 0} (p : A → Bool) (xs ys : List A) → list_all p xs ≡ true → list_all p ys ≡ true → list_all p (xs ++ ys) ≡ true
-all_append p [] ys h k = k
-all_append p (x ∷ xs) ys h k =
-    let both = and_parts (p x) (list_all p xs) h in and_from (p x) (list_all p (xs ++ ys)) both.0 (all_append p xs ys both.1 k)
 
 abbrev some_column : Column
 some_column = record { name = []; kind = type.BigInt; not_null = false; default = None }

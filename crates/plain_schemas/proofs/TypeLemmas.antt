@@ -23,7 +23,7 @@ in_range : (b : Bool) (a type : SqlType) → is_type a ≡ b → cond b (Some a)
 in_range true a type sound e = same_typed a type e sound
 in_range false a type sound e = absurd cc
 
-type_sound : (name : TypeName) (type : SqlType) → type_of name ≡ Some type → is_type type ≡ true
+pub type_sound : (name : TypeName) (type : SqlType) → type_of name ≡ Some type → is_type type ≡ true
 type_sound named.BigInt type e = same_typed kind.BigInt type e refl
 type_sound named.Int type e = same_typed kind.Int type e refl
 type_sound named.Bool type e = same_typed kind.Bool type e refl

@@ -1,6 +1,7 @@
 -- What a procedure's arguments ask for has the forms of names and messages.
 use Rattle.std.proofs.Common.{◌≡◌, refl, Bool, true, false, ◌&&◌, List, [], ◌∷◌, ℕ, Option, Some, None, if◌then◌else◌, codes, is_some, not, ◌||◌, sym, subst}
 use Rattle.std.specs.Option.{option_and_then, option_map, option_map_or}
+use Rattle.std.proofs.lemmas.Bool.{and_from as both}
 use Rattle.sql_procedures.specs.Arguments.{Arguments, add_of, all_or_named, branch_of, checkout_of, commit_argument, commit_from, commit_message, commit_of, commit_option, committed, is_abort, is_message, is_point, is_word, merge_argument, merge_from, merge_message, merge_name, merge_of, merge_option, merged, new_branch, new_branch_at, no_commit, no_merge, point_of, request_of, reset_of, resolve_of, staging_of, verify_of, with_all, with_empty, with_merge_message, with_message, with_named, with_no_ff}
 use Rattle.sql_procedures.specs.declared.procedures.Procedure.{Procedure}
 use Rattle.sql_procedures.specs.declared.procedures.Procedure.TheVariants as procedure
@@ -210,10 +211,6 @@ merge_from_fits seen (argument ∷ arguments) so =
 
 abbrev OfMerge : MergeRequest → Type 0
 OfMerge asked = is_fit_merge asked ≡ true
-
-both : (a b : Bool) → a ≡ true → b ≡ true → a && b ≡ true
-both true b p q = q
-both false b p q = p
 
 named_fits : (seen : Merge) (name : Option (List ℕ)) → option_map_or is_point name true ≡ true → option_map_or is_message seen.message true ≡ true
     → Held OfMerge (option_map (λ (one : List ℕ). merging.Merge (record { name = one; no_ff = seen.no_ff; message = seen.message })) name)

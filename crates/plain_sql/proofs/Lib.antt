@@ -7,5 +7,5 @@ mod RunLemmas
 mod DistinctLemmas
 pub mod CalmLemmas
 pub mod MissedLemmas
-mod LinkLemmas
+pub mod LinkLemmas
 mod LookupLemmas

@@ -1,9 +1,9 @@
 -- Rows whose cell isn't equal to an earlier one are passed over by the test that compares the two.
-use Rattle.std.proofs.Common.{◌≡◌, ◌<◌, ◌≤◌, ◌∙◌, ◌⊎◌, inl, inr, sym, ap, refl, subst, ℕ, zero, suc, ◌+◌, ◌*◌, ◌^◌, ℤ, pos, negsuc, neg_ℤ, unsigned_abs, ◌*ℤ◌, Bool, true, false, true≢false, cond, List, [], ◌∷◌, ◌++◌, Ok, Option, None, Some, length, map, take, drop, get_or, ◌-◌, arith}
-use Rattle.std.specs.List.{All, Contains}
+use Rattle.std.proofs.Common.{◌≡◌, ◌<◌, ◌≤◌, ◌∙◌, inl, inr, sym, ap, refl, subst, ℕ, zero, suc, ◌+◌, ◌*◌, ◌^◌, ℤ, pos, negsuc, neg_ℤ, unsigned_abs, ◌*ℤ◌, Bool, true, false, true≢false, cond, List, [], ◌∷◌, ◌++◌, Ok, Option, None, Some, length, map, take, drop, get_or, ◌-◌, arith}
 use Rattle.std.specs.Option.{IfSome, option_map}
 use native.Mathlib.Nat.{eq_of_mul-eq-mul_right, mul-pos, one-le-pow}
 use Rattle.std.specs.Ordering.{int_cmp, is_eq}
+use Rattle.basic_laws.proofs.Truths.{two as case_of}
 use Rattle.sql_ast.specs.declared.expressions.Comparison.{Comparison}
 use Rattle.sql_ast.specs.declared.expressions.Comparison.TheVariants as op
 use Rattle.tuple_codec.specs.Rows.{Cells, cell_at, same_value, value_cmp}
@@ -14,14 +14,14 @@ use Rattle.sql_values.specs.Kinds.{is_bool, is_int}
 use Rattle.sql_values.specs.declared.kinds.Kind.{Kind}
 use Rattle.sql_values.specs.declared.kinds.Kind.TheVariants as kind
 use Rattle.sql_values.specs.Worths.{Worth, Unknown, Whole, Truth, Letters, Octets, Scaled, cell_of, of_truth, scale_of, worth_of}
-use Rattle.expr_eval.specs.Binding.{Outcome, and_then}
+use Rattle.expr_eval.specs.Binding.{and_then}
 use Rattle.expr_eval.specs.declared.bound.BoundExpr.{BoundExpr}
 use Rattle.expr_eval.specs.declared.bound.Node.{Node}
 use Rattle.expr_eval.specs.declared.bound.Node.TheVariants as n
-use Rattle.expr_eval.specs.Valuing.{Worthy, chained, compared, comparison, conjunction, holds, two, worth}
+use Rattle.expr_eval.specs.Valuing.{chained, compared, comparison, conjunction, holds, two, worth}
 use Rattle.expr_eval.proofs.WorthNodes.{worth_and, worth_column, worth_compare}
 use Rattle.plain_sql.specs.Answers.{Meaning, given, is_true, kept_row, passes, row_if}
-use Rattle.plain_sql.specs.Links.{AreApart, AreCalm, AreColumns, AreEnds, Misses, Parts, PartsOne, PassesOver, Skips, is_decimal, meets, suits}
+use Rattle.plain_sql.specs.Links.{AreCalm, AreColumns, AreEnds, Misses, Parts, PartsOne, PassesOver, Skips, is_decimal, meets, suits}
 use Rattle.plain_sql.specs.Lists.{or_refuse}
 use Rattle.plain_sql.specs.Passing.{IsCalm, IsMissed, IsPassedOver, is_so}
 use Rattle.plain_sql.specs.Plans.{meaning}
@@ -79,10 +79,6 @@ cancelled by (negsuc a) (negsuc c) h e =
     let one : a ≡ c = omega (arith, same) in
     ap (λ (k : ℕ). negsuc k) one
 
-case_of : {A : Type 0} (b : Bool) → (b ≡ true → A) → (b ≡ false → A) → A
-case_of true f g = f refl
-case_of false f g = g refl
-
 ten_power : (n : ℕ) → 0 < 10 ^ n
 ten_power n = let some : 1 ≤ 10 ^ n = one-le-pow n 10 (omega arith) in omega (arith, some)
 
@@ -119,7 +115,7 @@ scaled_apart : (l m : Kind) (x y : ℤ) → scale_of l ≡ scale_of m → is_eq 
 scaled_apart l m x y same apart =
     ap (λ scale. holds op.Equal (int_cmp (x *ℤ pos (10 ^ scale)) (y *ℤ pos (10 ^ scale_of l)))) (sym same) ∙ holds_not _ (scaled (10 ^ scale_of l) x y (ten_power (scale_of l)) apart)
 
-turned : (a b : Value) → same_value a b ≡ false → same_value b a ≡ false
+pub turned : (a b : Value) → same_value a b ≡ false → same_value b a ≡ false
 turned a b h = either_way value_cmp value_cmp_total b a ∙ h
 
 differ : (k l m : Kind) (a b : Value) → scale_of l ≡ scale_of m → suits k a ≡ true → suits k b ≡ true → meets a b ≡ false → Differ (worth_of l a) (worth_of m b)

@@ -1,28 +1,29 @@
 -- The rows with one cell, of rows in the order of their cells there; and rows that give nothing.
-use Rattle.std.proofs.Common.{◌≡◌, ◌<◌, ◌≤◌, ◌∙◌, refl, sym, ap, subst, ℕ, zero, suc, ◌+◌, ◌-◌, Bool, true, false, true≢false, cond, not, ◌&&◌, List, [], ◌∷◌, ◌++◌, Ok, length, take, drop, filter, get_or, arith}
+use Rattle.std.proofs.Common.{◌≡◌, ◌<◌, ◌≤◌, ◌∙◌, refl, sym, ap, subst, ℕ, zero, suc, ◌+◌, Bool, true, false, cond, not, ◌&&◌, List, [], ◌∷◌, ◌++◌, Ok, length, take, drop, filter, get_or, arith}
 use Rattle.std.specs.Cmp.{IsTotalOrder, IsStrictWeakOrder}
 use Rattle.std.specs.List.{list_all}
 use Rattle.std.specs.List.Sorted.{IsPartitionPoint, IsPartitionedBy}
-use Rattle.std.specs.Ordering.{is_eq, is_le, is_lt, ordering_reverse}
+use Rattle.std.specs.Ordering.{is_le, is_lt, ordering_reverse}
 use Rattle.std.specs.declared.cmp.Ordering.{Ordering}
 use Rattle.std.specs.declared.cmp.Ordering.TheVariants.{Less, Equal, Greater}
 use Rattle.std.proofs.lemmas.Cmp.{on_total}
 use Rattle.std.proofs.lemmas.List.{get_or-drop, length-drop}
 use Rattle.std.proofs.lemmas.List.Sorted.{ranks_by}
+use Rattle.basic_laws.proofs.Truths.{left_so, two, not_true as not_so}
 use Rattle.tuple_codec.specs.Rows.{Cells, cell_at, same_value, value_cmp}
 use Rattle.tuple_codec.specs.declared.values.Value.{Value}
 use Rattle.tuple_codec.specs.declared.values.Value.TheVariants as cell
 use Rattle.tuple_codec.proofs.Orders.{value_cmp_total}
-use Rattle.expr_eval.specs.Binding.{Outcome, and_then}
+use Rattle.expr_eval.specs.Binding.{Outcome}
 use Rattle.plain_sql.specs.Answers.{Meaning, is_null, kept_row}
-use Rattle.plain_sql.specs.Links.{Misses, Serves, Skips, Sorts, cell_cmp, has_cell, meets, suits, suits_at}
+use Rattle.plain_sql.specs.Links.{Serves, Skips, Sorts, cell_cmp, has_cell, meets, suits, suits_at}
 use Rattle.plain_sql.specs.Lists.{all_of, in_order}
 use Rattle.plain_sql.specs.declared.linking.Link.{Link}
 use Rattle.plain_sql.specs.declared.lookups.Lookup.{Lookup}
-use Rattle.plain_sql.proofs.InsertionLemmas.{clash, left_so, right_so, two}
+use Rattle.plain_sql.proofs.InsertionLemmas.{clash, right_so}
 use Rattle.plain_sql.proofs.NestedLemmas.{behind, behind_nothing}
 use Rattle.plain_sql.proofs.RunLemmas.{level_test}
-use Rattle.plain_sql.proofs.SortedLemmas.{before, falls_tail, fold_ties, in_order_falls, never_falls, not_so, tie_itself, tie_left, tie_of, tie_right, tied, tied_test, up_right, weak}
+use Rattle.plain_sql.proofs.SortedLemmas.{before, falls_tail, fold_ties, in_order_falls, never_falls, tie_itself, tie_left, tie_of, tie_right, tied, tied_test, up_right, weak}
 
 -- ---- items left out
 

@@ -2,6 +2,7 @@
 use Rattle.std.proofs.Common.{◌≡◌, ◌≤◌, ◌∙◌, sym, ap, refl, subst, ℕ, ◌+◌, ◌-◌, List, [], ◌∷◌, ◌++◌, length, take, drop, get_or, map, Ok, Err, arith}
 use Rattle.std.proofs.lemmas.List.{append_assoc, append-nil, length-drop, map-append, take_more}
 use Rattle.std.specs.List.{flat_map}
+use Rattle.basic_laws.proofs.Lists.{take_whole}
 use Rattle.tuple_codec.specs.Rows.{Cells}
 use Rattle.expr_eval.specs.Binding.{Outcome, and_then}
 use Rattle.plain_sql.specs.Lists.{all_of}
@@ -56,10 +57,6 @@ pub kept_is : (tests : List Meaning) (sources : List (List Cells)) → kept_from
 kept_is tests sources = nested tests sources []
 
 -- ---- the last source
-
-take_whole : {A : Type 0} (xs : List A) → take (length xs) xs ≡ xs
-take_whole [] = refl
-take_whole (x ∷ xs) = ap (λ l. x ∷ l) (take_whole xs)
 
 pub rest_is : {A : Type 0} (n : ℕ) (xs : List A) → take (length xs - n) (drop n xs) ≡ drop n xs
 rest_is n xs = subst (λ m. take m (drop n xs) ≡ drop n xs) (length-drop n xs) (take_whole (drop n xs))

@@ -9,13 +9,15 @@ use Rattle.std.proofs.lemmas.Cmp.{on_total, tied_itself}
 use Rattle.std.proofs.lemmas.List.Elements.{filter-append}
 use Rattle.std.proofs.lemmas.List.Folds.{list_any-append}
 use Rattle.std.proofs.lemmas.List.Sorted.{ranks_by}
+use Rattle.basic_laws.proofs.Truths.{both_so, left_so, two, not_true as not_so, or_again, or_none}
+use Rattle.basic_laws.proofs.Lists.{all_append, any_map}
 use Rattle.tuple_codec.specs.Rows.{Cells, key_cmp, key_of}
 use Rattle.tuple_codec.proofs.Orders.{cells_told, key_cmp_total}
-use Rattle.plain_sql.specs.Answers.{groups, has_key, keys_in}
+use Rattle.plain_sql.specs.Answers.{has_key, keys_in}
 use Rattle.plain_sql.specs.Lists.{firsts, firsts_after, has, in_order, placed, repeats}
-use Rattle.plain_sql.specs.Runs.{goes_on, last_run, places_cmp, runs_from}
-use Rattle.plain_sql.proofs.InsertionLemmas.{both_so, clash, either_way, left_so, neither_so, placed_any, right_so, turned, two}
-use Rattle.plain_sql.proofs.SortedLemmas.{falls_tail, fold_ties, in_order_falls, in_order_repeats, never_falls, none_same, not_so, one_list, or_true, tied, tied_test, up_left}
+use Rattle.plain_sql.specs.Runs.{places_cmp, runs_from}
+use Rattle.plain_sql.proofs.InsertionLemmas.{clash, either_way, neither_so, placed_any, right_so, turned}
+use Rattle.plain_sql.proofs.SortedLemmas.{falls_tail, fold_ties, in_order_falls, in_order_repeats, never_falls, none_same, one_list, or_true, tied, tied_test, up_left}
 
 -- ---- tests
 
@@ -23,14 +25,6 @@ shuffle : (e f b x : Bool) → (f || (b || (e || false))) ≡ (x || (b || (e || 
 shuffle true f b x h = refl
 shuffle false f true x h = h
 shuffle false f false x h = h
-
-or_again : (a b : Bool) → (a || b) ≡ (a || (a || b))
-or_again true b = refl
-or_again false b = refl
-
-or_none : (b : Bool) → (b || false) ≡ b
-or_none true = refl
-or_none false = refl
 
 pub level_test : (o r : Ordering) → r ≡ ordering_reverse o → (not (is_lt o) && not (is_lt r)) ≡ is_eq o
 level_test Less r e = refl
@@ -56,14 +50,6 @@ map_where p f g (x ∷ xs) same h =
     let one : f x ≡ g x = same x (left_so (p x) (list_all p xs) h) in
     let more : map f xs ≡ map g xs = map_where p f g xs same (right_so (p x) (list_all p xs) h) in
     λ i. one i ∷ more i
-
-all_append : {A : Type 0} (p : A → Bool) (xs ys : List A) → list_all p xs ≡ true → list_all p ys ≡ true → list_all p (xs ++ ys) ≡ true
-all_append p [] ys h g = g
-all_append p (x ∷ xs) ys h g = both_so (left_so (p x) (list_all p xs) h) (all_append p xs ys (right_so (p x) (list_all p xs) h) g)
-
-any_map : {A B : Type 0} (p : B → Bool) (f : A → B) (xs : List A) → list_any p (map f xs) ≡ list_any (λ x. p (f x)) xs
-any_map p f [] = refl
-any_map p f (x ∷ xs) = ap (λ b. p (f x) || b) (any_map p f xs)
 
 -- none where each is otherwise
 none_of : {A : Type 0} (p q : A → Bool) (xs : List A) → ((x : A) → p x ≡ true → q x ≡ false) → list_all p xs ≡ true → list_any q xs ≡ false

@@ -1,5 +1,5 @@
 -- Worked examples.
-use Rattle.std.proofs.Common.{◌≡◌, refl, codes, ℕ, List, [], ◌∷◌, ◌++◌, true, false, Option, None, Some, Ok, Err, pos, Bool, slice_index_or}
+use Rattle.std.proofs.Common.{◌≡◌, refl, codes, ℕ, [], ◌∷◌, ◌++◌, true, false, Option, None, Some, Ok, Err, pos, Bool}
 use Rattle.std.specs.Ordering.{nat_cmp}
 use Rattle.tuple_codec.specs.Rows.{Cells, cell_at}
 use Rattle.tuple_codec.specs.declared.values.Value.{Value}
@@ -9,7 +9,7 @@ use Rattle.sql_values.specs.declared.kinds.Kind.TheVariants as kind
 use Rattle.sql_ast.specs.declared.selects.Direction.TheVariants.{Ascending, Descending}
 use Rattle.plain_sql.specs.Lists.{in_order, firsts}
 use Rattle.plain_sql.specs.declared.grouping.Grouping.TheVariants.{Single, Whole, By}
-use Rattle.plain_sql.specs.Answers.{given, Meaning, Of, Rows, Count, Sum, Least, Plan, answered, groups, passes, kept, combinations, cells_shown, keys_shown}
+use Rattle.plain_sql.specs.Answers.{given, Meaning, Of, Rows, Sum, Least, Plan, answered, groups, passes, kept, combinations, cells_shown, keys_shown}
 
 ordered : in_order nat_cmp (3 ∷ 1 ∷ 2 ∷ []) ≡ 1 ∷ 2 ∷ 3 ∷ []
 ordered = refl

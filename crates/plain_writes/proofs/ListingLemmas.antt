@@ -1,8 +1,8 @@
 -- Violations joined, and the numbers of the new ones.
-use Rattle.std.proofs.Common.{◌≡◌, ◌∙◌, ◌++◌, ◌+◌, ◌<◌, ap, sym, subst, refl, true, false, not, cond, ℕ, List, [], ◌∷◌, map, filter, length, drop, get_or, add-one, append_assoc}
-use Rattle.std.proofs.Math.Seq.{drop-cons}
+use Rattle.std.proofs.Common.{◌≡◌, ◌∙◌, ◌++◌, ◌+◌, ◌<◌, ap, sym, refl, true, false, not, cond, ℕ, List, [], ◌∷◌, map, filter, length, drop, get_or, append_assoc}
 use Rattle.std.proofs.lemmas.List.{map-append}
 use Rattle.std.specs.List.{flat_map, list_any}
+use Rattle.basic_laws.proofs.Lists.{next_at}
 use Rattle.schema_model.specs.PlainTables.{PlainDatabase}
 use Rattle.plain_writes.specs.declared.breaking.Broken.{Broken}
 use Rattle.plain_writes.specs.declared.listing.Found as listing
@@ -24,9 +24,6 @@ one_more old before x xs =
       | true ↦ refl
       | false ↦ refl
     ]
-
-next_at : {A : Type 0} (xs : List A) (i : ℕ) (x : A) → i < length xs → x ≡ get_or xs i x → drop i xs ≡ x ∷ drop (i + 1) xs
-next_at {A = A} xs i x h e = subst (λ (y : A). drop i xs ≡ y ∷ drop (i + 1) xs) (sym e) (rw (drop-cons xs i x, add-one i) refl)
 
 pub more_found : {A B V : Type 0} (f : A → List V) (seen : B → V) (total : List V) (done more new : List B) (xs : List A) (i : ℕ) (x : A)
     → total ≡ map seen done ++ flat_map f (drop i xs) → i < length xs → x ≡ get_or xs i x → map seen more ≡ f x → new ≡ done ++ more

@@ -9,14 +9,16 @@ use Rattle.std.specs.FinMap.{slice_cmp-IsAntisymmetric, nat_cmp-IsAntisymmetric}
 use Rattle.std.specs.Prelude.{not, bytes_eq}
 use Rattle.std.proofs.lemmas.Cmp.{tied_itself}
 use Rattle.std.proofs.lemmas.Map.Text.{is_eq-slice_cmp}
-use Rattle.tuple_codec.specs.Nodes.{Item, RiseAfter, is_after}
+use Rattle.basic_laws.proofs.Orderings.{less_is}
+use Rattle.tuple_codec.specs.Nodes.{Item, RiseAfter}
 use Rattle.tuple_codec.specs.Trees.{AreRows, IsRow}
 use Rattle.tuple_codec.specs.Edits.{EditsRiseAfter, edited, edits_at, order, putting, puts}
 use Rattle.tuple_codec.specs.declared.edits.Edit.{Edit}
 use Rattle.tree_laws.specs.Found.{UpTo}
-use Rattle.tree_laws.proofs.StandingOrder.{le_lt, less_is, lt_trans}
+use Rattle.tree_laws.proofs.StandingOrder.{le_lt}
 use Rattle.prolly_edit.specs.Editing.{AreEdits, PutsRow}
 use Rattle.prolly_edit.specs.Stages.{is_past}
+use Rattle.edit_laws.proofs.Rising.{put_rise}
 
 -- the other way round
 greater : (a b : List ℕ) → is_lt (order a b) ≡ true → order b a ≡ Greater
@@ -88,24 +90,6 @@ edited_each [] each edits put = puts_each edits put
 edited_each (row ∷ rows) each edits put = at_each row (edited rows) each.0 (edited_each rows each.1) edits put
 
 -- ---- their keys rise
-
-after_less : (before : Option (List ℕ)) (some other : List ℕ) → is_after before some ≡ true → is_lt (order some other) ≡ true → is_after before other ≡ true
-after_less None some other one two = refl
-after_less (Some k) some other one two = lt_trans k some other one two
-
-edits_less : (before : Option (List ℕ)) (key : List ℕ) (edits : List Edit) → is_after before key ≡ true → EditsRiseAfter (Some key) edits → EditsRiseAfter before edits
-edits_less before key [] after rise = tt
-edits_less before key (edit ∷ edits) after rise = (after_less before key edit.key after rise.0, rise.1)
-
-rows_less : (before : Option (List ℕ)) (key : List ℕ) (rows : List Item) → is_after before key ≡ true → RiseAfter (Some key) rows → RiseAfter before rows
-rows_less before key [] after rise = tt
-rows_less before key (row ∷ rows) after rise = (after_less before key row.key after rise.0, rise.1)
-
--- what is put at a key, where the others rise also without it
-put_rise : (before : Option (List ℕ)) (key : List ℕ) (value : Option (List ℕ)) (rows : List Item) → is_after before key ≡ true → RiseAfter (Some key) rows
-    → RiseAfter before (putting key value rows)
-put_rise before key None rows after rise = rows_less before key rows after rise
-put_rise before key (Some value) rows after rise = (after, rise)
 
 puts_rise : (before : Option (List ℕ)) (edits : List Edit) → EditsRiseAfter before edits → RiseAfter before (puts edits)
 puts_rise before [] rise = tt

@@ -5,19 +5,20 @@ use Rattle.tuple_codec.specs.Nodes.{Item, ends, item_bytes, items_bytes, leaf_it
 use Rattle.tuple_codec.specs.Trees.{bytes_of, closes, cut, cut_from, last_key, name, names}
 use Rattle.tree_laws.proofs.StandingLists.{cut_some, names_length}
 use Rattle.tree_laws.proofs.StandingReads.{items_there}
-use Rattle.tree_laws.proofs.StandingNodes.{bytes_length}
+use Rattle.tree_laws.proofs.StandingNodes.{bytes_length, items_one as items_more}
 use Rattle.tree_laws.specs.Found.{IsCanonical, nodes_in}
 use Rattle.tree_laws.specs.Standing.{IsFound}
+use Rattle.tree_laws.proofs.StandingCuts.{cut_open as goes_on}
 use Rattle.std.specs.Prelude.{slice_get}
 use Rattle.std.specs.Int.{w16, w64, to_be_bytes}
-use Rattle.node_format.proofs.FieldLemmas.{some_is, wide16, wide64}
+use Rattle.node_format.proofs.FieldLemmas.{wide16, wide64}
 use Rattle.std.proofs.lemmas.Option.{slice_get_within}
 use Rattle.std.proofs.lemmas.List.{length-append, length-take-le, take-append-drop}
 use Rattle.std.proofs.lemmas.Grind.{flat_map-append}
+use Rattle.basic_laws.proofs.Options.{some_is}
+use Rattle.basic_laws.proofs.Lists.{take_at_get as take_next}
 use Rattle.chunk_store.specs.Chunks.{Chunks}
-use Rattle.chunk_store.proofs.ChunkLemmas.{take_next}
 use Rattle.node_format.proofs.BuildLemmas.{last_is}
-use Rattle.node_chunker.proofs.GrowthLemmas.{items_more}
 use Rattle.prolly_edit.specs.Keeping.{StaysOpen}
 
 no_second : (a : List ℕ → List ℕ) (level : ℕ) (held : List Item) (x y : Item) (rest : List Item) → length (cut_from a level held (x ∷ y ∷ rest)) ≡ 1
@@ -33,10 +34,6 @@ stays_here a level held x y rest single =
       | inl ends ↦ no_second a level held x y rest single ends
       | inr stays ↦ stays
     ]
-
-goes_on : (a : List ℕ → List ℕ) (level : ℕ) (held : List Item) (x : Item) (rest : List Item) → closes a level (held ++ x ∷ []) ≡ false
-    → cut_from a level held (x ∷ rest) ≡ cut_from a level (held ++ x ∷ []) rest
-goes_on a level held x rest stays = rw stays refl
 
 stays_from : (a : List ℕ → List ℕ) (level : ℕ) (held items : List Item) → length (cut_from a level held items) ≡ 1
     → (at : ℕ) → suc at < length items → closes a level (held ++ take (suc at) items) ≡ false

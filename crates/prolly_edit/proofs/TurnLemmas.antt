@@ -1,20 +1,18 @@
 -- The turns of a walk: a node goes over whole, or is read.
 use Rattle.std.proofs.Common.{◌≡◌, ◌<◌, ◌+◌, ◌-◌, ℕ, suc, Bool, true, false, List, [], ◌∷◌, ◌++◌, length, refl, sym, ap, ◌∙◌, subst, append-nil, arith}
 use Rattle.std.specs.List.{AllByRecursion}
-use Rattle.std.specs.Prelude.{◌&&◌, not}
+use Rattle.std.specs.Prelude.{◌&&◌}
+use Rattle.basic_laws.proofs.Options.{some_is}
 use Rattle.tuple_codec.specs.Nodes.{Item, Node}
 use Rattle.tuple_codec.specs.Trees.{AreRows}
 use Rattle.tuple_codec.specs.Edits.{edited}
 use Rattle.tuple_codec.specs.declared.edits.Edit.{Edit}
-use Rattle.node_format.proofs.NodeLemmas.{one_spelling}
-use Rattle.node_format.proofs.FieldLemmas.{some_is}
 use Rattle.chunk_store.specs.Chunks.{Chunks, Extends}
 use Rattle.chunk_store.specs.Kinds.{is_node}
-use Rattle.chunk_store.specs.Standing.{IsTree}
 use Rattle.node_chunker.specs.Growth.{IsTower}
 use Rattle.node_chunker.specs.Subtrees.{CanPushRef, IsSubtree, is_clear}
 use Rattle.tree_laws.specs.Found.{IsEnded, Nodes, each_of, items_of, nodes_in, rows_at}
-use Rattle.tree_laws.specs.Standing.{IsFound, IsStored, rows_below}
+use Rattle.tree_laws.specs.Standing.{IsFound, IsStored}
 use Rattle.tree_laws.proofs.Standing.{trees_have_roots, trees_lead}
 use Rattle.tree_laws.proofs.StandingReads.{all_map, items_there, reached, rows_there, some_rows}
 use Rattle.prolly_edit.specs.Editing.{CanEdit}
@@ -31,17 +29,6 @@ use Rattle.prolly_edit.proofs.SubtreeLaws.{is_subtree}
 -- a node that is stored stays so
 pub stored_later : (start now : Chunks) (k : List ℕ) (node : Node) → Extends start now → IsStored start k node → IsStored now k node
 stored_later start now k node extends stored = record { address = stored.address; found = extends k _ stored.found; is_node = stored.is_node; size = stored.size }
-
--- an address has one node
-pub same_node : (chunks : Chunks) (k : List ℕ) (some other : Node) → IsStored chunks k some → IsStored chunks k other → some ≡ other
-same_node chunks k some other one two = one_spelling some other one.is_node two.is_node (some_is _ _ (sym one.found ∙ two.found))
-
--- and one list of rows
-pub same_rows : (a : List ℕ → List ℕ) (chunks : Chunks) (k : List ℕ) (some other : List Item) → IsTree a chunks k some → IsTree a chunks k other → some ≡ other
-same_rows a chunks k some other one two =
-    let s = trees_lead a chunks k some one in
-    let t = trees_lead a chunks k other two in
-    sym s.1.rows_are ∙ ap (rows_below chunks) (same_node chunks k s.0 t.0 s.1.opens.stored t.1.opens.stored) ∙ t.1.rows_are
 
 -- ---- nodes that are left
 
@@ -247,10 +234,6 @@ three_true true true true e = (refl, refl, refl)
 three_true true true false e = absurd cc
 three_true true false r e = absurd cc
 three_true false q r e = absurd cc
-
-pub not_true : (b : Bool) → not b ≡ true → b ≡ false
-not_true true e = absurd cc
-not_true false e = refl
 
 -- the walk before the root is read, as it is found
 pub root_begins : (a : List ℕ → List ℕ) (start : Chunks) (k : List ℕ) (edits : List Edit) (rows : List Item) → CanEdit a start k edits rows

@@ -3,12 +3,11 @@ use Rattle.std.proofs.Common.{◌≡◌, ◌<◌, ◌≤◌, ◌+◌, ℕ, zero,
 use Rattle.std.specs.Option.{option_map}
 use Rattle.std.specs.List.{AllByRecursion, slice_get}
 use Rattle.std.specs.Ordering.{is_lt}
+use Rattle.basic_laws.proofs.Options.{some_is}
 use Rattle.tuple_codec.specs.Nodes.{Item, Node, Rise}
 use Rattle.tuple_codec.specs.Trees.{rows_in}
-use Rattle.node_format.proofs.NodeLemmas.{one_spelling}
-use Rattle.node_format.proofs.FieldLemmas.{some_is}
 use Rattle.tree_laws.specs.Found.{UpTo, each_of, nodes_in, rows_at}
-use Rattle.tree_laws.specs.Standing.{Chunks, IsFound, IsOpen, IsStored, Leads, rows_below}
+use Rattle.tree_laws.specs.Standing.{Chunks, IsFound, IsOpen, Leads, rows_below}
 use Rattle.tree_laws.proofs.StandingReads.{IsReached, all_map, many_rows, reached, rows_there}
 use Rattle.tree_laws.proofs.StandingOrder.{order, rise_left, rise_right, upto_last}
 use Rattle.tuple_codec.specs.Edits.{value_at}
@@ -155,10 +154,6 @@ pub leaf_value : (chunks : Chunks) (key : List ℕ) (node : Node) → Leads chun
     → first_of key (from_key key node.items) ≡ value_at key (rows_below chunks node)
 leaf_value chunks key node leads leaf =
     ap (λ (l : List Item). first_of key (from_key key l)) (sym (leaf_below chunks node leaf)) ∙ sym (value_front key (rows_below chunks node) leads.rise)
-
--- one node is found at an address
-pub one_node : (chunks : Chunks) (k : List ℕ) (a b : Node) → IsStored chunks k a → IsStored chunks k b → a ≡ b
-one_node chunks k a b is_a is_b = one_spelling a b is_a.is_node is_b.is_node (some_is _ _ (sym is_a.found ∙ is_b.found))
 
 abbrev pub rows_is : List Item → ℕ → ℕ → Type 0
 rows_is items at rows = option_map (λ (item : Item). item.rows) (slice_get items at) ≡ Some rows

@@ -8,6 +8,7 @@ use Rattle.std.specs.declared.cmp.Ordering.{Ordering}
 use Rattle.std.specs.declared.cmp.Ordering.TheVariants.{Less, Equal, Greater}
 use Rattle.std.proofs.lemmas.Cmp.{nat_list_cmp_total, alike_right}
 use Rattle.std.proofs.lemmas.Map.Text.{is_eq-slice_cmp}
+use Rattle.basic_laws.proofs.Options.{some_is as some_same}
 use Rattle.tuple_codec.specs.Nodes.{Item, Rise, RiseAfter}
 use Rattle.tuple_codec.specs.Trees.{last_key}
 use Rattle.tree_laws.specs.Found.{UpTo, each_of}
@@ -18,9 +19,6 @@ use Rattle.prolly_tree.specs.Lists.{first_of, from_key, place_of}
 -- the key at a place
 abbrev pub key_is : List Item → ℕ → List ℕ → Type 0
 key_is items at k = option_map (λ (item : Item). item.key) (slice_get items at) ≡ Some k
-
-some_same : (a b : List ℕ) → Some a ≡ Some b → a ≡ b
-some_same a b e = cc
 
 none_here : (k : List ℕ) → None ≡ Some k → ⊥
 none_here k e = cc

@@ -6,6 +6,8 @@ use Rattle.std.specs.Ordering.{match_ordering}
 use Rattle.std.specs.declared.cmp.Ordering.TheVariants.{Less, Equal, Greater}
 use Rattle.std.proofs.lemmas.Bool.{and_parts}
 use Rattle.std.proofs.lemmas.List.{drop_more, drop_all}
+use Rattle.basic_laws.proofs.Bytes.{same_bytes as eq_key}
+use Rattle.basic_laws.proofs.Options.{some_is as some_same}
 use Rattle.tuple_codec.specs.Edits.{added, against, all_added, changed, order, removed, replaced}
 use Rattle.tuple_codec.specs.Nodes.{Item}
 use Rattle.tuple_codec.specs.Rows.{Cells}
@@ -14,7 +16,7 @@ use Rattle.schema_model.specs.Limits.{is_row_within_limits}
 use Rattle.schema_model.specs.PlainTables.{body_bytes, is_row, row_item}
 use Rattle.schema_model.specs.Schemas.{is_schema}
 use Rattle.schema_model.specs.declared.schemas.Schema.{Schema}
-use Rattle.edit_laws.proofs.Orders.{eq_key, same_key}
+use Rattle.edit_laws.proofs.Orders.{same_key}
 use Rattle.table_rows.specs.Rows.{IsRowOf, RowItemsFollow}
 use Rattle.root_merge.specs.Changing.{AreBrought, IsBrought, is_short_perhaps}
 
@@ -29,9 +31,6 @@ pub record IsRowHere (schema : Schema) (change : Change) (value : List ℕ) (row
   pub cells : Cells
   pub is : IsRowOf schema change.key value cells
   pub row_is : row ≡ Some cells
-
-some_same : (a b : List ℕ) → Some a ≡ Some b → a ≡ b
-some_same a b e = cc
 
 pub row_brought : (schema : Schema) (change : Change) (value : List ℕ) (row : Option Cells) → change.new ≡ Some value → IsBrought schema change row → IsRowHere schema change value row
 row_brought schema change value None there is = absurd (cc (sym is ∙ there))

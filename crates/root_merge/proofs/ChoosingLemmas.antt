@@ -2,6 +2,7 @@
 use Rattle.std.proofs.Common.{◌≡◌, refl, sym, ap, ◌∙◌, subst, ℕ, true, false, Bool, List, bytes_eq, Option, Some, None}
 use Rattle.std.specs.Prelude.{if◌then◌else◌}
 use Rattle.std.specs.Cmp.Lexicographic.{bytes_decides}
+use Rattle.basic_laws.proofs.Truths.{alike_truths as same_truth}
 use Rattle.tuple_codec.specs.Rows.{AreTold}
 use Rattle.tuple_codec.specs.RowRule.{same_option}
 use Rattle.tuple_codec.specs.declared.addresses.Address.{Address}
@@ -12,12 +13,6 @@ use Rattle.table_root.specs.Standing.{TablesStand}
 use Rattle.plain_merge.specs.RootMerge.{by_rows, either_table, or_by_rows}
 use Rattle.root_merge.specs.Choosing.{LeadsTo, chosen, or_rows_of, rows_of, same_address}
 use Rattle.root_merge.specs.Kept.{IsKeptPerhaps}
-
--- two tests that tell the same
-same_truth : (a b : Bool) → (a ≡ true → b ≡ true) → (b ≡ true → a ≡ true) → a ≡ b
-same_truth true b there back = sym (there refl)
-same_truth false true there back = back refl
-same_truth false false there back = refl
 
 pub same_told : (address : List ℕ → List ℕ) (chunks : Chunks) → TablesStand → AreTold is_same_table → (k l : Option Address) (table other : Option PlainTable)
     → IsKeptPerhaps address chunks k table → IsKeptPerhaps address chunks l other → same_option same_address k l ≡ same_option is_same_table table other

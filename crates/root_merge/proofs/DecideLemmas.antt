@@ -4,6 +4,7 @@ use Rattle.tuple_codec.specs.declared.addresses.Address.{Address}
 use Rattle.tuple_codec.specs.declared.records.BranchRecord.{BranchRecord}
 use Rattle.schema_model.specs.Limits.{is_database_within_limits}
 use Rattle.schema_model.specs.PlainTables.{IsDatabase, PlainDatabase}
+use Rattle.schema_model.proofs.SizeLemmas.{few_tables as few_kept}
 use Rattle.chunk_store.specs.Chunks.{Chunks, Extends}
 use Rattle.table_root.specs.Standing.{DatabasesStand}
 use Rattle.expr_eval.specs.Binding.{Outcome, and_then}
@@ -12,6 +13,8 @@ use Rattle.plain_sql.specs.Lists.{unless}
 use Rattle.table_merge.specs.declared.faults.MergeFault.{MergeFault}
 use Rattle.table_merge.specs.declared.faults.MergeFault.TheVariants as fault
 use Rattle.std.specs.List.{flat_map}
+use Rattle.std.proofs.lemmas.Bool.{and_right as and_fails}
+use Rattle.basic_laws.proofs.Truths.{not_true as bool_false, not_false as bool_true}
 use Rattle.plain_writes.specs.Violations.{violations}
 use Rattle.plain_schemas.specs.Statements.{checks}
 use Rattle.constraint_scan.specs.Recorded.{AllAreRecorded}
@@ -24,9 +27,8 @@ use Rattle.plain_sessions.specs.Records.{BranchState, is_same_state}
 use Rattle.plain_sessions.specs.Sessions.{Variables}
 use Rattle.root_merge.specs.Deciding.{AreStates, ComesTo, IsSide, anew, are_unsettled, refusal, settled, together}
 use Rattle.root_merge.specs.Merging.{AreRoots, IsFaultOf, IsMerged, PassesLimit}
-use Rattle.root_merge.proofs.KeptLemmas.{few_kept}
 use Rattle.root_merge.proofs.StateLemmas.{root_later}
-use Rattle.root_merge.proofs.NatLemmas.{bool_false, bool_true, nat_false, zero_is}
+use Rattle.root_merge.proofs.NatLemmas.{nat_false, zero_is}
 use Rattle.root_merge.specs.States.{IsCandidate, StateStands}
 use Rattle.root_merge.specs.declared.candidates.Candidate.TheVariants as candidate_of
 use Rattle.root_merge.specs.declared.deciding.Side.{Side}
@@ -107,10 +109,6 @@ both_met present w s all others one two =
     ap (λ (o : Outcome PlainDatabase). and_then o (λ working. and_then (without_conflicts s) (λ staged. both_merged present working staged))) (none_met w all one)
     ∙ ap (λ (o : Outcome PlainDatabase). and_then o (λ staged. both_merged present all.database staged)) (none_met s others two)
 
-and_fails : (a b : Bool) → b ≡ false → (a && b) ≡ false
-and_fails true b e = e
-and_fails false b e = refl
-
 pub first_limit : (present : BranchState) (w s : Result MergedDatabase SchemaConflict) (all others : MergedDatabase) → ComesTo w all → ComesTo s others
     → is_database_within_limits all.database ≡ false → together present w s ≡ Err 9010
 first_limit present w s all others one two fails =
@@ -151,10 +149,6 @@ settled_merged s p o none = ap (λ (b : Bool). unless b 1213 (settled s p o)) no
 
 pub unmoved : (s p o : BranchState) → is_same_state p s ≡ true → candidate s p o ≡ Ok o
 unmoved s p o same = ap (λ (b : Bool). cond {A = Outcome BranchState} b (Ok o) (merged s p o)) same
-
-pub not_same : (b : Bool) → (b ≡ true → ⊥) → b ≡ false
-not_same true apart = absurd (apart refl)
-not_same false apart = refl
 
 pub moved : (s p o : BranchState) → is_same_state p s ≡ false → candidate s p o ≡ merged s p o
 moved s p o same = ap (λ (b : Bool). cond {A = Outcome BranchState} b (Ok o) (merged s p o)) same

@@ -1,7 +1,9 @@
 -- Tables that are kept: found by name, and later.
-use Rattle.std.proofs.Common.{◌≡◌, refl, sym, ap, ◌∙◌, subst, ℕ, true, false, Bool, cond, ◌&&◌, nat_le, ◌<◌, ◌≤◌, ◌^◌, List, [], ◌∷◌, length, take, drop, slice_index_or, suc, ◌-◌, arith, bytes_eq, Option, Some, None}
+use Rattle.std.proofs.Common.{◌≡◌, refl, sym, ap, ◌∙◌, subst, ℕ, true, false, Bool, cond, ◌&&◌, nat_le, ◌≤◌, List, [], ◌∷◌, length, take, drop, slice_index_or, suc, ◌-◌, arith, bytes_eq, Option, Some, None}
 use Rattle.std.specs.List.{AllByRecursion, list_all}
-use Rattle.std.proofs.lemmas.Bool.{and_parts, leb-true}
+use Rattle.std.proofs.lemmas.Bool.{and_parts}
+use Rattle.basic_laws.proofs.Numbers.{one_less}
+use Rattle.basic_laws.proofs.Lists.{take_whole as take_all}
 use Rattle.tuple_codec.specs.declared.addresses.Address.{Address}
 use Rattle.schema_model.specs.Limits.{is_database_within_limits, is_conflict_within_limits, is_named_within_limits, is_row_within_limits, is_short_name, is_table_within_limits, is_violation_within_limits, is_within_limits, most_rows, most_tables}
 use Rattle.schema_model.specs.PlainTables.{PlainDatabase, PlainTable}
@@ -38,12 +40,6 @@ sides_later address old new more laws base ours theirs contents kept = record {
 
 pub kept_named : (database : PlainDatabase) → is_database_within_limits database ≡ true → list_all is_named_within_limits database ≡ true
 kept_named database within = (and_parts (nat_le (length database) most_tables) (list_all is_named_within_limits database) within).1
-
-pub kept_few : (database : PlainDatabase) → is_database_within_limits database ≡ true → length database ≤ 256
-kept_few database within = leb-true (length database) most_tables (and_parts (nat_le (length database) most_tables) (list_all is_named_within_limits database) within).0
-
-pub few_kept : (database : PlainDatabase) → is_database_within_limits database ≡ true → length database < 2 ^ 16
-few_kept database within = let few = kept_few database within in omega (arith, few)
 
 pub schema_within : (table : PlainTable) → is_table_within_limits table ≡ true → is_within_limits table.schema ≡ true
 schema_within table within =
@@ -98,13 +94,6 @@ kept_found address chunks name tables database kept =
 
 -- ---- lists by their first and the others, as a pattern names them
 
-one_less : (n : ℕ) → suc n - 1 ≡ n
-one_less n = omega arith
-
-take_all : {A : Type 0} (xs : List A) → take (length xs) xs ≡ xs
-take_all [] = refl
-take_all (x ∷ xs) = ap (λ l. x ∷ l) (take_all xs)
-
 pub by_first : {A : Type 0} (xs : List A) (first : A) → 1 ≤ length xs → first ≡ slice_index_or xs 0 first → xs ≡ first ∷ take (length xs - 1) (drop 1 xs)
 by_first [] first some is = absurd (nothing some) where
   nothing : 1 ≤ 0 → ⊥
@@ -112,9 +101,3 @@ by_first [] first some is = absurd (nothing some) where
 by_first (x ∷ xs) first some is =
     let rest : take (suc (length xs) - 1) xs ≡ xs = ap (λ n. take n xs) (one_less (length xs)) ∙ take_all xs in
     λ i. sym is i ∷ sym rest i
-
-pub none_below : {A : Type 0} (xs : List A) → length xs < 1 → xs ≡ []
-none_below [] few = refl
-none_below (x ∷ xs) few = absurd (nothing (length xs) few) where
-  nothing : (n : ℕ) → suc n < 1 → ⊥
-  nothing n few = omega (arith, few)

@@ -1,14 +1,14 @@
-mod KeptLemmas
+pub mod KeptLemmas
 mod ChoosingLemmas
 mod NameLemmas
-mod MergedLemmas
+pub mod MergedLemmas
 mod TableLemmas
 mod MadeLemmas
 mod ChoiceLemmas
 mod RootLemmas
 mod NatLemmas
-mod StateLemmas
+pub mod StateLemmas
 mod CountLemmas
-mod DecideLemmas
+pub mod DecideLemmas
 mod ChangingLemmas
 mod KeepingLemmas

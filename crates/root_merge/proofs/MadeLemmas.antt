@@ -8,9 +8,11 @@ use Rattle.schema_model.specs.Limits.{is_database_within_limits, is_named_within
 use Rattle.schema_model.specs.PlainTables as plain
 use Rattle.schema_model.specs.PlainTables.{IsTable, PlainDatabase, PlainTable, rises}
 use Rattle.schema_model.specs.WrittenForms.{table_address}
+use Rattle.schema_model.proofs.SizeLemmas.{kept_few}
 use Rattle.chunk_store.specs.Chunks.{Chunks, Extends}
 use Rattle.table_root.specs.Standing.{IsTableAt, TablesStand, named_tables}
 use Rattle.table_root.specs.declared.records.NamedTable.{NamedTable}
+use Rattle.table_root.proofs.ListingLemmas.{made_count}
 use Rattle.plain_merge.specs.RootMerge.{MergedDatabase, MergedTable, SchemaConflict, step, unmerged, with_table}
 use Rattle.constraint_scan.specs.Scanning.{AreThere}
 use Rattle.root_merge.specs.Choosing.{LeadsTo}
@@ -20,7 +22,7 @@ use Rattle.root_merge.specs.Names.{LeadTo, Wanted, listed_as, together}
 use Rattle.root_merge.specs.declared.choosing.Choice.{Choice}
 use Rattle.root_merge.specs.declared.choosing.Choice.TheVariants as choice
 use Rattle.root_merge.specs.declared.names.Named.{Named}
-use Rattle.root_merge.proofs.KeptLemmas.{kept_few, kept_named, perhaps_later, sides_later}
+use Rattle.root_merge.proofs.KeptLemmas.{kept_named, perhaps_later, sides_later}
 use Rattle.root_merge.proofs.MergedLemmas.{database_within, step_parts}
 
 -- ---- later
@@ -128,10 +130,6 @@ all_made address chunks made database are named few = record {
   within = database_within database few named are.within;
   there = are.there;
 }
-
-pub made_count : (address : List ℕ → List ℕ) (database : PlainDatabase) → length (named_tables address database) ≡ length database
-made_count address [] = refl
-made_count address (named ∷ database) = ap suc (made_count address database)
 
 pub kept_count : (address : List ℕ → List ℕ) (chunks : Chunks) (tables : List NamedTable) (database : PlainDatabase) → AreKept address chunks tables database → length tables ≤ 256
 kept_count address chunks tables database kept =

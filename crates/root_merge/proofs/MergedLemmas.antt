@@ -8,22 +8,25 @@ use Rattle.std.specs.declared.cmp.Ordering.TheVariants.{Less, Equal, Greater}
 use Rattle.std.specs.List.{list_all}
 use Rattle.std.proofs.lemmas.Bool.{and_parts, and_from, le-leb, leb-true}
 use Rattle.std.proofs.lemmas.List.{length-map}
+use Rattle.basic_laws.proofs.Orderings.{less_is}
 use Rattle.tuple_codec.specs.Edits.{order}
 use Rattle.tuple_codec.specs.Nodes.{is_after}
-use Rattle.tuple_codec.specs.Rows.{Cells, key_cmp}
-use Rattle.schema_model.specs.Limits.{is_database_within_limits, is_named_within_limits, is_row_within_limits, is_short_in, is_short_key, is_short_name, is_short_row, is_table_within_limits, is_within_limits, is_conflict_within_limits, is_violation_within_limits, most_rows, most_tables}
+use Rattle.tuple_codec.specs.Rows.{key_cmp}
+use Rattle.schema_model.specs.Limits.{is_database_within_limits, is_named_within_limits, is_row_within_limits, is_short_name, is_table_within_limits, is_within_limits, is_conflict_within_limits, is_violation_within_limits, most_rows, most_tables}
 use Rattle.schema_model.specs.PlainTables as plain
 use Rattle.schema_model.specs.PlainTables.{IsDatabase, PlainDatabase, PlainTable, Violation, primary_key, rises}
 use Rattle.schema_model.specs.Schemas.{is_name}
 use Rattle.schema_model.specs.declared.schemas.Schema.{Schema}
+use Rattle.schema_model.proofs.SizeLemmas.{short_names}
 use Rattle.schema_merge.specs.Merging.{and_then, schema3}
 use Rattle.schema_merge.specs.Projecting.{projected}
 use Rattle.plain_merge.specs.KeyByKey.{all_keys, before, gathered, key_among, keys_with}
 use Rattle.plain_merge.specs.RootMerge.{MergedDatabase, MergedTable, SchemaConflict, names_of, step, with_table}
 use Rattle.plain_merge.specs.TableMerge.{Three, conflict_at, keys_of, rows_on, rows_on_or_none, table3, table_of, three_on}
 use Rattle.plain_merge.proofs.Keys.{KeysRise, with_rise}
-use Rattle.edit_laws.proofs.Orders.{less_is, less_trans}
+use Rattle.edit_laws.proofs.Rising.{after_less}
 use Rattle.table_merge.specs.Merging.{PlainSides, is_short_merged, keeps_limits, merged_contents}
+use Rattle.table_merge.proofs.KeptLemmas.{short_rows as rows_of_all}
 use Rattle.root_merge.specs.Merging.{AreNamed, are_within}
 use Rattle.root_merge.specs.Names.{Wanted, all_wanted, together, wanted_for}
 use Rattle.root_merge.proofs.NameLemmas.{all_few}
@@ -65,10 +68,6 @@ names_all test (w ∷ wanted) merged e all =
     let both = and_parts (test w.name) (list_all (λ (w : Wanted). test w.name) wanted) all in
     subst (λ (m : MergedDatabase). list_all (λ (named : plain.NamedTable). test named.name) m.database ≡ true) (sym parts.merged_is)
     (placed_all test w.name parts.one.table parts.others.database both.0 (names_all test wanted parts.others parts.more_is both.1))
-
-after_less : (low : Option (List ℕ)) (key other : List ℕ) → is_after low key ≡ true → order key other ≡ Less → is_after low other ≡ true
-after_less None key other one two = refl
-after_less (Some k) key other one two = ap is_lt (less_trans k key other (less_is (order k key) one) two)
 
 lower : (low : Option (List ℕ)) (key : List ℕ) (keys : List (List ℕ)) → is_after low key ≡ true → KeysRise (Some key) keys → KeysRise low keys
 lower low key [] after rise = tt
@@ -149,13 +148,6 @@ named_by test b o t merged nb nn nt e =
     names_all test (all_wanted b o t) merged e
     (wanted_all test b o t names (with_all test (names_of b) (keys_with order (names_of o) (names_of t)) (own_all test b nb) (with_all test (names_of o) (names_of t) (own_all test o nn) (own_all test t nt))))
 
-short_names : (database : PlainDatabase) → list_all is_named_within_limits database ≡ true → list_all (λ (named : plain.NamedTable). is_short_name named.name) database ≡ true
-short_names [] within = refl
-short_names (named ∷ database) within =
-    let both = and_parts (is_named_within_limits named) (list_all is_named_within_limits database) within in
-    and_from (is_short_name named.name) (list_all (λ (n : plain.NamedTable). is_short_name n.name) database)
-    (and_parts (is_short_name named.name) (is_table_within_limits named.table) both.0).0 (short_names database both.1)
-
 pub merged_named : (b o t : PlainDatabase) (merged : MergedDatabase) → IsDatabase b → IsDatabase o → IsDatabase t
     → list_all is_named_within_limits b ≡ true → list_all is_named_within_limits o ≡ true → list_all is_named_within_limits t ≡ true
     → together (all_wanted b o t) ≡ Ok merged → AreNamed merged.database
@@ -177,7 +169,7 @@ named_within (named ∷ database) short within =
     let two = and_parts (is_table_within_limits named.table) (are_within database) within in
     and_from (is_named_within_limits named) (list_all is_named_within_limits database) (and_from (is_short_name named.name) (is_table_within_limits named.table) one.0 two.0) (named_within database one.1 two.1)
 
-within_named : (database : PlainDatabase) → list_all is_named_within_limits database ≡ true → are_within database ≡ true
+pub within_named : (database : PlainDatabase) → list_all is_named_within_limits database ≡ true → are_within database ≡ true
 within_named [] within = refl
 within_named (named ∷ database) within =
     let both = and_parts (is_named_within_limits named) (list_all is_named_within_limits database) within in
@@ -259,14 +251,6 @@ merged_new contents table e = by (schema3 (option_map (λ (t : PlainTable). t.sc
   by (Err part) same = absurd cc
 
 -- ---- a merged table's limits
-
-rows_of_all : (schema : Schema) (rows : List Cells) → list_all (is_row_within_limits schema) rows ≡ true → list_all (is_short_merged schema) rows ≡ true
-rows_of_all schema [] all = refl
-rows_of_all schema (row ∷ rows) all =
-    let both = and_parts (is_row_within_limits schema row) (list_all (is_row_within_limits schema) rows) all in
-    let outer = and_parts (is_short_key (primary_key schema row) && list_all (is_short_in row) schema.indexes) (is_short_row schema row) both.0 in
-    let inner = and_parts (is_short_key (primary_key schema row)) (list_all (is_short_in row) schema.indexes) outer.0 in
-    and_from (is_short_merged schema row) (list_all (is_short_merged schema) rows) (and_from (is_short_key (primary_key schema row)) (is_short_row schema row) inner.0 outer.1) (rows_of_all schema rows both.1)
 
 -- the limits of a table, one by one
 abbrev one_limit : PlainTable → Bool

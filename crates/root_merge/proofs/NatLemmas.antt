@@ -1,14 +1,7 @@
 -- Numbers that are 0, or not.
-use Rattle.std.proofs.Common.{◌≡◌, ◌+◌, ap, ℕ, true, false, Bool, not, ◌==◌, refl, arith}
+use Rattle.std.proofs.Common.{◌≡◌, ◌+◌, ap, ℕ, true, false, not, ◌==◌, arith}
 use Rattle.std.proofs.lemmas.Bool.Decides.{nat_tests}
-
-pub bool_false : (b : Bool) → not b ≡ true → b ≡ false
-bool_false true e = absurd cc
-bool_false false e = refl
-
-pub bool_true : (b : Bool) → not b ≡ false → b ≡ true
-bool_true true e = refl
-bool_true false e = absurd cc
+use Rattle.basic_laws.proofs.Truths.{not_true as bool_false, not_false as bool_true}
 
 pub nat_false : (n : ℕ) → (n ≡ 0 → ⊥) → (n == 0) ≡ false
 nat_false n apart = grind (arith, nat_tests)

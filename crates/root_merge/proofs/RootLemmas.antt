@@ -1,11 +1,13 @@
 -- Whole databases: what all names come to, step by step, and what is answered.
 use Rattle.std.proofs.Common.{◌≡◌, ◌≤◌, ◌<◌, ◌^◌, ◌+◌, ◌-◌, ◌*◌, refl, sym, ap, ◌∙◌, subst, ℕ, suc, true, false, Bool, List, [], ◌∷◌, ◌++◌, length, take, drop, map, Option, Some, None, Result, Ok, Err, arith}
+use Rattle.basic_laws.proofs.Lists.{none_below}
 use Rattle.tuple_codec.specs.declared.addresses.Address.{Address}
 use Rattle.schema_model.specs.Limits.{is_database_within_limits}
 use Rattle.schema_model.specs.PlainTables.{PlainDatabase, PlainTable}
 use Rattle.chunk_store.specs.Chunks.{Chunks, Extends}
 use Rattle.table_root.specs.Standing.{TablesStand, named_tables}
 use Rattle.table_root.specs.declared.records.NamedTable.{NamedTable}
+use Rattle.table_root.proofs.ListingLemmas.{made_count}
 use Rattle.plain_merge.specs.RootMerge.{MergedDatabase, MergedTable, SchemaConflict, root3, with_table}
 use Rattle.table_merge.specs.Merging.{IsMergeReason}
 use Rattle.table_merge.specs.declared.faults.MergeFault.{MergeFault}
@@ -17,8 +19,8 @@ use Rattle.root_merge.specs.Names.{LeadTo, Wanted, all_wanted, listed_as, togeth
 use Rattle.root_merge.specs.declared.merging.Merged.{Merged}
 use Rattle.root_merge.specs.declared.names.Named.{Named}
 use Rattle.root_merge.proofs.ChoiceLemmas.{led, led_none}
-use Rattle.root_merge.proofs.KeptLemmas.{by_first, kept_named, none_below}
-use Rattle.root_merge.proofs.MadeLemmas.{all_made, first_passes, later_passes, lead_later, made_count, made_joined, made_later, made_one, table_first}
+use Rattle.root_merge.proofs.KeptLemmas.{by_first, kept_named}
+use Rattle.root_merge.proofs.MadeLemmas.{all_made, first_passes, later_passes, lead_later, made_joined, made_later, made_one, table_first}
 use Rattle.root_merge.proofs.MergedLemmas.{database_passes, merged_named, step_parts, too_many}
 use Rattle.root_merge.proofs.NameLemmas.{root_together}
 

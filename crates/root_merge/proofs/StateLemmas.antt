@@ -1,11 +1,12 @@
 -- Records that stand for states: later, and the same exactly where the states are; and what their tables have recorded.
 use Rattle.std.proofs.Common.{◌≡◌, refl, sym, ap, ◌∙◌, subst, ℕ, true, false, Bool, ◌&&◌, ◌||◌, not, ◌==◌, List, [], ◌∷◌, length, bytes_eq, Option, Some, None}
-use Rattle.std.specs.List.{list_any}
 use Rattle.std.specs.Cmp.Lexicographic.{bytes_decides}
 use Rattle.std.proofs.lemmas.Bool.{and_parts, and_from}
 use Rattle.std.proofs.lemmas.List.{length-map}
+use Rattle.basic_laws.proofs.Bytes.{bytes_same as same_bytes}
 use Rattle.tuple_codec.specs.declared.addresses.Address.{Address}
 use Rattle.tuple_codec.specs.declared.records.BranchRecord.{BranchRecord}
+use Rattle.tuple_codec.proofs.FieldLemmas.{address_is}
 use Rattle.schema_model.specs.PlainTables.{PlainDatabase, PlainTable, conflict_item, conflict_items, violation_item, violation_items}
 use Rattle.schema_model.specs.Sameness.{SamenessIsEquality, is_same_database, is_same_option}
 use Rattle.chunk_store.specs.Chunks.{Chunks, Extends}
@@ -43,17 +44,11 @@ state_later address old new more laws rec state stands = record {
 
 -- ---- the same
 
-same_bytes : (a b : List ℕ) → a ≡ b → bytes_eq a b ≡ true
-same_bytes a b e = (bytes_decides a b).1 e
-
 same_option : (a b : Option (List ℕ)) → a ≡ b → is_same_option bytes_eq a b ≡ true
 same_option a b e = subst (λ (x : Option (List ℕ)). is_same_option bytes_eq a x ≡ true) e (itself a) where
   itself : (a : Option (List ℕ)) → is_same_option bytes_eq a a ≡ true
   itself None = refl
   itself (Some k) = same_bytes k k refl
-
-address_is : (a b : Address) → a.0 ≡ b.0 → a ≡ b
-address_is a b e = λ i. record { 0 = e i }
 
 option_is : (a b : Option Address) → is_same_option bytes_eq (bytes_of a) (bytes_of b) ≡ true → a ≡ b
 option_is None None e = refl
@@ -111,14 +106,6 @@ there_none address chunks [] all is there = refl
 there_none address chunks (named ∷ more) all is there = absurd (nothing (sym is ∙ there.listed)) where
   nothing : [] ≡ named_tables address (named ∷ more) → ⊥
   nothing e = cc
-
--- whether some item passes a test, by the first
-pub any_first : {A : Type 0} (test : A → Bool) (items : List A) (item : A) (more : List A) (found : Bool) → items ≡ item ∷ more → found ≡ test item → found ≡ true → true ≡ list_any test items
-any_first test items item more found is told holds = sym (ap (list_any test) is ∙ ap (λ (b : Bool). b || list_any test more) (sym told ∙ holds))
-
-pub any_later : {A : Type 0} (test : A → Bool) (items : List A) (item : A) (more : List A) (found rest : Bool) → items ≡ item ∷ more → found ≡ test item → found ≡ false → rest ≡ list_any test more
-    → rest ≡ list_any test items
-any_later test items item more found rest is told fails later = later ∙ sym (ap (list_any test) is ∙ ap (λ (b : Bool). b || list_any test more) (sym told ∙ fails))
 
 pub either_first : (a b found : Bool) → found ≡ a → found ≡ true → true ≡ (a || b)
 either_first a b found told holds = sym (ap (λ (x : Bool). x || b) (sym told ∙ holds))

@@ -4,6 +4,8 @@ use Rattle.std.specs.List.{AllByRecursion, list_all}
 use Rattle.std.specs.Option.{option_map, option_and_then}
 use Rattle.std.proofs.lemmas.List.{length-set}
 use Rattle.std.proofs.lemmas.Bool.Decides.{nat_tests}
+use Rattle.basic_laws.proofs.Truths.{if_true}
+use Rattle.basic_laws.proofs.Lists.{there_at as there}
 use Rattle.script_text.specs.Output.{Shortage, shortages_in}
 use Rattle.script_text.specs.declared.scripts.Script.{Script}
 use Rattle.plain_sessions.specs.Records.{Shared, opening}
@@ -12,13 +14,8 @@ use Rattle.plain_sessions.specs.declared.commands.Command.{Command}
 use Rattle.plain_sessions.specs.Runs.{Runner, Shortages, advance, commands_of, is_over, plain_run, put_runner, runners_of, step, step_of, steps_along}
 use Rattle.run_laws.specs.Histories.{Entry, GoesTold, Way, left_last, moment_of_entry, told_by}
 use Rattle.run_laws.specs.Replaying.{AreWaiting, all_replies, seen}
-use Rattle.run_laws.proofs.ListLemmas.{get_put, get_put_other, if_false, if_true}
+use Rattle.run_laws.proofs.ListLemmas.{get_put, get_put_other, if_false}
 use Rattle.run_laws.proofs.ReplayLemmas.{agrees_self, machine_by, still_seen, unanswered}
-
-there : {X : Type 0} (xs : List X) (i : ℕ) → i < length xs → (x : X) × (slice_get xs i ≡ Some x)
-there [] i below = absurd (omega arith)
-there (x ∷ xs) zero below = (x, refl)
-there (x ∷ xs) (suc i) below = there xs i (omega arith)
 
 same_lists : {X : Type 0} (xs ys : List X) → length xs ≡ length ys → ((i : ℕ) (x y : X) → slice_get xs i ≡ Some x → slice_get ys i ≡ Some y → x ≡ y) → xs ≡ ys
 same_lists [] [] h same = refl

@@ -6,6 +6,7 @@ use Rattle.std.specs.Prelude.{slice_index_or}
 use Rattle.std.proofs.lemmas.List.{append-nil, length_push}
 use Rattle.std.proofs.lemmas.Option.{get_or_from_slice_get}
 use Rattle.std.proofs.lemmas.Bool.Decides.{nat_tests}
+use Rattle.basic_laws.proofs.Truths.{if_true}
 use Rattle.script_text.specs.Output.{shortage, shortages_in}
 use Rattle.script_text.specs.declared.replies.Reply.{Reply}
 use Rattle.script_text.specs.declared.scripts.Line.{Line}
@@ -17,7 +18,7 @@ use Rattle.plain_sessions.specs.declared.commands.Command.{Command}
 use Rattle.plain_sessions.specs.Runs.{Runner, Shortages, State, commands_of, is_over, opened, plain_run, steps_along}
 use Rattle.run_laws.specs.Turns.{Turn, IsPast, ServedIn, TurnsFollow, moments_of}
 use Rattle.run_laws.specs.Lines.{Agrees, AreCounted, SoFar, Spoken, answered_at, new_spoken, replies_of, resting, state_before}
-use Rattle.run_laws.proofs.ListLemmas.{get_behind, get_front, get_put, get_put_other, if_false, if_true}
+use Rattle.run_laws.proofs.ListLemmas.{get_behind, get_front, get_put, get_put_other, if_false}
 use Rattle.run_laws.proofs.Resting.{first_runners, goes}
 
 -- who knows of the wants of memory in more replies knows of those in fewer

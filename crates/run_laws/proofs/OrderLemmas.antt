@@ -4,11 +4,14 @@ use Rattle.std.specs.List.{list_all}
 use Rattle.std.proofs.lemmas.List.{length-append, length-take}
 use Rattle.std.proofs.lemmas.Option.{slice_get_within}
 use Rattle.std.proofs.lemmas.Bool.Decides.{nat_tests}
+use Rattle.std.proofs.lemmas.Bool.{and_parts as both, and_from as join}
+use Rattle.basic_laws.proofs.Lists.{all_append, all_weaker}
+use Rattle.basic_laws.proofs.Truths.{if_true}
 use Rattle.script_text.specs.declared.scripts.Line.{Line}
 use Rattle.script_text.specs.declared.scripts.Moment.{Moment}
 use Rattle.script_text.specs.declared.scripts.Script.{Script}
 use Rattle.run_laws.specs.Orders.{IsOrderTo, count_of, is_behind, is_within, line_of, never_falls}
-use Rattle.run_laws.proofs.ListLemmas.{all_append, all_weaker, both, if_false, if_true, join}
+use Rattle.run_laws.proofs.ListLemmas.{if_false}
 
 -- the line of a session's next statement
 pub line_found : (lines : List Line) (count at number : ℕ) (line : Line) → slice_get lines count ≡ Some line → number ≡ count_of line.session (take count lines) + 1
@@ -62,7 +65,7 @@ rises_next lines at moments level (first ∷ order) least up rises behind =
     join (nat_le least (line_of 0 lines first.session first.statement)) (never_falls (line_of 0 lines first.session first.statement) lines (order ++ moments)) parts.0
     (rises_next lines at moments level order (line_of 0 lines first.session first.statement) below parts.1 sides.1)
 
-count_fits : (place : ℕ) (lines : List Line) → count_of place lines ≤ length lines
+pub count_fits : (place : ℕ) (lines : List Line) → count_of place lines ≤ length lines
 count_fits place [] = omega arith
 count_fits place (line ∷ lines) =
     elim (line.session == place) as (λ test. (if test then suc (count_of place lines) else count_of place lines) ≤ length (line ∷ lines)) [

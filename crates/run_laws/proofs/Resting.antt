@@ -3,6 +3,7 @@ use Rattle.std.proofs.Common.{◌≡◌, ◌≢◌, refl, sym, ◌∙◌, ap, �
 use Rattle.std.specs.Option.{option_map_or, option_and_then}
 use Rattle.std.proofs.lemmas.List.{set-set}
 use Rattle.std.proofs.lemmas.Bool.Decides.{nat_tests}
+use Rattle.basic_laws.proofs.Truths.{if_true}
 use Rattle.script_text.specs.declared.replies.Reply.{Reply}
 use Rattle.script_text.specs.declared.scripts.Line.{Line}
 use Rattle.script_text.specs.declared.scripts.Moment.{Moment}
@@ -13,7 +14,7 @@ use Rattle.plain_sessions.specs.Moments.{Past, Still, alone}
 use Rattle.plain_sessions.specs.Runs.{Runner, Shortages, advance, awaiting, commands_of, runners_of, step, steps_along}
 use Rattle.run_laws.specs.Turns.{Turn, ServedIn, TurnsFollow, moment_of_turn, moments_of}
 use Rattle.run_laws.specs.Lines.{Spoken, answered_at, new_spoken, resting, state_before}
-use Rattle.run_laws.proofs.ListLemmas.{get_put, if_false, if_true, put_same}
+use Rattle.run_laws.proofs.ListLemmas.{get_put, if_false, put_same}
 use Rattle.run_laws.proofs.Steps.{step_here}
 
 abbrev runner_of : (List ℕ → Command) → Shortages → List Line → ℕ → Session × List Reply → Runner

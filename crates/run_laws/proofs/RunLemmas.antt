@@ -5,6 +5,8 @@ use Rattle.std.specs.List.{list_all}
 use Rattle.std.proofs.lemmas.List.{drop_all, length-map, length-set}
 use Rattle.std.proofs.lemmas.Option.{slice_get_within}
 use Rattle.std.proofs.lemmas.Bool.Decides.{nat_tests}
+use Rattle.std.proofs.lemmas.Bool.{and_from as join}
+use Rattle.basic_laws.proofs.Lists.{drop_at_get, take_at_get}
 use Rattle.script_text.specs.Output.{Shortage, shortage, shortages_in}
 use Rattle.script_text.specs.declared.replies.Reply.{Reply}
 use Rattle.script_text.specs.declared.scripts.Line.{Line}
@@ -19,7 +21,6 @@ use Rattle.run_laws.specs.Turns.{Turn, ServedIn, TurnsFollow, moments_of}
 use Rattle.run_laws.specs.Orders.{count_of}
 use Rattle.run_laws.specs.Lines.{AreCounted, IsRunTo, SoFar, Spoken, answered_at, new_spoken, replies_of, state_before}
 use Rattle.run_laws.specs.Laws.{shown_by}
-use Rattle.run_laws.proofs.ListLemmas.{drop_at_get, join, take_at_get}
 use Rattle.run_laws.proofs.LineLemmas.{counted_first, counted_next, run_at_end, said_at_end, so_far_first, so_far_next}
 use Rattle.run_laws.proofs.OrderLemmas.{is_of, order_first, order_next}
 use Rattle.run_laws.proofs.Steps.{served_number}
@@ -49,7 +50,7 @@ served_at_number address epoch answer place session command (start ∷ decision 
     (join (is_of place session.statement (record { session = place; statement = decision.statement })) true (moment_at_number place session.statement decision served.numbered_again) refl)
 served_at_number address epoch answer place session command (one ∷ two ∷ three ∷ turns) said served = absurd served
 
-commands_counted : (reads : List ℕ → Command) (place : ℕ) (lines : List Line) → length (commands_of reads place lines) ≡ count_of place lines
+pub commands_counted : (reads : List ℕ → Command) (place : ℕ) (lines : List Line) → length (commands_of reads place lines) ≡ count_of place lines
 commands_counted reads place [] = refl
 commands_counted reads place (line ∷ lines) =
     elim (line.session == place) as (λ test. length (if test then reads line.statement ∷ commands_of reads place lines else commands_of reads place lines) ≡ (if test then suc (count_of place lines) else count_of place lines)) [
@@ -57,7 +58,7 @@ commands_counted reads place (line ∷ lines) =
       | false ↦ commands_counted reads place lines
     ]
 
-as_many : (place : ℕ) (names : List (List ℕ)) → length (new_spoken place names) ≡ length names
+pub as_many : (place : ℕ) (names : List (List ℕ)) → length (new_spoken place names) ≡ length names
 as_many place [] = refl
 as_many place (name ∷ names) = ap suc (as_many (place + 1) names)
 

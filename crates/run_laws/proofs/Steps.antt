@@ -2,6 +2,7 @@
 use Rattle.std.proofs.Common.{◌≡◌, sym, ◌∙◌, ap, ℕ, ℤ, Bool, true, false, ◌==◌, List, [], ◌∷◌, Option, Some, None, slice_get, slice_set, arith, if◌then◌else◌}
 use Rattle.std.specs.Option.{option_map, option_and_then}
 use Rattle.std.proofs.lemmas.Bool.Decides.{nat_tests}
+use Rattle.basic_laws.proofs.Truths.{if_true}
 use Rattle.script_text.specs.Output.{Shortage}
 use Rattle.script_text.specs.declared.replies.Reply.{Reply}
 use Rattle.script_text.specs.declared.scripts.Moment.{Moment}
@@ -11,7 +12,6 @@ use Rattle.plain_sessions.specs.declared.commands.Command.{Command}
 use Rattle.plain_sessions.specs.Moments.{After, Past, Still, alone, alone_by, moment_at, moment_in, past, past_moment}
 use Rattle.plain_sessions.specs.Runs.{Runner, Shortages, put_runner, step, step_of, went_on}
 use Rattle.run_laws.specs.Turns.{Turn, IsPast, ServedIn}
-use Rattle.run_laws.proofs.ListLemmas.{if_true}
 
 -- a runner that waits, at the moment of its statement
 pub step_of_waiting : (address : List ℕ → List ℕ) (epoch : ℤ) (answers : ℕ → Option Shortage) (number : ℕ) (shared : Shared) (session : Session) (replies : List Reply) (command : Command) (todo : List Command) (after : Shared × After)

@@ -3,6 +3,7 @@ use Rattle.std.proofs.Common.{◌≡◌, ◌<◌, ◌≤◌, refl, sym, ap, ◌�
 use Rattle.std.specs.List.{list_all, list_any, remove, slice_get}
 use Rattle.std.proofs.lemmas.Bool.{and_parts, not-true, not_from_false, or_parts}
 use Rattle.std.proofs.lemmas.List.{length-append, length-map, length-set}
+use Rattle.basic_laws.proofs.Lists.{all_append}
 use Rattle.schema_model.specs.Limits.{is_within_limits}
 use Rattle.schema_model.specs.PlainTables.{is_keyed}
 use Rattle.schema_model.specs.Schemas.{are_distinct, are_few, are_foreign, are_indexes, are_positions, is_column, is_foreign, is_index, is_name, is_not_null, is_schema}
@@ -10,14 +11,14 @@ use Rattle.schema_model.specs.declared.schemas.Column.{Column}
 use Rattle.schema_model.specs.declared.schemas.ForeignKey.{ForeignKey}
 use Rattle.schema_model.specs.declared.schemas.IndexDef.{IndexDef}
 use Rattle.schema_model.specs.declared.schemas.Schema.{Schema}
+use Rattle.schema_model.proofs.FitLemmas.{places_within as places_below}
 use Rattle.plain_schemas.specs.Altered.{foreign_without, index_without, moved_up, schema_after, with_columns}
 use Rattle.plain_schemas.specs.declared.changing.Change.{Change}
 use Rattle.plain_schemas.specs.declared.changing.Change.TheVariants as change
 use Rattle.write_laws.proofs.OrderLemmas.{both_so, neither_so}
-use Rattle.write_laws.proofs.RowLemmas.{all_append}
 use Rattle.schema_laws.proofs.ColumnLemmas.{distinct_named}
 use Rattle.schema_laws.proofs.ListLemmas.{removed_all, removed_apart, set_all}
-use Rattle.schema_laws.proofs.PositionLemmas.{found_added, found_removed, found_set, places_below, positions_more, positions_moved, remove_length}
+use Rattle.schema_laws.proofs.PositionLemmas.{found_added, found_removed, found_set, positions_more, positions_moved, remove_length}
 use Rattle.schema_laws.proofs.SchemaParts.{few_so, HasParts, limits_so, parts_so, schema_from}
 
 -- ---- a column that no key, index or foreign key names, and changes that fit

@@ -1,19 +1,20 @@
 -- What ALTER leaves of a database.
-use Rattle.std.proofs.Common.{◌≡◌, ◌<◌, refl, sym, ap, ◌∙◌, subst, ℕ, zero, suc, true, false, not, ◌&&◌, ◌||◌, leb, is_lt, List, [], ◌∷◌, ◌++◌, map, length, set, Option, Some, None, Ok, Err, unwrap_or, bytes_eq, cond}
+use Rattle.std.proofs.Common.{◌≡◌, ◌<◌, refl, sym, ap, ◌∙◌, subst, ℕ, zero, suc, true, false, not, ◌&&◌, ◌||◌, leb, is_lt, List, [], ◌∷◌, ◌++◌, map, length, set, Some, Ok, Err, bytes_eq, cond}
 use Rattle.std.specs.Cmp.Lexicographic.{bytes_decides}
 use Rattle.std.specs.List.{list_all, list_any, remove, slice_get}
 use Rattle.std.specs.Prelude.{is_some}
 use Rattle.std.proofs.lemmas.Bool.{and_parts, not-false, or_parts}
+use Rattle.basic_laws.proofs.Options.{none_so as none_there}
 use Rattle.tuple_codec.specs.Rows.{Cells, cell_at, fits, fits_all, key_cmp}
 use Rattle.tuple_codec.specs.declared.values.SqlType.{SqlType}
 use Rattle.tuple_codec.specs.declared.values.Value.{Value}
 use Rattle.tuple_codec.specs.declared.values.Value.TheVariants as cell
 use Rattle.schema_model.specs.Limits.{is_row_within_limits, is_table_within_limits, is_within_limits, most_rows}
 use Rattle.schema_model.specs.PlainTables.{PlainDatabase, PlainTable, is_keyed, is_row, primary_key, rises}
-use Rattle.schema_model.specs.Schemas.{default_fits, is_column, is_name, is_schema}
-use Rattle.tuple_codec.specs.Limits.{is_type}
+use Rattle.schema_model.specs.Schemas.{is_schema}
 use Rattle.schema_model.specs.declared.schemas.Column.{Column}
 use Rattle.schema_model.specs.declared.schemas.Schema.{Schema}
+use Rattle.schema_model.proofs.FitLemmas.{places_within as places_below}
 use Rattle.sql_ast.specs.declared.statements.Alter.{Alter}
 use Rattle.sql_ast.specs.declared.statements.AlterAction.{AlterAction}
 use Rattle.sql_ast.specs.declared.statements.AlterAction.TheVariants as action
@@ -21,7 +22,6 @@ use Rattle.sql_values.specs.Kinds.{may_assign}
 use Rattle.sql_values.specs.declared.kinds.Kind.{Kind}
 use Rattle.sql_rules.specs.Defaults.{refuses_null_after}
 use Rattle.expr_eval.specs.Binding.{Outcome, and_then, mismatch}
-use Rattle.plain_sql.specs.Answers.{is_null}
 use Rattle.plain_sql.specs.Lists.{each, or_refuse, unless}
 use Rattle.plain_writes.specs.Violations.{Checks, column_place, table_in}
 use Rattle.plain_writes.specs.Writes.{Effect, assigned, if_small, is_large, replaced, standard}
@@ -33,29 +33,18 @@ use Rattle.sound_laws.specs.Laws.{IsKeptAction}
 use Rattle.write_laws.specs.Laws.{IsKept}
 use Rattle.write_laws.proofs.OrderLemmas.{both_so, two}
 use Rattle.write_laws.proofs.OutcomeLemmas.{each_all, found_so, ok_same, then_so, unless_so}
-use Rattle.write_laws.proofs.RowLemmas.{all_left, all_right, assigned_fits, is_good}
+use Rattle.write_laws.proofs.RowLemmas.{all_left, all_right, assigned_fits, is_good, standard_fits}
 use Rattle.write_laws.proofs.DatabaseLemmas.{IsKeptTable, found_kept, replaced_kept}
 use Rattle.schema_laws.proofs.AlterSchemas.{changed_schema, Fits, IsFree}
 use Rattle.schema_laws.proofs.ColumnLemmas.{made_so, name_kept}
 use Rattle.schema_laws.proofs.PlaceLemmas.{at_place, no_place}
-use Rattle.schema_laws.proofs.PositionLemmas.{key_added, key_removed, key_set, places_below}
+use Rattle.schema_laws.proofs.PositionLemmas.{key_added, key_removed, key_set}
 use Rattle.schema_laws.proofs.SchemaParts.{parts_so}
 
 -- ---- rows
 
 abbrev types : List Column → List SqlType
 types columns = map (λ (column : Column). column.kind) columns
-
-default_so : (t : SqlType) (default : Option Value) → default_fits t default ≡ true → fits t (unwrap_or default cell.Null) ≡ true
-default_so t None h = refl
-default_so t (Some value) h = h
-
-standard_fits : (column : Column) (value : Value) → is_column column ≡ true → standard column ≡ Ok value → fits column.kind value ≡ true
-standard_fits column value h e =
-    let own : Outcome Value = Ok (unwrap_or column.default cell.Null) in
-    let parts = unless_so (column.not_null && is_null (unwrap_or column.default cell.Null)) 1048 own value e in
-    ap (fits column.kind) (sym (ok_same own (unwrap_or column.default cell.Null) value refl parts.1))
-    ∙ default_so column.kind column.default (and_parts (is_name column.name && is_type column.kind) (default_fits column.kind column.default) h).1
 
 row_added : (columns : List Column) (row : Cells) (column : Column) (value : Value) → fits_all (types columns) row ≡ true → fits column.kind value ≡ true
     → fits_all (types (columns ++ column ∷ [])) (row ++ value ∷ []) ≡ true
@@ -193,10 +182,6 @@ changed_table table after done fit kept e =
     })
 
 -- ---- which changes are allowed
-
-none_there : {A : Type 0} (o : Option A) → is_some o ≡ false → o ≡ None
-none_there None h = refl
-none_there (Some x) h = cc
 
 abbrev Named : Schema → List ℕ → ℕ → Type 0
 Named schema name place = (column : Column) × (slice_get schema.columns place ≡ Some column) × (column.name ≡ name)

@@ -1,8 +1,8 @@
 -- What a column's definition comes to is a column, and columns of other names stay apart.
-use Rattle.std.proofs.Common.{◌≡◌, refl, sym, ap, ◌∙◌, subst, ℕ, Bool, true, false, cond, not, ◌&&◌, ◌||◌, leb, List, [], ◌∷◌, length, map, Option, Some, None, Result, Ok, Err, bytes_eq, arith}
+use Rattle.std.proofs.Common.{◌≡◌, refl, ap, subst, ℕ, Bool, true, not, ◌&&◌, ◌||◌, List, [], ◌∷◌, length, map, Option, Some, None, Result, Ok, Err, bytes_eq, arith}
 use Rattle.std.specs.List.{list_any}
-use Rattle.std.specs.Option.{option_and_then, option_map}
 use Rattle.std.proofs.lemmas.Bool.{lt-ltb}
+use Rattle.basic_laws.proofs.Options.{chosen_so, mapped_so}
 use Rattle.tuple_codec.specs.Limits.{is_type}
 use Rattle.tuple_codec.specs.Rows.{fits}
 use Rattle.tuple_codec.specs.declared.values.SqlType.{SqlType}
@@ -13,10 +13,9 @@ use Rattle.schema_model.specs.declared.schemas.Column.{Column}
 use Rattle.sql_ast.specs.declared.tables.Attribute.{Attribute}
 use Rattle.sql_ast.specs.declared.tables.Attribute.TheVariants as attribute
 use Rattle.sql_ast.specs.declared.tables.ColumnElement.{ColumnElement}
-use Rattle.sql_ast.specs.declared.tables.TypeName.{TypeName}
 use Rattle.sql_ast.specs.declared.tables.TypeName.TheVariants as type
 use Rattle.sql_rules.specs.Defaults.{default_after, default_of, definition_of, kept, kept_of, typed}
-use Rattle.sql_rules.specs.Tables.{text_type, type_of}
+use Rattle.sql_rules.specs.Tables.{type_of}
 use Rattle.sql_rules.specs.declared.defaults.Definition.{Definition}
 use Rattle.sql_rules.specs.declared.defaults.Given.{Given}
 use Rattle.sql_values.specs.Assigning.{stored}
@@ -25,27 +24,12 @@ use Rattle.sound_laws.specs.Laws.{IsKeptName}
 use Rattle.expr_eval.specs.Binding.{Outcome}
 use Rattle.plain_sql.specs.Lists.{or_refuse}
 use Rattle.plain_schemas.specs.Made.{column_of, defined}
+use Rattle.plain_schemas.proofs.TypeLemmas.{type_sound as type_is}
 use Rattle.write_laws.proofs.CellLemmas.{stored_fits}
 use Rattle.write_laws.proofs.OrderLemmas.{both_so}
 use Rattle.write_laws.proofs.OutcomeLemmas.{found_so, ok_same, then_so}
 
 -- ---- types
-
-if_so : {A : Type 0} (b : Bool) (x y : A) → cond b (Some x) None ≡ Some y → (b ≡ true) × (x ≡ y)
-if_so true x y e = (refl, cc)
-if_so false x y e = cc
-
-text_type_so : (made kind : SqlType) (size : ℕ) → text_type made size ≡ Some kind → ((leb 1 size && leb size 2000) ≡ true) × (made ≡ kind)
-text_type_so made kind size e = if_so (leb 1 size && leb size 2000) made kind e
-
-type_is : (name : TypeName) (made : SqlType) → type_of name ≡ Some made → is_type made ≡ true
-type_is type.BigInt made e = let same : kind.BigInt ≡ made = cc in ap is_type (sym same)
-type_is type.Int made e = let same : kind.Int ≡ made = cc in ap is_type (sym same)
-type_is type.Bool made e = let same : kind.Bool ≡ made = cc in ap is_type (sym same)
-type_is (type.Varchar most) made e = let parts = text_type_so (kind.Varchar most) made most e in ap is_type (sym parts.1) ∙ parts.0
-type_is (type.Varbinary most) made e = let parts = text_type_so (kind.Varbinary most) made most e in ap is_type (sym parts.1) ∙ parts.0
-type_is (type.Decimal digits scale) made e =
-    let parts = if_so (leb 1 digits && leb digits 18 && leb scale digits) (kind.Decimal digits scale) made e in ap is_type (sym parts.1) ∙ parts.0
 
 -- ---- defaults
 
@@ -56,10 +40,6 @@ kept_so (Err misfit) own e = cc
 kept_of_fits : (kind : SqlType) (not_null : Bool) (given : Option Given) (own : Value) → kept_of kind not_null given ≡ Some own → fits kind own ≡ true
 kept_of_fits kind not_null (Some default) own e = stored_fits default.kind kind not_null default.value own (kept_so (stored default.kind kind not_null default.value) own e)
 kept_of_fits kind not_null None own e = cc
-
-chosen_so : {A B : Type 0} (f : A → Option B) (o : Option A) (y : B) → option_and_then f o ≡ Some y → (x : A) × (o ≡ Some x) × (f x ≡ Some y)
-chosen_so f (Some x) y e = (x, refl, e)
-chosen_so f None y e = cc
 
 default_after_fits : (kind : SqlType) (not_null : Bool) (so_far : Option Value) (attributes : List Attribute) (default : Option Value) → default_fits kind so_far ≡ true
     → default_after kind not_null so_far attributes ≡ Some default → default_fits kind default ≡ true
@@ -78,10 +58,6 @@ pub record IsDefined (not_null : Bool) (made : Definition) : Type 0 where
   pub kind : is_type made.kind ≡ true
   pub default : default_fits made.kind made.default ≡ true
   pub not_null_is : made.not_null ≡ not_null
-
-mapped_so : {A B : Type 0} (f : A → B) (o : Option A) (y : B) → option_map f o ≡ Some y → (x : A) × (o ≡ Some x) × (f x ≡ y)
-mapped_so f (Some x) y e = (x, refl, cc)
-mapped_so f None y e = cc
 
 definition_so : (not_null : Bool) (column : ColumnElement) (made : Definition) → definition_of not_null column ≡ Some made → IsDefined not_null made
 definition_so not_null column made e =

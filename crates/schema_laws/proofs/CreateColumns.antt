@@ -6,6 +6,8 @@ use Rattle.std.specs.Option.{option_to_list}
 use Rattle.std.proofs.lemmas.Bool.{and_parts, eqb-false, eqb-true, not-false, not_from_false, or_left, or_parts, or_right}
 use Rattle.std.proofs.lemmas.List.{append-nil}
 use Rattle.std.proofs.lemmas.List.Sums.{sum_by-cons}
+use Rattle.basic_laws.proofs.Lists.{have_at}
+use Rattle.basic_laws.proofs.Bytes.{bytes_turned as eq_turned}
 use Rattle.schema_model.specs.Schemas as schemas
 use Rattle.schema_model.specs.Schemas.{are_distinct, are_positions, is_column, is_empty, is_name}
 use Rattle.schema_model.specs.declared.schemas.Column.{Column}
@@ -24,8 +26,7 @@ use Rattle.sound_laws.specs.Laws.{IsKept}
 use Rattle.write_laws.proofs.OrderLemmas.{both_so, two}
 use Rattle.write_laws.proofs.OutcomeLemmas.{ok_same, then_so}
 use Rattle.schema_laws.proofs.ColumnLemmas.{made_so, name_kept}
-use Rattle.schema_laws.proofs.ListLemmas.{have_at, no_count, some_count}
-use Rattle.schema_laws.proofs.NameLists.{eq_turned}
+use Rattle.schema_laws.proofs.ListLemmas.{no_count, some_count}
 use Rattle.schema_laws.proofs.ColumnPlaces.{are_there, is_column_named, places_are, places_pass, StandsAt}
 
 -- ---- elements that the text doesn't refuse, of all that stand there

@@ -9,6 +9,7 @@ use Rattle.std.specs.declared.cmp.Ordering.TheVariants.{Less, Equal, Greater}
 use Rattle.std.specs.Ordering.{ordering_reverse}
 use Rattle.std.proofs.lemmas.Bool.{and_parts, le-leb, leb-false, leb-true, or_parts}
 use Rattle.std.proofs.lemmas.Cmp.{nat_list_cmp_total, on_total}
+use Rattle.basic_laws.proofs.Orderings.{less_is as less_so}
 use Rattle.schema_model.specs.Limits.{is_named_within_limits, most_tables}
 use Rattle.schema_model.specs.PlainTables.{IsTable, NamedTable, PlainDatabase, rises}
 use Rattle.schema_model.specs.Schemas.{is_name}
@@ -28,11 +29,6 @@ by_name a b = slice_cmp nat_cmp a.name b.name
 
 by_name_total : IsTotalOrder by_name
 by_name_total = on_total (λ (named : NamedTable). named.name) nat_list_cmp_total
-
-less_so : (o : Ordering) → is_lt o ≡ true → o ≡ Less
-less_so Less e = refl
-less_so Equal e = absurd (true≢false (sym e))
-less_so Greater e = absurd (true≢false (sym e))
 
 below_through : (x y z : NamedTable) → is_lt (by_name x y) ≡ true → is_lt (by_name y z) ≡ true → is_lt (by_name x z) ≡ true
 below_through x y z p q = ap is_lt (by_name_total.trans x y z (less_so (by_name x y) p) (less_so (by_name y z) q))

@@ -1,6 +1,6 @@
 -- Tests over lists that are filtered, cut, joined, or lose or change one item.
-use Rattle.std.proofs.Common.{◌≡◌, ◌≤◌, refl, sym, ap, ◌∙◌, subst, ℕ, zero, suc, ◌+◌, Bool, true, false, cond, not, ◌||◌, true≢false, List, [], ◌∷◌, ◌++◌, filter, length, set, take, Some, arith}
-use Rattle.std.specs.List.{AllByRecursion, count_by, list_all, list_any, remove, slice_get}
+use Rattle.std.proofs.Common.{◌≡◌, ◌≤◌, refl, sym, ap, ◌∙◌, ℕ, zero, suc, ◌+◌, Bool, true, false, cond, not, ◌||◌, true≢false, List, [], ◌∷◌, ◌++◌, filter, length, set, take, arith}
+use Rattle.std.specs.List.{AllByRecursion, count_by, list_all, list_any, remove}
 use Rattle.std.proofs.lemmas.Bool.{and_parts, not-true, not_from_false, or_parts}
 use Rattle.std.proofs.lemmas.List.Sums.{sum_by-cons}
 use Rattle.schema_model.specs.Schemas.{are_distinct}
@@ -18,11 +18,6 @@ all_combined p q r (x ∷ xs) join h g =
 pub have_append : {A : Type 0} (P : A → Type 0) (xs ys : List A) → AllByRecursion P xs → AllByRecursion P ys → AllByRecursion P (xs ++ ys)
 have_append P [] ys h g = g
 have_append P (x ∷ xs) ys h g = (h.0, have_append P xs ys h.1 g)
-
-pub have_at : {A : Type 0} (P : A → Type 0) (xs : List A) (place : ℕ) (x : A) → AllByRecursion P xs → slice_get xs place ≡ Some x → P x
-have_at P [] place x h e = cc
-have_at P (y ∷ xs) zero x h e = let same : y ≡ x = cc in subst P same h.0
-have_at P (y ∷ xs) (suc place) x h e = have_at P xs place x h.1 e
 
 -- ---- filtered
 

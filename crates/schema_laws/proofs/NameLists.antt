@@ -1,5 +1,5 @@
 -- Names that constraints have: those given, and those made for the ones without.
-use Rattle.std.proofs.Common.{◌≡◌, ◌<◌, ◌≤◌, refl, sym, ◌∙◌, ℕ, zero, suc, ◌+◌, ◌^◌, Bool, true, false, not, ◌&&◌, true≢false, leb, ltb, List, [], ◌∷◌, ◌++◌, filter, length, Option, Some, None, arith, bytes_eq}
+use Rattle.std.proofs.Common.{◌≡◌, ◌<◌, ◌≤◌, refl, ◌∙◌, ℕ, zero, suc, ◌+◌, ◌^◌, Bool, true, false, not, ◌&&◌, leb, ltb, List, [], ◌∷◌, ◌++◌, filter, length, Option, Some, None, arith, bytes_eq}
 use Rattle.std.specs.Cmp.Lexicographic.{bytes_decides}
 use Rattle.std.specs.Fmt.{decimal}
 use Rattle.std.specs.List.{list_all, list_any}
@@ -8,6 +8,7 @@ use Rattle.std.proofs.lemmas.Bool.{and_parts, leb-true, lt-ltb, ltb-true, not-tr
 use Rattle.std.proofs.lemmas.Fmt.{decimal_injective, IsAscii-decimal}
 use Rattle.std.proofs.lemmas.List.{append_cancel_left}
 use Rattle.std.proofs.lemmas.Str.{IsUtf8-append, IsUtf8-from_ascii, IsUtf8-nil}
+use Rattle.basic_laws.proofs.Bytes.{bytes_turned as eq_turned}
 use Rattle.tuple_codec.specs.Texts.{is_utf8}
 use Rattle.tuple_codec.proofs.Utf8Lemmas.{from_test, to_test}
 use Rattle.schema_model.specs.Limits.{is_short_name}
@@ -58,11 +59,6 @@ unlike_rest o os (name ∷ made) h =
     let parts = and_parts (unlike (o ∷ os) name) (list_all (unlike (o ∷ os)) made) h in
     let apart = or_parts (in_given (bytes_eq name) o) (has_given name os) (not-true _ parts.0) in
     both_so (not_from_false _ apart.1) (unlike_rest o os made parts.1)
-
-pub eq_turned : (a b : List ℕ) → bytes_eq a b ≡ bytes_eq b a
-eq_turned a b = two (bytes_eq a b)
-    (λ t. t ∙ sym ((bytes_decides b a).1 (sym ((bytes_decides a b).0 t))))
-    (λ f. two (bytes_eq b a) (λ t. absurd (true≢false (sym ((bytes_decides a b).1 (sym ((bytes_decides b a).0 t))) ∙ f))) (λ t. f ∙ sym t))
 
 none_made : (name : List ℕ) (os : List (Option (List ℕ))) (made : List (List ℕ)) → list_all (unlike (Some name ∷ os)) made ≡ true → list_any (bytes_eq name) made ≡ false
 none_made name os [] h = refl

@@ -119,9 +119,6 @@ pub places_from : (columns : ℕ) (positions : List ℕ) → are_few positions �
     → are_distinct (λ (a b : ℕ). eqb a b) positions ≡ true → are_positions columns positions ≡ true
 places_from columns positions few some below apart = both_so (both_so (both_so few some) below) apart
 
-pub places_below : (columns : ℕ) (positions : List ℕ) → are_positions columns positions ≡ true → list_all (λ position. ltb position columns) positions ≡ true
-places_below columns positions h = let places = places_so columns positions h in places.below
-
 all_below : (m n : ℕ) (positions : List ℕ) → m ≤ n → list_all (λ position. ltb position m) positions ≡ true → list_all (λ position. ltb position n) positions ≡ true
 all_below m n [] few h = refl
 all_below m n (position ∷ positions) few h =

@@ -1,2 +1,2 @@
 mod Vectors
-mod MergeLemmas
+pub mod MergeLemmas

@@ -1,8 +1,9 @@
 -- Parts merged one name after another, and how many they are at most.
-use Rattle.std.proofs.Common.{◌≡◌, ◌≤◌, ◌+◌, ℕ, suc, Bool, true, false, List, [], ◌∷◌, ◌++◌, length, Option, Some, None, refl, sym, ap, append_assoc, length-append, arith}
-use Rattle.std.specs.Prelude.{Result, Ok, Err, map, filter, is_some, not, if◌then◌else◌}
+use Rattle.std.proofs.Common.{◌≡◌, ◌≤◌, ◌+◌, ℕ, suc, true, List, [], ◌∷◌, ◌++◌, length, Option, Some, None, refl, sym, ap, append_assoc, length-append, arith}
+use Rattle.std.specs.Prelude.{Result, Ok, Err, map, is_some, not}
 use Rattle.std.proofs.lemmas.List.{length-map}
 use Rattle.std.proofs.lemmas.Bool.{and_parts, leb-true}
+use Rattle.basic_laws.proofs.Lists.{filter_few as fewer}
 use Rattle.schema_model.specs.Limits.{is_within_limits}
 use Rattle.schema_model.specs.declared.schemas.Column.{Column}
 use Rattle.schema_model.specs.declared.schemas.Schema.{Schema}
@@ -42,13 +43,6 @@ merged_few : {P : Type 0} (part_of : List ℕ → Option (Option P)) (names : Li
 unfolding AtMost
 merged_few part_of [] = omega arith
 merged_few part_of (name ∷ names) = step_few (length names) name (part_of name) (merged_by part_of names) (merged_few part_of names)
-
-fewer : {P : Type 0} (test : P → Bool) (xs : List P) → length (filter test xs) ≤ length xs
-fewer test [] = omega arith
-fewer test (x ∷ xs) = by (test x) (fewer test xs) where
-  by : (b : Bool) → length (filter test xs) ≤ length xs → length (if b then x ∷ filter test xs else filter test xs) ≤ suc (length xs)
-  by true e = omega (arith, e)
-  by false e = omega (arith, e)
 
 pub few_parts : {P : Type 0} (called : P → List ℕ) (kind : Kind P) (all : Sides) (columns : List Column) (parts : List P) → parts3 called kind all columns ≡ Ok parts
     → length parts ≤ length (kind.parts all.ours) + length (kind.parts all.theirs)

@@ -1,40 +1,26 @@
 -- The list of ancestors has each ancestor once and in order, and the base is the first common one.
-use Rattle.std.proofs.Common.{◌≡◌, refl, sym, ◌∙◌, ap, ◌⊎◌, inl, inr, ℕ, zero, suc, ◌<◌, ◌≤◌, Bool, true, false, cond, ◌||◌, ltb, List, [], ◌∷◌, map, Option, None, Some, is_lt, arith}
+use Rattle.std.proofs.Common.{◌≡◌, refl, sym, ◌∙◌, ap, inl, inr, ℕ, zero, suc, ◌<◌, ◌≤◌, Bool, true, false, cond, ◌||◌, List, [], ◌∷◌, map, Option, None, Some, is_lt, arith}
 use Rattle.std.specs.Prelude.{bytes_eq, is_some}
 use Rattle.std.specs.List.{flat_map}
 use Rattle.std.specs.Cmp.{IsTotalOrder}
-use Rattle.std.specs.Cmp.Lexicographic.{bytes_decides, slice_cmp}
+use Rattle.std.specs.Cmp.Lexicographic.{slice_cmp}
 use Rattle.std.specs.Ordering.{nat_cmp, is_eq, ordering_reverse}
 use Rattle.std.specs.declared.cmp.Ordering.{Ordering}
 use Rattle.std.specs.declared.cmp.Ordering.TheVariants.{Less, Equal, Greater}
-use Rattle.std.proofs.lemmas.Bool.{and_parts, and_from, ltb-true, ltb-false}
+use Rattle.std.proofs.lemmas.Bool.{and_parts, and_from, or_cases as either, or_left, or_right}
 use Rattle.std.proofs.lemmas.Cmp.{back_total, nat_cmp_total, nat_list_cmp_total, on_total, then_total}
 use Rattle.std.proofs.lemmas.List.Folds.{list_any-append}
+use Rattle.basic_laws.proofs.Numbers.{at_least}
+use Rattle.basic_laws.proofs.Bytes.{bytes_itself as itself, same_bytes as same_address}
+use Rattle.basic_laws.proofs.Orderings.{less_is as less, own_reverse}
+use Rattle.basic_laws.proofs.Truths.{or_swap as swap, or_again as twice}
 use Rattle.schema_model.specs.PlainTables.{rises}
 use Rattle.schema_model.specs.PlainCommits.{AncestorsFollow, AreGrown, Commits, IsAncestor, IsAncestorBy, IsBaseOrNone, PlainCommit, ancestors, ancestors_within, base, commit_cmp, first_in, greatest, has_address, height_in, height_of, in_commit_order, is_ancestor, is_known, parents_in, parents_of, put_commit}
 use Rattle.schema_model.proofs.SamenessLemmas.{text_decides, then_equal}
 
 -- ---- addresses in lists
 
--- one of two is true
-either : (p q : Bool) → (p || q) ≡ true → (p ≡ true) ⊎ (q ≡ true)
-either true q h = inl refl
-either false q h = inr h
-
-or_left : (p q : Bool) → p ≡ true → (p || q) ≡ true
-or_left p q h = ap (λ b. b || q) h
-
-or_right : (p q : Bool) → q ≡ true → (p || q) ≡ true
-or_right true q h = refl
-or_right false q h = h
-
-same_address : (k other : List ℕ) → bytes_eq k other ≡ true → k ≡ other
-same_address k other h = (bytes_decides k other).0 h
-
-itself : (k : List ℕ) → bytes_eq k k ≡ true
-itself k = (bytes_decides k k).1 refl
-
-in_some : (f : List ℕ → List (List ℕ)) (ks : List (List ℕ)) (x : List ℕ) → has_address (flat_map f ks) x ≡ true → (k : List ℕ) × (has_address ks k ≡ true) × (has_address (f k) x ≡ true)
+pub in_some : (f : List ℕ → List (List ℕ)) (ks : List (List ℕ)) (x : List ℕ) → has_address (flat_map f ks) x ≡ true → (k : List ℕ) × (has_address ks k ≡ true) × (has_address (f k) x ≡ true)
 in_some f [] x h = absurd cc
 in_some f (k ∷ ks) x h =
     elim (either (has_address (f k) x) (has_address (flat_map f ks) x) (sym (list_any-append (bytes_eq x) (f k) (flat_map f ks)) ∙ h)) [
@@ -42,7 +28,7 @@ in_some f (k ∷ ks) x h =
       | inr later ↦ let found = in_some f ks x later in (found.0, or_right _ _ found.1, found.2)
     ]
 
-in_all : (f : List ℕ → List (List ℕ)) (ks : List (List ℕ)) (k x : List ℕ) → has_address ks k ≡ true → has_address (f k) x ≡ true → has_address (flat_map f ks) x ≡ true
+pub in_all : (f : List ℕ → List (List ℕ)) (ks : List (List ℕ)) (k x : List ℕ) → has_address ks k ≡ true → has_address (f k) x ≡ true → has_address (flat_map f ks) x ≡ true
 in_all f [] k x h found = absurd cc
 in_all f (other ∷ ks) k x h found =
     list_any-append (bytes_eq x) (f other) (flat_map f ks)
@@ -56,46 +42,26 @@ in_all f (other ∷ ks) k x h found =
 order : (commits : Commits) → IsTotalOrder (commit_cmp commits)
 order commits = then_total (back_total (on_total (height_of commits) nat_cmp_total)) nat_list_cmp_total
 
-alike : (commits : Commits) (a b : List ℕ) → commit_cmp commits a b ≡ Equal → a ≡ b
+pub alike : (commits : Commits) (a b : List ℕ) → commit_cmp commits a b ≡ Equal → a ≡ b
 alike commits a b h =
     let both = and_parts _ _ (sym (then_equal (nat_cmp (height_of commits b) (height_of commits a)) (slice_cmp nat_cmp a b)) ∙ ap is_eq h) in
     (text_decides a b).0 both.1
 
-less : (o : Ordering) → is_lt o ≡ true → o ≡ Less
-less Less h = refl
-less Equal h = absurd cc
-less Greater h = absurd cc
-
-turned : (commits : Commits) (a b : List ℕ) (o : Ordering) → commit_cmp commits a b ≡ o → commit_cmp commits b a ≡ ordering_reverse o
+pub turned : (commits : Commits) (a b : List ℕ) (o : Ordering) → commit_cmp commits a b ≡ o → commit_cmp commits b a ≡ ordering_reverse o
 turned commits a b o h = (order commits).antisymm b a ∙ ap ordering_reverse h
 
-not_before : (commits : Commits) (a b : List ℕ) → is_lt (commit_cmp commits a b) ≡ true → is_lt (commit_cmp commits b a) ≡ false
+pub not_before : (commits : Commits) (a b : List ℕ) → is_lt (commit_cmp commits a b) ≡ true → is_lt (commit_cmp commits b a) ≡ false
 not_before commits a b h = ap is_lt (turned commits a b Less (less (commit_cmp commits a b) h))
 
-own_reverse : (o : Ordering) → o ≡ ordering_reverse o → is_lt o ≡ false
-own_reverse Less e = absurd cc
-own_reverse Equal e = refl
-own_reverse Greater e = refl
-
-not_itself : (commits : Commits) (a : List ℕ) → is_lt (commit_cmp commits a a) ≡ false
+pub not_itself : (commits : Commits) (a : List ℕ) → is_lt (commit_cmp commits a a) ≡ false
 not_itself commits a = own_reverse (commit_cmp commits a a) ((order commits).antisymm a a)
 
 -- ---- put in order
 
-abbrev put_by : Commits → List ℕ → List ℕ → List (List ℕ) → Ordering → List (List ℕ)
+abbrev pub put_by : Commits → List ℕ → List ℕ → List (List ℕ) → Ordering → List (List ℕ)
 put_by commits k other others o = cond (is_lt o) (k ∷ other ∷ others) (cond (is_eq o) (other ∷ others) (other ∷ put_commit commits k others))
 
-swap : (p q r : Bool) → (p || (q || r)) ≡ (q || (p || r))
-swap true true r = refl
-swap true false r = refl
-swap false true r = refl
-swap false false r = refl
-
-twice : (p r : Bool) → (p || r) ≡ (p || (p || r))
-twice true r = refl
-twice false r = refl
-
-has_put_by : (commits : Commits) (k other : List ℕ) (others : List (List ℕ)) (x : List ℕ) (o : Ordering) → commit_cmp commits k other ≡ o
+pub has_put_by : (commits : Commits) (k other : List ℕ) (others : List (List ℕ)) (x : List ℕ) (o : Ordering) → commit_cmp commits k other ≡ o
     → has_address (put_commit commits k others) x ≡ (bytes_eq x k || has_address others x)
     → has_address (put_by commits k other others o) x ≡ (bytes_eq x k || has_address (other ∷ others) x)
 has_put_by commits k other others x Less e more = refl
@@ -103,16 +69,16 @@ has_put_by commits k other others x Equal e more =
     twice (bytes_eq x other) (has_address others x) ∙ ap (λ y. bytes_eq x y || has_address (other ∷ others) x) (sym (alike commits k other e))
 has_put_by commits k other others x Greater e more = ap (λ r. bytes_eq x other || r) more ∙ swap (bytes_eq x other) (bytes_eq x k) (has_address others x)
 
-has_put : (commits : Commits) (k : List ℕ) (others : List (List ℕ)) (x : List ℕ) → has_address (put_commit commits k others) x ≡ (bytes_eq x k || has_address others x)
+pub has_put : (commits : Commits) (k : List ℕ) (others : List (List ℕ)) (x : List ℕ) → has_address (put_commit commits k others) x ≡ (bytes_eq x k || has_address others x)
 has_put commits k [] x = refl
 has_put commits k (other ∷ others) x = has_put_by commits k other others x (commit_cmp commits k other) refl (has_put commits k others x)
 
 -- put in order, the list has what it had
-has_ordered : (commits : Commits) (ks : List (List ℕ)) (x : List ℕ) → has_address (in_commit_order commits ks) x ≡ has_address ks x
+pub has_ordered : (commits : Commits) (ks : List (List ℕ)) (x : List ℕ) → has_address (in_commit_order commits ks) x ≡ has_address ks x
 has_ordered commits [] x = refl
 has_ordered commits (k ∷ ks) x = has_put commits k (in_commit_order commits ks) x ∙ ap (λ r. bytes_eq x k || r) (has_ordered commits ks x)
 
-after_by : (commits : Commits) (before k other : List ℕ) (others : List (List ℕ)) (o : Ordering) → commit_cmp commits k other ≡ o
+pub after_by : (commits : Commits) (before k other : List ℕ) (others : List (List ℕ)) (o : Ordering) → commit_cmp commits k other ≡ o
     → is_lt (commit_cmp commits before k) ≡ true → rises (commit_cmp commits) (before ∷ other ∷ others) ≡ true
     → (is_lt (commit_cmp commits other k) ≡ true → rises (commit_cmp commits) (other ∷ put_commit commits k others) ≡ true)
     → rises (commit_cmp commits) (before ∷ put_by commits k other others o) ≡ true
@@ -120,28 +86,28 @@ after_by commits before k other others Less e b h more = and_from _ _ b (and_fro
 after_by commits before k other others Equal e b h more = h
 after_by commits before k other others Greater e b h more = and_from _ _ (and_parts _ _ h).0 (more (ap is_lt (turned commits k other Greater e)))
 
-put_after : (commits : Commits) (before k : List ℕ) (others : List (List ℕ)) → is_lt (commit_cmp commits before k) ≡ true
+pub put_after : (commits : Commits) (before k : List ℕ) (others : List (List ℕ)) → is_lt (commit_cmp commits before k) ≡ true
     → rises (commit_cmp commits) (before ∷ others) ≡ true → rises (commit_cmp commits) (before ∷ put_commit commits k others) ≡ true
 put_after commits before k [] b h = and_from _ _ b refl
 put_after commits before k (other ∷ others) b h =
     after_by commits before k other others (commit_cmp commits k other) refl b h (λ later. put_after commits other k others later (and_parts _ _ h).1)
 
-rises_by : (commits : Commits) (k other : List ℕ) (others : List (List ℕ)) (o : Ordering) → commit_cmp commits k other ≡ o
+pub rises_by : (commits : Commits) (k other : List ℕ) (others : List (List ℕ)) (o : Ordering) → commit_cmp commits k other ≡ o
     → rises (commit_cmp commits) (other ∷ others) ≡ true → rises (commit_cmp commits) (put_by commits k other others o) ≡ true
 rises_by commits k other others Less e h = and_from _ _ (ap is_lt e) h
 rises_by commits k other others Equal e h = h
 rises_by commits k other others Greater e h = put_after commits other k others (ap is_lt (turned commits k other Greater e)) h
 
-put_rises : (commits : Commits) (k : List ℕ) (others : List (List ℕ)) → rises (commit_cmp commits) others ≡ true → rises (commit_cmp commits) (put_commit commits k others) ≡ true
+pub put_rises : (commits : Commits) (k : List ℕ) (others : List (List ℕ)) → rises (commit_cmp commits) others ≡ true → rises (commit_cmp commits) (put_commit commits k others) ≡ true
 put_rises commits k [] h = refl
 put_rises commits k (other ∷ others) h = rises_by commits k other others (commit_cmp commits k other) refl h
 
-ordered_rises : (commits : Commits) (ks : List (List ℕ)) → rises (commit_cmp commits) (in_commit_order commits ks) ≡ true
+pub ordered_rises : (commits : Commits) (ks : List (List ℕ)) → rises (commit_cmp commits) (in_commit_order commits ks) ≡ true
 ordered_rises commits [] = refl
 ordered_rises commits (k ∷ ks) = put_rises commits k (in_commit_order commits ks) (ordered_rises commits ks)
 
 -- what rises comes after its first
-before_all : (commits : Commits) (k : List ℕ) (others : List (List ℕ)) (x : List ℕ) → rises (commit_cmp commits) (k ∷ others) ≡ true
+pub before_all : (commits : Commits) (k : List ℕ) (others : List (List ℕ)) (x : List ℕ) → rises (commit_cmp commits) (k ∷ others) ≡ true
     → has_address others x ≡ true → is_lt (commit_cmp commits k x) ≡ true
 before_all commits k [] x h found = absurd cc
 before_all commits k (other ∷ others) x h found =
@@ -167,7 +133,7 @@ only_by : (commits : Commits) (steps : ℕ) (k x : List ℕ) → has_address (an
 only_by commits zero k x h = absurd cc
 only_by commits (suc steps) k x h = only_at commits steps k x (is_known commits k) refl (only_by commits steps) h
 
-known_parent : (o : Option PlainCommit) (p : List ℕ) → has_address (parents_in o) p ≡ true → is_some o ≡ true
+pub known_parent : (o : Option PlainCommit) (p : List ℕ) → has_address (parents_in o) p ≡ true → is_some o ≡ true
 known_parent None p h = absurd cc
 known_parent (Some commit) p h = refl
 
@@ -183,11 +149,7 @@ each_by commits (suc steps) (suc most) k x by lt =
 
 -- ---- no more steps than the height
 
-at_least : (b : Bool) (n g : ℕ) → ltb g n ≡ b → (n ≤ cond b n g) × (g ≤ cond b n g)
-at_least true n g e = (omega arith, omega (arith, ltb-true g n e))
-at_least false n g e = (ltb-false g n e, omega arith)
-
-greatest_of : (commits : Commits) (parents : List (List ℕ)) (p : List ℕ) → has_address parents p ≡ true → height_of commits p ≤ greatest (map (height_of commits) parents)
+pub greatest_of : (commits : Commits) (parents : List (List ℕ)) (p : List ℕ) → has_address parents p ≡ true → height_of commits p ≤ greatest (map (height_of commits) parents)
 greatest_of commits [] p h = absurd cc
 greatest_of commits (parent ∷ parents) p h =
     let two = at_least _ (height_of commits parent) (greatest (map (height_of commits) parents)) refl in
@@ -200,7 +162,7 @@ some_height : (commits : Commits) → AreGrown commits → (k : List ℕ) (o : O
 some_height commits grown k None e h = absurd cc
 some_height commits grown k (Some commit) e h = omega (arith, (grown k commit e).height)
 
-parent_lower : (commits : Commits) → AreGrown commits → (k p : List ℕ) (o : Option PlainCommit) → commits k ≡ o → has_address (parents_in o) p ≡ true → height_of commits p < height_in o
+pub parent_lower : (commits : Commits) → AreGrown commits → (k p : List ℕ) (o : Option PlainCommit) → commits k ≡ o → has_address (parents_in o) p ≡ true → height_of commits p < height_in o
 parent_lower commits grown k p None e h = absurd cc
 parent_lower commits grown k p (Some commit) e h = omega (arith, (grown k commit e).height, greatest_of commits commit.parents p h)
 
@@ -256,7 +218,7 @@ first_at commits k ks others true e h first = (
   ],
 )
 
-rest_rises : (commits : Commits) (k : List ℕ) (ks : List (List ℕ)) → rises (commit_cmp commits) (k ∷ ks) ≡ true → rises (commit_cmp commits) ks ≡ true
+pub rest_rises : (commits : Commits) (k : List ℕ) (ks : List (List ℕ)) → rises (commit_cmp commits) (k ∷ ks) ≡ true → rises (commit_cmp commits) ks ≡ true
 rest_rises commits k [] h = refl
 rest_rises commits k (other ∷ ks) h = (and_parts _ _ h).1
 
@@ -281,3 +243,11 @@ ancestors_follow = record {
   rise = λ commits k. ordered_rises commits (ancestors_within commits (height_of commits k) k);
   base_is = λ commits a b grown. base_from commits a b grown (base commits a b) (first_is commits (ancestors commits a) (ancestors commits b) (ordered_rises commits (ancestors_within commits (height_of commits a) a)));
 }
+
+pub known_here : (commits : Commits) (steps : ℕ) (k x : List ℕ) → IsAncestorBy commits steps k x → is_known commits k ≡ true
+known_here commits zero k x by = by.0
+known_here commits (suc steps) k x by = known_parent (commits k) by.0 by.1
+
+pub known_there : (commits : Commits) (steps : ℕ) (k x : List ℕ) → IsAncestorBy commits steps k x → is_known commits x ≡ true
+known_there commits zero k x by = ap (is_known commits) (sym by.1) ∙ by.0
+known_there commits (suc steps) k x by = known_there commits steps by.0 x by.2

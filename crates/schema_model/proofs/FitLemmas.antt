@@ -11,6 +11,8 @@ use Rattle.schema_model.specs.PlainTables.{body_types, is_keyed, is_row, key_typ
 use Rattle.schema_model.specs.Schemas.{are_columns, are_positions, is_column, is_key, is_schema}
 use Rattle.schema_model.specs.declared.schemas.Column.{Column}
 use Rattle.schema_model.specs.declared.schemas.Schema.{Schema}
+use Rattle.std.proofs.Common.{◌==◌}
+use Rattle.schema_model.specs.Schemas.{are_distinct}
 
 -- ---- what is used of a schema
 
@@ -31,15 +33,15 @@ form_of s h =
 
 -- ---- types
 
-kind_fits : (column : Column) → is_column column ≡ true → is_type column.kind ≡ true
+pub kind_fits : (column : Column) → is_column column ≡ true → is_type column.kind ≡ true
 kind_fits column h = (and_parts _ (is_type column.kind) (and_parts _ _ h).0).1
 
-types_at : (columns : List Column) (position : ℕ) → list_all is_column columns ≡ true → are_types (kinds (slice_get columns position)) ≡ true
+pub types_at : (columns : List Column) (position : ℕ) → list_all is_column columns ≡ true → are_types (kinds (slice_get columns position)) ≡ true
 types_at [] position h = refl
 types_at (column ∷ columns) zero h = and_from (is_type column.kind) true (kind_fits column (and_parts (is_column column) _ h).0) refl
 types_at (column ∷ columns) (suc position) h = types_at columns position (and_parts (is_column column) _ h).1
 
-types_joined : (a b : List SqlType) → are_types a ≡ true → are_types b ≡ true → are_types (a ++ b) ≡ true
+pub types_joined : (a b : List SqlType) → are_types a ≡ true → are_types b ≡ true → are_types (a ++ b) ≡ true
 types_joined a b p q = list_all-append is_type a b ∙ and_from (are_types a) (are_types b) p q
 
 key_are_types : (columns : List Column) (key : List ℕ) → list_all is_column columns ≡ true
@@ -67,7 +69,7 @@ body_types_fit s h = unkeyed_are_types s.key 0 s.columns (form_of s h).columns
 -- ---- cells
 
 -- the cell at a column's place fits it
-cell_at : (columns : List Column) (row : Cells) (position : ℕ) → fits_all (map (λ column. column.kind) columns) row ≡ true → position < length columns
+pub cell_at : (columns : List Column) (row : Cells) (position : ℕ) → fits_all (map (λ column. column.kind) columns) row ≡ true → position < length columns
     → (column : Column) × (slice_get columns position ≡ Some column) × (fits column.kind (get_or row position cell.Null) ≡ true)
 cell_at [] row position h below = absurd (omega arith)
 cell_at (column ∷ columns) [] position h below = absurd (cc)
@@ -147,3 +149,16 @@ kind_step columns key at d done all below there e =
     ap (λ (l : List ℕ). flat_map f l) (drop-cons key at 0 below) ∙ ap (λ (l : List SqlType). l ++ flat_map f (drop (suc at) key)) (kinds_at columns (get_or key at 0) d there)
     ∙ ap (λ (n : ℕ). kind ∷ flat_map f (drop n key)) next in
     append_assoc done (kind ∷ []) (flat_map f (drop (at + 1) key)) ∙ ap (λ (l : List SqlType). done ++ l) (sym here) ∙ e
+
+pub columns_of : (schema : Schema) → is_schema schema ≡ true → list_all is_column schema.columns ≡ true
+columns_of schema h =
+    let a = and_parts _ _ h in
+    let b = and_parts _ _ a.0 in
+    let c = and_parts _ _ b.0 in
+    let d = and_parts (are_columns schema.columns) _ c.0 in
+    (and_parts _ _ (and_parts _ _ d.0).0).1
+
+pub places_within : (n : ℕ) (places : List ℕ) → are_positions n places ≡ true → list_all (λ position. ltb position n) places ≡ true
+places_within n places h =
+    let a = and_parts _ (are_distinct (λ a b. a == b) places) h in
+    (and_parts _ (list_all (λ position. ltb position n) places) a.0).1

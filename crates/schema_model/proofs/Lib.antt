@@ -1,4 +1,4 @@
-mod AncestorLemmas
+pub mod AncestorLemmas
 pub mod FitLemmas
 pub mod ItemLemmas
 pub mod PartLemmas
@@ -9,3 +9,4 @@ mod ValueLemmas
 pub mod TellingLemmas
 mod Vectors
 mod WrittenLemmas
+pub mod ViolationLemmas

@@ -2,15 +2,17 @@
 use Rattle.std.proofs.Common.{◌≡◌, ℕ, zero, suc, ◌+◌, ◌*◌, ◌/◌, ◌%◌, ◌≤◌, Bool, true, false, cond, eqb, ltb, List, [], ◌∷◌, ◌++◌, length, take, drop, Option, Some, None, refl, sym, ap, subst, ◌∙◌, append_assoc, arith, inl, inr, ◌⊎◌}
 use Rattle.std.specs.List.{flat_map, list_all}
 use Rattle.std.specs.Option.{option_map}
-use Rattle.std.proofs.lemmas.Bool.{and_parts, eqb-true, ltb-false, le-ltb}
-use Rattle.std.proofs.lemmas.List.{take_at, drop_at, take-append-drop, length-append, length-take}
+use Rattle.std.proofs.lemmas.Bool.{and_parts, eqb-true, ltb-false}
+use Rattle.std.proofs.lemmas.List.{take_at, take-append-drop, length-take}
+use Rattle.basic_laws.proofs.Options.{guard_some as passed, mapped as map_some, some_is}
 use Rattle.tuple_codec.specs.Fields.{short, bytes_at, short_at}
 use Rattle.tuple_codec.specs.KeyBytes.{bit}
 use Rattle.tuple_codec.specs.Limits.{is_type}
 use Rattle.tuple_codec.specs.declared.values.SqlType.{SqlType}
 use Rattle.tuple_codec.specs.declared.values.SqlType.TheVariants as kind
-use Rattle.tuple_codec.proofs.NumberLemmas.{AreBytes, AreBytes-after, AreBytes-take, passed}
+use Rattle.tuple_codec.proofs.NumberLemmas.{AreBytes, AreBytes-after, AreBytes-take}
 use Rattle.tuple_codec.proofs.TextLemmas.{AreBytes-rest}
+use Rattle.tuple_codec.proofs.FieldLemmas.{bytes_again}
 use Rattle.schema_model.specs.SchemaBytes.{flags, listed, type_bytes}
 use Rattle.schema_model.specs.Reading.{◌>>=◌, allowed, bool_of, byte_at, coded_at, decimal_at, flags_of, items_at, list_at, most_at, two_at, type_at}
 
@@ -34,9 +36,6 @@ pub record IsReader {A : Type 0} (written : A → List ℕ) (allows : A → Bool
   pub takes : (bytes : List ℕ) (x : A × List ℕ) → AreBytes bytes → front bytes ≡ Some x → Takes bytes (written x.0) x.1
   pub again : (a : A) (rest : List ℕ) → allows a ≡ true → front (written a ++ rest) ≡ Some (a, rest)
 
-pub some_is : {A : Type 0} (x y : A) → Some x ≡ Some y → x ≡ y
-some_is x y e = cc
-
 pub nothing : {A : Type 0} (x : A) → None ≡ Some x → ⊥
 nothing x e = cc
 
@@ -44,10 +43,6 @@ nothing x e = cc
 pub bind_some : {A B : Type 0} (r : Option A) (f : A → Option B) (y : B) → (r >>= f) ≡ Some y → (x : A) × (r ≡ Some x) × (f x ≡ Some y)
 bind_some (Some x) f y e = (x, refl, e)
 bind_some None f y e = absurd cc
-
-pub map_some : {A B : Type 0} (o : Option A) (g : A → B) (y : B) → option_map g o ≡ Some y → (x : A) × (o ≡ Some x) × (g x ≡ y)
-map_some None g y e = absurd cc
-map_some {A} {B} (Some x) g y e = (x, refl, some_is (g x) y e)
 
 pick : {A : Type 0} (b : Bool) (x y : Option A) (z : A) → cond b x y ≡ Some z → ((b ≡ true) × (x ≡ Some z)) ⊎ ((b ≡ false) × (y ≡ Some z))
 pick true x y z e = inl (refl, e)
@@ -62,11 +57,6 @@ bytes_takes n bytes x e =
     let long : n ≤ length bytes = ltb-false _ _ g.0 in
     subst (λ (y : List ℕ × List ℕ). (bytes ≡ y.0 ++ y.1) × (length y.0 ≡ n)) g.1
     (sym (take-append-drop n bytes), omega (arith, length-take n bytes))
-
-pub bytes_again : (n : ℕ) (text rest : List ℕ) → length text ≡ n → bytes_at n (text ++ rest) ≡ Some (text, rest)
-bytes_again n text rest len =
-    let long : ltb (length (text ++ rest)) n ≡ false = le-ltb _ _ (omega (arith, length-append text rest)) in
-    rw (long, take_at text rest n len, drop_at text rest n len) refl
 
 short_takes : (bytes : List ℕ) (x : List ℕ × List ℕ) → AreBytes bytes → short_at bytes ≡ Some x → Takes bytes (short x.0) x.1
 short_takes [] x fit e = absurd cc

@@ -4,6 +4,7 @@ use Rattle.std.specs.Prelude.{is_some, ◌&&◌}
 use Rattle.std.specs.List.{flat_map, list_all}
 use Rattle.std.proofs.lemmas.Bool.{and_parts, eqb-true}
 use Rattle.std.proofs.lemmas.List.{nil_from_length}
+use Rattle.basic_laws.proofs.Options.{some_is}
 use Rattle.tuple_codec.specs.Fields.{short, short_at}
 use Rattle.tuple_codec.specs.KeyBytes.{bit}
 use Rattle.tuple_codec.specs.Limits.{is_type}
@@ -22,7 +23,7 @@ use Rattle.schema_model.specs.SchemaBytes.{check_bytes, column_bytes, default_by
 use Rattle.schema_model.specs.Schemas.{are_checks, are_columns, are_foreign, are_indexes, default_fits, is_check, is_column, is_foreign, is_index, is_key, is_name, is_schema}
 use Rattle.schema_model.specs.Reading.{◌>>=◌, bool_of, byte_at, check_at, column_at, default_at, flags_of, foreign_at, if_schema, index_at, items_at, list_at, schema_at, schema_of, type_at}
 use Rattle.schema_model.specs.Spellings.{HasOneSpelling, Reads}
-use Rattle.schema_model.proofs.PartLemmas.{IsReader, Takes, Takes-then, bind_some, bool_again, bool_means, byte_again, byte_takes, flags_again, flags_mean, items_again, items_take, list_reader, nothing, short_again, short_reader, some_is, type_again, type_reader}
+use Rattle.schema_model.proofs.PartLemmas.{IsReader, Takes, Takes-then, bind_some, bool_again, bool_means, byte_again, byte_takes, flags_again, flags_mean, items_again, items_take, list_reader, nothing, short_again, short_reader, type_again, type_reader}
 use Rattle.schema_model.proofs.ValueLemmas.{default_again, default_takes}
 
 -- ---- columns

@@ -24,6 +24,10 @@ use Rattle.schema_model.specs.declared.schemas.Schema.{Schema}
 use Rattle.schema_model.specs.SchemaBytes.{check_bytes, column_bytes, default_bytes, flags, foreign_bytes, index_bytes, listed, schema_bytes, type_bytes}
 use Rattle.schema_model.specs.Schemas.{are_checks, are_columns, are_few, are_foreign, are_indexes, are_positions, default_fits, is_check, is_column, is_foreign, is_index, is_key, is_name, is_schema}
 use Rattle.schema_model.specs.Spellings.{SchemasAreShort}
+use Rattle.std.proofs.Common.{nat_le, refl}
+use Rattle.std.proofs.lemmas.Bool.{and_from}
+use Rattle.schema_model.specs.Limits.{is_database_within_limits, is_named_within_limits, most_tables, is_short_name, is_table_within_limits}
+use Rattle.schema_model.specs.PlainTables.{PlainDatabase, NamedTable}
 
 -- ---- lists of parts
 
@@ -156,3 +160,18 @@ schema_size schema h =
 
 pub schemas_are_short : SchemasAreShort
 schemas_are_short = schema_size
+
+pub kept_few : (database : PlainDatabase) → is_database_within_limits database ≡ true → length database ≤ 256
+kept_few database within = leb-true (length database) most_tables (and_parts (nat_le (length database) most_tables) (list_all is_named_within_limits database) within).0
+
+pub few_tables : (database : PlainDatabase) → is_database_within_limits database ≡ true → length database < 2 ^ 16
+few_tables database within =
+    let few = leb-true (length database) most_tables (and_parts (nat_le (length database) most_tables) (list_all is_named_within_limits database) within).0 in
+    omega (arith, few)
+
+pub short_names : (database : PlainDatabase) → list_all is_named_within_limits database ≡ true → list_all (λ (named : NamedTable). is_short_name named.name) database ≡ true
+short_names [] within = refl
+short_names (named ∷ database) within =
+    let both = and_parts (is_named_within_limits named) (list_all is_named_within_limits database) within in
+    and_from (is_short_name named.name) (list_all (λ (n : NamedTable). is_short_name n.name) database)
+    (and_parts (is_short_name named.name) (is_table_within_limits named.table) both.0).0 (short_names database both.1)

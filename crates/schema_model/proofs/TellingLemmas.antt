@@ -4,6 +4,7 @@ use Rattle.std.specs.Prelude.{◌&&◌, ◌||◌}
 use Rattle.std.specs.List.{list_all}
 use Rattle.std.specs.Ordering.{is_eq}
 use Rattle.std.proofs.lemmas.Bool.{and_parts, and_from, eqb-true, ltb-true, le-leb}
+use Rattle.basic_laws.proofs.Options.{some_is}
 use Rattle.tuple_codec.specs.Rows.{Cells, fits_all, key_cmp, key_of}
 use Rattle.tuple_codec.specs.Limits.{are_types}
 use Rattle.tuple_codec.specs.KeyBytes.{key_bytes, key_cell}
@@ -24,7 +25,6 @@ use Rattle.schema_model.specs.PlainTables.{Conflict, IsTable, PlainTable, Violat
 use Rattle.schema_model.specs.Schemas.{is_name, is_schema}
 use Rattle.schema_model.specs.declared.schemas.Schema.{Schema}
 use Rattle.schema_model.proofs.FitLemmas.{body_fits, body_types_fit, key_types_fit, primary_key_fits, row_length}
-use Rattle.schema_model.proofs.PartLemmas.{some_is}
 
 -- ---- a row is known by its key and its other cells
 
@@ -39,13 +39,13 @@ keyed_same f g (other ∷ key) place h e =
       | false ↦ λ same k. keyed_same f g key place k more
     ] refl h
 
-cell_in : (full : Cells) (place : ℕ) (value : Value) (row : Cells) → drop place full ≡ value ∷ row → get_or full place cell.Null ≡ value
+pub cell_in : (full : Cells) (place : ℕ) (value : Value) (row : Cells) → drop place full ≡ value ∷ row → get_or full place cell.Null ≡ value
 cell_in [] zero value row e = absurd (cc)
 cell_in [] (suc place) value row e = absurd (cc)
 cell_in (first ∷ full) zero value row e = cc
 cell_in (first ∷ full) (suc place) value row e = cell_in full place value row e
 
-cells_after : (full : Cells) (place : ℕ) (value : Value) (row : Cells) → drop place full ≡ value ∷ row → drop (suc place) full ≡ row
+pub cells_after : (full : Cells) (place : ℕ) (value : Value) (row : Cells) → drop place full ≡ value ∷ row → drop (suc place) full ≡ row
 cells_after [] zero value row e = absurd (cc)
 cells_after [] (suc place) value row e = absurd (cc)
 cells_after (first ∷ full) zero value row e = cc
@@ -153,12 +153,12 @@ conflict_by_item s a b h fa fb e =
 
 -- ---- violations
 
-record IsViolation (s : Schema) (v : Violation) : Type 0 where
-  name : is_name v.constraint ≡ true
-  key : fits_all (key_types s) v.key ≡ true
-  row : is_row_at s v.key v.row ≡ true
+pub record IsViolation (s : Schema) (v : Violation) : Type 0 where
+  pub name : is_name v.constraint ≡ true
+  pub key : fits_all (key_types s) v.key ≡ true
+  pub row : is_row_at s v.key v.row ≡ true
 
-violation_is : (s : Schema) (v : Violation) → is_violation s v ≡ true → IsViolation s v
+pub violation_is : (s : Schema) (v : Violation) → is_violation s v ≡ true → IsViolation s v
 violation_is s v h =
     let a = and_parts _ (is_row_at s v.key v.row) h in
     let b = and_parts _ (fits_all (key_types s) v.key) a.0 in

@@ -3,6 +3,7 @@ use Rattle.std.proofs.Common.{◌≡◌, ℕ, suc, ◌+◌, ◌*◌, ◌/◌, �
 use Rattle.std.specs.Prelude.{is_some}
 use Rattle.std.specs.Option.{option_map, option_and_then}
 use Rattle.std.proofs.lemmas.Bool.{and_from}
+use Rattle.basic_laws.proofs.Options.{mapped as map_some, some_is, bound}
 use Rattle.tuple_codec.specs.Fields.{bytes_at}
 use Rattle.tuple_codec.specs.Rows.{Cells, fits}
 use Rattle.tuple_codec.specs.Limits.{is_type}
@@ -17,9 +18,10 @@ use Rattle.tuple_codec.specs.declared.values.Value.{Value}
 use Rattle.tuple_codec.specs.declared.values.Value.TheVariants as cell
 use Rattle.tuple_codec.proofs.CellLemmas.{cells_again, found}
 use Rattle.tuple_codec.proofs.NumberLemmas.{AreBytes}
+use Rattle.tuple_codec.proofs.FieldLemmas.{bytes_again}
 use Rattle.schema_model.specs.SchemaBytes.{default_bytes}
 use Rattle.schema_model.specs.Schemas.{default_fits}
-use Rattle.schema_model.proofs.PartLemmas.{AreBytes-front, Takes, bind_some, bytes_again, bytes_takes, map_some, some_is, takes}
+use Rattle.schema_model.proofs.PartLemmas.{AreBytes-front, Takes, bind_some, bytes_takes, takes}
 use Rattle.schema_model.specs.Reading.{◌>>=◌, cell_size, default_at, only, text_size, value_at, value_of}
 
 -- what decoding answers is what is in front, since a type within its limits reads each cell in one way
@@ -45,10 +47,6 @@ only_is : (row : Cells) (v : Value) → only row ≡ Some v → row ≡ v ∷ []
 only_is [] v e = absurd cc
 only_is (w ∷ []) v e = ap (λ (u : Value). u ∷ []) (some_is w v e)
 only_is (w ∷ u ∷ row) v e = absurd cc
-
-bound : {A B : Type 0} (o : Option A) (g : A → Option B) (y : B) → option_and_then g o ≡ Some y → (x : A) × (o ≡ Some x) × (g x ≡ Some y)
-bound None g y e = absurd cc
-bound (Some x) g y e = (x, refl, e)
 
 value_spelled : (type : SqlType) (bytes : List ℕ) (v : Value) → AreBytes bytes → value_of type bytes ≡ Some v → bytes ≡ row_cell v
 unfolding value_of

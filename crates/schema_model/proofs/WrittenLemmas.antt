@@ -1,8 +1,9 @@
 -- A schema's parts can be written.
-use Rattle.std.proofs.Common.{◌≡◌, ℕ, Bool, true, List, [], ◌∷◌, length, ltb, refl}
+use Rattle.std.proofs.Common.{◌≡◌, ℕ, true, List, length, ltb}
 use Rattle.std.specs.Prelude.{◌&&◌}
 use Rattle.std.specs.List.{list_all}
 use Rattle.std.proofs.lemmas.Bool.{and_parts, and_from}
+use Rattle.basic_laws.proofs.Lists.{all_weaker as each_has}
 use Rattle.tuple_codec.specs.Texts.{is_utf8}
 use Rattle.tuple_codec.specs.Limits.{is_type}
 use Rattle.schema_model.specs.Schemas.{are_positions, default_fits, is_check, is_column, is_foreign, is_index, is_name}
@@ -11,13 +12,6 @@ use Rattle.schema_model.specs.declared.schemas.Column.{Column}
 use Rattle.schema_model.specs.declared.schemas.IndexDef.{IndexDef}
 use Rattle.schema_model.specs.declared.schemas.CheckDef.{CheckDef}
 use Rattle.schema_model.specs.declared.schemas.ForeignKey.{ForeignKey}
-
--- what each item has, each has that follows from it
-pub each_has : {A : Type 0} (p q : A → Bool) → ((x : A) → p x ≡ true → q x ≡ true) → (xs : List A) → list_all p xs ≡ true → list_all q xs ≡ true
-each_has p q follows [] h = refl
-each_has p q follows (x ∷ xs) h =
-    let b = and_parts (p x) (list_all p xs) h in
-    and_from (q x) (list_all q xs) (follows x b.0) (each_has p q follows xs b.1)
 
 name_written : (name : List ℕ) → is_name name ≡ true → is_written_name name ≡ true
 name_written name h = (and_parts (ltb (length name) 256) (is_utf8 name) h).0

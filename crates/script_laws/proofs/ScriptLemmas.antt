@@ -7,6 +7,8 @@ use Rattle.std.specs.List.{AllByRecursion, IsDistinct, list_all, position_or_len
 use Rattle.std.proofs.lemmas.List.{length_push}
 use Rattle.std.proofs.lemmas.List.Sums.{take_while-cons}
 use Rattle.std.proofs.lemmas.Bool.Decides.{nat_tests}
+use Rattle.std.proofs.lemmas.Bool.{and_parts as both, and_from as join}
+use Rattle.basic_laws.proofs.Lists.{all_weaker, all_append}
 use Rattle.tuple_codec.specs.Texts.{is_utf8}
 use Rattle.script_text.specs.Input.{Parts, add_line, add_statement, and_then, bad, is_name, is_name_byte, is_one_too_many, is_skipped, items_of, lines_of, most_bytes, most_statement_bytes, most_statements, no_script, ordered_by, ordered_from, parts_after, parts_of, script, script_from, script_in, statement_in, with_statement}
 use Rattle.script_text.specs.Shown.{is_shown_name}
@@ -14,7 +16,6 @@ use Rattle.script_text.specs.declared.scripts.Line.{Line}
 use Rattle.script_text.specs.declared.scripts.OrderItem.{OrderItem}
 use Rattle.script_text.specs.declared.scripts.Script.{Script}
 use Rattle.script_run.specs.Scripts.{IsSoundScript, is_line_within}
-use Rattle.run_laws.proofs.ListLemmas.{both, join, all_weaker, all_append}
 
 name_bytes : (bytes : List ℕ) → list_all is_name_byte (take_while is_name_byte bytes) ≡ true
 name_bytes [] = refl

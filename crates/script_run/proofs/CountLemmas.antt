@@ -5,11 +5,11 @@ use Rattle.std.specs.List.{list_all}
 use Rattle.std.proofs.lemmas.List.{length-append}
 use Rattle.std.proofs.lemmas.List.Sums.{sum_by-append}
 use Rattle.std.proofs.lemmas.Bool.Decides.{nat_tests}
+use Rattle.std.proofs.lemmas.Bool.{and_parts as both}
+use Rattle.basic_laws.proofs.Truths.{if_true}
 use Rattle.script_text.specs.declared.scripts.Line.{Line}
-use Rattle.plain_sessions.specs.declared.commands.Command.{Command}
-use Rattle.plain_sessions.specs.Runs.{commands_of}
 use Rattle.run_laws.specs.Orders.{count_of}
-use Rattle.run_laws.proofs.ListLemmas.{both, get_behind, get_front, if_false, if_true}
+use Rattle.run_laws.proofs.ListLemmas.{get_behind, get_front, if_false}
 use Rattle.script_run.specs.Opening.{counts}
 
 sum_push : (xs : List ℕ) (x : ℕ) → sum (xs ++ x ∷ []) ≡ sum xs + x
@@ -106,21 +106,4 @@ count_rises (first ∷ lines) (suc count) line h =
     elim (first.session == line.session) as (λ test. (if test then suc (count_of line.session (take count lines)) else count_of line.session (take count lines)) < (if test then suc (count_of line.session lines) else count_of line.session lines)) [
       | true ↦ omega arith
       | false ↦ rest
-    ]
-
-pub count_most : (place : ℕ) (lines : List Line) → count_of place lines ≤ length lines
-count_most place [] = omega arith
-count_most place (line ∷ lines) =
-    let rest : count_of place lines ≤ length lines = count_most place lines in
-    elim (line.session == place) as (λ test. (if test then suc (count_of place lines) else count_of place lines) ≤ length (line ∷ lines)) [
-      | true ↦ omega arith
-      | false ↦ omega arith
-    ]
-
-pub commands_counted : (reads : List ℕ → Command) (place : ℕ) (lines : List Line) → length (commands_of reads place lines) ≡ count_of place lines
-commands_counted reads place [] = refl
-commands_counted reads place (line ∷ lines) =
-    elim (line.session == place) as (λ test. length (if test then reads line.statement ∷ commands_of reads place lines else commands_of reads place lines) ≡ (if test then suc (count_of place lines) else count_of place lines)) [
-      | true ↦ ap suc (commands_counted reads place lines)
-      | false ↦ commands_counted reads place lines
     ]

@@ -4,6 +4,8 @@ use Rattle.std.specs.List.{AllByRecursion, list_all}
 use Rattle.std.proofs.lemmas.List.{length-map}
 use Rattle.std.proofs.lemmas.Option.{slice_get_within}
 use Rattle.std.proofs.lemmas.Bool.Decides.{nat_tests}
+use Rattle.std.proofs.lemmas.Bool.{and_parts as both, and_from as join}
+use Rattle.basic_laws.proofs.Lists.{all_weaker, there_at}
 use Rattle.tuple_codec.specs.declared.addresses.Address.{Address}
 use Rattle.chunk_store.specs.Chunks.{Chunk}
 use Rattle.schema_model.specs.PlainCommits.{Commits}
@@ -22,14 +24,12 @@ use Rattle.plain_sessions.specs.Sessions as plain
 use Rattle.run_laws.specs.Laws.{LinesAreRun, shown_by}
 use Rattle.run_laws.specs.Lines.{Spoken, replies_of}
 use Rattle.run_laws.specs.Orders.{IsTextOrder, is_within}
-use Rattle.run_laws.proofs.ListLemmas.{all_weaker, both, join}
 use Rattle.session_laws.specs.Changes.{BranchStands, Paired}
 use Rattle.session_txn.specs.Showing.{is_sound_reply}
 use Rattle.script_run.specs.Running.{IsRunningAt, IsSpeaker}
 use Rattle.script_run.specs.Scripts.{IsSoundScript}
 use Rattle.script_run.specs.declared.running.Running.{Running}
 use Rattle.script_run.specs.declared.running.Speaker.{Speaker}
-use Rattle.script_run.proofs.SpeakerLemmas.{there_at}
 
 -- ---- branches
 

@@ -6,6 +6,8 @@ use Rattle.std.proofs.lemmas.List.{length-set}
 use Rattle.std.proofs.lemmas.List.Quantifiers.{position-Some}
 use Rattle.std.proofs.lemmas.Bool.Decides.{nat_tests}
 use Rattle.std.proofs.lemmas.Option.{same_Some, slice_get-map, slice_get_within}
+use Rattle.std.proofs.lemmas.Bool.{and_from as join}
+use Rattle.basic_laws.proofs.Lists.{all_append, there_at}
 use Rattle.chunk_store.specs.Chunks.{Lists}
 use Rattle.script_text.specs.Input.{place_of}
 use Rattle.script_text.specs.Shown.{is_shown_moment}
@@ -18,7 +20,7 @@ use Rattle.plain_sessions.specs.Runs.{Runner}
 use Rattle.run_laws.specs.Laws.{OrdersAreFollowed}
 use Rattle.run_laws.specs.Orders.{asked_moment, asked_order}
 use Rattle.run_laws.specs.Replaying.{Along, dropped, reply_of}
-use Rattle.run_laws.proofs.ListLemmas.{all_append, get_put, get_put_other, join, put_same}
+use Rattle.run_laws.proofs.ListLemmas.{get_put, get_put_other, put_same}
 use Rattle.session_laws.specs.Changes.{Parts, StateStands}
 use Rattle.script_run.specs.Following.{ArePlayers, AreSettledTo, CantFollow, GoesOn, Stays, Answers, Drops, HasFollowed, IsFurther, IsPlayer, IsPlayingAt, StandsAt, Turns, Meets, Starts, Decides, is_next_at, is_settled, moments_left}
 use Rattle.script_run.specs.declared.players.Player.{Player}
@@ -26,7 +28,6 @@ use Rattle.script_run.specs.declared.players.Playing.{Playing}
 use Rattle.script_run.specs.declared.players.Stage.{Stage}
 use Rattle.script_run.specs.declared.players.Stage.TheVariants as stage
 use Rattle.script_run.proofs.CountLemmas.{sum_cons}
-use Rattle.script_run.proofs.SpeakerLemmas.{there_at}
 
 -- ---- lists
 

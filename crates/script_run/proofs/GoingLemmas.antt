@@ -3,6 +3,9 @@ use Rattle.std.proofs.Common.{◌≡◌, ◌≢◌, refl, sym, ◌∙◌, ap, su
 use Rattle.std.specs.Prelude.{slice_index_or}
 use Rattle.std.proofs.lemmas.List.{length-append, length-drop, length-map}
 use Rattle.std.proofs.lemmas.Bool.Decides.{nat_tests}
+use Rattle.std.proofs.lemmas.Bool.{and_parts as both, and_from as join}
+use Rattle.basic_laws.proofs.Lists.{all_append, drop_at_get, there_at}
+use Rattle.basic_laws.proofs.Truths.{if_true}
 use Rattle.script_text.specs.Collisions.{TellsTruly}
 use Rattle.script_text.specs.Output.{shortage}
 use Rattle.script_text.specs.declared.replies.Reply.{Reply}
@@ -19,7 +22,7 @@ use Rattle.plain_sessions.specs.declared.commands.Work.{Work}
 use Rattle.chunk_store.specs.Chunks.{Listed}
 use Rattle.chunk_store.specs.declared.faults.PutFault.TheVariants.{Memory}
 use Rattle.run_laws.specs.Replaying.{dropped, reply_of}
-use Rattle.run_laws.proofs.ListLemmas.{all_append, both, drop_at_get, if_false, if_true, join}
+use Rattle.run_laws.proofs.ListLemmas.{if_false}
 use Rattle.run_laws.proofs.Steps.{alone_past, moment_past}
 use Rattle.session_laws.specs.Changes.{Parts, StateStands}
 use Rattle.session_state.specs.Standing.{SessionStands}
@@ -29,13 +32,14 @@ use Rattle.serving.specs.Steps.{number_at}
 use Rattle.serving.specs.declared.meeting.Pending.{Pending}
 use Rattle.serving.specs.declared.meeting.Pending.TheVariants as pending
 use Rattle.serving.proofs.BegunLemmas.{started_at as begun_at, started_passes, started_state}
+use Rattle.serving.proofs.AnswerLemmas.{same_number as number_is}
 use Rattle.script_run.specs.Following as going
 use Rattle.script_run.specs.Following.{GoesOn, IsAsked, IsFurther, IsLed, IsLedInto, IsPlayer, StandsAt, Turns, is_free, is_next_at, is_settled, moments_left, starts_made}
 use Rattle.script_run.specs.declared.players.Player.{Player}
 use Rattle.script_run.specs.declared.players.Stage.{Stage}
 use Rattle.script_run.specs.declared.players.Stage.TheVariants as stage
-use Rattle.script_run.proofs.LineLemmas.{found_at, number_is}
-use Rattle.script_run.proofs.SpeakerLemmas.{there_at, truly_behind}
+use Rattle.script_run.proofs.LineLemmas.{found_at}
+use Rattle.script_run.proofs.SpeakerLemmas.{truly_behind}
 
 -- ---- on its way, and further
 
@@ -79,7 +83,7 @@ needs statement player h =
       is_false false h = refl
 
 -- between the start and the decision
-started_at : (wanted : Pending) (q : plain.Session) (t : Transaction) (work : Work) → Awaits wanted q t work → is_before_statement q.place ≡ false
+pub started_at : (wanted : Pending) (q : plain.Session) (t : Transaction) (work : Work) → Awaits wanted q t work → is_before_statement q.place ≡ false
 started_at (pending.Between reply) q t work awaits = ap is_before_statement awaits.0
 started_at pending.Closing q t work awaits = ap is_before_statement awaits.0
 

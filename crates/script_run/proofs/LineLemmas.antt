@@ -4,6 +4,7 @@ use Rattle.std.specs.Prelude.{slice_index_or}
 use Rattle.std.proofs.lemmas.List.{length-take}
 use Rattle.std.proofs.lemmas.Bool.Decides.{nat_tests}
 use Rattle.std.proofs.lemmas.Option.{slice_get_read}
+use Rattle.basic_laws.proofs.Lists.{all_at, there_at}
 use Rattle.script_text.specs.declared.replies.Reply.{Reply}
 use Rattle.script_text.specs.declared.scripts.Line.{Line}
 use Rattle.script_text.specs.declared.scripts.Moment.{Moment}
@@ -14,20 +15,17 @@ use Rattle.run_laws.specs.Laws.{LinesAreRun}
 use Rattle.run_laws.specs.Lines.{IsRunTo, answered_at}
 use Rattle.run_laws.specs.Orders.{count_of}
 use Rattle.run_laws.specs.Turns.{moments_of}
-use Rattle.session_state.specs.Standing.{IsAt}
-use Rattle.session_state.specs.declared.sessions.Place.{Place}
+use Rattle.run_laws.proofs.RunLemmas.{commands_counted}
+use Rattle.run_laws.proofs.OrderLemmas.{count_fits as count_most}
 use Rattle.session_state.specs.declared.sessions.Place.TheVariants as place
 use Rattle.serving.specs.Steps.{number_at}
+use Rattle.serving.proofs.AnswerLemmas.{same_number as number_is}
 use Rattle.script_run.specs.Running.{AreSpeakers, IsRunningAt, IsSpeaker, Speaks}
 use Rattle.script_run.specs.Scripts.{IsSoundScript, is_line_within}
 use Rattle.script_run.specs.declared.running.Running.{Running}
 use Rattle.script_run.specs.declared.running.Speaker.{Speaker}
-use Rattle.script_run.proofs.CountLemmas.{commands_counted, count_most, count_rises}
-use Rattle.script_run.proofs.SpeakerLemmas.{all_at, speakers_next, there_at}
-
-pub number_is : (position : Place) (statement : ℕ) (there : plain.Place) → IsAt position statement there → number_at position ≡ statement
-number_is (place.Before number) statement there is = is.0
-number_is (place.Between number) statement there is = is.0
+use Rattle.script_run.proofs.CountLemmas.{count_rises}
+use Rattle.script_run.proofs.SpeakerLemmas.{speakers_next}
 
 -- the line at a place, and what an index gives
 pub found_at : {X : Type 0} (xs ys : List X) (i : ℕ) (x : X) → ys ≡ xs → i < length xs → x ≡ slice_index_or ys i x → slice_get xs i ≡ Some x

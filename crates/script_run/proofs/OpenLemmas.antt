@@ -5,6 +5,7 @@ use Rattle.std.specs.Option.{option_map}
 use Rattle.std.proofs.lemmas.Option.{get_or_from_slice_get, same_Some, slice_get-map, slice_get_within}
 use Rattle.std.proofs.lemmas.List.{length-append}
 use Rattle.std.proofs.lemmas.Bool.Decides.{nat_tests}
+use Rattle.basic_laws.proofs.Lists.{there_at}
 use Rattle.chunk_store.specs.Chunks.{Chunk, Lists}
 use Rattle.script_text.specs.declared.replies.Reply.{Reply}
 use Rattle.script_text.specs.declared.scripts.Moment.{Moment}
@@ -17,6 +18,7 @@ use Rattle.run_laws.specs.Laws.{LinesAreRun}
 use Rattle.run_laws.specs.Lines.{IsRunTo, new_spoken}
 use Rattle.run_laws.specs.Orders.{count_of}
 use Rattle.run_laws.proofs.ListLemmas.{get_behind, get_front}
+use Rattle.run_laws.proofs.RunLemmas.{as_many as as_many_new}
 use Rattle.session_laws.specs.Changes.{Parts, StateStands}
 use Rattle.script_run.specs.Opening.{AreNew, IsNew, counts}
 use Rattle.script_run.specs.Running.{AreSpeakers, IsRunningAt, IsSpeaker}
@@ -24,11 +26,6 @@ use Rattle.script_run.specs.Scripts.{IsSoundScript}
 use Rattle.script_run.specs.declared.running.Running.{Running}
 use Rattle.script_run.specs.declared.running.Speaker.{Speaker}
 use Rattle.script_run.proofs.CountLemmas.{all_counted, as_many, count_at}
-use Rattle.script_run.proofs.SpeakerLemmas.{there_at}
-
-pub as_many_new : (place : ℕ) (names : List (List ℕ)) → length (new_spoken place names) ≡ length names
-as_many_new place [] = refl
-as_many_new place (name ∷ names) = ap suc (as_many_new (place + 1) names)
 
 new_at : (place : ℕ) (names : List (List ℕ)) (at : ℕ) (name : List ℕ) → slice_get names at ≡ Some name → slice_get (new_spoken place names) at ≡ Some (new_session (place + at) name, [])
 new_at place [] at name h = absurd (cc)

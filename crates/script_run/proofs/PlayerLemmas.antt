@@ -5,6 +5,7 @@ use Rattle.std.specs.Option.{option_map}
 use Rattle.std.proofs.lemmas.Option.{get_or_from_slice_get, same_Some, slice_get-map, slice_get_within}
 use Rattle.std.proofs.lemmas.List.{length-append}
 use Rattle.std.proofs.lemmas.Bool.Decides.{nat_tests}
+use Rattle.basic_laws.proofs.Lists.{there_at}
 use Rattle.script_text.specs.declared.replies.Reply.{Reply}
 use Rattle.script_text.specs.declared.scripts.Line.{Line}
 use Rattle.script_text.specs.declared.scripts.Script.{Script}
@@ -17,6 +18,7 @@ use Rattle.run_laws.specs.Laws.{OrdersAreFollowed}
 use Rattle.run_laws.specs.Orders.{count_of}
 use Rattle.run_laws.specs.Replaying.{first_runners}
 use Rattle.run_laws.proofs.ListLemmas.{get_behind, get_front}
+use Rattle.run_laws.proofs.OrderLemmas.{count_fits as count_most}
 use Rattle.session_laws.specs.Changes.{Parts, StateStands}
 use Rattle.script_run.specs.Following.{ArePlayers, IsPlayer, IsPlayingAt, StandsAt, moments_left, starts_made, texts_of}
 use Rattle.script_run.specs.Opening.{AreNewPlayers, IsNew, IsNewPlayer, counts}
@@ -26,9 +28,8 @@ use Rattle.script_run.specs.declared.players.Playing.{Playing}
 use Rattle.script_run.specs.declared.players.Stage.{Stage}
 use Rattle.script_run.specs.declared.players.Stage.TheVariants as stage
 use Rattle.script_run.specs.declared.running.Speaker.{Speaker}
-use Rattle.script_run.proofs.CountLemmas.{as_many, count_at, count_most, sum_cons}
+use Rattle.script_run.proofs.CountLemmas.{as_many, count_at, sum_cons}
 use Rattle.script_run.proofs.OpenLemmas.{no_chunks}
-use Rattle.script_run.proofs.SpeakerLemmas.{there_at}
 
 -- ---- texts
 

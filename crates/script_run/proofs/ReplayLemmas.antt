@@ -5,6 +5,8 @@ use Rattle.std.specs.Option.{option_map_or}
 use Rattle.std.proofs.lemmas.Bool.Decides.{nat_tests}
 use Rattle.std.proofs.lemmas.List.{length-map}
 use Rattle.std.proofs.lemmas.Option.{slice_get_within}
+use Rattle.std.proofs.lemmas.Bool.{and_parts as both, and_from as join}
+use Rattle.basic_laws.proofs.Lists.{all_weaker, all_at, there_at}
 use Rattle.script_text.specs.Collisions.{AllTellTruly, TellsTruly}
 use Rattle.script_text.specs.Output.{shortages_in}
 use Rattle.script_text.specs.Shown.{IsPrintable, IsShown, IsShownStop, is_printable_moment, is_printable_reply, is_shown_moment, is_shown_reply}
@@ -18,19 +20,16 @@ use Rattle.plain_sessions.specs.Commands.{command}
 use Rattle.plain_sessions.specs.Records.{Shared}
 use Rattle.plain_sessions.specs.Runs.{Runner, has_none_left, is_over}
 use Rattle.plain_sessions.specs.Sessions as plain
-use Rattle.plain_sessions.specs.Sessions.{Transaction, is_before_statement}
+use Rattle.plain_sessions.specs.Sessions.{is_before_statement}
 use Rattle.plain_sessions.specs.declared.commands.Command.{Command}
-use Rattle.plain_sessions.specs.declared.commands.Work.{Work}
 use Rattle.run_laws.specs.Laws.{OrdersAreFollowed, shown_of}
 use Rattle.run_laws.specs.Orders.{asked_order}
 use Rattle.run_laws.specs.Replaying.{AreWaiting, CantGoOn, IsStopped, IsWaiting, WaitsAt, all_replies, is_at, is_next}
-use Rattle.run_laws.proofs.ListLemmas.{all_weaker, both, join}
 use Rattle.session_laws.specs.Changes.{Parts}
 use Rattle.session_txn.specs.Showing.{is_sound_reply}
-use Rattle.serving.specs.Serving.{Awaits}
 use Rattle.serving.specs.Steps.{number_at}
-use Rattle.serving.specs.declared.meeting.Pending.{Pending}
 use Rattle.serving.specs.declared.meeting.Pending.TheVariants as pending
+use Rattle.serving.proofs.AnswerLemmas.{same_number as number_is}
 use Rattle.script_run.specs.Following.{AreAlong, CantFollow, IsPlayer, IsPlayingAt, IsReplayed, IsStoppedAt, StandsAt, is_free, is_next_at, is_settled, is_through}
 use Rattle.script_run.specs.Scripts.{IsSoundScript}
 use Rattle.script_run.specs.declared.players.Player.{Player}
@@ -38,14 +37,9 @@ use Rattle.script_run.specs.declared.players.Playing.{Playing}
 use Rattle.script_run.specs.declared.players.Stage.{Stage}
 use Rattle.script_run.specs.declared.players.Stage.TheVariants as stage
 use Rattle.script_run.proofs.EndLemmas.{branches_are, printable_reply, shown_reply}
-use Rattle.script_run.proofs.LineLemmas.{number_is}
-use Rattle.script_run.proofs.SpeakerLemmas.{all_at, there_at}
+use Rattle.script_run.proofs.GoingLemmas.{started_at as awaits_after}
 
 -- ---- one session
-
-awaits_after : (wanted : Pending) (session : plain.Session) (transaction : Transaction) (work : Work) → Awaits wanted session transaction work → is_before_statement session.place ≡ false
-awaits_after (pending.Between reply) session transaction work is = ap is_before_statement is.0
-awaits_after pending.Closing session transaction work is = ap is_before_statement is.0
 
 none_dropped : (texts : List (List ℕ)) (count : ℕ) → count ≡ length texts → map command (drop count texts) ≡ []
 none_dropped [] zero h = refl
@@ -315,10 +309,6 @@ is_stopped address epoch script playing count item replies laws sound fits now w
     }
 
 -- ---- whole or not
-
-pub not_both : (a b : Bool) → (a && b) ≡ false → a ≡ true → b ≡ false
-not_both true b h same = h
-not_both false b h same = absurd (cc)
 
 take_whole : {X : Type 0} (xs : List X) (count : ℕ) → count ≡ length xs → take count xs ≡ xs
 take_whole [] zero h = refl

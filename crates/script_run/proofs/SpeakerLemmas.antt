@@ -1,9 +1,11 @@
 -- The sessions of a run, when one of them has answered a statement.
-use Rattle.std.proofs.Common.{◌≡◌, ◌≢◌, refl, sym, ◌∙◌, ap, subst, ℕ, ℤ, zero, suc, ◌+◌, ◌<◌, ◌≤◌, ◌==◌, Bool, true, false, List, [], ◌∷◌, ◌++◌, length, Some, slice_get, slice_set, vec_capacity, arith}
-use Rattle.std.specs.List.{AllByRecursion, list_all}
+use Rattle.std.proofs.Common.{◌≡◌, ◌≢◌, refl, sym, ◌∙◌, ap, subst, ℕ, ℤ, zero, suc, ◌+◌, ◌≤◌, ◌==◌, true, false, List, [], ◌∷◌, ◌++◌, Some, slice_get, slice_set, vec_capacity, arith}
+use Rattle.std.specs.List.{AllByRecursion}
 use Rattle.std.proofs.lemmas.List.{length-set}
 use Rattle.std.proofs.lemmas.Bool.Decides.{nat_tests}
 use Rattle.std.proofs.lemmas.Option.{same_Some}
+use Rattle.std.proofs.lemmas.Bool.{and_parts as both, and_from as join}
+use Rattle.basic_laws.proofs.Lists.{all_append}
 use Rattle.script_text.specs.Collisions.{TellsTruly}
 use Rattle.script_text.specs.declared.replies.Reply.{Reply}
 use Rattle.script_text.specs.declared.scripts.Line.{Line}
@@ -12,7 +14,7 @@ use Rattle.plain_sessions.specs.Sessions as plain
 use Rattle.plain_sessions.specs.declared.commands.Command.{Command}
 use Rattle.run_laws.specs.Lines.{Spoken, answered_at}
 use Rattle.run_laws.specs.Orders.{count_of}
-use Rattle.run_laws.proofs.ListLemmas.{all_append, both, get_put, get_put_other, join}
+use Rattle.run_laws.proofs.ListLemmas.{get_put, get_put_other}
 use Rattle.session_laws.specs.Changes.{Parts}
 use Rattle.session_txn.specs.Showing.{is_sound_reply}
 use Rattle.script_run.specs.Running.{AreSpeakers, IsSpeaker, Speaks}
@@ -22,16 +24,6 @@ pub truly_behind : (address : List ℕ → List ℕ) (replies : List Reply) (rep
     → AllByRecursion (TellsTruly address) (replies ++ reply ∷ [])
 truly_behind address [] reply all one = (one, tt)
 truly_behind address (first ∷ replies) reply all one = (all.0, truly_behind address replies reply all.1 one)
-
-pub all_at : {X : Type 0} (p : X → Bool) (xs : List X) (i : ℕ) (x : X) → slice_get xs i ≡ Some x → list_all p xs ≡ true → p x ≡ true
-all_at p [] i x at h = absurd (cc)
-all_at p (y ∷ xs) zero x at h = let same : y ≡ x = cc in ap p (sym same) ∙ (both (p y) (list_all p xs) h).0
-all_at p (y ∷ xs) (suc i) x at h = all_at p xs i x at (both (p y) (list_all p xs) h).1
-
-pub there_at : {X : Type 0} (xs : List X) (i : ℕ) → i < length xs → (x : X) × (slice_get xs i ≡ Some x)
-there_at [] i h = absurd (omega arith)
-there_at (x ∷ xs) zero h = (x, refl)
-there_at (x ∷ xs) (suc i) h = let less : i < length xs = omega arith in there_at xs i less
 
 module _ {D : Type 0} (address : List ℕ → List ℕ) (epoch : ℤ) (lines : List Line) (old new : Parts) (shared : Shared) (spoken : Spoken) (speakers : List (Speaker D))
     (place : ℕ) (p : plain.Session) (replies : List Reply) (speaker next : Speaker D) (asked : Command) where

@@ -1,16 +1,13 @@
 -- What stands before the blanks at the end, found from the end.
-use Rattle.std.proofs.Common.{◌≡◌, ℕ, ◌<◌, ◌+◌, List, [], ◌∷◌, ◌++◌, length, get_or, take, Bool, true, false, refl, ap, ◌&&◌}
+use Rattle.std.proofs.Common.{◌≡◌, ℕ, ◌<◌, ◌+◌, List, [], ◌∷◌, ◌++◌, length, get_or, take, true, false, ap, ◌&&◌}
 use Rattle.std.specs.List.{list_all}
 use Rattle.std.proofs.lemmas.List.{take_more}
+use Rattle.basic_laws.proofs.Truths.{and_none as and_false}
 use Rattle.script_text.specs.Input.{is_blank, without_trailing}
 
 all_blank : (bytes : List ℕ) (byte : ℕ) → is_blank byte ≡ true → list_all is_blank (bytes ++ byte ∷ []) ≡ list_all is_blank bytes
 all_blank [] byte blank = rw blank
 all_blank (first ∷ bytes) byte blank = ap (λ more. is_blank first && more) (all_blank bytes byte blank)
-
-and_false : (b : Bool) → (b && false) ≡ false
-and_false true = refl
-and_false false = refl
 
 all_other : (bytes : List ℕ) (byte : ℕ) → is_blank byte ≡ false → list_all is_blank (bytes ++ byte ∷ []) ≡ false
 all_other [] byte other = rw other

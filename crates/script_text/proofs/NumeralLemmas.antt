@@ -1,5 +1,5 @@
 -- What a parse of digits gives.
-use Rattle.std.proofs.Common.{◌≡◌, refl, sym, ◌∙◌, ap, ℕ, ◌<◌, Bool, true, false, ◌&&◌, nat_lt, List, [], ◌∷◌, length, Some, None, Result, Ok, Err, arith, if◌then◌else◌}
+use Rattle.std.proofs.Common.{◌≡◌, refl, sym, ◌∙◌, ap, ℕ, ◌<◌, true, false, ◌&&◌, nat_lt, List, [], ◌∷◌, length, Some, None, Result, Ok, Err, arith, if◌then◌else◌}
 use Rattle.std.specs.Prelude.{◌^◌}
 use Rattle.std.specs.Char.{is_ascii_digit}
 use Rattle.std.specs.List.{list_all}
@@ -8,11 +8,8 @@ use Rattle.std.specs.Str.{all_ascii_digits}
 use Rattle.std.specs.Str.Parse.{ParsesUnsigned, digits_value}
 use Rattle.std.proofs.lemmas.Bool.Decides.{nat_tests}
 use Rattle.std.proofs.lemmas.Str.Parse.{numerals_by_value, parse_digits, tells_all_ascii_digits}
+use Rattle.basic_laws.proofs.Truths.{left_so as first_holds}
 use Rattle.script_text.specs.Numerals.{is_numeral, number}
-
-first_holds : (a b : Bool) → (a && b) ≡ true → a ≡ true
-first_holds true b h = refl
-first_holds false b h = absurd (cc)
 
 same_test : (text : List ℕ) → all_ascii_digits text ≡ list_all is_ascii_digit text
 same_test [] = refl

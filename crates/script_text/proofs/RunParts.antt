@@ -7,7 +7,7 @@ use Rattle.std.proofs.lemmas.Bool.{and_parts, cases_order, false≢true, ne_eqb}
 use Rattle.std.proofs.lemmas.List.{append_cancel_left}
 use Rattle.std.proofs.lemmas.Map.Keys.{apart_from_distinct}
 use Rattle.std.proofs.lemmas.Option.{slice_get-map}
-use Rattle.std.proofs.lemmas.Slice.Eq.{bytes_eq-Decides}
+use Rattle.basic_laws.proofs.Bytes.{bytes_same as bytes_eq_same}
 use Rattle.script_text.specs.declared.outputs.RunText.{RunText}
 use Rattle.script_text.specs.declared.replies.Reply.{Reply}
 use Rattle.script_text.specs.declared.scripts.Moment.{Moment}
@@ -109,9 +109,6 @@ name_at : (names : List (List ℕ)) (place : ℕ) → list_all is_shown_name nam
 name_at [] place all = refl
 name_at (name ∷ names) zero all = (and_parts _ _ (and_parts _ _ all).0).1
 name_at (name ∷ names) (suc place) all = name_at names place (and_parts _ _ all).1
-
-pub bytes_eq_same : (a b : List ℕ) → a ≡ b → bytes_eq a b ≡ true
-bytes_eq_same a b same = grind (arith, bytes_eq-Decides a b)
 
 not_apart : (names : List (List ℕ)) (i j : ℕ) → IsDistinct bytes_eq names → i < j → j < length names → slice_index_or names i [] ≡ slice_index_or names j [] → ⊥
 not_apart names i j distinct before within same =

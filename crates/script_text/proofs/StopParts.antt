@@ -5,6 +5,7 @@ use Rattle.std.specs.List.{AllByRecursion, list_all, IsDistinct}
 use Rattle.std.specs.Str.{bytes_eq}
 use Rattle.std.proofs.lemmas.Bool.{and_from, and_parts, cond_both, false≢true, ne_eqb}
 use Rattle.std.proofs.lemmas.List.{append_cancel_left, length-map}
+use Rattle.basic_laws.proofs.Bytes.{bytes_same as bytes_eq_same}
 use Rattle.hex.specs.Hex.{encode_lower}
 use Rattle.chunk_store.specs.declared.faults.Clash.{Clash}
 use Rattle.tuple_codec.specs.AddressTexts.{address_text, letter}
@@ -18,7 +19,7 @@ use Rattle.script_text.proofs.ByteLemmas.{all_hex, all_letters, one_address, one
 use Rattle.script_text.proofs.ClashLemmas.{IsShownClash, same_clash, shown_clash}
 use Rattle.script_text.proofs.TextParts.{Stops, all_append, is_digit, until}
 use Rattle.script_text.proofs.ReplyParts.{number_part}
-use Rattle.script_text.proofs.RunParts.{at_slash, bytes_eq_same, wants_in}
+use Rattle.script_text.proofs.RunParts.{at_slash, wants_in}
 
 -- ---- what a statement met
 

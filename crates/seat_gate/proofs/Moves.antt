@@ -7,6 +7,7 @@ use mathlib.Core.Option.{some}
 use lib.ListN.{get_elem?}
 use lib.Seq.{set-get_or}
 use Rattle.std.specs.List.{AllByRecursion}
+use Rattle.std.proofs.lemmas.Bool.{false_from_ne_true as not_true}
 use Rattle.atomic_table.specs.Table.{State, Me, keeps, takes, gives, stepped, Allows}
 use Rattle.atomic_table.proofs.Lists.{set_again, set_here, one_turn}
 use Rattle.seat_gate.specs.History.{Spelling, Entry, Past, entries_of, StartsWith}
@@ -14,7 +15,7 @@ use Rattle.seat_gate.specs.Places.{drawn, served, marked, done}
 use Rattle.seat_gate.specs.Rule.{turn, waiting, PastFits, SeatFits, Rule, Ordered, Drew, Looked, Rose, Recalled}
 use Rattle.seat_gate.specs.declared.place.Place.{Place}
 use Rattle.seat_gate.proofs.HistoryLemmas.{starts_more, entries_mine, entries_other, all_map, all_join}
-use Rattle.seat_gate.proofs.PlaceLemmas.{not_true, off, inside, one_there, each_set, one_if, waiting_few, waiting_set, apart_set, past_set, past_more, one_opening, none_before}
+use Rattle.seat_gate.proofs.PlaceLemmas.{off, inside, one_there, each_set, one_if, waiting_few, waiting_set, apart_set, past_set, past_more, one_opening, none_before}
 
 -- a seat that a step of another leaves as it is
 pub carried : (opened : Spelling) (ps qs : List Place) (serving serving' keeper keeper' : ℕ) (log log' : List Entry) (j : ℕ) (p : Place)

@@ -11,10 +11,6 @@ use Rattle.seat_gate.specs.Rule.{waiting, PastFits}
 use Rattle.seat_gate.specs.declared.place.Place.{Place}
 use Rattle.seat_gate.proofs.HistoryLemmas.{starts_more, entries_other, all_map}
 
-pub not_true : (b : Bool) → (b ≡ true → ⊥) → b ≡ false
-not_true true h = absurd (h refl)
-not_true false h = refl
-
 pub off : {b : Bool} → b ≡ false → b ≡ true → ⊥
 off f t = true≢false (sym t ∙ f)
 

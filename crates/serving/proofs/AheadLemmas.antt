@@ -1,9 +1,8 @@
 -- The heads and the record of a branch once a decision is settled.
-use Rattle.std.proofs.Common.{◌≡◌, refl, ◌∙◌, sym, ap, ℕ, Bool, true, false, ◌≤◌, ◌&&◌, List, [], ◌∷◌, ◌++◌, map, drop, length, find, Some, Option, option_map, if◌then◌else◌}
+use Rattle.std.proofs.Common.{◌≡◌, refl, ◌∙◌, ap, ℕ, Bool, true, false, ◌&&◌, List, [], ◌∷◌, map, find, Some, Option, option_map, if◌then◌else◌}
 use Rattle.std.specs.Prelude.{bytes_eq}
 use Rattle.std.specs.Ordering.{nat_cmp, is_lt}
 use Rattle.std.specs.Cmp.Lexicographic.{slice_cmp}
-use Rattle.std.proofs.lemmas.List.{append-nil, drop_all}
 use Rattle.tuple_codec.specs.declared.addresses.Address.{Address}
 use Rattle.tuple_codec.specs.declared.records.BranchRecord.{BranchRecord}
 use Rattle.script_text.specs.declared.outputs.BranchLine.{BranchLine}
@@ -24,9 +23,6 @@ heads_still_rise name head [] = refl
 heads_still_rise name head (x ∷ []) = refl
 heads_still_rise name head (x ∷ y ∷ heads) =
     λ i. is_lt (slice_cmp nat_cmp (head_name name head x i) (head_name name head y i)) && heads_still_rise name head (y ∷ heads) i
-
-pub all_mapped : {A B : Type 0} (f : A → B) (done : List B) (xs : List A) (i : ℕ) → length xs ≤ i → done ++ map f (drop i xs) ≡ map f xs → done ≡ map f xs
-all_mapped f done xs i last e = sym (append-nil done) ∙ ap (λ rest. done ++ map f rest) (sym (drop_all i xs last)) ∙ e
 
 -- the heads are those of the lines with the record
 pub heads_ahead : (name : List ℕ) (rec : BranchRecord) (lines : List BranchLine) → map (with_head name rec.head) (map head_in lines) ≡ map head_in (with_record name rec lines)

@@ -15,7 +15,7 @@ use Rattle.table_root.specs.declared.heads.Look.{Look}
 use Rattle.plain_sessions.specs.CommitRule.{decide}
 use Rattle.plain_sessions.specs.Moments.{past, without_commit}
 use Rattle.plain_sessions.specs.Records.{BranchState, Shared, state_of}
-use Rattle.plain_sessions.specs.Replies.{done, refused}
+use Rattle.plain_sessions.specs.Replies.{done}
 use Rattle.plain_sessions.specs.Sessions as plain
 use Rattle.plain_sessions.specs.Sessions.{Transaction, is_changed, is_changed_since, over, taken, within}
 use Rattle.plain_sessions.specs.declared.commands.Command.TheVariants as command

@@ -3,6 +3,7 @@ use Rattle.std.proofs.Common.{◌≡◌, refl, ◌∙◌, sym, ap, subst, inl, i
 use Rattle.std.specs.Prelude.{Result}
 use Rattle.std.specs.Arc.{arc_value}
 use Rattle.std.specs.Option.{option_and_then, option_map_or}
+use Rattle.basic_laws.proofs.Options.{some_there}
 use Rattle.chunk_store.specs.Chunks.{AreNamed, Chunk, IsSingle, Lists, bytes_at}
 use Rattle.chunk_store.specs.Clashes.{IsCause}
 use Rattle.chunk_store.specs.Drafts.{DraftParts, IsNamed}
@@ -481,7 +482,7 @@ module _ {D : Type 0} (address : List ℕ → List ℕ) (epoch : ℤ) (session :
 
 -- ---- whether the session is in a transaction
 
-inside_by : (address : List ℕ → List ℕ) (draft : DraftParts) (start : Option Look) (rec : BranchRecord) (t : Option Transaction) → StartStands address draft start rec t
+pub inside_by : (address : List ℕ → List ℕ) (draft : DraftParts) (start : Option Look) (rec : BranchRecord) (t : Option Transaction) → StartStands address draft start rec t
     → is_some start ≡ is_some t
 inside_by address draft None rec None stands = refl
 inside_by address draft (Some look) rec (Some t) stands = refl
@@ -494,10 +495,6 @@ inside address session p stands = inside_by address session.draft.chunks session
 -- a session that is in this transaction is in one
 pub inside_one : (p : plain.Session) (t : Transaction) → p.transaction ≡ Some t → is_in_transaction p ≡ true
 inside_one p t transaction = ap (λ (o : Option Transaction). is_some o) transaction
-
-pub some_there : (o : Option Transaction) → is_some o ≡ true → (t : Transaction) × (o ≡ Some t)
-some_there (Some t) is = (t, refl)
-some_there None is = absurd (cc)
 
 pub none_there : (o : Option Transaction) → is_some o ≡ false → o ≡ None
 none_there None is = refl

@@ -2,10 +2,7 @@
 use Rattle.std.proofs.Common.{◌≡◌, refl, ◌∙◌, sym, ap, subst, ℕ, ◌+◌, Bool, true, false, not, ◌&&◌, ◌||◌, List, Option, Some, None, IfSome, is_some, slice_get, if◌then◌else◌}
 use Rattle.std.specs.Option.{option_and_then}
 use Rattle.chunk_store.specs.Chunks.{Chunk, Lists}
-use Rattle.chunk_store.specs.Drafts.{DraftParts}
 use Rattle.chunk_store.specs.declared.faults.PutFault.{PutFault}
-use Rattle.tuple_codec.specs.declared.records.BranchRecord.{BranchRecord}
-use Rattle.table_root.specs.declared.heads.Look.{Look}
 use Rattle.script_text.specs.Output.{shortage}
 use Rattle.script_text.specs.declared.replies.Reply.{Reply}
 use Rattle.script_text.specs.declared.replies.Reply.TheVariants as print
@@ -22,7 +19,6 @@ use Rattle.plain_sessions.specs.declared.commands.Work.TheVariants as work
 use Rattle.sql_procedures.specs.declared.requests.CheckoutRequest.{CheckoutRequest}
 use Rattle.sql_procedures.specs.declared.requests.MergeRequest.TheVariants as merging
 use Rattle.session_laws.specs.Changes.{Parts}
-use Rattle.session_laws.specs.Transactions.{StartStands}
 use Rattle.session_state.specs.Standing.{IsInTransaction, SessionStands}
 use Rattle.session_state.specs.declared.sessions.Place.TheVariants as place
 use Rattle.session_state.specs.declared.sessions.Session.{Session}
@@ -33,6 +29,7 @@ use Rattle.serving.specs.Serving.{Fails, IsBefore, PassesAlone}
 use Rattle.serving.specs.Steps.{IsStillAt, fault_reply, number_at}
 use Rattle.serving.proofs.AloneLemmas.{alone_before, still_alone}
 use Rattle.serving.proofs.AnswerLemmas.{same_number}
+use Rattle.serving.proofs.ClosingLemmas.{inside_by as started_by}
 
 -- ---- the session goes on
 
@@ -147,13 +144,6 @@ checkout_alone address session asked request is (Some reply) said = λ p stands.
     subst (λ (one : Command). AnswersAlone address p one session reply) (sym is) (checkout_refused address p session request reply said.0 (said.1 p stands) stands)
 
 -- ---- the transaction in which a session is
-
-started_by : (address : List ℕ → List ℕ) (draft : DraftParts) (start : Option Look) (rec : BranchRecord) (held : Option Transaction) → StartStands address draft start rec held
-    → is_some start ≡ is_some held
-started_by address draft None rec None stands = refl
-started_by address draft (Some look) rec (Some t) stands = refl
-started_by address draft None rec (Some t) stands = absurd stands
-started_by address draft (Some look) rec None stands = absurd stands
 
 module _ {D : Type 0} (address : List ℕ → List ℕ) (session : Session D) (p : plain.Session) (stands : SessionStands address session p) where
   pub started_is : is_some session.start ≡ is_in_transaction p

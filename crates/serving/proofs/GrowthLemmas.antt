@@ -1,10 +1,11 @@
 -- A decision is the same where more commits are known, as it looks up no others than those that its change names.
-use Rattle.std.proofs.Common.{◌≡◌, refl, ◌∙◌, sym, ap, subst, ℕ, ℤ, suc, ◌<◌, ◌≤◌, Bool, true, false, cond, ltb, not, List, [], ◌∷◌, map, Option, Some, None, Ok, Err, is_some, arith, bytes_eq, find, option_map}
+use Rattle.std.proofs.Common.{◌≡◌, refl, ◌∙◌, sym, ap, subst, ℕ, ℤ, suc, ◌<◌, Bool, true, false, cond, not, List, [], ◌∷◌, map, Option, Some, None, Ok, Err, is_some, arith, bytes_eq, find, option_map}
 use Rattle.std.specs.List.{list_all}
 use Rattle.std.specs.Option.{option_to_list}
 use Rattle.std.specs.Cmp.Lexicographic.{bytes_decides, pointwise, pointwise_decides}
-use Rattle.std.proofs.lemmas.Bool.{ltb-true, ltb-false}
 use Rattle.std.proofs.lemmas.Option.{cond_some, same_Some}
+use Rattle.basic_laws.proofs.Options.{some_there as what_is_known}
+use Rattle.basic_laws.proofs.Numbers.{at_least as no_less}
 use Rattle.schema_model.specs.PlainCommits.{AreGrown, Commits, IsGrown, PlainCommit, commit_address, greatest, height_in, height_of, is_known, with_commit}
 use Rattle.schema_model.specs.PlainTables.{PlainDatabase}
 use Rattle.tuple_codec.specs.declared.records.BranchRecord.{BranchRecord}
@@ -25,7 +26,6 @@ use Rattle.session_laws.specs.Changes.{BranchStands, Paired, Parts, StateStands}
 use Rattle.session_laws.specs.Commits.{AreAmong}
 use Rattle.session_laws.specs.Laws.{CommitsFollow, RecordsFollow, StatesFollow}
 use Rattle.session_laws.specs.Records.{RecordStands}
-use Rattle.session_laws.proofs.CommitLemmas.{what_is_known}
 use Rattle.table_root.specs.declared.heads.Look.{Look}
 use Rattle.session_state.specs.Standing.{SessionStands}
 use Rattle.session_state.specs.declared.sessions.Session.{Session}
@@ -96,10 +96,6 @@ module _ (some others : Commits) (among : AreAmong some others) where
     closed_kept (Joining database other message) known = joining_kept database other message (not (is_same_state present t.start)) known
 
 -- ---- what a plan's change names is known before it
-
-no_less : (b : Bool) (n g : ℕ) → ltb g n ≡ b → (n ≤ cond b n g) × (g ≤ cond b n g)
-no_less true n g e = (omega arith, omega (arith, ltb-true g n e))
-no_less false n g e = (ltb-false g n e, omega arith)
 
 -- a commit that is among those known is known beforehand where it is lower than the one that came
 module _ (base : Commits) (k : List ℕ) (commit : PlainCommit) where

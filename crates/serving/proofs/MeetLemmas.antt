@@ -1,7 +1,7 @@
 -- A statement that needs a moment: what its waiting tells, what its first moment comes to, and where its session goes then.
 use Rattle.std.proofs.Common.{◌≡◌, refl, ◌∙◌, sym, ap, subst, ℕ, ◌+◌, ℤ, Bool, true, false, List, Option, Some, None, Ok, Err, IfOk, IfErr, option_map, slice_get, if◌then◌else◌}
 use Rattle.std.specs.Prelude.{Result}
-use Rattle.std.specs.Option.{option_map_or}
+use Rattle.basic_laws.proofs.Options.{none_mapped}
 use Rattle.chunk_store.specs.Chunks.{Lists}
 use Rattle.chunk_store.specs.declared.faults.PutFault.{PutFault}
 use Rattle.expr_eval.specs.Binding.{Outcome, and_then}
@@ -30,7 +30,7 @@ use Rattle.plain_sessions.specs.Records.{BranchState, Shared}
 use Rattle.plain_sessions.specs.Replies.{done, refused}
 use Rattle.plain_sessions.specs.Runs.{awaiting}
 use Rattle.plain_sessions.specs.Sessions as plain
-use Rattle.plain_sessions.specs.Sessions.{Before, Place, Said, Transaction, is_before_statement, is_changed, is_changed_since, over, own_root, with_variable}
+use Rattle.plain_sessions.specs.Sessions.{Before, Place, Said, Transaction, is_before_statement, is_changed, over, own_root, with_variable}
 use Rattle.plain_sessions.specs.Statements.{changed, or_of_rows, resolve_worked, staged, worked, write_worked}
 use Rattle.plain_sessions.specs.SystemTables as system
 use Rattle.plain_sessions.specs.SystemTables.{delete_by, delete_conflicts, delete_violations, known}
@@ -57,25 +57,15 @@ use Rattle.serving.specs.declared.meeting.Pending.TheVariants as pending
 use Rattle.serving.proofs.AnswerLemmas.{same_number, short_alone, went_of}
 use Rattle.serving.proofs.BranchLemmas.{gone_on, next_stands}
 use Rattle.serving.proofs.StateLemmas.{stands_noted}
+use Rattle.serving.proofs.BeginLemmas.{changed_open as open_of}
 
 -- ---- what waits for a moment
-
-none_mapped : {A B : Type 0} (f : A → B) (o : Option A) → option_map f o ≡ None → o ≡ None
-none_mapped f None is = refl
-none_mapped f (Some a) is = absurd (cc)
 
 -- before a statement it is the statement itself that waits
 pub waits_by : (answer : Option Shortage) (p : plain.Session) (asked : Command) → p.place ≡ Before → alone answer p asked ≡ None → alone_by answer p asked ≡ None
 waits_by answer p asked before waits =
     none_mapped (past p.statement) (alone_by answer p asked)
     (sym (ap (λ (at : Place). option_map (past p.statement) (if is_before_statement at then alone_by answer p asked else None)) before) ∙ waits)
-
--- what has changed is open
-open_of : (p : plain.Session) → is_changed p ≡ true → (t : Transaction) × (p.transaction ≡ Some t)
-open_of p changed = by p.transaction changed where
-  by : (o : Option Transaction) → option_map_or is_changed_since o false ≡ true → (t : Transaction) × (o ≡ Some t)
-  by None is = absurd (cc)
-  by (Some t) is = (t, refl)
 
 ends_waiting : (test : Bool) (said : Said) → ◌≡◌ {A = Option Said} (if test then None else Some said) None → test ≡ true
 ends_waiting true said is = refl

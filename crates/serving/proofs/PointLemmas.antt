@@ -1,9 +1,8 @@
 -- What names a branch or a commit in a call has the form of a branch's name.
-use Rattle.std.proofs.Common.{◌≡◌, ◌≢◌, refl, ◌∙◌, sym, subst, ap, ℕ, Bool, true, false, not, ◌&&◌, ◌||◌, ◌==◌, nat_le, List, [], ◌∷◌, length, Option, Some, None, if◌then◌else◌}
-use Rattle.std.specs.Char.{is_ascii_alphanumeric}
+use Rattle.std.proofs.Common.{◌≡◌, ◌≢◌, refl, ◌∙◌, sym, ap, ℕ, Bool, true, false, not, ◌&&◌, ◌||◌, ◌==◌, nat_le, List, [], ◌∷◌, length, Some, None, if◌then◌else◌}
 use Rattle.std.specs.List.{list_all}
-use Rattle.std.proofs.lemmas.Bool.{and_parts}
-use Rattle.run_laws.proofs.ListLemmas.{all_weaker}
+use Rattle.std.proofs.lemmas.Bool.{and_parts, and_from as both_true}
+use Rattle.basic_laws.proofs.Lists.{all_weaker}
 use Rattle.sql_procedures.specs.Arguments as call
 use Rattle.sql_procedures.specs.Arguments.{begins_with_minus, is_point}
 use Rattle.table_root.specs.Names.{begins_well, is_branch_name, is_name_byte, name_of}
@@ -31,10 +30,6 @@ same_byte byte =
 begins : (bytes : List ℕ) → nat_le 1 (length bytes) ≡ true → not (begins_with_minus bytes) ≡ true → begins_well bytes ≡ true
 begins [] some plain = absurd (cc)
 begins (byte ∷ bytes) some plain = plain
-
-both_true : (a b : Bool) → a ≡ true → b ≡ true → a && b ≡ true
-both_true true b p q = q
-both_true false b p q = p
 
 pub point_is_name : (bytes : List ℕ) → is_point bytes ≡ true → is_branch_name bytes ≡ true
 point_is_name bytes is =

@@ -1,7 +1,8 @@
 -- The shared state before a statement, what is looked at, and what other chunks and moments leave of it.
-use Rattle.std.proofs.Common.{◌≡◌, ◌≢◌, refl, ◌∙◌, sym, ap, subst, ℕ, suc, zero, Bool, true, false, List, [], ◌∷◌, map, Option, Some, None, option_map, is_some, slice_get, if◌then◌else◌, bytes_eq, find}
-use Rattle.std.specs.List.{list_all}
+use Rattle.std.proofs.Common.{◌≡◌, ◌≢◌, refl, ◌∙◌, sym, ap, ℕ, suc, zero, Bool, true, false, List, [], ◌∷◌, map, Option, Some, None, option_map, is_some, if◌then◌else◌, bytes_eq, find}
 use Rattle.std.proofs.lemmas.Option.{same_Some}
+use Rattle.basic_laws.proofs.Lists.{all_at}
+use Rattle.basic_laws.proofs.Options.{some_there as is_there}
 use Rattle.tuple_codec.specs.declared.records.BranchRecord.{BranchRecord}
 use Rattle.schema_model.specs.PlainCommits.{Commits}
 use Rattle.chunk_store.specs.Chunks.{Chunk}
@@ -16,17 +17,7 @@ use Rattle.session_laws.specs.Laws.{StatesFollow, head_in}
 use Rattle.session_laws.specs.Transactions.{IsLookOf}
 use Rattle.session_state.specs.declared.sessions.Session.{Session}
 use Rattle.shared_db.specs.Shared.{is_line_of, noted, record_at}
-use Rattle.run_laws.proofs.ListLemmas.{both}
 use Rattle.serving.specs.Serving.{IsBefore, IsHere}
-
-all_at : {A : Type 0} (p : A → Bool) (xs : List A) (i : ℕ) (x : A) → slice_get xs i ≡ Some x → list_all p xs ≡ true → p x ≡ true
-all_at p [] i x at all = absurd (cc)
-all_at p (y ∷ xs) zero x at all = subst (λ z. p z ≡ true) (same_Some _ _ at) (both (p y) (list_all p xs) all).0
-all_at p (y ∷ xs) (suc i) x at all = all_at p xs i x at (both (p y) (list_all p xs) all).1
-
-pub is_there : {A : Type 0} (o : Option A) → is_some o ≡ true → (a : A) × (o ≡ Some a)
-is_there None h = absurd (cc)
-is_there (Some a) h = (a, refl)
 
 -- ---- lines and the branches for which they stand
 

@@ -1,5 +1,6 @@
 -- SET autocommit where it ends a transaction that changed something.
 use Rattle.std.proofs.Common.{◌≡◌, refl, ◌∙◌, sym, ap, subst, ℕ, ℤ, Bool, true, ◌&&◌, not, List, Some, None, Ok, Err, if◌then◌else◌, bytes_eq, codes}
+use Rattle.std.proofs.lemmas.Bool.{and_parts as both}
 use Rattle.expr_eval.specs.Binding.{Outcome}
 use Rattle.sql_ast.specs.declared.statements.Setting.{Setting}
 use Rattle.script_text.specs.declared.replies.Reply.{Reply}
@@ -10,7 +11,6 @@ use Rattle.plain_sessions.specs.Replies.{done}
 use Rattle.plain_sessions.specs.Sessions as plain
 use Rattle.plain_sessions.specs.Sessions.{Transaction, Variables, is_autocommit, is_changed, over, with_variable}
 use Rattle.plain_sessions.specs.declared.commands.Command.TheVariants as command
-use Rattle.run_laws.proofs.ListLemmas.{both}
 use Rattle.session_laws.specs.Changes.{Parts}
 use Rattle.session_state.specs.Standing.{SessionStands}
 use Rattle.session_state.specs.declared.sessions.Session.{Session}

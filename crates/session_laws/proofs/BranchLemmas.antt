@@ -8,6 +8,7 @@ use Rattle.std.specs.declared.cmp.Ordering.TheVariants.{Less, Equal, Greater}
 use Rattle.std.specs.Cmp.Lexicographic.{slice_cmp, bytes_decides}
 use Rattle.std.proofs.lemmas.Cmp.{nat_list_cmp_total}
 use Rattle.std.proofs.lemmas.Map.Text.{is_eq-slice_cmp}
+use Rattle.basic_laws.proofs.Orderings.{less_is}
 use Rattle.schema_model.specs.PlainTables.{rises}
 use Rattle.plain_sql.specs.Lists.{in_order, placed}
 use Rattle.plain_writes.proofs.InsertionLemmas.{two, clash, left_so, right_so, placed_stop, placed_past}
@@ -17,11 +18,6 @@ use Rattle.plain_sessions.specs.Records.{Branch, BranchState, branch_cmp, is_bra
 
 abbrev before : Branch → Branch → Bool
 before a b = is_lt (branch_cmp a b)
-
-less_is : (o : Ordering) → is_lt o ≡ true → o ≡ Less
-less_is Less e = refl
-less_is Equal e = cc
-less_is Greater e = cc
 
 before_again : (x y z : Branch) → before x y ≡ true → before y z ≡ true → before x z ≡ true
 before_again x y z first second =

@@ -5,6 +5,7 @@ use Rattle.std.specs.List.{list_all}
 use Rattle.std.specs.Cmp.Lexicographic.{bytes_decides, pointwise_decides}
 use Rattle.std.proofs.lemmas.Bool.Decides.{Decides-and, Decides-eqb, Decides-int_eq}
 use Rattle.std.proofs.lemmas.Option.{cond_some, same_Some}
+use Rattle.basic_laws.proofs.Options.{some_there as what_is_known}
 use Rattle.schema_model.specs.Limits.{is_database_within_limits}
 use Rattle.schema_model.specs.PlainCommits.{AreGrown, Commits, IsAncestor, IsAncestorBy, IsGrown, PlainCommit, commit_address, has_address, is_known, parents_in, parents_of, plain_commit_bytes, with_commit}
 use Rattle.schema_model.specs.Sameness.{SamenessIsEquality}
@@ -22,10 +23,6 @@ use Rattle.session_laws.specs.Commits.{AreAmong, CommitsAreThere, HasNoCommit}
 use Rattle.session_laws.specs.Laws.{CommitsFollow}
 
 -- ---- what is known
-
-pub what_is_known : (o : Option PlainCommit) → is_some o ≡ true → (commit : PlainCommit) × (o ≡ Some commit)
-what_is_known None known = cc
-what_is_known (Some commit) known = (commit, refl)
 
 pub known_among : (commits others : Commits) → AreAmong commits others → (k : List ℕ) → is_known commits k ≡ true → is_known others k ≡ true
 known_among commits others among k known =

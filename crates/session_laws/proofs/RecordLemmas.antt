@@ -7,6 +7,7 @@ use Rattle.std.specs.Cmp.Lexicographic.{bytes_decides}
 use Rattle.std.proofs.lemmas.Bool.Decides.{Decides-and, Decides-like}
 use Rattle.tuple_codec.specs.declared.addresses.Address.{Address}
 use Rattle.tuple_codec.specs.declared.records.BranchRecord.{BranchRecord}
+use Rattle.tuple_codec.proofs.FieldLemmas.{address_is as address_equal}
 use Rattle.schema_model.specs.PlainCommits.{Commits, is_known}
 use Rattle.schema_model.specs.PlainTables.{PlainDatabase}
 use Rattle.schema_model.specs.Sameness.{SamenessIsEquality, is_same_option}
@@ -25,11 +26,6 @@ state_equal a b head working staged merging =
     ∙ ap (λ x. record { head = b.head; working = x; staged = a.staged; merging = a.merging }) working
     ∙ ap (λ x. record { head = b.head; working = b.working; staged = x; merging = a.merging }) staged
     ∙ ap (λ x. record { head = b.head; working = b.working; staged = b.staged; merging = x }) merging
-
-address_equal : (a b : Address) → a.0 ≡ b.0 → a ≡ b
-address_equal a b same = ap address_of same where
-  address_of : List ℕ → Address
-  address_of bytes = record { 0 = bytes }
 
 record_equal : (a b : BranchRecord) → a.head ≡ b.head → a.working ≡ b.working → a.staged ≡ b.staged → a.merging ≡ b.merging → a ≡ b
 record_equal a b head working staged merging =

@@ -45,7 +45,7 @@ line_name name rec line = by (bytes_eq line.name name) where
   by true = refl
   by false = refl
 
-lines_still_rise : (name : List ℕ) (rec : BranchRecord) (lines : List BranchLine) → lines_rise (with_record name rec lines) ≡ lines_rise lines
+pub lines_still_rise : (name : List ℕ) (rec : BranchRecord) (lines : List BranchLine) → lines_rise (with_record name rec lines) ≡ lines_rise lines
 lines_still_rise name rec [] = refl
 lines_still_rise name rec (x ∷ []) = refl
 lines_still_rise name rec (x ∷ y ∷ lines) =

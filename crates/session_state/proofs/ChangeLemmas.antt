@@ -2,6 +2,9 @@
 use Rattle.std.proofs.Common.{◌≡◌, refl, subst, sym, ◌∙◌, ap, ℕ, Bool, true, false, ◌&&◌, not, List, Option, Some, None, bytes_eq, cond}
 use Rattle.std.specs.Option.{option_eq, option_map_or}
 use Rattle.std.specs.Cmp.Lexicographic.{bytes_decides}
+use Rattle.std.proofs.lemmas.Bool.{and_parts as both, and_from as of_both}
+use Rattle.basic_laws.proofs.Bytes.{bytes_itself as itself}
+use Rattle.basic_laws.proofs.Truths.{alike_truths as one_test}
 use Rattle.tuple_codec.specs.declared.addresses.Address.{Address}
 use Rattle.tuple_codec.specs.declared.records.BranchRecord.{BranchRecord}
 use Rattle.table_root.specs.declared.heads.Look.{Look}
@@ -16,19 +19,8 @@ abbrev pub same_record : BranchRecord → BranchRecord → Bool
 same_record a b =
     bytes_eq a.head.0 b.head.0 && (bytes_eq a.working.0 b.working.0 && (bytes_eq a.staged.0 b.staged.0 && option_eq (λ x y. bytes_eq x.0 y.0) a.merging b.merging))
 
-both : (a b : Bool) → (a && b) ≡ true → (a ≡ true) × (b ≡ true)
-both true b h = (refl, h)
-both false b h = absurd (cc)
-
-of_both : (a b : Bool) → a ≡ true → b ≡ true → (a && b) ≡ true
-of_both true b h g = g
-of_both false b h g = absurd (cc)
-
 address_by : (a b : Address) → bytes_eq a.0 b.0 ≡ true → a ≡ b
 address_by a b h = ap (λ (bytes : List ℕ). let k : Address = (record { 0 = bytes }) in k) ((bytes_decides a.0 b.0).0 h)
-
-itself : (bytes : List ℕ) → bytes_eq bytes bytes ≡ true
-itself bytes = (bytes_decides bytes bytes).1 refl
 
 merging_by : (a b : Option Address) → option_eq (λ x y. bytes_eq x.0 y.0) a b ≡ true → a ≡ b
 merging_by None None h = refl
@@ -59,12 +51,6 @@ record_itself a =
 
 pub record_told : (a b : BranchRecord) → a ≡ b → same_record a b ≡ true
 record_told a b h = subst (λ (other : BranchRecord). same_record a other ≡ true) h (record_itself a)
-
--- tests of two things that come to the same are the same
-one_test : (a b : Bool) → (a ≡ true → b ≡ true) → (b ≡ true → a ≡ true) → a ≡ b
-one_test true b h g = sym (h refl)
-one_test false true h g = g refl
-one_test false false h g = refl
 
 changed_in : (address : List ℕ → List ℕ) (draft : DraftParts) (look : Look) (own : BranchRecord) (t : Transaction) → RecordsFollow → TransactionStands address draft look own t
     → not (same_record look.rec own) ≡ is_changed_since t

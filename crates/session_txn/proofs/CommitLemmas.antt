@@ -67,12 +67,12 @@ module _ (laws : ChunksFollow) where
       let back : Lists (store ++ sealed) (store ++ own) = joined_lists store sealed own only in
       same_found (store ++ own) (store ++ sealed) single (single_fewer (store ++ sealed) (store ++ own) back single) there back
 
-of_kind : (kind : List ℕ → Bool) (cs : List Chunk) (k bytes : List ℕ) → AreOfKind kind cs → Listed cs k bytes → kind bytes ≡ true
+pub of_kind : (kind : List ℕ → Bool) (cs : List Chunk) (k bytes : List ℕ) → AreOfKind kind cs → Listed cs k bytes → kind bytes ≡ true
 of_kind kind [] k bytes all listed = absurd listed
 of_kind kind (c ∷ cs) k bytes all (inl is) = ap kind (sym is.1) ∙ all.0
 of_kind kind (c ∷ cs) k bytes all (inr listed) = of_kind kind cs k bytes all.1 listed
 
-data_apart : (bytes : List ℕ) → is_data bytes ≡ true → is_commit bytes ≡ true → ⊥
+pub data_apart : (bytes : List ℕ) → is_data bytes ≡ true → is_commit bytes ≡ true → ⊥
 data_apart [] h is = absurd (cc)
 data_apart (byte ∷ bytes) h is =
     let five : byte ≡ 5 = grind (arith, nat_tests) in
@@ -95,14 +95,14 @@ abbrev ok_or : {A : Type 0} → Outcome A → A → A
 ok_or (Ok a) other = a
 ok_or (Err number) other = other
 
-ok_same : {A : Type 0} (a b : A) → ◌≡◌ {A = Outcome A} (Ok a) (Ok b) → a ≡ b
+pub ok_same : {A : Type 0} (a b : A) → ◌≡◌ {A = Outcome A} (Ok a) (Ok b) → a ≡ b
 ok_same a b e = ap (λ o. ok_or o a) e
 
-gives : {A B : Type 0} (P : Type 0) (x : Outcome A) (f : A → Outcome B) (y : B) → and_then x f ≡ Ok y → ((a : A) → x ≡ Ok a → f a ≡ Ok y → P) → P
+pub gives : {A B : Type 0} (P : Type 0) (x : Outcome A) (f : A → Outcome B) (y : B) → and_then x f ≡ Ok y → ((a : A) → x ≡ Ok a → f a ≡ Ok y → P) → P
 gives P (Ok a) f y is next = next a refl is
 gives P (Err number) f y is next = absurd (cc)
 
-past_unless : {A : Type 0} (wrong : Bool) (number : ℕ) (next : Outcome A) (y : A) → unless wrong number next ≡ Ok y → next ≡ Ok y
+pub past_unless : {A : Type 0} (wrong : Bool) (number : ℕ) (next : Outcome A) (y : A) → unless wrong number next ≡ Ok y → next ≡ Ok y
 past_unless true number next y is = absurd (cc)
 past_unless false number next y is = is
 

@@ -5,11 +5,14 @@ use Rattle.std.specs.List.{AllByRecursion, find, list_all, list_any}
 use Rattle.std.specs.Option.{option_map}
 use Rattle.std.proofs.lemmas.Bool.{and_from, and_parts}
 use Rattle.std.proofs.lemmas.List.{length-drop, take_all}
+use Rattle.basic_laws.proofs.Bytes.{bytes_itself as itself}
+use Rattle.basic_laws.proofs.Orderings.{less_is}
+use Rattle.basic_laws.proofs.Truths.{not_true}
 use Rattle.chunk_store.specs.Chunks.{Chunks}
 use Rattle.conflict_tables.specs.Conflicts as conflicts
 use Rattle.conflict_tables.specs.Conflicts.{is_among}
 use Rattle.constraint_scan.specs.Scanning.{IsKeptAt}
-use Rattle.edit_laws.proofs.Orders.{apart, greater, itself, less_is, less_trans}
+use Rattle.edit_laws.proofs.Orders.{apart, greater, less_trans}
 use Rattle.expr_eval.specs.Binding.{Outcome, and_then}
 use Rattle.plain_sessions.specs.Branching.{put_table, table_cmp, without_table}
 use Rattle.plain_sessions.specs.Merging.{Worked, Answers}
@@ -40,6 +43,7 @@ use Rattle.write_laws.proofs.OutcomeLemmas.{ok_same, then_so}
 use Rattle.session_txn.specs.Deleting.{chosen_key, chosen_keys, delete_effect, effect_on, emptied, key_if, keys_chosen, list_named, stays, turn_effect, without_violations}
 use Rattle.session_txn.specs.Writing.{written_reply}
 use Rattle.session_txn.proofs.CountLemmas.{reply_told}
+use Rattle.tree_laws.proofs.StandingOrder.{lt_trans}
 
 -- ---- keys that rise are apart
 
@@ -88,10 +92,6 @@ module _ {A B : Type 0} (f : A → Outcome (List B)) (x : A) (xs : List A) where
 
 ok_same_by : {A : Type 0} {x y : A} → x ≡ y → ◌≡◌ {A = Outcome A} (Ok x) (Ok y)
 ok_same_by e = ap Ok e
-
-not_true : (b : Bool) → not b ≡ true → b ≡ false
-not_true true h = sym h
-not_true false h = refl
 
 abbrev pub key_of : {A : Type 0} → (A → Entry) → A → List ℕ
 key_of entry x = (entry x).key
@@ -194,9 +194,6 @@ up_behind : (y : NamedTable) (ys : PlainDatabase) → rises table_cmp (y ∷ ys)
 unfolding Up
 up_behind y [] h = tt
 up_behind y (z ∷ ys) h = let parts = and_parts (is_lt (table_cmp y z)) (rises table_cmp (z ∷ ys)) h in (parts.0, up_behind z ys parts.1)
-
-lt_trans : (a b c : List ℕ) → is_lt (order a b) ≡ true → is_lt (order b c) ≡ true → is_lt (order a c) ≡ true
-lt_trans a b c p q = ap is_lt (less_trans a b c (less_is (order a b) p) (less_is (order b c) q))
 
 up_lower : (k l : List ℕ) (ys : PlainDatabase) → is_lt (order k l) ≡ true → Up l ys → Up k ys
 unfolding Up

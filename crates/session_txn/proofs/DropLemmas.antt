@@ -1,13 +1,14 @@
 -- A table without some of its violations stands, and keeps the limits.
-use Rattle.std.proofs.Common.{◌≡◌, refl, sym, ap, ◌∙◌, subst, ℕ, Bool, true, false, cond, not, nat_le, List, [], ◌∷◌, None, filter, length, map}
+use Rattle.std.proofs.Common.{◌≡◌, refl, sym, ap, ◌∙◌, subst, ℕ, Bool, true, false, cond, not, List, [], ◌∷◌, None, filter, map}
 use Rattle.std.specs.List.{list_all}
 use Rattle.std.proofs.lemmas.Bool.{and_from, and_parts}
+use Rattle.basic_laws.proofs.Lists.{all_left}
 use Rattle.chunk_store.specs.Chunks.{Chunks, Extends}
 use Rattle.chunk_store.specs.Standing.{IsTree}
 use Rattle.conflict_tables.specs.Conflicts as conflicts
 use Rattle.conflict_tables.specs.Conflicts.{is_dropped, removals}
 use Rattle.conflict_tables.proofs.DropLemmas.{edited_drops, left_rise}
-use Rattle.schema_model.specs.Limits.{is_conflict_within_limits, is_row_within_limits, is_table_within_limits, is_violation_within_limits, is_within_limits, most_rows}
+use Rattle.schema_model.specs.Limits.{is_conflict_within_limits, is_table_within_limits, is_violation_within_limits, is_within_limits}
 use Rattle.schema_model.specs.PlainTables.{IsTable, PlainTable, Violation, is_violation, violation_cmp, violation_item, violation_items}
 use Rattle.schema_model.specs.declared.schemas.Schema.{Schema}
 use Rattle.state_laws.proofs.RecordingLemmas.{violation_total}
@@ -19,16 +20,7 @@ use Rattle.tuple_codec.specs.Edits.{edited}
 use Rattle.tuple_codec.specs.Nodes.{Item}
 use Rattle.tuple_codec.specs.declared.addresses.Address.{Address}
 use Rattle.session_txn.specs.Deleting.{stays, without_entries, without_violations}
-
-all_left : {A : Type 0} (p q : A → Bool) (xs : List A) → list_all q xs ≡ true → list_all q (filter p xs) ≡ true
-all_left p q [] all = refl
-all_left p q (x ∷ xs) all =
-    let parts = and_parts (q x) (list_all q xs) all in
-    by_test (p x) parts.0 (all_left p q xs parts.1)
-  where
-    by_test : (b : Bool) → q x ≡ true → list_all q (filter p xs) ≡ true → list_all q (cond b (x ∷ filter p xs) (filter p xs)) ≡ true
-    by_test true one more = and_from _ _ one more
-    by_test false one more = more
+use Rattle.root_merge.proofs.KeptLemmas.{schema_within as within_schema}
 
 module _ (keys : List (List ℕ)) where
   abbrev is_left : Item → Bool
@@ -84,13 +76,6 @@ without_stands keys address old new more values table contents k was tree =
         violations = record { 0 = sym at.named i };
       };
     }
-
-within_schema : (table : PlainTable) → is_table_within_limits table ≡ true → is_within_limits table.schema ≡ true
-within_schema table h =
-    let a = and_parts _ (list_all (is_violation_within_limits table.schema) table.violations) h in
-    let b = and_parts _ (list_all (is_conflict_within_limits table.schema) table.conflicts) a.0 in
-    let c = and_parts _ (list_all (is_row_within_limits table.schema) table.rows) b.0 in
-    (and_parts (is_within_limits table.schema) (nat_le (length table.rows) most_rows) c.0).0
 
 -- it keeps the limits that the table kept
 pub limits_left : (which : Listed) (keys : List (List ℕ)) (table : PlainTable) → is_table_within_limits table ≡ true → is_table_within_limits (without_entries which keys table) ≡ true

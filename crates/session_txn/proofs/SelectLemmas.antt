@@ -1,8 +1,10 @@
 -- A SELECT shows what it shows of the stored tables and of the system tables that it names.
-use Rattle.std.proofs.Common.{◌≡◌, refl, sym, ◌∙◌, ap, subst, arith, nat_le, length, Some, Ok, Err, ℕ, Bool, true, false, ◌&&◌, cond, List, [], ◌∷◌, ◌++◌, map, filter}
+use Rattle.std.proofs.Common.{◌≡◌, refl, sym, ◌∙◌, ap, subst, arith, nat_le, length, Some, Ok, Err, ℕ, Bool, true, false, cond, List, [], ◌∷◌, ◌++◌, map, filter}
 use Rattle.std.proofs.lemmas.Bool.Decides.{nat_tests}
 use Rattle.std.proofs.lemmas.List.{append_assoc}
 use Rattle.std.specs.List.{list_all}
+use Rattle.std.proofs.lemmas.Bool.{and_parts as both}
+use Rattle.basic_laws.proofs.Options.{some_there as has_one}
 use Rattle.schema_model.specs.PlainTables.{PlainDatabase}
 use Rattle.sql_ast.specs.declared.selects.FromClause.{FromClause}
 use Rattle.sql_ast.specs.declared.selects.Query.{Query}
@@ -37,7 +39,7 @@ use Rattle.session_txn.specs.Answering.{AnswersAlone}
 use Rattle.session_txn.specs.Reading.{system_of}
 use Rattle.session_txn.specs.Showing.{IsDue}
 use Rattle.session_txn.proofs.AloneLemmas.{answers_due, in_place, worked_ill, worked_well}
-use Rattle.session_txn.proofs.SessionLemmas.{has_one, own_kept}
+use Rattle.session_txn.proofs.SessionLemmas.{own_kept}
 
 -- ---- system tables as answers
 
@@ -62,10 +64,6 @@ known_as t =
     ∙ ap (λ (ks : List Known). stores ++ ks) (sym (all_back (system_tables t)))
 
 -- ---- what is read
-
-both : (a b : Bool) → (a && b) ≡ true → (a ≡ true) × (b ≡ true)
-both true b h = (refl, h)
-both false b h = absurd (cc)
 
 abbrev read_of : FromClause → List NamedAnswer → List NamedAnswer
 read_of from xs = filter (λ (named : NamedAnswer). is_read from named.name) xs

@@ -1,6 +1,8 @@
 -- What a session's steps leave of it.
-use Rattle.std.proofs.Common.{◌≡◌, refl, sym, ◌∙◌, ap, subst, inl, inr, ◌⊎◌, ℕ, Bool, true, false, ◌&&◌, not, List, [], ◌∷◌, ◌++◌, Option, None, Some, Ok, Err, is_some, cond, if◌then◌else◌}
+use Rattle.std.proofs.Common.{◌≡◌, refl, sym, ◌∙◌, ap, subst, inl, inr, ◌⊎◌, ℕ, Bool, true, false, ◌&&◌, not, List, [], ◌∷◌, ◌++◌, Option, None, Some, Ok, Err, cond, if◌then◌else◌}
 use Rattle.std.specs.Option.{option_map}
+use Rattle.basic_laws.proofs.Options.{some_there as has_one}
+use Rattle.basic_laws.proofs.Truths.{not_true as kept_so}
 use Rattle.tuple_codec.specs.declared.addresses.Address.{Address}
 use Rattle.tuple_codec.specs.declared.records.BranchRecord.{BranchRecord}
 use Rattle.chunk_store.specs.Chunks.{Chunk, bytes_at}
@@ -81,11 +83,6 @@ begins address old look kept d p shared follow stands look_is here rec heads is 
 
 -- ---- in a transaction
 
--- a session in a transaction has it
-pub has_one : (found : Option Transaction) → is_some found ≡ true → (t : Transaction) × (found ≡ Some t)
-has_one None h = absurd (cc)
-has_one (Some t) h = (t, refl)
-
 -- its own tables stand, and keep the limits
 own_by : (address : List ℕ → List ℕ) (chunks : DraftParts) (start : Option Look) (own : BranchRecord) (found : Option Transaction) (t : Transaction) → found ≡ Some t
     → StartStands address chunks start own found → IsKeptAt address (chunks_of chunks) own.working.0 t.own.working
@@ -109,10 +106,6 @@ pub in_transaction : {D : Type 0} (address : List ℕ → List ℕ) (session : S
 in_transaction address session p stands inside = let found = has_one p.transaction inside in (p, found.0, stands, found.1)
 
 -- ---- COMMIT of nothing, and ROLLBACK
-
-kept_so : (b : Bool) → not b ≡ true → b ≡ false
-kept_so true h = absurd (cc)
-kept_so false h = refl
 
 end_effect : (p : plain.Session) (asked : Command) → (asked ≡ command.CommitAll) ⊎ (asked ≡ command.Rollback) → is_local p asked ≡ true → effect_alone p asked ≡ Some (over p, done)
 end_effect p asked (inl is) local =

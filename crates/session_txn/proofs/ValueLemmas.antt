@@ -1,6 +1,7 @@
 -- Expressions with the session's values in their places.
-use Rattle.std.proofs.Common.{◌≡◌, refl, sym, ◌∙◌, ap, subst, inl, inr, Some, ℕ, Bool, true, false, ◌||◌, if◌then◌else◌, List, [], ◌∷◌, map, Option, Result, Ok, Err, IfOk}
+use Rattle.std.proofs.Common.{◌≡◌, refl, sym, ◌∙◌, ap, subst, inl, inr, Some, ℕ, Bool, true, false, if◌then◌else◌, List, [], ◌∷◌, map, Option, Result, Ok, Err, IfOk}
 use Rattle.std.specs.List.{AllByRecursion}
+use Rattle.std.proofs.lemmas.Bool.{or_parts as neither}
 use Rattle.sql_ast.specs.declared.expressions.Expr.{Expr, fold-roll-Expr, out-Expr, roll-Expr}
 use Rattle.sql_ast.specs.declared.expressions.Expr.TheOpen.{Expr-F}
 use Rattle.sql_ast.specs.declared.expressions.Expr.TheVariants as e
@@ -64,10 +65,6 @@ asks x = has feature.SessionWord x
 
 abbrev IsKept : plain.Session → Expr → Type 0
 IsKept p x = asks x ≡ false → with_values p x ≡ x
-
-neither : (a b : Bool) → (a || b) ≡ false → (a ≡ false) × (b ≡ false)
-neither true b h = absurd (cc)
-neither false b h = (refl, h)
 
 -- the only part asks for none
 alone : (a : Bool) → any_of (a ∷ []) ≡ false → a ≡ false

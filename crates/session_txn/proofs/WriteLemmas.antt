@@ -1,12 +1,12 @@
 -- Statements that write, in a transaction.
-use Rattle.std.proofs.Common.{◌≡◌, refl, sym, ◌∙◌, ap, subst, inl, inr, ◌⊎◌, ℕ, Bool, true, false, List, [], ◌∷◌, ◌++◌, length, Option, None, Some, Ok, Err, bytes_eq, if◌then◌else◌, arith}
-use Rattle.std.proofs.lemmas.Bool.Decides.{nat_tests}
+use Rattle.std.proofs.Common.{◌≡◌, refl, sym, ◌∙◌, ap, subst, inl, inr, ◌⊎◌, ℕ, Bool, true, false, List, [], ◌∷◌, ◌++◌, length, Option, None, Some, Ok, Err, bytes_eq, if◌then◌else◌}
+use Rattle.basic_laws.proofs.Options.{some_there as has_one}
+use Rattle.basic_laws.proofs.Truths.{two}
 use Rattle.tuple_codec.specs.declared.addresses.Address.{Address}
 use Rattle.tuple_codec.specs.declared.records.BranchRecord.{BranchRecord}
 use Rattle.chunk_store.specs.Chunks.{Chunk, Chunks, bytes_at}
 use Rattle.chunk_store.specs.Clashes.{IsMet}
 use Rattle.chunk_store.specs.Drafts.{AreOfKind, Drafting, DraftParts, Grows, IsNamed, IsSound, Longer, chunks_of, cut_to}
-use Rattle.chunk_store.specs.Kinds.{is_commit}
 use Rattle.chunk_store.specs.Laws.{ChunksFollow, DraftsFollow, DraftsGrow}
 use Rattle.constraint_scan.specs.Scanning.{IsKeptAt}
 use Rattle.script_text.specs.Collisions.{TellsTruly}
@@ -42,8 +42,9 @@ use Rattle.session_txn.specs.Deleting.{turn_effect}
 use Rattle.session_txn.specs.Writing.{IsExcused, IsRefusedBy, Turns, written_reply}
 use Rattle.session_txn.proofs.DeleteLemmas.{IsWell, reply_turned, well_kept, write_turned}
 use Rattle.session_txn.proofs.AloneLemmas.{answers_due, answers_so, collides, starves, takes_none, worked_ill, worked_well}
-use Rattle.session_txn.proofs.SessionLemmas.{has_one, own_kept}
+use Rattle.session_txn.proofs.SessionLemmas.{own_kept}
 use Rattle.session_txn.proofs.ShowLemmas.{due_truly}
+use Rattle.session_txn.proofs.CommitLemmas.{data_apart}
 
 -- ---- the draft
 
@@ -93,10 +94,6 @@ refuses_truly address old mid (fault.Collision clash) effect reply chunks drafts
 
 -- ---- the session
 
-two : {A : Type 0} (b : Bool) → (b ≡ true → A) → (b ≡ false → A) → A
-two true f g = f refl
-two false f g = g refl
-
 found_either : (xs ys : List Chunk) (k bytes : List ℕ) → bytes_at (xs ++ ys) k ≡ Some bytes → (bytes_at xs k ≡ Some bytes) ⊎ (bytes_at ys k ≡ Some bytes)
 found_either [] ys k bytes h = inr h
 found_either (c ∷ xs) ys k bytes h = two (bytes_eq c.0 k)
@@ -114,12 +111,6 @@ of_data (c ∷ ys) k bytes all h = two (bytes_eq c.0 k)
     (λ t. let same : Some c.1 ≡ Some bytes = sym (ap (λ (b : Bool). if b then Some c.1 else bytes_at ys k) t) ∙ h in
     let is : c.1 ≡ bytes = cc in ap is_data (sym is) ∙ all.0)
     (λ t. of_data ys k bytes all.1 (sym (ap (λ (b : Bool). if b then Some c.1 else bytes_at ys k) t) ∙ h))
-
-data_apart : (bytes : List ℕ) → is_data bytes ≡ true → is_commit bytes ≡ true → ⊥
-data_apart [] h is = absurd (cc)
-data_apart (byte ∷ bytes) h is =
-    let five : byte ≡ 5 = grind (arith, nat_tests) in
-    let wrong : false ≡ true = ap (λ (n : ℕ). is_data (n ∷ bytes)) (sym five) ∙ h in absurd (cc)
 
 -- data more are no commits
 no_commit_more : (own more : List Chunk) → HasNoCommit own → AreOfKind is_data more → HasNoCommit (own ++ more)

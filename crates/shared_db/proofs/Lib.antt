@@ -1,6 +1,6 @@
 mod LineLemmas
 mod OpeningLemmas
-mod PointLemmas
+pub mod PointLemmas
 mod RequestLemmas
 mod RiseLemmas
 mod StandLemmas

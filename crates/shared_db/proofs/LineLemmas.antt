@@ -1,5 +1,5 @@
 -- Branches and members as the lines, heads and places that stand for them.
-use Rattle.std.proofs.Common.{◌≡◌, refl, ◌∙◌, sym, ap, ℕ, Bool, true, false, cond, ◌≤◌, ◌&&◌, List, [], ◌∷◌, ◌++◌, map, take, drop, length, find, Some, Option, option_map, codes}
+use Rattle.std.proofs.Common.{◌≡◌, refl, ◌∙◌, ap, ℕ, Bool, true, false, cond, ◌≤◌, ◌&&◌, List, [], ◌∷◌, ◌++◌, map, take, drop, length, find, Some, Option, option_map, codes}
 use Rattle.std.specs.Prelude.{bytes_eq}
 use Rattle.std.specs.Ordering.{nat_cmp, is_lt}
 use Rattle.std.specs.Cmp.Lexicographic.{slice_cmp}
@@ -9,6 +9,7 @@ use Rattle.script_text.specs.declared.outputs.BranchLine.{BranchLine}
 use Rattle.table_root.specs.Heads.{heads_rise}
 use Rattle.session_laws.specs.Changes.{lines_rise}
 use Rattle.session_laws.specs.Laws.{head_in, with_record}
+use Rattle.session_laws.proofs.StateLemmas.{lines_still_rise as still_rise}
 use Rattle.shared_db.specs.declared.branches.Branch.{Branch}
 use Rattle.shared_db.specs.declared.changes.Change.{Change}
 use Rattle.shared_db.specs.declared.changes.Change.TheVariants as change
@@ -41,25 +42,11 @@ pub numbers_are : (statements : List ℕ) → numbers_of (map on_main statements
 numbers_are [] = refl
 numbers_are (n ∷ statements) = ap (λ l. n ∷ l) (numbers_are statements)
 
-line_name : (name : List ℕ) (rec : BranchRecord) (line : BranchLine) → (cond (bytes_eq line.name name) (record { name = line.name; rec = rec }) line).name ≡ line.name
-line_name name rec line = by (bytes_eq line.name name) where
-  by : (t : Bool) → (cond t (record { name = line.name; rec = rec }) line).name ≡ line.name
-  by true = refl
-  by false = refl
-
-still_rise : (name : List ℕ) (rec : BranchRecord) (lines : List BranchLine) → lines_rise (with_record name rec lines) ≡ lines_rise lines
-still_rise name rec [] = refl
-still_rise name rec (x ∷ []) = refl
-still_rise name rec (x ∷ y ∷ lines) = λ i. is_lt (slice_cmp nat_cmp (line_name name rec x i) (line_name name rec y i)) && still_rise name rec (y ∷ lines) i
-
 pub changed_rise : (name : List ℕ) (change : Change) (lines : List BranchLine) → lines_rise (changed_lines name change lines) ≡ lines_rise lines
 changed_rise name change.Nothing lines = refl
 changed_rise name (change.Record rec) lines = still_rise name rec lines
 
 -- ---- what loops come to at their ends
-
-pub all_done : {A B : Type 0} (f : A → B) (done : List B) (xs : List A) (i : ℕ) → length xs ≤ i → done ++ map f (drop i xs) ≡ map f xs → done ≡ map f xs
-all_done f done xs i last e = sym (append-nil done) ∙ ap (λ rest. done ++ map f rest) (sym (drop_all i xs last)) ∙ e
 
 pub all_written : {A : Type 0} (f : A → A) (ys xs : List A) (i : ℕ) → length xs ≤ i → ys ≡ map f (take i xs) ++ drop i xs → ys ≡ map f xs
 all_written f ys xs i last e = e ∙ ap (λ rest. map f (take i xs) ++ rest) (drop_all i xs last) ∙ append-nil (map f (take i xs)) ∙ ap (map f) (take_all i xs last)

@@ -14,6 +14,7 @@ use Rattle.chunk_store.specs.Standing.{IsThere}
 use Rattle.chunk_store.specs.Stores.{IsSealed, IsUnion}
 use Rattle.chunk_store.specs.declared.faults.PutFault.{PutFault}
 use Rattle.chunk_store.specs.declared.faults.PutFault.TheVariants.{Memory, Collision}
+use Rattle.chunk_store.proofs.ChunkLemmas.{one_at as one_found}
 use Rattle.commit_graph.specs.Commits.{is_commit_found}
 use Rattle.plain_sessions.specs.Records.{first_commit, opening}
 use Rattle.plain_sessions.specs.StateLimits.{is_date}
@@ -42,14 +43,6 @@ no_collision old brought Memory none cause = refl
 no_collision old brought (Collision clash) none cause =
     let held : None ≡ Some clash.first = sym (ap (λ (d : DraftParts). chunks_of d clash.address.0) none) ∙ cause.is_held in
     absurd (cc)
-
--- one chunk alone is found under its address
-one_found : (k bytes at found : List ℕ) → bytes_at ((k, bytes) ∷ []) at ≡ Some found → (k ≡ at) × (bytes ≡ found)
-one_found k bytes at found h =
-    elim (bytes_eq k at) as (λ test. bytes_eq k at ≡ test → cond test (Some bytes) None ≡ Some found → (k ≡ at) × (bytes ≡ found)) [
-      | true ↦ λ test e. let same : bytes ≡ found = cc in ((bytes_decides k at).0 test, same)
-      | false ↦ λ test e. absurd (cc)
-    ] refl h
 
 module _ (address : List ℕ → List ℕ) (epoch : ℤ) where
   abbrev first : List ℕ

@@ -45,7 +45,7 @@ small (a ∷ b ∷ c ∷ d ∷ e ∷ f ∷ []) i = omega arith
 small (a ∷ b ∷ c ∷ d ∷ e ∷ f ∷ g ∷ []) i = omega arith
 small (a ∷ b ∷ c ∷ d ∷ e ∷ f ∷ g ∷ h ∷ rest) i = small_five (number_of_eight (a ∷ b ∷ c ∷ d ∷ e ∷ f ∷ g ∷ h ∷ [])) (address_bytes rest) (small rest) i
 
-bytes_length : (k : ℕ) (xs : List ℕ) → length xs ≡ 8 * k → length (address_bytes xs) ≡ 5 * k
+pub bytes_length : (k : ℕ) (xs : List ℕ) → length xs ≡ 8 * k → length (address_bytes xs) ≡ 5 * k
 bytes_length zero [] e = refl
 bytes_length zero (a ∷ xs) e = absurd (omega arith)
 bytes_length (suc k) [] e = absurd (omega arith)
@@ -59,7 +59,7 @@ bytes_length (suc k) (a ∷ b ∷ c ∷ d ∷ e' ∷ f ∷ g ∷ []) e = absurd 
 bytes_length (suc k) (a ∷ b ∷ c ∷ d ∷ e' ∷ f ∷ g ∷ h ∷ rest) e = let more : length (address_bytes rest) ≡ 5 * k = bytes_length k rest (omega arith) in omega (arith, more)
 
 -- the bytes of an address's text are the address
-read_back : (a name : List ℕ) → IsAddress a → address_text a ≡ name → address_bytes name ≡ a
+pub read_back : (a name : List ℕ) → IsAddress a → address_text a ≡ name → address_bytes name ≡ a
 read_back a name is e =
     let long : length name ≡ 8 * 4 = ap length (sym e) ∙ text_length a is in
     one_text (address_bytes name) a (bytes_length 4 name long, small name) is (one_address a name is e ∙ sym e)

@@ -1,23 +1,13 @@
 -- Lists that rise: one item more in its place, and some items left out.
-use Rattle.std.proofs.Common.{◌≡◌, refl, sym, ap, ◌∙◌, ℕ, suc, ◌≤◌, Bool, true, false, cond, not, ◌&&◌, ◌||◌, List, [], ◌∷◌, filter, fold, length, is_some, find, Option, Some, None, arith}
+use Rattle.std.proofs.Common.{◌≡◌, refl, sym, ap, ◌∙◌, ℕ, suc, Bool, true, false, cond, not, ◌&&◌, ◌||◌, List, [], ◌∷◌, filter, fold, is_some, find, Option, Some, None}
 use Rattle.std.specs.Cmp.{IsTotalOrder}
 use Rattle.std.specs.List.{AllByRecursion, list_any}
-use Rattle.std.specs.Ordering.{is_lt, is_eq, ordering_reverse}
+use Rattle.std.specs.Ordering.{is_lt, is_eq}
 use Rattle.std.specs.declared.cmp.Ordering.{Ordering}
-use Rattle.std.specs.declared.cmp.Ordering.TheVariants.{Less, Equal, Greater}
+use Rattle.basic_laws.proofs.Orderings.{less_is, own_reverse as not_less}
 use Rattle.schema_model.specs.PlainTables.{rises}
 use Rattle.plain_sql.specs.Lists.{has, in_order, placed}
 use Rattle.plain_writes.proofs.InsertionLemmas.{both_so, clash, left_not, left_so, placed_past, placed_stop, right_not, right_so, turned, two}
-
-less_is : (o : Ordering) → is_lt o ≡ true → o ≡ Less
-less_is Less e = refl
-less_is Equal e = cc
-less_is Greater e = cc
-
-not_less : (o : Ordering) → o ≡ ordering_reverse o → is_lt o ≡ false
-not_less Less e = cc
-not_less Equal e = refl
-not_less Greater e = refl
 
 pub found_any : {A : Type 0} (p : A → Bool) (xs : List A) → is_some (find p xs) ≡ list_any p xs
 found_any p [] = refl
@@ -98,10 +88,3 @@ module _ {A : Type 0} (compare : A → A → Ordering) (total : IsTotalOrder com
     by : (t : Bool) → Below y (filter p ys) → rises compare (filter p ys) ≡ true → rises compare (cond t (y ∷ filter p ys) (filter p ys)) ≡ true
     by true below rest = rises_on y (filter p ys) below rest
     by false below rest = rest
-
-pub fewer_few : {A : Type 0} (p : A → Bool) (ys : List A) → length (filter p ys) ≤ length ys
-fewer_few p [] = omega arith
-fewer_few p (y ∷ ys) = by (p y) (fewer_few p ys) where
-  by : (t : Bool) → length (filter p ys) ≤ length ys → length (cond t (y ∷ filter p ys) (filter p ys)) ≤ suc (length ys)
-  by true rest = omega (arith, rest)
-  by false rest = omega (arith, rest)

@@ -8,6 +8,8 @@ use Rattle.std.specs.Cmp.Lexicographic.{bytes_decides, slice_cmp}
 use Rattle.std.proofs.lemmas.Bool.{leb-false, leb-true}
 use Rattle.std.proofs.lemmas.Cmp.{nat_list_cmp_total, on_total}
 use Rattle.std.proofs.lemmas.Map.Text.{is_eq-slice_cmp}
+use Rattle.basic_laws.proofs.Lists.{filter_few as fewer_few}
+use Rattle.basic_laws.proofs.Bytes.{bytes_turned as same_test}
 use Rattle.tuple_codec.specs.declared.records.BranchRecord.{BranchRecord}
 use Rattle.schema_model.specs.Limits.{most_branches}
 use Rattle.schema_model.specs.PlainCommits.{Commits, is_known}
@@ -28,18 +30,13 @@ use Rattle.shared_db.specs.Shared.{is_line_of, record_at}
 use Rattle.shared_db.specs.Stepping.{Ends, IsCleanAt, head_or_named, line_cmp, making, number_of, removing, without_line}
 use Rattle.shared_db.specs.declared.changes.BranchReply.{BranchReply}
 use Rattle.shared_db.specs.declared.changes.BranchReply.TheVariants as reply
-use Rattle.shared_db.proofs.RiseLemmas.{fewer_few, fewer_rise, found_any, put_first}
+use Rattle.shared_db.proofs.RiseLemmas.{fewer_rise, found_any, put_first}
 
 line_total : IsTotalOrder line_cmp
 line_total = on_total (λ (line : BranchLine). line.name) nat_list_cmp_total
 
 branch_total : IsTotalOrder branch_cmp
 branch_total = on_total (λ (branch : Branch). branch.name) nat_list_cmp_total
-
-same_test : (a b : List ℕ) → bytes_eq a b ≡ bytes_eq b a
-same_test a b = two (bytes_eq a b)
-    (λ e. e ∙ sym ((bytes_decides b a).1 (sym ((bytes_decides a b).0 e))))
-    (λ e. two (bytes_eq b a) (λ f. clash ((bytes_decides a b).1 (sym ((bytes_decides b a).0 f))) e) (λ f. e ∙ sym f))
 
 -- ---- lines, and the branches for which they stand
 

@@ -3,6 +3,7 @@ use Rattle.std.proofs.Common.{◌≡◌, refl, sym, ◌∙◌, ap, subst, ℕ, �
 use Rattle.std.proofs.lemmas.List.{length-map}
 use Rattle.tuple_codec.specs.declared.addresses.Address.{Address}
 use Rattle.tuple_codec.specs.declared.records.BranchRecord.{BranchRecord}
+use Rattle.tuple_codec.proofs.FieldLemmas.{address_is as address_one}
 use Rattle.chunk_store.specs.Chunks.{Chunk}
 use Rattle.script_text.specs.declared.outputs.BranchLine.{BranchLine}
 use Rattle.script_text.specs.declared.scripts.Moment.{Moment}
@@ -25,9 +26,6 @@ cut (x ∷ xs) (y ∷ ys) us vs same e =
 branches_length : (lines : List BranchLine) → length (spelled_branches lines) ≡ 5 * length lines
 branches_length [] = refl
 branches_length (line ∷ lines) = let more : length (spelled_branches lines) ≡ 5 * length lines = branches_length lines in omega (arith, more)
-
-address_one : (a b : Address) → a.0 ≡ b.0 → a ≡ b
-address_one a b e = ap (λ (bytes : List ℕ). let k : Address = (record { 0 = bytes }) in k) e
 
 merging_one : (a b : Option Address) → spelled_merging a ≡ spelled_merging b → a ≡ b
 merging_one None None e = refl

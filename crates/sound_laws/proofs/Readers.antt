@@ -87,7 +87,7 @@ is_minus_false s t other is minus = false≢true (sym other ∙ ap (is_sign s) (
 is_keyword_false : (w : Keyword) (t : Piece) → is_keyword w t ≡ true → IsMinus t → ⊥
 is_keyword_false w t is minus = false≢true (ap (is_keyword w) (sym minus) ∙ is)
 
-is_word_false : (n : List ℕ) (t : Piece) → is_word n t ≡ true → IsMinus t → ⊥
+pub is_word_false : (n : List ℕ) (t : Piece) → is_word n t ≡ true → IsMinus t → ⊥
 is_word_false n t is minus = false≢true (ap (is_word n) (sym minus) ∙ is)
 
 -- a reader of the next piece by a test that no minus passes

@@ -11,7 +11,7 @@ use Rattle.sql_grammar.specs.Pieces.{is_sign, same_sign}
 use Rattle.sql_grammar.specs.Reading.{Outcome}
 use Rattle.tuple_codec.specs.Texts.{is_utf8}
 use Rattle.canonical_laws.specs.Written.{is_given}
-use Rattle.sound_laws.proofs.Readers.{Fine, filled_all, weaken, Gives, IsMinus, Sound, any_sound, anything, behind_piece, bind, by_pieces, chosen, eats, eats_keyword, eats_word, expects, expects_keyword, expects_word, gives, list_sound, names_one, some, strings_one, views}
+use Rattle.sound_laws.proofs.Readers.{Fine, filled_all, weaken, Gives, IsMinus, Sound, any_sound, anything, behind_piece, bind, by_pieces, chosen, eats, eats_keyword, eats_word, expects, expects_keyword, expects_word, gives, list_sound, names_one, some, strings_one, views, is_word_false as not_word}
 use Rattle.sql_ast.specs.declared.statements.Assignment.{Assignment}
 use Rattle.sql_ast.specs.declared.statements.Call.{Call}
 use Rattle.sql_ast.specs.declared.statements.Delete.{Delete}
@@ -68,9 +68,6 @@ unfolding delete
 delete_sound = bind (expects_keyword word.From) (λ u a. bind names_one (λ n named. bind filter_sound (λ f is. gives (and_from _ _ named is))))
 
 -- settings and calls
-
-not_word : (n : List ℕ) (t : Piece) → is_word n t ≡ true → IsMinus t → ⊥
-not_word n t is minus = false≢true (ap (is_word n) (sym minus) ∙ is)
 
 scope_behind_at : (ts : List Piece) → Fine ts → begins_session_point ts ≡ true → Fine (drop 1 (drop 1 ts))
 unfolding begins_session_point same_sign

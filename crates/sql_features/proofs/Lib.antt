@@ -1,3 +1,2 @@
 mod Vectors
-pub mod AnyOf
 pub mod ListParts

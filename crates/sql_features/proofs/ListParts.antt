@@ -1,6 +1,7 @@
 -- What the folds over an expression give at a node that holds a list, whichever node it is.
 use Rattle.std.proofs.Common.{◌≡◌, ◌∙◌, sym, ap, refl, Bool, false, ◌||◌, ◌<◌, ◌⊎◌, inl, inr, List, [], ◌∷◌, map, max, arith}
 use Rattle.std.specs.List.{list_any}
+use Rattle.basic_laws.proofs.Lists.{any_map as list_any-map}
 use Rattle.sql_ast.specs.declared.expressions.Expr.{Expr}
 use Rattle.sql_ast.specs.declared.expressions.Expr.TheOpen.{Expr-F}
 use Rattle.sql_ast.specs.declared.expressions.Expr.TheVariants as e
@@ -12,7 +13,6 @@ use Rattle.sql_features.specs.Nesting.{greatest, nesting, nested_at}
 use Rattle.sql_features.specs.Depths.{chained, depth, depth_at}
 use Rattle.sql_features.specs.declared.features.Feature.{Feature}
 use Rattle.sql_features.specs.declared.features.Feature.TheVariants as feature
-use Rattle.sql_features.proofs.AnyOf.{list_any-map}
 use denote.Param.Weighed.{most}
 
 -- a chain: a first operand and the others

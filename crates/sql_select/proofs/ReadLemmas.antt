@@ -2,6 +2,8 @@
 use Rattle.std.proofs.Common.{◌≡◌, refl, sym, ap, ◌∙◌, ℕ, Bool, true, false, cond, ◌||◌, List, [], ◌∷◌, ◌++◌, map, filter, Some, Ok, bytes_eq}
 use Rattle.std.specs.List.{find, list_any}
 use Rattle.std.specs.Cmp.Lexicographic.{bytes_decides}
+use Rattle.basic_laws.proofs.Truths.{or_late, two}
+use Rattle.basic_laws.proofs.Bytes.{bytes_itself as same_first}
 use Rattle.schema_model.specs.PlainTables as plain
 use Rattle.schema_model.specs.PlainTables.{PlainDatabase}
 use Rattle.sql_ast.specs.declared.selects.FromClause.{FromClause}
@@ -15,10 +17,6 @@ use Rattle.plain_sql.specs.declared.sources.Known.{Known}
 use Rattle.plain_sql.specs.declared.sources.Read.{Read}
 use Rattle.sql_select.specs.Sources.{ReadsSuffice, is_read, known, known_read, known_system, known_table}
 use Rattle.sql_select.specs.declared.sources.NamedAnswer.{NamedAnswer}
-
-two : {A : Type 0} (b : Bool) → (b ≡ true → A) → (b ≡ false → A) → A
-two true f g = f refl
-two false f g = g refl
 
 -- ---- what is passed over has another name
 
@@ -63,9 +61,6 @@ unfolding source_read
 read_alike from database system source read =
     ap (λ found. and_then (or_refuse 1146 found) (λ found. Ok (read_as (source_name source) found))) (found_alike from database system source.table read)
 
-same_first : (a : List ℕ) → bytes_eq a a ≡ true
-same_first a = (bytes_decides a a).1 refl
-
 -- a join of the list
 any_join : (joins more : List Join) (join : Join) → list_any (λ (other : Join). bytes_eq join.source.table other.source.table) (joins ++ join ∷ more) ≡ true
 any_join [] more join = ap (λ b. b || list_any (λ (other : Join). bytes_eq join.source.table other.source.table) more) (same_first join.source.table)
@@ -74,10 +69,6 @@ any_join (other ∷ joins) more join = or_right (bytes_eq join.source.table othe
     or_right : (a : Bool) {b : Bool} → b ≡ true → (a || b) ≡ true
     or_right true h = refl
     or_right false h = h
-
-or_late : (a : Bool) {b : Bool} → b ≡ true → (a || b) ≡ true
-or_late true h = refl
-or_late false h = h
 
 each_alike : (f g : Source → Outcome Read) (x : Source) (xs : List Source) → f x ≡ g x → each f xs ≡ each g xs → each f (x ∷ xs) ≡ each g (x ∷ xs)
 each_alike f g x xs p q = λ i. and_then (p i) (λ y. and_then (q i) (λ ys. Ok (y ∷ ys)))

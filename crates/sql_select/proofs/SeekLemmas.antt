@@ -3,9 +3,10 @@ use Rattle.std.proofs.Common.{◌≡◌, ◌⊎◌, inl, inr, refl, sym, ap, ◌
 use Rattle.std.specs.List.{AllZip, find, list_all, list_any}
 use Rattle.std.specs.Option.{option_to_list}
 use Rattle.std.specs.Ordering.{is_eq, is_lt, ordering_reverse}
-use Rattle.std.specs.declared.cmp.Ordering.{Ordering}
-use Rattle.std.specs.declared.cmp.Ordering.TheVariants.{Less, Equal, Greater}
+use Rattle.std.specs.declared.cmp.Ordering.TheVariants.{Less}
 use Rattle.std.proofs.lemmas.Bool.{and_from, and_parts, eqb-true}
+use Rattle.basic_laws.proofs.Truths.{not_true as false_of}
+use Rattle.basic_laws.proofs.Orderings.{less_is}
 use Rattle.tuple_codec.specs.Rows.{Cells, key_cmp, same_cells}
 use Rattle.tuple_codec.specs.declared.answers.Answer.{Answer}
 use Rattle.tuple_codec.proofs.Orders.{cells_told, key_cmp_total}
@@ -61,11 +62,6 @@ behind tests row rows others e = ap (λ o. and_then (kept_row tests (row ++ []))
 abbrev is_other : Schema → Cells → Cells → Bool
 is_other schema key row = not (same_cells (primary_key schema row) key)
 
-less_is : (o : Ordering) → is_lt o ≡ true → o ≡ Less
-less_is Less e = refl
-less_is Equal e = absurd (cc)
-less_is Greater e = absurd (cc)
-
 above_other : (a b : Cells) → key_cmp a b ≡ Less → not (same_cells b a) ≡ true
 above_other a b e = ap (λ o. not (is_eq o)) (key_cmp_total.antisymm b a ∙ ap ordering_reverse e)
 
@@ -89,10 +85,6 @@ rest_rises : (schema : Schema) (row : Cells) (rows : List Cells) → rises (λ a
 rest_rises schema row [] rise = refl
 rest_rises schema row (next ∷ rows) rise =
     (and_parts (is_lt (key_cmp (primary_key schema row) (primary_key schema next))) (rises (λ a b. key_cmp (primary_key schema a) (primary_key schema b)) (next ∷ rows)) rise).1
-
-false_of : (b : Bool) → not b ≡ true → b ≡ false
-false_of true e = absurd (cc)
-false_of false e = refl
 
 -- ---- the rows that are kept
 

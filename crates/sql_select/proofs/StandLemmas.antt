@@ -1,5 +1,7 @@
 -- Tables and databases that stand are found, and have what they stand for.
-use Rattle.std.proofs.Common.{◌≡◌, ◌≤◌, ◌-◌, refl, sym, ap, ◌∙◌, subst, arith, ℕ, suc, Bool, true, false, cond, List, [], ◌∷◌, ◌++◌, length, map, filter, take, drop, slice_index_or}
+use Rattle.std.proofs.Common.{◌≡◌, ◌≤◌, ◌-◌, refl, sym, ap, ◌∙◌, subst, ℕ, suc, Bool, true, false, cond, List, [], ◌∷◌, ◌++◌, length, map, filter, take, drop, slice_index_or}
+use Rattle.basic_laws.proofs.Numbers.{none_long, one_less}
+use Rattle.basic_laws.proofs.Lists.{take_whole as take_all}
 use Rattle.schema_model.specs.PlainTables as plain
 use Rattle.schema_model.specs.PlainTables.{PlainDatabase, PlainTable}
 use Rattle.chunk_store.specs.Chunks.{Chunks}
@@ -39,16 +41,6 @@ database_there address chunks k stand database at tables found =
     record { stand = stands.tables; listed = stand.same address chunks k database tables stands at.few found }
 
 -- ---- the first table, and the others
-
-none_long : (n : ℕ) → 1 ≤ n → n ≡ 0 → ⊥
-none_long n long none = omega arith
-
-one_less : (n : ℕ) → suc n - 1 ≡ n
-one_less n = omega arith
-
-take_all : {A : Type 0} (xs : List A) → take (length xs) xs ≡ xs
-take_all [] = refl
-take_all (x ∷ xs) = ap (λ l. x ∷ l) (take_all xs)
 
 abbrev entry_of : (List ℕ → List ℕ) → plain.NamedTable → NamedTable
 entry_of address named = record { name = named.name; table = record { 0 = table_address address named.table } }

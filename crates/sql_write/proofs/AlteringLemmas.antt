@@ -6,6 +6,7 @@ use Rattle.std.specs.Option.{option_map}
 use Rattle.std.specs.Result.{IsErr, IsErrAnd}
 use Rattle.std.proofs.lemmas.List.{length-map}
 use Rattle.std.proofs.lemmas.Result.{IfOk-at_ok}
+use Rattle.basic_laws.proofs.Bytes.{bytes_itself as itself}
 use Rattle.tuple_codec.specs.Rows.{Cells}
 use Rattle.schema_model.specs.declared.schemas.Schema.{Schema}
 use Rattle.schema_model.specs.Limits.{is_table_within_limits, is_within_limits}
@@ -19,7 +20,6 @@ use Rattle.chunk_store.specs.Chunks.{Chunks, Extends}
 use Rattle.chunk_store.specs.Clashes.{IsReason}
 use Rattle.chunk_store.specs.declared.faults.PutFault.{PutFault}
 use Rattle.chunk_store.specs.declared.faults.PutFault.TheVariants as put
-use Rattle.edit_laws.proofs.Orders.{itself}
 use Rattle.chunk_store.specs.Standing.{IsTree}
 use Rattle.table_rows.specs.Rows.{AreRowsAt}
 use Rattle.table_root.specs.Standing.{IsTableOf, TablesStand, named_tables}

@@ -1,36 +1,20 @@
 -- Rows that keep the limits are rows of a tree, and a table of the trees' roots stands.
-use Rattle.std.proofs.Common.{◌≡◌, ◌<◌, ◌^◌, ℕ, true, List, [], ◌∷◌, length, map, refl, sym, subst, arith}
-use Rattle.std.specs.List.{AllByRecursion, list_all}
-use Rattle.std.proofs.lemmas.Bool.{and_parts, leb-true}
+use Rattle.std.proofs.Common.{◌<◌, ◌^◌, ℕ, List, [], map, sym, subst}
 use Rattle.std.proofs.lemmas.List.{length-map}
-use Rattle.tuple_codec.specs.KeyBytes.{key_bytes}
 use Rattle.tuple_codec.specs.Nodes.{Item}
 use Rattle.tuple_codec.specs.Rows.{Cells}
-use Rattle.tuple_codec.specs.Trees.{AreRows, IsRow, root}
+use Rattle.tuple_codec.specs.Trees.{AreRows, root}
 use Rattle.tuple_codec.specs.declared.addresses.Address.{Address}
-use Rattle.schema_model.specs.Limits.{is_row_within_limits, is_short_key, is_short_row}
-use Rattle.schema_model.specs.PlainTables.{body_bytes, primary_key, row_item}
+use Rattle.schema_model.specs.PlainTables.{row_item}
 use Rattle.schema_model.specs.declared.schemas.Schema.{Schema}
 use Rattle.chunk_store.specs.Chunks.{Chunks}
 use Rattle.chunk_store.specs.Standing.{IsTree}
 use Rattle.table_rows.specs.Rows.{RowItemsFollow}
 use Rattle.table_root.specs.Standing.{IsTableOf}
 use Rattle.index_keep.specs.Keeping.{AreIndexes, CanIndex, table_of_rows}
+use Rattle.index_keep.proofs.StandLemmas.{rows_are}
 use Rattle.sql_write.specs.Building.{CanBuild}
 use Rattle.sql_write.proofs.RiseLemmas.{items_rise}
-
-row_is : (schema : Schema) (row : Cells) → is_row_within_limits schema row ≡ true → IsRow (row_item schema row)
-row_is schema row within =
-    let parts = and_parts _ (is_short_row schema row) within in
-    let key = leb-true (length (key_bytes (primary_key schema row))) 1024 (and_parts (is_short_key (primary_key schema row)) _ parts.0).0 in
-    let body = leb-true (length (body_bytes schema row)) 8192 parts.1 in
-    record { key = omega (arith, key); size = omega (arith, key, body); one = refl }
-
-rows_are : (schema : Schema) (rows : List Cells) → list_all (is_row_within_limits schema) rows ≡ true → AllByRecursion IsRow (map (row_item schema) rows)
-rows_are schema [] within = tt
-rows_are schema (row ∷ rows) within =
-    let parts = and_parts (is_row_within_limits schema row) (list_all (is_row_within_limits schema) rows) within in
-    (row_is schema row parts.0, rows_are schema rows parts.1)
 
 pub built_rows : RowItemsFollow → (schema : Schema) (rows : List Cells) → CanBuild schema rows → AreRows (map (row_item schema) rows)
 built_rows follow schema rows can = record {

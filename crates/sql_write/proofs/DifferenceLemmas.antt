@@ -1,13 +1,14 @@
 -- A walk over two lists of rows, step by step.
 use Rattle.std.proofs.Common.{◌≡◌, ℕ, zero, suc, ◌+◌, ◌-◌, ◌<◌, take, arith, length-drop, Bool, true, false, List, [], ◌∷◌, ◌++◌, map, length, drop, get_or, Option, None, Some, append-nil, refl, sym, ap, ◌∙◌, subst}
 use Rattle.std.specs.Prelude.{if◌then◌else◌, bytes_eq}
-use Rattle.std.specs.Ordering.{is_eq, match_ordering}
+use Rattle.std.specs.Ordering.{match_ordering}
 use Rattle.std.specs.declared.cmp.Ordering.{Ordering}
 use Rattle.std.specs.declared.cmp.Ordering.TheVariants.{Less, Equal, Greater}
-use Rattle.std.proofs.lemmas.Map.Text.{is_eq-slice_cmp}
 use Rattle.std.specs.List.{list_all}
 use Rattle.std.proofs.lemmas.Bool.{and_parts}
 use Rattle.std.proofs.lemmas.List.{drop_more, map-append, take_all}
+use Rattle.basic_laws.proofs.Bytes.{bytes_itself as itself}
+use Rattle.basic_laws.proofs.Orderings.{less_is}
 use Rattle.tuple_codec.specs.Rows.{Cells}
 use Rattle.schema_model.specs.PlainTables.{row_item}
 use Rattle.schema_model.specs.declared.schemas.Schema.{Schema}
@@ -15,18 +16,11 @@ use Rattle.tuple_codec.specs.Edits.{added, against, changed, order, removed, rep
 use Rattle.tuple_codec.specs.Nodes.{Item, Rise, RiseAfter}
 use Rattle.tuple_codec.specs.declared.edits.Edit.{Edit}
 use Rattle.edit_laws.specs.ByKey.{as_edit, as_edits}
-use Rattle.edit_laws.proofs.Orders.{greater, itself, less_is, less_trans}
+use Rattle.edit_laws.proofs.Orders.{greater, less_trans}
 use Rattle.sql_write.specs.Differences.{meeting, row_edits}
 use Rattle.sql_write.specs.declared.differences.Meeting.{Meeting}
 use Rattle.sql_write.specs.declared.differences.Meeting.TheVariants as meet
-
-is_equal : (o : Ordering) → is_eq o ≡ true → o ≡ Equal
-is_equal Less e = absurd cc
-is_equal Equal e = refl
-is_equal Greater e = absurd cc
-
-order_itself : (key : List ℕ) → order key key ≡ Equal
-order_itself key = is_equal (order key key) (is_eq-slice_cmp key key ∙ itself key)
+use Rattle.index_keep.proofs.SortLemmas.{order_itself}
 
 -- an item beside itself
 pub met_itself : (item other : Item) → item ≡ other → meet.Same ≡ meeting item other

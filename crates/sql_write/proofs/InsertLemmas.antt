@@ -7,6 +7,10 @@ use Rattle.std.specs.Ordering.{is_eq, is_lt}
 use Rattle.std.specs.declared.cmp.Ordering.{Ordering}
 use Rattle.std.specs.List.Sorted.{ties}
 use Rattle.std.proofs.lemmas.Map.Text.{is_eq-slice_cmp}
+use Rattle.basic_laws.proofs.Bytes.{same_bytes as eq_key}
+use Rattle.basic_laws.proofs.Lists.{all_append}
+use Rattle.basic_laws.proofs.Options.{none_so}
+use Rattle.basic_laws.proofs.Truths.{not_false as not_true}
 use Rattle.tuple_codec.specs.Edits.{EditsRiseAfter, edited, order, value_at}
 use Rattle.tuple_codec.specs.KeyBytes.{key_bytes}
 use Rattle.tuple_codec.specs.Nodes.{Item, Rise, RiseAfter}
@@ -17,7 +21,6 @@ use Rattle.schema_model.specs.Schemas.{is_schema}
 use Rattle.schema_model.specs.declared.schemas.Schema.{Schema}
 use Rattle.table_rows.specs.Rows.{RowItemsFollow}
 use Rattle.edit_laws.specs.ByKey.{edit_at, over}
-use Rattle.edit_laws.proofs.Orders.{eq_key}
 use Rattle.edit_laws.proofs.Rising.{edited_all, edited_rise}
 use Rattle.edit_laws.proofs.Values.{above, edited_value, edits_above, same_rows}
 use Rattle.index_keep.specs.Entries.{AreSorted, comes_before, put_entry}
@@ -27,23 +30,14 @@ use Rattle.plain_sql.specs.Lists.{has, in_order, placed, repeats}
 use Rattle.plain_writes.specs.Writes.{keyed_cmp}
 use Rattle.write_laws.proofs.DatabaseLemmas.{keyed_total}
 use Rattle.write_laws.proofs.OrderLemmas.{apart_next, both_so, clash, either_way, in_order_all, in_order_rises, left_not, left_so, neither_so, none_held, placed_all, placed_past, placed_stop, right_not, right_so, two}
-use Rattle.write_laws.proofs.RowLemmas.{all_append}
 use Rattle.sql_write.proofs.RiseLemmas.{are_leaves, items_rise}
 use Rattle.sql_write.specs.Inserting.{edit_of, edit_order, meet_rows, repeats_key}
 
 -- ---- tests
 
-none_so : {A : Type 0} (o : Option A) → is_some o ≡ false → o ≡ None
-none_so None h = refl
-none_so (Some x) h = absurd (cc)
-
 none_not : {A : Type 0} (o : Option A) → o ≡ None → is_some o ≡ false
 none_not None h = refl
 none_not (Some x) h = absurd (cc)
-
-not_true : (b : Bool) → not b ≡ false → b ≡ true
-not_true true h = refl
-not_true false h = absurd (cc)
 
 -- two tests that hold together are one
 alike : (b c : Bool) → (b ≡ false → c ≡ false) → (c ≡ false → b ≡ false) → b ≡ c

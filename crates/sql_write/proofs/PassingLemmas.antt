@@ -5,10 +5,10 @@ use Rattle.std.specs.List.{AllByRecursion, count_by, list_all, list_any}
 use Rattle.std.specs.Option.{option_to_list}
 use Rattle.std.specs.Ordering.{is_eq, is_lt, ordering_reverse}
 use Rattle.std.specs.declared.cmp.Ordering.{Ordering}
-use Rattle.std.specs.declared.cmp.Ordering.TheVariants.{Less, Equal, Greater}
 use Rattle.std.proofs.lemmas.Bool.{eqb-false}
 use Rattle.std.proofs.lemmas.List.{get_or-set_other, map-append}
 use Rattle.std.proofs.lemmas.List.Sums.{sum_by-append, sum_by-cons}
+use Rattle.basic_laws.proofs.Orderings.{less_is}
 use Rattle.tuple_codec.specs.Rows.{Cells, key_cmp, key_of, same_cells}
 use Rattle.tuple_codec.specs.declared.values.Value.{Value}
 use Rattle.tuple_codec.specs.declared.values.Value.TheVariants as cell
@@ -145,11 +145,6 @@ module _ (front back : List Cells) (later : List Later) where
       one_ ∙ (λ i. none_new front i + (two_ ∙ ap (λ n. news later + n) (none_new back)) i) ∙ zeros (news later)
 
 -- ---- lists that rise
-
-less_is : (o : Ordering) → is_lt o ≡ true → o ≡ Less
-less_is Less e = refl
-less_is Equal e = cc
-less_is Greater e = cc
 
 module _ {A : Type 0} (compare : A → A → Ordering) (total : IsTotalOrder compare) where
   abbrev before : A → A → Bool

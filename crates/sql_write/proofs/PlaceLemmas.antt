@@ -2,6 +2,7 @@
 use Rattle.std.proofs.Common.{◌≡◌, refl, sym, ap, ◌∙◌, subst, ℕ, ◌+◌, ◌<◌, ◌^◌, Bool, true, false, List, ◌++◌, length, map, Option, None, Some, Ok, Err, arith, length-append}
 use Rattle.std.specs.List.{list_all}
 use Rattle.std.proofs.lemmas.List.{length-map}
+use Rattle.basic_laws.proofs.Lists.{all_append}
 use Rattle.tuple_codec.specs.Nodes.{Rise}
 use Rattle.tuple_codec.specs.Rows.{Cells}
 use Rattle.tuple_codec.specs.declared.edits.Edit.{Edit}
@@ -26,7 +27,7 @@ use Rattle.plain_writes.specs.Writes.{Effect, filled, inserted, keyed_cmp, new_r
 use Rattle.constraint_scan.specs.Scanning.{IsKeptAt}
 use Rattle.write_laws.proofs.DatabaseLemmas.{IsKeptTable, found_kept, limits_so, rows_good}
 use Rattle.write_laws.proofs.OrderLemmas.{in_order_all, in_order_length}
-use Rattle.write_laws.proofs.RowLemmas.{all_append, all_left, all_right}
+use Rattle.write_laws.proofs.RowLemmas.{all_left, all_right}
 use Rattle.write_laws.specs.Laws.{IsKept}
 use Rattle.sql_write.specs.Finding.{Finds, IsFound}
 use Rattle.sql_write.specs.Inserting.{MayInsert, edit_of, is_good, repeats_key, rows_said}

@@ -5,10 +5,10 @@ use Rattle.tuple_codec.specs.Limits.{is_type}
 use Rattle.schema_model.specs.Schemas.{default_fits, is_column, is_name, is_schema}
 use Rattle.schema_model.specs.declared.schemas.Column.{Column}
 use Rattle.schema_model.specs.declared.schemas.Schema.{Schema}
+use Rattle.schema_model.proofs.FitLemmas.{columns_of as columns_well}
 use Rattle.expr_eval.specs.Binding.{Outcome}
 use Rattle.plain_sql.specs.Gives.{Gives}
 use Rattle.plain_sql.specs.declared.faults.Refused.{Refused}
-use Rattle.write_laws.proofs.Effects.{columns_well}
 use Rattle.write_laws.proofs.OrderLemmas.{both_so, left_so, right_so}
 
 types_in : (columns : List Column) → list_all is_column columns ≡ true → list_all (λ (column : Column). is_type column.kind) columns ≡ true

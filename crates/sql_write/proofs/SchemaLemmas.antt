@@ -7,6 +7,7 @@ use Rattle.schema_model.specs.declared.schemas.Schema.{Schema}
 use Rattle.schema_model.specs.Limits.{is_within_limits, most_tables}
 use Rattle.schema_model.specs.PlainTables.{PlainDatabase}
 use Rattle.schema_model.specs.WrittenForms.{table_address}
+use Rattle.schema_model.proofs.SizeLemmas.{kept_few}
 use Rattle.sql_ast.specs.declared.tables.CreateTable.{CreateTable}
 use Rattle.sql_ast.specs.declared.tables.DropTable.{DropTable}
 use Rattle.expr_eval.specs.Binding.{Outcome, and_then}
@@ -30,7 +31,7 @@ use Rattle.sql_write.specs.Putting.{AreListed}
 use Rattle.sql_write.specs.Skeletons.{SchemasSuffice, schema_created, schema_judged, schema_within, table_goes, with_schema, without_if}
 use Rattle.sql_write.proofs.ListingLemmas.{all_without, found_new, named_without}
 use Rattle.sql_write.proofs.SkeletonLemmas.{schemas_suffice}
-use Rattle.sql_write.proofs.TableLemmas.{kept_few, kept_short}
+use Rattle.sql_write.proofs.TableLemmas.{kept_short}
 
 kept_of : (address : List ℕ → List ℕ) (chunks : Chunks) (k : List ℕ) (database : PlainDatabase) → IsKeptAt address chunks k database → IsKept database
 kept_of address chunks k database kept = record { is_database = kept.stands.is_database; within = kept.within }

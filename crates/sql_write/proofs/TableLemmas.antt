@@ -3,13 +3,13 @@ use Rattle.std.proofs.Common.{◌≡◌, refl, sym, ap, ◌∙◌, subst, ℕ, �
 use Rattle.std.specs.Cmp.Lexicographic.{bytes_decides, slice_cmp}
 use Rattle.std.specs.List.{AllByRecursion, find, list_all}
 use Rattle.std.specs.Option.{option_map}
-use Rattle.std.proofs.lemmas.Bool.{leb-true}
 use Rattle.tuple_codec.specs.declared.addresses.Address.{Address}
-use Rattle.schema_model.specs.Limits.{is_database_within_limits, is_named_within_limits, is_short_name, is_table_within_limits, most_tables}
+use Rattle.schema_model.specs.Limits.{is_database_within_limits, is_named_within_limits, is_short_name, most_tables}
 use Rattle.schema_model.specs.PlainTables as plain
 use Rattle.schema_model.specs.PlainTables.{PlainDatabase, PlainTable, rises}
 use Rattle.schema_model.specs.Schemas.{is_name}
 use Rattle.schema_model.specs.WrittenForms.{table_address}
+use Rattle.schema_model.proofs.SizeLemmas.{kept_few, short_names as short_in}
 use Rattle.chunk_store.specs.Chunks.{Chunks, Extends}
 use Rattle.table_root.specs.Databases.{has_short_name, names_rise as heads_rise}
 use Rattle.table_root.specs.Standing.{DatabasesStand, IsTableAt, TablesStand, named_tables}
@@ -18,23 +18,13 @@ use Rattle.plain_writes.specs.Violations.{is_called, table_in}
 use Rattle.plain_writes.specs.Writes.{replaced, replaced_in}
 use Rattle.constraint_scan.specs.Scanning.{IsKeptAt, IsReadAt}
 use Rattle.write_laws.proofs.DatabaseLemmas.{length_same, names_by, names_rise, tables_are}
-use Rattle.write_laws.proofs.OrderLemmas.{left_so, right_so, two}
+use Rattle.write_laws.proofs.OrderLemmas.{right_so, two}
 use Rattle.sql_write.specs.Putting.{AreListed, AreListedAt, address_in, readdress, readdressed}
 
 -- ---- a database that keeps the limits
 
-pub kept_few : (database : PlainDatabase) → is_database_within_limits database ≡ true → length database ≤ 256
-kept_few database h = leb-true (length database) most_tables (left_so (nat_le (length database) most_tables) (list_all is_named_within_limits database) h)
-
 pub few_read : (database : PlainDatabase) → length database ≤ 256 → length database < 2 ^ 16
 few_read database few = omega arith
-
-short_in : (database : PlainDatabase) → list_all is_named_within_limits database ≡ true → list_all (λ (named : plain.NamedTable). is_short_name named.name) database ≡ true
-short_in [] h = refl
-short_in (named ∷ database) h =
-    let first = left_so (is_named_within_limits named) (list_all is_named_within_limits database) h in
-    let more = short_in database (right_so (is_named_within_limits named) (list_all is_named_within_limits database) h) in
-    λ i. left_so (is_short_name named.name) (is_table_within_limits named.table) first i && more i
 
 pub kept_short : (database : PlainDatabase) → is_database_within_limits database ≡ true → list_all (λ (named : plain.NamedTable). is_short_name named.name) database ≡ true
 kept_short database h = short_in database (right_so (nat_le (length database) most_tables) (list_all is_named_within_limits database) h)
@@ -65,10 +55,6 @@ pub rise_names : (address : List ℕ → List ℕ) (database : PlainDatabase) �
 rise_names address [] = refl
 rise_names address (named ∷ []) = refl
 rise_names address (named ∷ next ∷ database) = ap (λ b. is_lt (slice_cmp nat_cmp named.name next.name) && b) (rise_names address (next ∷ database))
-
-pub count_names : (address : List ℕ → List ℕ) (database : PlainDatabase) → length (named_tables address database) ≡ length database
-count_names address [] = refl
-count_names address (named ∷ database) = ap suc (count_names address database)
 
 pub stand_later : (address : List ℕ → List ℕ) (old new : Chunks) → Extends old new → TablesStand → (database : PlainDatabase)
     → AllByRecursion (λ named. IsTableAt address old (table_address address named.table) named.table) database

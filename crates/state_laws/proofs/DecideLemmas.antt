@@ -1,6 +1,7 @@
 -- What the commit rule leaves.
 use Rattle.std.proofs.Common.{◌≡◌, refl, sym, ap, ◌∙◌, subst, true, cond, not, ◌&&◌, ◌||◌, Result, Ok, Err, None}
 use Rattle.std.proofs.lemmas.Bool.{and_parts}
+use Rattle.basic_laws.proofs.Truths.{not_false}
 use Rattle.schema_model.specs.Limits.{is_database_within_limits}
 use Rattle.schema_model.specs.PlainTables.{IsDatabase, PlainDatabase}
 use Rattle.expr_eval.specs.Binding.{Outcome, and_then}
@@ -17,7 +18,7 @@ use Rattle.write_laws.proofs.OutcomeLemmas.{then_so, unless_so}
 use Rattle.state_laws.specs.Laws.{DecisionsKeep, IsKeptState}
 use Rattle.state_laws.proofs.KeptLemmas.{recorded_kept}
 use Rattle.state_laws.proofs.RootLemmas.{root_is}
-use Rattle.state_laws.proofs.TestLemmas.{if_ok, not_false, ok_has}
+use Rattle.state_laws.proofs.TestLemmas.{if_ok, ok_has}
 
 clean_merged : (r : Result MergedDatabase SchemaConflict) (database : PlainDatabase) → without_conflicts r ≡ Ok database → (m : MergedDatabase) × (r ≡ Ok m) × (m.database ≡ database)
 clean_merged (Ok m) database e =

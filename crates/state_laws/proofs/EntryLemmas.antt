@@ -5,6 +5,9 @@ use Rattle.std.specs.List.{list_all}
 use Rattle.std.specs.declared.cmp.Ordering.{Ordering}
 use Rattle.std.proofs.lemmas.Bool.{and_parts}
 use Rattle.std.proofs.lemmas.Cmp.{on_total}
+use Rattle.basic_laws.proofs.Lists.{all_append}
+use Rattle.basic_laws.proofs.Orderings.{less_is as less_so}
+use Rattle.basic_laws.proofs.Options.{some_is as some_so}
 use Rattle.tuple_codec.specs.Rows.{Cells, key_cmp}
 use Rattle.tuple_codec.proofs.Orders.{key_cmp_total}
 use Rattle.schema_model.specs.Limits.{is_conflict_within_limits, is_violation_within_limits}
@@ -22,12 +25,11 @@ use Rattle.plain_sessions.specs.SystemTables.{behind, conflict_columns, conflict
 use Rattle.write_laws.proofs.DatabaseLemmas.{IsKeptTable, limits_so}
 use Rattle.write_laws.proofs.OrderLemmas.{both_so, two}
 use Rattle.write_laws.proofs.OutcomeLemmas.{found_so, then_so}
-use Rattle.write_laws.proofs.RowLemmas.{all_append}
 use Rattle.state_laws.specs.Laws.{IsKeptState, IsKeptWork}
 use Rattle.state_laws.proofs.KeptLemmas.{IsKeptNamed, are_kept, few_rows, few_tables, is_kept}
 use Rattle.state_laws.proofs.PutLemmas.{IsFoundWell, found_well, put_few, put_kept}
 use Rattle.state_laws.proofs.RecordingLemmas.{violation_total}
-use Rattle.state_laws.proofs.TestLemmas.{less_so, ok_has}
+use Rattle.state_laws.proofs.TestLemmas.{ok_has}
 
 -- ---- what no test chooses
 
@@ -165,9 +167,6 @@ by_kept : (delete_from : List ℕ → PlainTable → Outcome Worked) (own : Bran
 by_kept delete_from own name w keeps e =
     let found = then_so (or_refuse 1146 (table_in own.working name)) (delete_from name) w e in
     keeps found.0 (found_so 1146 (table_in own.working name) found.0 found.1) found.2
-
-some_so : {A : Type 0} (a b : A) → Some a ≡ Some b → a ≡ b
-some_so a b e = cc
 
 -- where the table is a list of entries
 pub entries_kept : (own : BranchState) (delete : Delete) (entries : Outcome Worked) (w : Worked) → IsKeptState own → delete_entries own delete ≡ Some entries → entries ≡ Ok w → IsKeptWork w

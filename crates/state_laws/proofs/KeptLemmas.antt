@@ -61,7 +61,7 @@ names_are : (database : PlainDatabase) → AllByRecursion IsKeptNamed database �
 names_are [] h = refl
 names_are (named ∷ database) h = let here = h.0 in both_so here.is_name (names_are database h.1)
 
-within_are : (database : PlainDatabase) → AllByRecursion IsKeptNamed database → list_all is_named_within_limits database ≡ true
+pub within_are : (database : PlainDatabase) → AllByRecursion IsKeptNamed database → list_all is_named_within_limits database ≡ true
 within_are [] h = refl
 within_are (named ∷ database) h = let here = h.0 in let table = here.table in both_so (both_so here.short table.within) (within_are database h.1)
 

@@ -1,6 +1,7 @@
 -- What a merge between branches comes to.
 use Rattle.std.proofs.Common.{◌≡◌, ◌∙◌, refl, sym, ap, ℕ, true, false, cond, not, ◌&&◌, is_some, List, [], Option, None, Some, Result, Ok, Err, codes}
 use Rattle.std.specs.Option.{option_map_or}
+use Rattle.basic_laws.proofs.Truths.{not_false}
 use Rattle.schema_model.specs.Limits.{is_database_within_limits}
 use Rattle.schema_model.specs.PlainCommits.{Commits, base, is_ancestor}
 use Rattle.sql_procedures.specs.declared.requests.MergeOf.{MergeOf}
@@ -21,7 +22,7 @@ use Rattle.state_laws.specs.Laws.{AreKeptCommits, IsKeptState, IsKeptTransaction
 use Rattle.state_laws.proofs.KeptLemmas.{recorded_kept}
 use Rattle.state_laws.proofs.RootLemmas.{root_is}
 use Rattle.state_laws.proofs.WorkLemmas.{clean_kept, empty_kept, root_kept}
-use Rattle.state_laws.proofs.TestLemmas.{not_false, ok_has}
+use Rattle.state_laws.proofs.TestLemmas.{ok_has}
 
 base_kept : (commits : Commits) (k : Option (List ℕ)) → AreKeptCommits commits → IsKept (option_map_or (root_of commits) k [])
 base_kept commits None kept = empty_kept

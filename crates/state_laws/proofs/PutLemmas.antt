@@ -5,7 +5,7 @@ use Rattle.std.specs.Cmp.Lexicographic.{bytes_decides, slice_cmp}
 use Rattle.std.specs.List.{AllByRecursion, find, list_all, list_any}
 use Rattle.std.specs.Option.{option_map}
 use Rattle.std.specs.declared.cmp.Ordering.{Ordering}
-use Rattle.std.proofs.lemmas.Bool.{and_parts, le-leb, leb-true, not-true, or_left, or_right}
+use Rattle.std.proofs.lemmas.Bool.{and_parts, le-leb, leb-true, not-true, or_left, or_right, false_from_ne_true as not_so}
 use Rattle.std.proofs.lemmas.Cmp.{nat_list_cmp_total, on_total}
 use Rattle.std.proofs.lemmas.Map.Text.{is_eq-slice_cmp}
 use Rattle.schema_model.specs.Limits.{is_short_name, most_tables}
@@ -20,7 +20,6 @@ use Rattle.write_laws.proofs.OrderLemmas.{both_so, either_way, in_order_length, 
 use Rattle.state_laws.proofs.KeptLemmas.{AreKept, IsKeptNamed, by_name, have_so}
 use Rattle.state_laws.proofs.OnceLemmas.{none_tied}
 use Rattle.state_laws.proofs.RootLemmas.{TablesRise, rise_behind, rises_of, tables_lower}
-use Rattle.state_laws.proofs.TestLemmas.{not_so}
 
 -- ---- in order
 
@@ -83,7 +82,7 @@ without_kept name database are =
       rise = rises_of None (filter keep database) (filter_rise keep None database (tables_rise database are.rise));
     }
 
-apart_from : (name : List ℕ) (table : PlainTable) (database : PlainDatabase) → has by_name (without_table name database) (record { name = name; table = table }) ≡ false
+pub apart_from : (name : List ℕ) (table : PlainTable) (database : PlainDatabase) → has by_name (without_table name database) (record { name = name; table = table }) ≡ false
 apart_from name table database =
     let keep = λ (named : NamedTable). not (is_called name named) in
     let new : NamedTable = record { name = name; table = table } in

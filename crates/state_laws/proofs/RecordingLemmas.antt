@@ -1,16 +1,14 @@
 -- A table's violations, found anew, are violations of it within the limits, and rise.
-use Rattle.std.proofs.Common.{◌≡◌, ◌<◌, refl, sym, ap, ◌∙◌, ℕ, Bool, true, false, cond, ◌&&◌, true≢false, nat_le, nat_lt, nat_cmp, ◌==◌, List, [], ◌∷◌, ◌++◌, filter, map, bytes_eq, arith}
+use Rattle.std.proofs.Common.{◌≡◌, ◌<◌, refl, ap, ◌∙◌, ℕ, Bool, true, false, cond, ◌&&◌, nat_le, nat_lt, nat_cmp, ◌==◌, List, [], ◌∷◌, ◌++◌, filter, map, bytes_eq, arith}
 use Rattle.std.specs.Cmp.{IsTotalOrder, tied_itself}
-use Rattle.std.specs.Cmp.Lexicographic.{bytes_decides, slice_cmp}
+use Rattle.std.specs.Cmp.Lexicographic.{bytes_decides}
 use Rattle.std.specs.FinMap.{nat_cmp-IsAntisymmetric}
 use Rattle.std.specs.List.{enumerate_from, flat_map, list_all}
 use Rattle.std.specs.Ordering.{is_eq, ordering_then}
-use Rattle.std.specs.declared.cmp.Ordering.{Ordering}
-use Rattle.std.specs.declared.cmp.Ordering.TheVariants.{Less, Equal, Greater}
-use Rattle.std.proofs.lemmas.Bool.{and_parts, eqb-true, ltb-true, or_parts}
+use Rattle.std.proofs.lemmas.Bool.{and_parts, eqb-true, ltb-true, or_parts, false_from_ne_true as not_so}
 use Rattle.std.proofs.lemmas.Cmp.{nat_cmp_total, nat_list_cmp_total, on_total, then_total}
 use Rattle.std.proofs.lemmas.List.Folds.{list_all-append}
-use Rattle.std.proofs.lemmas.Map.Text.{is_eq-slice_cmp}
+use Rattle.basic_laws.proofs.Orderings.{equal_is as equal_so, then_left as first_apart}
 use Rattle.tuple_codec.specs.Rows.{Cells}
 use Rattle.tuple_codec.proofs.Orders.{cells_told, key_cmp_total}
 use Rattle.schema_model.specs.Limits.{has_short_names, is_row_within_limits, is_short_in, is_short_key, is_short_name, is_short_row, is_violation_within_limits, is_within_limits}
@@ -22,6 +20,7 @@ use Rattle.schema_model.specs.declared.schemas.ForeignKey.{ForeignKey}
 use Rattle.schema_model.specs.declared.schemas.IndexDef.{IndexDef}
 use Rattle.schema_model.specs.declared.schemas.Schema.{Schema}
 use Rattle.schema_model.proofs.FitLemmas.{primary_key_fits}
+use Rattle.schema_model.proofs.ViolationLemmas.{names_apart as labels_apart}
 use Rattle.plain_sql.specs.Lists.{has, repeats}
 use Rattle.plain_writes.specs.Violations.{Checks, breaks_not_null, breaks_unique, broken, of_check, of_column, of_foreign, of_index, violation, violations_in}
 use Rattle.plain_writes.specs.Writes.{keyed_cmp}
@@ -29,32 +28,12 @@ use Rattle.schema_laws.proofs.ListLemmas.{all_combined}
 use Rattle.write_laws.proofs.OrderLemmas.{both_so, in_order_all, in_order_rises, neither_so}
 use Rattle.write_laws.proofs.RowLemmas.{is_good}
 use Rattle.state_laws.proofs.OnceLemmas.{flat_all, numbered_all, numbered_distinct, once_append, once_flat}
-use Rattle.state_laws.proofs.TestLemmas.{not_so}
 
 -- ---- the order
 
 pub violation_total : IsTotalOrder violation_cmp
 violation_total =
     then_total (on_total (λ (v : Violation). v.kind) nat_cmp_total) (then_total (on_total (λ (v : Violation). v.constraint) nat_list_cmp_total) (on_total (λ (v : Violation). v.key) key_cmp_total))
-
-first_apart : (o rest : Ordering) → is_eq o ≡ false → is_eq (ordering_then o rest) ≡ false
-first_apart Less rest e = refl
-first_apart Equal rest e = absurd (true≢false e)
-first_apart Greater rest e = refl
-
-rest_apart : (o rest : Ordering) → is_eq rest ≡ false → is_eq (ordering_then o rest) ≡ false
-rest_apart Less rest e = refl
-rest_apart Equal rest e = e
-rest_apart Greater rest e = refl
-
-labels_apart : (v w : Violation) → bytes_eq v.constraint w.constraint ≡ false → is_eq (violation_cmp v w) ≡ false
-labels_apart v w e =
-    rest_apart (nat_cmp v.kind w.kind) _ (first_apart (slice_cmp nat_cmp v.constraint w.constraint) _ (is_eq-slice_cmp v.constraint w.constraint ∙ e))
-
-equal_so : (o : Ordering) → is_eq o ≡ true → o ≡ Equal
-equal_so Less e = absurd (true≢false (sym e))
-equal_so Equal e = refl
-equal_so Greater e = absurd (true≢false (sym e))
 
 kinds_apart : (m : ℕ) (v w : Violation) → nat_lt v.kind m ≡ true → (w.kind == m) ≡ true → is_eq (violation_cmp v w) ≡ false
 kinds_apart m v w p q =

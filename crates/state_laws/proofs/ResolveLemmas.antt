@@ -4,8 +4,10 @@ use Rattle.std.specs.List.{AllByRecursion, flat_map, list_all, list_any}
 use Rattle.std.specs.Option.{option_to_list}
 use Rattle.std.specs.Ordering.{is_eq}
 use Rattle.std.specs.declared.cmp.Ordering.{Ordering}
-use Rattle.std.proofs.lemmas.Bool.{and_parts, le-leb, ltb-false, not-true, or_left, or_parts, or_right}
+use Rattle.std.proofs.lemmas.Bool.{and_parts, not-true, or_left, or_parts, or_right, false_from_ne_true as not_so}
 use Rattle.std.proofs.lemmas.Cmp.{on_total}
+use Rattle.basic_laws.proofs.Lists.{all_append}
+use Rattle.basic_laws.proofs.Truths.{not_false}
 use Rattle.tuple_codec.specs.Rows.{Cells, key_cmp, same_cells}
 use Rattle.tuple_codec.proofs.Orders.{cells_told, key_cmp_total}
 use Rattle.schema_model.specs.Limits.{is_conflict_within_limits, is_row_within_limits, is_short_key, is_short_row, is_short_side, most_rows}
@@ -23,13 +25,13 @@ use Rattle.plain_writes.proofs.SortLemmas.{risen_once}
 use Rattle.plain_sessions.specs.Merging.{breaks_index, breaks_null, database_after, has_too_many_rows, is_conflicted, is_meant, is_theirs, may_settle, names_meant, resolve, rows_after, settled_table, table_after, takes_bad_row, takes_theirs, their_rows, unless_violated}
 use Rattle.schema_laws.proofs.ListLemmas.{filter_all, filter_keep}
 use Rattle.write_laws.specs.Laws.{IsKept}
-use Rattle.write_laws.proofs.DatabaseLemmas.{IsKeptTable, keyed_total, limits_so, rows_good}
+use Rattle.write_laws.proofs.DatabaseLemmas.{IsKeptTable, keyed_total, limits_so, rows_good, few_so}
 use Rattle.write_laws.proofs.OrderLemmas.{both_so, in_order_all, in_order_rises, neither_so, two}
 use Rattle.write_laws.proofs.OutcomeLemmas.{then_so, unless_so}
-use Rattle.write_laws.proofs.RowLemmas.{all_append, all_left, all_right, is_good}
+use Rattle.write_laws.proofs.RowLemmas.{all_left, all_right, is_good}
 use Rattle.state_laws.proofs.KeptLemmas.{IsKeptNamed, are_kept, few_rows, mapped_kept, rows_once}
 use Rattle.state_laws.proofs.OnceLemmas.{all_so, once_append}
-use Rattle.state_laws.proofs.TestLemmas.{not_false, not_so, ok_has}
+use Rattle.state_laws.proofs.TestLemmas.{ok_has}
 
 -- ---- filtered
 
@@ -191,9 +193,6 @@ module _ (table : PlainTable) (kept : IsKeptTable table) where
   side_kept side.Theirs meant m short few = theirs_kept (sym (ap (λ b. b && list_any (breaks_index table.schema) (their_rows table)) m) ∙ short) few
 
 -- ---- a database
-
-few_so : (rows : List Cells) → nat_lt most_rows (length rows) ≡ false → nat_le (length rows) most_rows ≡ true
-few_so rows h = le-leb (length rows) most_rows (ltb-false most_rows (length rows) h)
 
 same_name : (request : Resolution) (named : NamedTable) → (table_after request named).name ≡ named.name
 same_name request named = elim (is_meant request.tables named.name) as (λ b. (cond b (settled_table request named) named).name ≡ named.name) [

@@ -7,6 +7,7 @@ use Rattle.std.specs.declared.cmp.Ordering.{Ordering}
 use Rattle.std.specs.declared.cmp.Ordering.TheVariants.{Less, Equal, Greater}
 use Rattle.std.proofs.lemmas.Bool.{and_parts}
 use Rattle.std.proofs.lemmas.Cmp.{nat_list_cmp_total}
+use Rattle.basic_laws.proofs.Orderings.{less_is as less_so}
 use Rattle.tuple_codec.specs.RowRule.{same_option, three_way}
 use Rattle.schema_model.specs.PlainTables.{IsDatabase, IsTable, NamedTable, PlainDatabase, PlainTable, rises}
 use Rattle.schema_model.specs.Sameness.{is_same_table}
@@ -20,7 +21,7 @@ use Rattle.write_laws.specs.Laws.{IsKept}
 use Rattle.write_laws.proofs.DatabaseLemmas.{IsKeptTable, limits_so}
 use Rattle.write_laws.proofs.OrderLemmas.{both_so, two}
 use Rattle.state_laws.proofs.KeptLemmas.{IsKeptNamed, are_kept, by_name}
-use Rattle.state_laws.proofs.TestLemmas.{less_so, ok_has, some_ok}
+use Rattle.state_laws.proofs.TestLemmas.{ok_has, some_ok}
 
 abbrev pub IsKeptPerhaps : Option PlainTable → Type 0
 IsKeptPerhaps None = Unit {0}

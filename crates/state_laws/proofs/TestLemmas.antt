@@ -1,24 +1,7 @@
 -- Tests, orderings, and what an outcome that isn't refused has.
-use Rattle.std.proofs.Common.{◌≡◌, refl, sym, subst, Bool, true, false, not, is_lt, Some, Result, Ok, Err}
+use Rattle.std.proofs.Common.{◌≡◌, refl, subst, Some, Result, Ok, Err}
 use Rattle.std.specs.Prelude.{IfOk}
-use Rattle.std.specs.declared.cmp.Ordering.{Ordering}
-use Rattle.std.specs.declared.cmp.Ordering.TheVariants.{Less, Equal, Greater}
 use Rattle.expr_eval.specs.Binding.{Outcome}
-
--- ---- tests
-
-pub not_so : (b : Bool) → (b ≡ true → ⊥) → b ≡ false
-not_so true f = absurd (f refl)
-not_so false f = refl
-
-pub not_false : (b : Bool) → not b ≡ false → b ≡ true
-not_false true e = refl
-not_false false e = sym e
-
-pub less_so : (o : Ordering) → is_lt o ≡ true → o ≡ Less
-less_so Less e = refl
-less_so Equal e = absurd (cc)
-less_so Greater e = absurd (cc)
 
 -- ---- outcomes
 

@@ -1,22 +1,16 @@
 -- Ancestors are known, and a table of commits shows what stands at the head.
-use Rattle.std.proofs.Common.{◌≡◌, refl, sym, ◌∙◌, ap, ℕ, zero, suc, Bool, true, false, ◌||◌, List, [], ◌∷◌, bytes_eq}
+use Rattle.std.proofs.Common.{◌≡◌, refl, ◌∙◌, ap, ℕ, zero, suc, true, ◌||◌, List, [], ◌∷◌, bytes_eq}
 use Rattle.std.specs.List.{list_all, list_any}
 use Rattle.std.specs.Cmp.Lexicographic.{bytes_decides}
 use Rattle.std.proofs.lemmas.Bool.{and_from}
+use Rattle.basic_laws.proofs.Truths.{or_late}
 use Rattle.chunk_store.specs.Chunks.{Chunks}
 use Rattle.plain_sessions.specs.Sessions.{Transaction}
-use Rattle.schema_model.specs.PlainCommits.{AncestorsFollow, Commits, IsAncestor, IsAncestorBy, ancestors, has_address, is_known}
+use Rattle.schema_model.specs.PlainCommits.{AncestorsFollow, Commits, IsAncestor, ancestors, has_address, is_known}
+use Rattle.schema_model.proofs.AncestorLemmas.{known_there as known_by}
 use Rattle.tuple_codec.specs.Rows.{Cells}
 use Rattle.tuple_codec.specs.declared.addresses.Address.{Address}
 use Rattle.system_tables.specs.Rows.{AreKnown, IsAtHead, all_parent_rows, bytes_of, commit_rows}
-
-known_by : (commits : Commits) (steps : ℕ) (k x : List ℕ) → IsAncestorBy commits steps k x → is_known commits x ≡ true
-known_by commits zero k x by = ap (is_known commits) (sym by.1) ∙ by.0
-known_by commits (suc steps) k x by = known_by commits steps by.0 x by.2
-
-or_late : (a : Bool) {b : Bool} → b ≡ true → (a || b) ≡ true
-or_late true h = refl
-or_late false h = h
 
 all_of : (commits : Commits) (ks : List (List ℕ)) → ((x : List ℕ) → has_address ks x ≡ true → is_known commits x ≡ true) → list_all (is_known commits) ks ≡ true
 all_of commits [] h = refl

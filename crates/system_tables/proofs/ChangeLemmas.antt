@@ -1,10 +1,9 @@
 -- A table differs exactly where its address does.
-use Rattle.std.proofs.Common.{◌≡◌, ◌≤◌, ◌<◌, ◌^◌, refl, sym, ap, ◌∙◌, arith, ℕ, true, false, Bool, nat_le, List, [], ◌∷◌, ◌++◌, length, codes, bytes_eq, Option, Some, None}
+use Rattle.std.proofs.Common.{◌≡◌, refl, sym, ap, ◌∙◌, ℕ, true, false, Bool, List, [], ◌∷◌, ◌++◌, codes, bytes_eq, Option, Some, None}
 use Rattle.std.specs.Prelude.{if◌then◌else◌}
-use Rattle.std.specs.List.{AllByRecursion, find, flat_map, list_all}
+use Rattle.std.specs.List.{AllByRecursion, find, flat_map}
 use Rattle.std.specs.Option.{option_map}
 use Rattle.std.specs.Cmp.Lexicographic.{bytes_decides}
-use Rattle.std.proofs.lemmas.Bool.{and_parts, leb-true}
 use Rattle.chunk_store.specs.Chunks.{Chunks}
 use Rattle.constraint_scan.specs.Scanning.{IsKeptAt}
 use Rattle.plain_merge.specs.KeyByKey.{all_keys}
@@ -13,11 +12,11 @@ use Rattle.plain_sessions.specs.Sessions.{Transaction, own_root}
 use Rattle.plain_sessions.specs.SystemTables as plain
 use Rattle.plain_sessions.specs.SystemTables.{change_of, row_if, status_row, status_rows}
 use Rattle.plain_writes.specs.Violations.{is_called, table_in}
-use Rattle.schema_model.specs.Limits.{is_database_within_limits, is_named_within_limits, most_tables}
 use Rattle.schema_model.specs.PlainTables as contents
 use Rattle.schema_model.specs.PlainTables.{PlainDatabase, PlainTable}
 use Rattle.schema_model.specs.Sameness.{is_same_table}
 use Rattle.schema_model.specs.WrittenForms.{table_address}
+use Rattle.schema_model.proofs.SizeLemmas.{few_tables as few_kept}
 use Rattle.table_root.specs.Databases.{HasDatabase, IsDatabaseFound}
 use Rattle.table_root.specs.Standing.{DatabasesStand, IsTableAt, TablesStand, named_tables}
 use Rattle.table_root.specs.declared.records.NamedTable.{NamedTable}
@@ -25,10 +24,6 @@ use Rattle.tuple_codec.specs.Edits.{order}
 use Rattle.tuple_codec.specs.Rows.{AreTold, Cells}
 use Rattle.tuple_codec.specs.declared.addresses.Address.{Address}
 use Rattle.system_tables.specs.Changes.{AreStates, address_in, all_changed_rows, change_at, changed_row, changed_rows, names_in}
-
-few_kept : (database : PlainDatabase) → is_database_within_limits database ≡ true → length database < 2 ^ 16
-few_kept database within =
-    let few : length database ≤ 256 = leb-true (length database) most_tables (and_parts (nat_le (length database) most_tables) (list_all is_named_within_limits database) within).0 in omega (arith, few)
 
 module _ (address : List ℕ → List ℕ) (chunks : Chunks) where
   -- ---- databases that are read

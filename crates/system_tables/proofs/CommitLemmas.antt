@@ -1,8 +1,8 @@
 -- What is found of commits that stand.
-use Rattle.std.proofs.Common.{◌≡◌, refl, sym, ◌∙◌, ap, subst, ℕ, true, List, ◌∷◌, [], Option, None, Some}
-use Rattle.std.specs.Prelude.{is_some}
+use Rattle.std.proofs.Common.{◌≡◌, refl, sym, ◌∙◌, ap, subst, ℕ, true, List, ◌∷◌, [], Some}
 use Rattle.std.proofs.lemmas.Bool.{and_from, and_parts}
 use Rattle.std.proofs.lemmas.Option.{same_Some}
+use Rattle.basic_laws.proofs.Options.{some_there as some_known}
 use Rattle.chunk_store.specs.Chunks.{Chunks}
 use Rattle.commit_graph.specs.Commits.{HasCommit, HasOneSpelling, IsCommitFound}
 use Rattle.commit_graph.specs.Standing.{CommitsFollow}
@@ -17,10 +17,6 @@ use Rattle.tuple_codec.specs.Rows.{Cells}
 use Rattle.tuple_codec.specs.declared.values.Value.TheVariants as cell
 use Rattle.system_tables.specs.Changes.{IsRootOf}
 use Rattle.system_tables.specs.Rows.{AreKnown}
-
-some_known : (o : Option PlainCommit) → is_some o ≡ true → (commit : PlainCommit) × (o ≡ Some commit)
-some_known None h = absurd cc
-some_known (Some commit) h = (commit, refl)
 
 module _ (address : List ℕ → List ℕ) (chunks : Chunks) (k : List ℕ) (follow : CommitsFollow) (commits : Commits) (are : AreKnown address chunks commits (k ∷ [])) where
   one : (commit : PlainCommit) × (commits k ≡ Some commit)

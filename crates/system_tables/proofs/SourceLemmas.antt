@@ -1,9 +1,10 @@
 -- The system tables that a SELECT names, one after another.
-use Rattle.std.proofs.Common.{◌≡◌, refl, ◌∙◌, ap, sym, ℕ, Bool, true, false, ◌||◌, cond, List, [], ◌∷◌, ◌++◌, map, bytes_eq, append_assoc, append-nil}
+use Rattle.std.proofs.Common.{◌≡◌, refl, ◌∙◌, ap, sym, ℕ, Bool, true, false, cond, List, [], ◌∷◌, ◌++◌, map, bytes_eq, append_assoc, append-nil}
 use Rattle.std.specs.Prelude.{OnOk, Result, Ok, Err}
 use Rattle.std.specs.List.{list_all, list_any}
 use Rattle.std.specs.Cmp.Lexicographic.{bytes_decides}
-use Rattle.std.proofs.lemmas.Bool.{and_from, and_parts}
+use Rattle.std.proofs.lemmas.Bool.{and_from, and_parts, or_parts as neither, or_from as of_neither}
+use Rattle.basic_laws.proofs.Truths.{two}
 use Rattle.plain_sessions.specs.SystemTables.{conflicts, conflicts_of, constraint_violations, violations_of}
 use Rattle.schema_model.specs.PlainTables.{NamedTable, PlainDatabase}
 use Rattle.sql_ast.specs.declared.selects.Join.{Join}
@@ -97,18 +98,6 @@ entries_are : (database : PlainDatabase) → are_entries (entry_tables_of databa
 entries_are database =
     let first = conflicts database ∷ constraint_violations database ∷ [] in
     entries_more (first ++ map conflicts_of database) (map violations_of database) (entries_more first (map conflicts_of database) refl (conflicts_are database)) (violations_are database)
-
-neither : (a b : Bool) → (a || b) ≡ false → (a ≡ false) × (b ≡ false)
-neither true b h = absurd (cc)
-neither false b h = (refl, h)
-
-of_neither : (a b : Bool) → a ≡ false → b ≡ false → (a || b) ≡ false
-of_neither true b h g = absurd (cc)
-of_neither false b h g = g
-
-two : {A : Type 0} (b : Bool) → (b ≡ true → A) → (b ≡ false → A) → A
-two true f g = f refl
-two false f g = g refl
 
 apart : (name table : List ℕ) → is_entry_name name ≡ true → is_entry_name table ≡ false → bytes_eq name table ≡ false
 apart name table h g = two (bytes_eq name table) (λ same. let is : name ≡ table = (bytes_decides name table).0 same in let called : true ≡ false = sym h ∙ ap is_entry_name is ∙ g in absurd (cc)) (λ other. other)

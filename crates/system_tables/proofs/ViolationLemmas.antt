@@ -8,10 +8,11 @@ use Rattle.chunk_store.specs.Chunks.{Chunks}
 use Rattle.chunk_store.specs.Standing.{IsTree}
 use Rattle.plain_sessions.specs.SystemTables.{kind_text, violation_row}
 use Rattle.prolly_tree.specs.Lists.{from_key, pair_of}
-use Rattle.schema_model.specs.PlainTables.{PlainTable, Violation, is_row, is_row_at, is_violation, key_types, primary_key, violation_item, violation_items}
+use Rattle.schema_model.specs.PlainTables.{PlainTable, Violation, is_row, is_violation, key_types, primary_key, violation_item, violation_items}
 use Rattle.schema_model.specs.Schemas.{is_name, is_schema}
 use Rattle.schema_model.specs.declared.schemas.Schema.{Schema}
 use Rattle.schema_model.proofs.FitLemmas.{key_types_fit}
+use Rattle.schema_model.proofs.TellingLemmas.{violation_is}
 use Rattle.table_root.specs.Standing.{IsTableOf}
 use Rattle.table_root.specs.declared.records.Table.{Table}
 use Rattle.table_rows.specs.Rows.{IsRowOf}
@@ -29,18 +30,6 @@ use Rattle.system_tables.specs.declared.entries.Entry.{Entry}
 use lib.Seq.{drop-append_seam}
 
 -- ---- its parts
-
-record IsViolation (schema : Schema) (violation : Violation) : Type 0 where
-  name : is_name violation.constraint ≡ true
-  key : fits_all (key_types schema) violation.key ≡ true
-  row : is_row_at schema violation.key violation.row ≡ true
-
-violation_is : (schema : Schema) (violation : Violation) → is_violation schema violation ≡ true → IsViolation schema violation
-violation_is schema violation h =
-    let a = and_parts _ (is_row_at schema violation.key violation.row) h in
-    let b = and_parts _ (fits_all (key_types schema) violation.key) a.0 in
-    let c = and_parts _ (is_name violation.constraint) b.0 in
-    record { name = c.1; key = b.1; row = a.1 }
 
 name_fits : (name : List ℕ) → is_name name ≡ true → fits (kind.Varchar 255) (cell.Text name) ≡ true
 name_fits name is =

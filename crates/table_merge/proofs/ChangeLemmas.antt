@@ -1,19 +1,18 @@
 -- Edits that put at the keys of changes what stands there in another list.
-use Rattle.std.proofs.Common.{◌≡◌, ◌⊎◌, inl, inr, ℕ, Bool, true, false, List, [], ◌∷◌, map, Option, Some, None, refl, sym, ap, ◌∙◌, subst, option_map}
+use Rattle.std.proofs.Common.{◌≡◌, ◌⊎◌, inl, inr, ℕ, Bool, true, false, List, [], ◌∷◌, Option, Some, None, refl, sym, ap, ◌∙◌, subst, option_map}
 use Rattle.std.specs.Prelude.{bytes_eq, if◌then◌else◌}
 use Rattle.std.specs.List.{AllByRecursion}
-use Rattle.tuple_codec.specs.Edits.{EditsRiseAfter, changed, edited, putting, value_at}
+use Rattle.basic_laws.proofs.Bytes.{same_bytes as eq_key, bytes_itself as itself}
+use Rattle.basic_laws.proofs.Options.{some_is, none_mapped as nothing}
+use Rattle.tuple_codec.specs.Edits.{EditsRiseAfter, edited, putting, value_at}
 use Rattle.tuple_codec.specs.Nodes.{Item, Rise, leaf_item}
 use Rattle.tuple_codec.specs.Trees.{IsRow}
 use Rattle.tuple_codec.specs.declared.edits.Change.{Change}
-use Rattle.tuple_codec.specs.declared.edits.Edit.{Edit}
 use Rattle.edit_laws.specs.ByKey.{AreLeafRows, as_edits, between, change_at, edit_at, over}
-use Rattle.edit_laws.proofs.Orders.{eq_key, itself}
 use Rattle.edit_laws.proofs.Rising.{edited_all, edited_rise}
 use Rattle.edit_laws.proofs.Values.{edited_value, edits_above, same_rows}
 use Rattle.prolly_edit.specs.Editing.{PutsRow}
-use Rattle.table_merge.specs.Skipping.{edit_to, edits_to}
-use Rattle.table_merge.proofs.NameLemmas.{some_is}
+use Rattle.table_merge.specs.Skipping.{edits_to}
 
 abbrev pub Both : Type 0
 Both = Option (List ℕ) × Option (List ℕ)
@@ -75,10 +74,6 @@ edit_of_change key (change ∷ changes) = by (bytes_eq change.key key) (edit_of_
       → (if b then Some change.new else edit_at key (as_edits changes)) ≡ option_map (λ (both : Both). both.1) (if b then Some (change.old, change.new) else change_at key changes)
   by true more = refl
   by false more = more
-
-nothing : {A B : Type 0} (f : A → B) (o : Option A) → option_map f o ≡ None → o ≡ None
-nothing f None e = refl
-nothing f (Some a) e = absurd (cc)
 
 changes_above : (key : List ℕ) (changes : List Change) → EditsRiseAfter (Some key) (as_edits changes) → change_at key changes ≡ None
 changes_above key changes rise = nothing (λ (both : Both). both.1) (change_at key changes) (sym (edit_of_change key changes) ∙ edits_above key (as_edits changes) rise)

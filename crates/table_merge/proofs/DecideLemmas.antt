@@ -1,9 +1,10 @@
 -- One change that is decided, and changes decided one after another.
-use Rattle.std.proofs.Common.{◌≡◌, ◌≤◌, ◌<◌, ◌+◌, ◌++◌, ℕ, zero, suc, Bool, true, List, [], ◌∷◌, map, length, drop, get_or, Option, Some, None, Result, Ok, Err, refl, sym, ap, ◌∙◌, subst, arith, append_assoc, option_map, option_to_list}
+use Rattle.std.proofs.Common.{◌≡◌, ◌≤◌, ◌<◌, ◌+◌, ◌++◌, ℕ, zero, suc, true, List, [], ◌∷◌, map, length, drop, get_or, Option, Some, None, Result, Ok, Err, refl, sym, ap, ◌∙◌, subst, arith, append_assoc, option_map, option_to_list}
 use Rattle.std.specs.List.{AllByRecursion, list_all}
 use Rattle.std.specs.Result.{IsErr, IsErrAnd}
 use Rattle.std.proofs.Math.ListN.{drop_of_length-le}
 use Rattle.std.proofs.lemmas.List.{append-nil, drop_more}
+use Rattle.basic_laws.proofs.Options.{some_is}
 use Rattle.tuple_codec.specs.Edits.{putting, puts, value_at}
 use Rattle.tuple_codec.specs.KeyBytes.{key_bytes}
 use Rattle.tuple_codec.specs.Nodes.{Item, leaf_item}
@@ -16,7 +17,7 @@ use Rattle.schema_model.specs.declared.schemas.Schema.{Schema}
 use Rattle.node_format.specs.Views.{leaf_of}
 use Rattle.chunk_store.specs.Chunks.{Chunks}
 use Rattle.plain_merge.specs.KeyByKey.{kept}
-use Rattle.plain_merge.specs.TableMerge.{Three, conflict_if, row_after, row_at, table_of}
+use Rattle.plain_merge.specs.TableMerge.{Three, conflict_if, row_at, table_of}
 use Rattle.table_rows.specs.Rows.{IsRowOf}
 use Rattle.table_merge.specs.Rising.{IsAt}
 use Rattle.table_merge.specs.Skipping.{AreDecided, AreShortAt, AreThreeKept, CanDecide, CanDecideAll, DecidesAt, IsChangeOf, IsKeyOf, IsShortAt, IsValueOf, edit_to, edits_to}
@@ -27,7 +28,6 @@ use Rattle.table_merge.specs.declared.faults.Stop.{Stop}
 use Rattle.table_merge.specs.declared.faults.Stop.TheVariants as stop
 use Rattle.table_merge.proofs.LookLemmas.{value_row}
 use Rattle.table_merge.proofs.MergeLemmas.{row_after_is, row_is_at}
-use Rattle.table_merge.proofs.NameLemmas.{some_is}
 use Rattle.table_merge.proofs.SkipLemmas.{decides_at, three_kept}
 use Rattle.table_merge.proofs.WalkLemmas.{perhaps}
 

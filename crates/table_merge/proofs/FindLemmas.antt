@@ -5,12 +5,14 @@ use Rattle.std.proofs.lemmas.List.{take-append-drop}
 use Rattle.std.specs.Prelude.{if◌then◌else◌}
 use Rattle.std.specs.Ordering.{is_eq, ordering_reverse}
 use Rattle.std.specs.declared.cmp.Ordering.TheVariants.{Less, Equal, Greater}
+use Rattle.basic_laws.proofs.Orderings.{less_is}
+use Rattle.basic_laws.proofs.Numbers.{one_less}
 use Rattle.tuple_codec.specs.Rows.{Cells, key_cmp, same_cells}
 use Rattle.tuple_codec.proofs.Orders.{key_cmp_total}
 use Rattle.table_merge.specs.Rising.{RiseFrom}
 use Rattle.table_merge.specs.Walking.{found, keys_in}
 use Rattle.table_merge.specs.declared.keyed.KeyedRow.{KeyedRow}
-use Rattle.table_merge.proofs.RiseLemmas.{cells_equal, less_is, rise_lower}
+use Rattle.table_merge.proofs.RiseLemmas.{cells_equal, rise_lower}
 
 reversed : (a b : Cells) → key_cmp a b ≡ Less → key_cmp b a ≡ Greater
 reversed a b e = key_cmp_total.antisymm b a ∙ ap ordering_reverse e
@@ -72,9 +74,6 @@ pub record Halved (left front back : List KeyedRow) (middle : KeyedRow) : Type 0
   pub later : List KeyedRow
   pub later_is : take (length back - 1) (drop 1 back) ≡ later
   pub parts : left ≡ front ++ middle ∷ later
-
-one_less : (n : ℕ) → suc n - 1 ≡ n
-one_less n = omega arith
 
 pub halved : (left front back : List KeyedRow) (at : ℕ) (middle : KeyedRow) → front ≡ take at left → back ≡ drop at left → middle ≡ slice_index_or back 0 middle → 1 ≤ length back
     → Halved left front back middle

@@ -9,7 +9,7 @@ use Rattle.chunk_store.specs.Chunks.{Chunks}
 use Rattle.chunk_store.specs.Standing.{IsTree}
 use Rattle.schema_model.specs.Limits.{is_conflict_within_limits, is_within_limits, most_rows}
 use Rattle.schema_model.specs.PlainTables as plain
-use Rattle.schema_model.specs.PlainTables.{IsTable, PlainTable, conflict_item, conflict_items, row_item, row_items}
+use Rattle.schema_model.specs.PlainTables.{IsTable, PlainTable, conflict_items, row_item, row_items}
 use Rattle.schema_model.specs.declared.schemas.Schema.{Schema}
 use Rattle.plain_merge.specs.TableMerge.{table_of}
 use Rattle.node_format.specs.Views.{leaf_of}

@@ -27,7 +27,7 @@ use Rattle.prolly_edit.specs.Editing.{CanEdit}
 use Rattle.plain_merge.specs.KeyByKey.{before, gathered, key_among, keys_with}
 use Rattle.plain_merge.specs.TableMerge.{Three, keys_of, row_after, rows_on, rows_on_or_none, table_of}
 use Rattle.table_root.specs.declared.records.Table.{Table}
-use Rattle.table_merge.specs.Merging.{AreKeptSides, IsFaultOf, IsMerged, IsSide, IsSidePerhaps, PassesLimit, PlainSides, fault_of_stop, is_short_merged, keeps_limits, merged_contents}
+use Rattle.table_merge.specs.Merging.{AreKeptSides, IsFaultOf, IsMerged, IsSide, IsSidePerhaps, PassesLimit, PlainSides, fault_of_stop, is_short_merged, merged_contents}
 use Rattle.table_merge.specs.Skipping.{AreKept, AreMerged, AreThreeKept, CanSkip, HaveSchema, Merges}
 use Rattle.table_merge.specs.Steps.{AreTreeRows, IsKept, wanted_schema}
 use Rattle.table_merge.specs.Walking.{are_short}
@@ -64,7 +64,7 @@ rows_stay s (row ∷ rows) apart h =
 
 -- ---- rows of a table that keeps the limits
 
-short_rows : (s : Schema) (rows : List Cells) → list_all (is_row_within_limits s) rows ≡ true → list_all (is_short_merged s) rows ≡ true
+pub short_rows : (s : Schema) (rows : List Cells) → list_all (is_row_within_limits s) rows ≡ true → list_all (is_short_merged s) rows ≡ true
 short_rows s [] h = refl
 short_rows s (row ∷ rows) h =
     let one = and_parts (is_row_within_limits s row) (list_all (is_row_within_limits s) rows) h in

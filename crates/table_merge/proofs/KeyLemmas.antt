@@ -1,16 +1,18 @@
 -- Merged schemas are schemas, and rows of the sides are rows of them, under the same keys.
-use Rattle.std.proofs.Common.{◌≡◌, ◌^◌, ℕ, ℤ, pos, negsuc, zero, suc, true, nat_le, List, [], ◌∷◌, length, map, get_or, Option, Some, None, Ok, refl, sym, ap, ◌∙◌, subst, option_map, slice_get, unsigned_abs, ◌==◌, arith}
+use Rattle.std.proofs.Common.{◌≡◌, ◌^◌, ℕ, zero, suc, true, nat_le, List, [], ◌∷◌, length, map, get_or, Option, Some, None, Ok, refl, sym, ap, ◌∙◌, subst, option_map, slice_get, unsigned_abs, ◌==◌, arith}
 use Rattle.std.specs.List.{list_all}
 use Rattle.std.specs.Option.{option_map_or}
 use Rattle.std.proofs.lemmas.Bool.{and_parts, and_from, le-leb, leb-true, lt-ltb, ltb-true}
 use Rattle.std.proofs.Math.Nat.{pow-le-pow_right}
 use Rattle.std.proofs.lemmas.List.{length-map}
 use Rattle.std.proofs.lemmas.Option.{get_or_from_slice_get, slice_get-map}
-use Rattle.tuple_codec.specs.Rows.{AreTold, Cells, fits, fits_all, fits_bits, key_of}
+use Rattle.basic_laws.proofs.Options.{some_is}
+use Rattle.tuple_codec.specs.Rows.{AreTold, Cells, fits, fits_all, key_of}
 use Rattle.tuple_codec.specs.declared.values.SqlType.{SqlType}
 use Rattle.tuple_codec.specs.declared.values.SqlType.TheVariants as kind
 use Rattle.tuple_codec.specs.declared.values.Value.{Value}
 use Rattle.tuple_codec.specs.declared.values.Value.TheVariants as cell
+use Rattle.tuple_codec.proofs.CellLemmas.{bits_more as int_wide}
 use Rattle.schema_model.specs.PlainTables.{is_row}
 use Rattle.schema_model.specs.Sameness.{is_same_column, is_same_option}
 use Rattle.schema_model.specs.Schemas.{are_positions, default_fits, is_column, is_foreign, is_index, is_name, is_not_null}
@@ -18,12 +20,13 @@ use Rattle.schema_model.specs.declared.schemas.Column.{Column}
 use Rattle.schema_model.specs.declared.schemas.IndexDef.{IndexDef}
 use Rattle.schema_model.specs.declared.schemas.ForeignKey.{ForeignKey}
 use Rattle.schema_model.specs.declared.schemas.Schema.{Schema}
+use Rattle.schema_model.proofs.FitLemmas.{places_within}
 use Rattle.schema_merge.specs.Parts.{Sides, covers, covers_in, find, keeps_places, moved_index, moved_foreign, moved_place, moved_places, of_columns, place_of}
 use Rattle.schema_merge.specs.Merging.{parts3}
 use Rattle.schema_merge.specs.Projecting.{cell_or_default, default_cell, projected_cell}
-use Rattle.table_merge.proofs.NameLemmas.{get_found, get_place, named_apart, place_found, some_is}
+use Rattle.table_merge.proofs.NameLemmas.{get_found, get_place, named_apart, place_found}
 use Rattle.table_merge.proofs.PlaceLemmas.{AllMove, moved_is, moves, named, positions_moved}
-use Rattle.table_merge.proofs.SchemaLemmas.{KeysMatch, kept_places, key_column, places_within}
+use Rattle.table_merge.proofs.SchemaLemmas.{KeysMatch, kept_places, key_column}
 
 -- ---- the key's columns among merged ones
 
@@ -109,10 +112,6 @@ fits_null (kind.Decimal a b) = refl
 
 less_more : (n a b : ℕ) → nat_le n b ≡ true → nat_le b a ≡ true → nat_le n a ≡ true
 less_more n a b p q = let one = leb-true n b p in let two = leb-true b a q in le-leb n a (omega (arith, one, two))
-
-int_wide : (n : ℤ) → fits_bits 31 n ≡ true → fits_bits 63 n ≡ true
-int_wide (pos n) h = let one = ltb-true n (2 ^ 31) h in lt-ltb n (2 ^ 63) (omega (arith, one))
-int_wide (negsuc n) h = let one = ltb-true n (2 ^ 31) h in lt-ltb n (2 ^ 63) (omega (arith, one))
 
 pub covers_fits : (a b : SqlType) (v : Value) → covers a b ≡ true → fits b v ≡ true → fits a v ≡ true
 covers_fits a b cell.Null c f = fits_null a

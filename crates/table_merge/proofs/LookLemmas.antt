@@ -1,5 +1,5 @@
 -- What stands at a key: among the items of rows, and in what is gathered for keys.
-use Rattle.std.proofs.Common.{◌≡◌, ℕ, Bool, true, false, List, [], ◌∷◌, map, Option, Some, None, refl, sym, ap, ◌∙◌, subst, option_map}
+use Rattle.std.proofs.Common.{◌≡◌, ℕ, Bool, true, false, List, [], ◌∷◌, map, Option, Some, None, refl, sym, ap, ◌∙◌, option_map}
 use Rattle.std.specs.Prelude.{◌||◌, bytes_eq, if◌then◌else◌}
 use Rattle.std.specs.List.{list_all}
 use Rattle.std.specs.Option.{option_map_or}
@@ -8,22 +8,22 @@ use Rattle.std.specs.declared.cmp.Ordering.{Ordering}
 use Rattle.std.specs.declared.cmp.Ordering.TheVariants.{Less, Equal, Greater}
 use Rattle.std.proofs.lemmas.Bool.{and_parts, or_from, or_parts}
 use Rattle.std.proofs.lemmas.Map.Text.{is_eq-slice_cmp}
+use Rattle.basic_laws.proofs.Options.{some_is}
 use Rattle.tuple_codec.specs.Edits.{value_at}
 use Rattle.tuple_codec.specs.KeyBytes.{key_bytes}
 use Rattle.tuple_codec.specs.Limits.{are_types}
 use Rattle.tuple_codec.specs.Nodes.{leaf_item}
-use Rattle.tuple_codec.specs.RowRule.{or_by_cells, row3, same_option, three_way}
+use Rattle.tuple_codec.specs.RowRule.{or_by_cells, row3, same_option}
 use Rattle.tuple_codec.specs.Rows.{Cells, fits_all, key_cmp, same_cells}
 use Rattle.tuple_codec.specs.declared.values.SqlType.{SqlType}
 use Rattle.tuple_codec.proofs.OrderLemmas.{key_order_whole}
 use Rattle.tuple_codec.proofs.Orders.{cells_told}
-use Rattle.schema_model.specs.PlainTables.{Conflict, body_bytes, is_row, key_types, primary_key, row_item}
+use Rattle.schema_model.specs.PlainTables.{body_bytes, is_row, key_types, primary_key, row_item}
 use Rattle.schema_model.specs.Schemas.{is_schema}
 use Rattle.schema_model.specs.declared.schemas.Schema.{Schema}
 use Rattle.schema_model.proofs.FitLemmas.{key_types_fit, primary_key_fits}
 use Rattle.plain_merge.specs.KeyByKey.{before, gathered, kept, key_among, keys_with}
-use Rattle.plain_merge.specs.TableMerge.{Three, answer_at, conflict_at, conflict_if, keys_of, row_after, row_at, sides_at}
-use Rattle.table_merge.proofs.NameLemmas.{some_is}
+use Rattle.plain_merge.specs.TableMerge.{Three, conflict_at, conflict_if, keys_of, row_after, row_at, sides_at}
 use Rattle.table_merge.proofs.RiseLemmas.{cells_equal}
 
 -- ---- keys

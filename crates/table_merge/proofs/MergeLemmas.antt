@@ -3,6 +3,7 @@ use Rattle.std.proofs.Common.{◌≡◌, ◌⊎◌, inl, inr, ℕ, zero, suc, Bo
 use Rattle.std.specs.Prelude.{if◌then◌else◌}
 use Rattle.std.specs.List.{list_all}
 use Rattle.std.proofs.lemmas.Bool.{and_parts, and_from}
+use Rattle.basic_laws.proofs.Options.{some_is}
 use Rattle.tuple_codec.specs.RowRule.{by_cells, cells3, or_by_cells, row3, same_option, three_way}
 use Rattle.tuple_codec.specs.Rows.{Cells, cell_at, fits, fits_all, key_of, same_cells, same_value}
 use Rattle.tuple_codec.specs.declared.values.SqlType.{SqlType}
@@ -16,7 +17,6 @@ use Rattle.schema_model.proofs.FitLemmas.{primary_key_fits}
 use Rattle.plain_merge.specs.KeyByKey.{kept}
 use Rattle.plain_merge.specs.TableMerge.{Three, answer_at, conflict_at, conflict_if, keys_of, row_after, row_at, sides_at, table_of}
 use Rattle.table_merge.specs.Rising.{IsAt, RiseFrom}
-use Rattle.table_merge.proofs.NameLemmas.{some_is}
 use Rattle.table_merge.proofs.PartLemmas.{three_gives}
 use Rattle.table_merge.proofs.RiseLemmas.{gathered_all, gathered_rise, rises_of, with_all, with_rise}
 

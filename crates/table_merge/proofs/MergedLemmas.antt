@@ -11,13 +11,14 @@ use Rattle.schema_model.specs.declared.schemas.IndexDef.{IndexDef}
 use Rattle.schema_model.specs.declared.schemas.CheckDef.{CheckDef}
 use Rattle.schema_model.specs.declared.schemas.ForeignKey.{ForeignKey}
 use Rattle.schema_model.specs.declared.schemas.Schema.{Schema}
+use Rattle.schema_model.proofs.FitLemmas.{places_within}
 use Rattle.schema_merge.specs.Parts.{Sides, covers_all, covers_in, moved_places, of_checks, of_columns, of_foreign, of_indexes, sides}
 use Rattle.schema_merge.specs.Merging.{keys_agree, parts3, same_key, same_key_in, schema3, schema_of}
 use Rattle.schema_merge.specs.Projecting.{projected}
 use Rattle.table_merge.specs.Laws.{AreSchemas, IsBase, IsOneOf, IsOurs, IsSchemaPerhaps, IsTheirs}
 use Rattle.table_merge.proofs.NameLemmas.{named_apart}
 use Rattle.table_merge.proofs.PlaceLemmas.{positions_moved}
-use Rattle.table_merge.proofs.SchemaLemmas.{IsForm, KeysMatch, by_side, checks_keep_name, columns_keep_name, few_of, foreign_keep_name, form_of, if_so_some, indexes_keep_name, keys_match, made_of, parts_apart, parts_few, parts_pass, places_within, same_keys}
+use Rattle.table_merge.proofs.SchemaLemmas.{IsForm, KeysMatch, by_side, checks_keep_name, columns_keep_name, few_of, foreign_keep_name, form_of, if_so_some, indexes_keep_name, keys_match, made_of, parts_apart, parts_few, parts_pass, same_keys}
 use Rattle.table_merge.proofs.KeyLemmas.{BaseMatches, KeyStands, foreign_is, index_is, key_moves, key_not_null, key_projected, key_stands, projected_fits}
 
 -- ---- the merged schema

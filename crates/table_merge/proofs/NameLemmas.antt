@@ -1,34 +1,18 @@
 -- Parts found by name and by position, where names differ.
-use Rattle.std.proofs.Common.{◌≡◌, ◌+◌, ℕ, zero, suc, Bool, true, false, cond, List, [], ◌∷◌, Option, Some, None, refl, sym, ap, ◌∙◌, subst, bytes_eq, not, slice_get, arith}
+use Rattle.std.proofs.Common.{◌≡◌, ◌+◌, ℕ, zero, suc, Bool, true, false, cond, List, [], ◌∷◌, Some, refl, sym, ap, ◌∙◌, subst, bytes_eq, not, slice_get, arith}
 use Rattle.std.specs.Prelude.{if◌then◌else◌}
 use Rattle.std.specs.List.{list_all, list_any, position_from}
 use Rattle.std.proofs.lemmas.Bool.{and_parts, or_parts}
 use Rattle.std.proofs.lemmas.Iterator.Adapters.{position_from-zero}
-use Rattle.std.proofs.lemmas.Slice.Eq.{bytes_eq-Decides}
+use Rattle.basic_laws.proofs.Bytes.{same_bytes as eq_name, bytes_itself as itself}
+use Rattle.basic_laws.proofs.Truths.{not_true}
+use Rattle.basic_laws.proofs.Options.{some_is}
 use Rattle.schema_model.specs.Schemas.{are_distinct}
 use Rattle.schema_model.specs.declared.schemas.Column.{Column}
 use Rattle.schema_merge.specs.Parts.{find, place_of}
 
-some_or : {P : Type 0} → P → Option P → P
-some_or d None = d
-some_or d (Some p) = p
-
-pub some_is : {P : Type 0} (x y : P) → Some x ≡ Some y → x ≡ y
-unfolding some_or
-some_is x y e = ap (some_or x) e
-
 pub false_true : false ≡ true → ⊥
 false_true e = cc
-
-pub eq_name : (a b : List ℕ) → bytes_eq a b ≡ true → a ≡ b
-eq_name a b e = (bytes_eq-Decides a b).0 e
-
-pub itself : (a : List ℕ) → bytes_eq a a ≡ true
-itself a = (bytes_eq-Decides a a).1 refl
-
-pub not_true : (b : Bool) → not b ≡ true → b ≡ false
-not_true true e = absurd (cc)
-not_true false e = refl
 
 -- ---- by name
 
@@ -55,11 +39,6 @@ pub get_any : {P : Type 0} (test : P → Bool) (xs : List P) (i : ℕ) (x : P) �
 get_any test [] i x e h = absurd (cc)
 get_any test (y ∷ xs) zero x e h = ap test (sym (some_is y x e)) ∙ (or_parts (test y) (list_any test xs) h).0
 get_any test (y ∷ xs) (suc i) x e h = get_any test xs i x e (or_parts (test y) (list_any test xs) h).1
-
-pub get_all : {P : Type 0} (test : P → Bool) (xs : List P) (i : ℕ) (x : P) → slice_get xs i ≡ Some x → list_all test xs ≡ true → test x ≡ true
-get_all test [] i x e h = absurd (cc)
-get_all test (y ∷ xs) zero x e h = ap test (sym (some_is y x e)) ∙ (and_parts (test y) (list_all test xs) h).0
-get_all test (y ∷ xs) (suc i) x e h = get_all test xs i x e (and_parts (test y) (list_all test xs) h).1
 
 abbrev pub named_apart : List Column → Bool
 named_apart columns = are_distinct (λ a b. bytes_eq a.name b.name) columns

@@ -1,17 +1,19 @@
 -- What is known of merged parts.
-use Rattle.std.proofs.Common.{◌≡◌, ◌⊎◌, inl, inr, ℕ, Bool, true, false, List, [], ◌∷◌, ◌++◌, map, filter, Option, Some, None, Result, Ok, Err, refl, sym, ap, ◌∙◌, option_map, option_and_then, bytes_eq, is_some, not, ◌||◌, ◌≤◌, ◌+◌, suc, length, length-append, arith}
+use Rattle.std.proofs.Common.{◌≡◌, ◌⊎◌, inl, inr, ℕ, Bool, true, false, List, [], ◌∷◌, ◌++◌, map, filter, Option, Some, None, Result, Ok, Err, refl, sym, ap, ◌∙◌, bytes_eq, is_some, not, ◌||◌, suc}
 use Rattle.std.specs.Prelude.{if◌then◌else◌}
 use Rattle.std.specs.List.{list_all, list_any}
 use Rattle.std.proofs.lemmas.Bool.{and_parts, and_from, or_parts, or_from, not_from_false}
-use Rattle.std.proofs.lemmas.List.{length-map}
 use Rattle.std.proofs.lemmas.List.Folds.{list_any-append}
+use Rattle.basic_laws.proofs.Bytes.{same_bytes as eq_name, bytes_itself as itself}
+use Rattle.basic_laws.proofs.Truths.{not_true}
+use Rattle.basic_laws.proofs.Options.{some_is, chosen_so as and_then_some, mapped_so as map_some}
 use Rattle.tuple_codec.specs.RowRule.{same_option, three_way}
 use Rattle.schema_model.specs.Schemas.{are_distinct}
 use Rattle.schema_model.specs.declared.schemas.Column.{Column}
 use Rattle.schema_model.specs.declared.schemas.Schema.{Schema}
 use Rattle.schema_merge.specs.Parts.{Kind, Sides, find}
-use Rattle.schema_merge.specs.Merging.{merged_by, names3, others, part3, parts3, same_pair, stands, step, taken}
-use Rattle.table_merge.proofs.NameLemmas.{eq_name, false_true, itself, not_true, some_is}
+use Rattle.schema_merge.specs.Merging.{merged_by, names3, others, part3, same_pair, stands, step, taken}
+use Rattle.table_merge.proofs.NameLemmas.{false_true}
 
 ok_or : {P : Type 0} → P → Result P (List ℕ) → P
 ok_or d (Err name) = d
@@ -41,14 +43,6 @@ pub record Came {P : Type 0} (called : P → List ℕ) (kind : Kind P) (all : Si
   pub old : P
   pub there : find called name (kind.parts side) ≡ Some old
   pub moved : kind.moved all columns side old ≡ Some part
-
-and_then_some : {A B : Type 0} (f : A → Option B) (o : Option A) (y : B) → option_and_then f o ≡ Some y → (x : A) × (o ≡ Some x) × (f x ≡ Some y)
-and_then_some f None y e = absurd (cc)
-and_then_some f (Some x) y e = (x, refl, e)
-
-map_some : {A B : Type 0} (f : A → B) (o : Option A) (y : B) → option_map f o ≡ Some y → (x : A) × (o ≡ Some x) × (f x ≡ y)
-map_some f None y e = absurd (cc)
-map_some f (Some x) y e = (x, refl, some_is (f x) y e)
 
 stood : {P : Type 0} (called : P → List ℕ) (kind : Kind P) (name : List ℕ) (schema : Schema) (pair : Schema × P) → Some pair ≡ stands called kind name (Some schema)
     → (pair.0 ≡ schema) × (find called name (kind.parts schema) ≡ Some pair.1)
@@ -164,31 +158,6 @@ merged_known {P} part_of key (name ∷ names) parts e h =
       by (Skips here later) false t h more = more parts later h
       by (Has part rest here later has) true t h more = (Some part, ap part_of (eq_name key name t) ∙ here)
       by (Has part rest here later has) false t h more = more rest later h
-
--- as many parts as names at most
-merged_length : {P : Type 0} (part_of : List ℕ → Option (Option P)) (names : List (List ℕ)) (parts : List P) → merged_by part_of names ≡ Ok parts → length parts ≤ length names
-merged_length part_of [] parts e = let n = ap length (ok_is [] parts e) in omega (arith, n)
-merged_length {P} part_of (name ∷ names) parts e = by (stepped name (part_of name) (merged_by part_of names) parts e) (λ (rest : List P). merged_length part_of names rest) where
-  by : Stepped (part_of name) (merged_by part_of names) parts → ((rest : List P) → merged_by part_of names ≡ Ok rest → length rest ≤ length names) → length parts ≤ length (name ∷ names)
-  by (Skips here later) more = let m = more parts later in omega (arith, m)
-  by (Has part rest here later is) more = let m = more rest later in let n = ap length is in omega (arith, m, n)
-
-filter_length : {P : Type 0} (test : P → Bool) (xs : List P) → length (filter test xs) ≤ length xs
-filter_length test [] = omega arith
-filter_length test (x ∷ xs) = by (test x) (filter_length test xs) where
-  by : (b : Bool) → length (filter test xs) ≤ length xs → length (if b then x ∷ filter test xs else filter test xs) ≤ suc (length xs)
-  by true e = omega (arith, e)
-  by false e = omega (arith, e)
-
-pub parts_length : {P : Type 0} (called : P → List ℕ) (kind : Kind P) (all : Sides) (columns : List Column) (parts : List P) → parts3 called kind all columns ≡ Ok parts
-    → length parts ≤ length (kind.parts all.ours) + length (kind.parts all.theirs)
-parts_length {P} called kind all columns parts e =
-    let few = merged_length (part3 called kind all columns) (names3 called (kind.parts all.ours) (kind.parts all.theirs)) parts e in
-    let both = length-append (map called (kind.parts all.ours)) (map called (others called (kind.parts all.ours) (kind.parts all.theirs))) in
-    let one = length-map (kind.parts all.ours) called in
-    let two = length-map (others called (kind.parts all.ours) (kind.parts all.theirs)) called in
-    let less = filter_length (λ (part : P). not (is_some (find called (called part) (kind.parts all.ours)))) (kind.parts all.theirs) in
-    omega (arith, few, both, one, two, less)
 
 -- ---- the names of ours, and then theirs
 

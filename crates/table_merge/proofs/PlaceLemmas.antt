@@ -4,11 +4,13 @@ use Rattle.std.specs.List.{list_all, list_any}
 use Rattle.std.proofs.lemmas.Bool.{and_parts, and_from, lt-ltb, or_parts, or_from, not_from_false, eqb-true, eq-eqb}
 use Rattle.std.proofs.lemmas.List.{length-map}
 use Rattle.std.proofs.lemmas.Option.{slice_get_within}
+use Rattle.basic_laws.proofs.Truths.{not_true}
+use Rattle.basic_laws.proofs.Options.{some_is}
 use Rattle.schema_model.specs.Schemas.{are_distinct, are_few, are_positions, is_empty}
 use Rattle.schema_model.specs.declared.schemas.Column.{Column}
 use Rattle.schema_model.specs.declared.schemas.Schema.{Schema}
 use Rattle.schema_merge.specs.Parts.{find, moved_place, moved_places, place_of}
-use Rattle.table_merge.proofs.NameLemmas.{false_true, found_get, find_named, get_place, named_apart, not_true, some_is}
+use Rattle.table_merge.proofs.NameLemmas.{false_true, found_get, find_named, get_place, named_apart}
 
 abbrev pub named : List ℕ → List Column → Option Column
 named name columns = find (λ part. part.name) name columns

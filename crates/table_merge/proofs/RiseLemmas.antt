@@ -6,6 +6,7 @@ use Rattle.std.specs.Cmp.Lexicographic.{slice_cmp}
 use Rattle.std.specs.declared.cmp.Ordering.{Ordering}
 use Rattle.std.specs.declared.cmp.Ordering.TheVariants.{Less, Equal, Greater}
 use Rattle.std.proofs.lemmas.Bool.{and_parts, and_from}
+use Rattle.basic_laws.proofs.Orderings.{less_is}
 use Rattle.tuple_codec.specs.KeyBytes.{key_bytes}
 use Rattle.tuple_codec.specs.Limits.{are_types}
 use Rattle.tuple_codec.specs.Nodes.{Item, RiseAfter, is_after}
@@ -18,11 +19,6 @@ use Rattle.plain_merge.specs.KeyByKey.{before, gathered, key_among, keys_with}
 use Rattle.table_merge.specs.Rising.{RiseFrom, is_above}
 
 -- ---- the order
-
-pub less_is : (o : Ordering) → is_lt o ≡ true → o ≡ Less
-less_is Less e = refl
-less_is Equal e = absurd (cc)
-less_is Greater e = absurd (cc)
 
 pub cells_equal : (a b : Cells) → key_cmp a b ≡ Equal → a ≡ b
 cells_equal a b e = (cells_told a b).0 (ap is_eq e)

@@ -1,10 +1,11 @@
 -- Merged schemas are schemas.
-use Rattle.std.proofs.Common.{◌≡◌, ◌⊎◌, inl, inr, ◌<◌, ◌≤◌, ℕ, zero, suc, Bool, true, false, ltb, List, [], ◌∷◌, length, Option, Some, None, Result, Ok, Err, refl, sym, ap, ◌∙◌, subst, option_map, option_and_then, bytes_eq, slice_get, ◌==◌, arith}
+use Rattle.std.proofs.Common.{◌≡◌, ◌⊎◌, inl, inr, ◌<◌, ◌≤◌, ℕ, zero, suc, Bool, true, false, ltb, List, [], ◌∷◌, length, Option, Some, None, Result, Ok, Err, refl, sym, ap, ◌∙◌, subst, option_map, option_and_then, bytes_eq, slice_get, arith}
 use Rattle.std.specs.Prelude.{if◌then◌else◌}
 use Rattle.std.specs.List.{list_all}
 use Rattle.std.specs.Option.{option_map_or}
 use Rattle.std.specs.Cmp.Lexicographic.{pointwise}
 use Rattle.std.proofs.lemmas.Bool.{and_parts, leb-true, lt-ltb, ltb-true}
+use Rattle.basic_laws.proofs.Options.{some_is}
 use Rattle.tuple_codec.specs.RowRule.{same_option, three_way}
 use Rattle.tuple_codec.specs.Rows.{AreTold}
 use Rattle.schema_model.specs.Limits.{is_within_limits}
@@ -17,8 +18,9 @@ use Rattle.schema_model.specs.declared.schemas.ForeignKey.{ForeignKey}
 use Rattle.schema_model.specs.declared.schemas.Schema.{Schema}
 use Rattle.schema_merge.specs.Parts.{Kind, Sides, covers_all, find, if_so, keeps, keeps_places, name_at, of_checks, of_columns, of_foreign, of_indexes, sides}
 use Rattle.schema_merge.specs.Merging.{and_then, columns_at, keys_agree, over_columns, part3, parts3, same_pair, schema3, schema_of, stands, taken}
-use Rattle.table_merge.proofs.NameLemmas.{find_all, find_named, named_apart, some_is}
-use Rattle.table_merge.proofs.PartLemmas.{AreNamed, came, merged_all, merged_distinct, merged_find, merged_known, names_distinct, names_ours, parts_length}
+use Rattle.schema_merge.proofs.MergeLemmas.{few_parts as parts_length}
+use Rattle.table_merge.proofs.NameLemmas.{find_all, find_named, named_apart}
+use Rattle.table_merge.proofs.PartLemmas.{AreNamed, came, merged_all, merged_distinct, merged_find, merged_known, names_distinct, names_ours}
 use Rattle.table_merge.proofs.PlaceLemmas.{AllMove, Moves, moves, named}
 
 -- ---- what a merged schema is made of
@@ -224,11 +226,6 @@ kept_places columns side (place ∷ places) apart p h =
     let one = and_parts (ltb place (length side.columns)) (list_all (λ position. ltb position (length side.columns)) places) p in
     let two = and_parts (keeps columns side (name_at side.columns place)) (keeps_places columns side places) h in
     (kept_place columns side place apart (ltb-true _ _ one.0) two.0, kept_places columns side places apart one.1 two.1)
-
-pub places_within : (n : ℕ) (places : List ℕ) → are_positions n places ≡ true → list_all (λ position. ltb position n) places ≡ true
-places_within n places h =
-    let a = and_parts _ (are_distinct (λ a b. a == b) places) h in
-    (and_parts _ (list_all (λ position. ltb position n) places) a.0).1
 
 -- ---- the primary key
 

@@ -4,29 +4,28 @@ use Rattle.std.specs.Prelude.{bytes_eq, if◌then◌else◌}
 use Rattle.std.specs.List.{AllByRecursion, list_all}
 use Rattle.std.specs.Option.{option_map_or}
 use Rattle.std.proofs.lemmas.Bool.{and_parts, and_from}
+use Rattle.basic_laws.proofs.Bytes.{bytes_itself as itself}
+use Rattle.basic_laws.proofs.Options.{some_is}
 use Rattle.tuple_codec.specs.Edits.{EditsRiseAfter, changed, edited, value_at}
 use Rattle.tuple_codec.specs.KeyBytes.{key_bytes}
 use Rattle.tuple_codec.specs.Nodes.{Item, Rise, leaf_item}
-use Rattle.tuple_codec.specs.Rows.{Cells, fits_all, same_cells}
+use Rattle.tuple_codec.specs.Rows.{Cells, fits_all}
 use Rattle.tuple_codec.specs.Trees.{IsRow}
 use Rattle.tuple_codec.specs.declared.edits.Change.{Change}
 use Rattle.tuple_codec.proofs.Orders.{cells_told}
 use Rattle.schema_model.specs.Limits.{is_conflict_within_limits}
-use Rattle.schema_model.specs.PlainTables.{Conflict, body_bytes, conflict_item, conflict_items, is_conflict, is_row, key_types, primary_key, row_item, row_items, side_bytes}
+use Rattle.schema_model.specs.PlainTables.{Conflict, body_bytes, conflict_item, conflict_items, key_types, primary_key, row_item, row_items, side_bytes}
 use Rattle.schema_model.specs.declared.schemas.Schema.{Schema}
 use Rattle.schema_model.proofs.FitLemmas.{key_types_fit}
 use Rattle.schema_model.proofs.TellingLemmas.{row_by_item}
-use Rattle.node_format.specs.Views.{leaf_of}
 use Rattle.edit_laws.specs.ByKey.{as_edits, between, change_at}
-use Rattle.edit_laws.proofs.Orders.{itself}
 use Rattle.edit_laws.proofs.Rising.{changed_rise}
 use Rattle.edit_laws.proofs.Values.{changed_value}
 use Rattle.prolly_edit.specs.Editing.{PutsRow}
-use Rattle.plain_merge.specs.TableMerge.{Three, answer_at, conflict_at, conflict_if, keys_of, row_after, row_at, sides_at, table_of}
+use Rattle.plain_merge.specs.TableMerge.{Three, answer_at, conflict_at, keys_of, row_after, row_at, sides_at, table_of}
 use Rattle.table_merge.specs.Merging.{is_short_merged}
 use Rattle.table_merge.specs.Rising.{IsAt}
-use Rattle.table_merge.specs.Skipping.{AreDecided, AreKept, AreMerged, AreShortAt, AreThreeKept, DecidesAt, IsChangeOf, IsKeyOf, IsShortAt, Merges, edits_to}
-use Rattle.table_merge.specs.Steps.{AreTreeRows}
+use Rattle.table_merge.specs.Skipping.{AreDecided, AreKept, AreMerged, AreShortAt, AreThreeKept, DecidesAt, IsChangeOf, IsKeyOf, IsShortAt}
 use Rattle.table_merge.specs.Walking.{Decides, are_short, are_short_at}
 use Rattle.table_merge.specs.declared.changing.Merged.{Merged}
 use Rattle.table_merge.specs.declared.deciding.Decided.{Decided}
@@ -36,7 +35,6 @@ use Rattle.table_merge.proofs.ChangeLemmas.{Both, all_found, between_is, between
 use Rattle.table_merge.proofs.ItemLemmas.{conflict_items_stand, keys_of_conflicts, keys_of_rows, row_items_stand}
 use Rattle.table_merge.proofs.LookLemmas.{among, gathered_passes, gathered_value, kept_conflict, kept_row, key_told, no_conflict, no_row, row_passes, value_row}
 use Rattle.table_merge.proofs.MergeLemmas.{AreRows, AreThree, all_keys_fit, conflict_is, conflicts_fit, row_after_is, row_is_at, rows_fit}
-use Rattle.table_merge.proofs.NameLemmas.{some_is}
 use Rattle.table_merge.proofs.RiseLemmas.{gathered_all}
 
 -- ---- the rows that are merged

@@ -8,6 +8,7 @@ use Rattle.std.proofs.Math.ListN.{drop_of_length-le}
 use Rattle.std.proofs.Math.Seq.{drop-cons}
 use Rattle.std.proofs.lemmas.List.{append-nil}
 use Rattle.std.proofs.lemmas.Bool.{and_parts, and_from}
+use Rattle.basic_laws.proofs.Truths.{and_none as none_more}
 use Rattle.tuple_codec.specs.Nodes.{Item}
 use Rattle.tuple_codec.specs.RowRule.{row3}
 use Rattle.tuple_codec.specs.Rows.{Cells, fits_all, key_cmp, same_cells}
@@ -114,10 +115,6 @@ pub record Walked (s : Schema) (three : Three) (left : List Cells) (rows conflic
   pub rows_are : Underway (row_after s three) (row_item s) (is_short_merged s) (keys_of s three) left rows
   pub conflicts_are : Underway (conflict_at s three) (conflict_item s) (is_conflict_within_limits s) (keys_of s three) left conflicts
   pub fit : list_all (fits_all (key_types s)) left ≡ true
-
-none_more : (b : Bool) → (b && false) ≡ false
-none_more true = refl
-none_more false = refl
 
 next_is : (keys : List Cells) (at : ℕ) (key : Cells) → at < length keys → key ≡ get_or keys at key → drop at keys ≡ key ∷ drop (at + 1) keys
 next_is keys at key within is =

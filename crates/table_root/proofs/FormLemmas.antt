@@ -4,18 +4,21 @@ use Rattle.std.specs.Prelude.{◌&&◌}
 use Rattle.std.specs.List.{flat_map, list_all}
 use Rattle.std.specs.Option.{option_map}
 use Rattle.std.specs.Int.{w16, w32, to_be_bytes}
-use Rattle.std.proofs.lemmas.Bool.{and_parts, and_from, eqb-true}
+use Rattle.std.proofs.lemmas.Bool.{and_parts, eqb-true}
 use Rattle.std.proofs.lemmas.List.Folds.{flat_map-map}
 use Rattle.std.proofs.lemmas.Nat.{from_be_bytes-to_be_bytes_2, from_be_bytes-to_be_bytes_4}
+use Rattle.basic_laws.proofs.Options.{mapped as map_some, some_is}
+use Rattle.basic_laws.proofs.Lists.{all_both as both_all}
 use Rattle.tuple_codec.specs.Fields.{bytes_at, short_at, short}
 use Rattle.tuple_codec.specs.declared.addresses.Address.{Address}
 use Rattle.tuple_codec.specs.declared.records.BranchRecord.{BranchRecord}
 use Rattle.tuple_codec.proofs.NumberLemmas.{AreBytes}
+use Rattle.tuple_codec.proofs.FieldLemmas.{bytes_again}
 use Rattle.schema_model.specs.Reading.{◌>>=◌, items_at}
 use Rattle.schema_model.specs.SchemaBytes.{schema_bytes}
 use Rattle.schema_model.specs.WrittenForms.{Entry, branch_bytes, merging_bytes}
 use Rattle.schema_model.specs.declared.schemas.Schema.{Schema}
-use Rattle.schema_model.proofs.PartLemmas.{IsReader, Takes, Takes-then, bind_some, bytes_again, bytes_takes, items_again, map_some, short_again, short_reader, some_is, takes}
+use Rattle.schema_model.proofs.PartLemmas.{IsReader, Takes, Takes-then, bind_some, bytes_takes, items_again, short_again, short_reader, takes}
 use Rattle.table_root.specs.Branches.{IsBranch, is_address_or_none}
 use Rattle.table_root.specs.Databases.{IsDatabase, entry_of, fits_name, has_address, named_bytes, written_database}
 use Rattle.table_root.specs.Reading.{address_at, as_address, as_four, as_two, branch_of, database_of, four_at, merging_of, named_at, schema_text, table_of, two_at}
@@ -115,13 +118,6 @@ named_takes bytes x fit e =
 
 named_reader : IsReader named_bytes is_named named_at
 named_reader = record { takes = named_takes; again = named_again }
-
-both_all : {A : Type 0} (p q : A → Bool) (xs : List A) → list_all p xs ≡ true → list_all q xs ≡ true → list_all (λ x. p x && q x) xs ≡ true
-both_all p q [] h k = refl
-both_all p q (x ∷ xs) h k =
-    let a = and_parts (p x) (list_all p xs) h in
-    let b = and_parts (q x) (list_all q xs) k in
-    and_from (p x && q x) _ (and_from (p x) (q x) a.0 b.0) (both_all p q xs a.1 b.1)
 
 abbrev tables_in : List NamedTable × List ℕ → Option (List NamedTable)
 tables_in tables = Some tables.0

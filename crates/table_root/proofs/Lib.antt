@@ -3,3 +3,4 @@ mod NameLemmas
 mod ReadLemmas
 mod StandingLemmas
 mod WriteLemmas
+pub mod ListingLemmas

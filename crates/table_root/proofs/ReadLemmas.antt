@@ -1,11 +1,12 @@
 -- What code finds where the form of a thing is found.
 use Rattle.std.proofs.Common.{◌≡◌, ℕ, true, List, Option, Some, None, Result, Ok, Err, refl, sym, ap, ◌∙◌}
+use Rattle.basic_laws.proofs.Options.{some_is}
 use Rattle.tuple_codec.specs.Fronts.{Gives}
 use Rattle.schema_model.specs.SchemaBytes.{schema_bytes}
 use Rattle.schema_model.specs.Schemas.{is_schema}
 use Rattle.schema_model.specs.Spellings as spelled
 use Rattle.schema_model.specs.declared.schemas.Schema.{Schema}
-use Rattle.schema_model.proofs.PartLemmas.{nothing, some_is}
+use Rattle.schema_model.proofs.PartLemmas.{nothing}
 use Rattle.table_root.specs.Finds.{Finds}
 use Rattle.table_root.specs.Reading.{schema_text, table_of}
 use Rattle.table_root.specs.Tables.{IsTable, written_table}

@@ -4,11 +4,13 @@ use Rattle.std.specs.List.{AllByRecursion, flat_map, list_all}
 use Rattle.std.specs.Ordering.{nat_cmp, is_lt}
 use Rattle.std.specs.Cmp.Lexicographic.{slice_cmp}
 use Rattle.std.proofs.lemmas.Bool.{and_parts, and_from}
+use Rattle.basic_laws.proofs.Options.{some_is}
 use Rattle.tuple_codec.specs.Fields.{bytes_at, short, short_at}
 use Rattle.tuple_codec.specs.Nodes.{Item}
 use Rattle.tuple_codec.specs.Texts.{is_utf8}
 use Rattle.tuple_codec.specs.Trees.{root}
 use Rattle.tuple_codec.specs.declared.addresses.Address.{Address}
+use Rattle.tuple_codec.proofs.FieldLemmas.{bytes_again}
 use Rattle.schema_model.specs.PlainTables as plain
 use Rattle.schema_model.specs.PlainTables.{NamedTable, PlainDatabase, PlainTable, conflict_items, index_items, rises, row_items, violation_items}
 use Rattle.schema_model.specs.Schemas.{is_name}
@@ -29,7 +31,7 @@ use Rattle.table_root.specs.declared.records.NamedTable as stored
 use Rattle.table_root.specs.declared.records.Table as stored_tables
 use Rattle.table_root.proofs.FormLemmas.{databases_one}
 use Rattle.table_root.proofs.ReadLemmas.{tables_one}
-use Rattle.schema_model.proofs.PartLemmas.{bytes_again, short_again, some_is}
+use Rattle.schema_model.proofs.PartLemmas.{short_again}
 use Rattle.schema_model.proofs.SizeLemmas.{schemas_are_short}
 use Rattle.schema_model.proofs.TellingLemmas.{items_tell}
 

@@ -1,10 +1,11 @@
 -- The parts written one after another are the form, and how many bytes forms have at most.
-use Rattle.std.proofs.Common.{◌≡◌, ℕ, ◌*◌, ◌^◌, ◌<◌, ◌≤◌, Bool, true, leb, List, [], ◌∷◌, ◌++◌, length, refl, sym, ap, subst, ◌∙◌, append_assoc, arith}
+use Rattle.std.proofs.Common.{◌≡◌, ℕ, ◌*◌, ◌^◌, ◌<◌, ◌≤◌, true, leb, List, [], ◌∷◌, ◌++◌, length, refl, sym, ap, subst, ◌∙◌, append_assoc, arith}
 use Rattle.std.specs.List.{flat_map, list_all}
 use Rattle.std.specs.Int.{w16, w32, to_be_bytes}
-use Rattle.std.proofs.lemmas.Bool.{and_from, and_parts, eqb-true, leb-true, lt-ltb}
+use Rattle.std.proofs.lemmas.Bool.{and_parts, eqb-true, leb-true, lt-ltb}
 use Rattle.std.proofs.lemmas.List.{length-append}
 use Rattle.std.proofs.lemmas.List.Folds.{flat_map-map}
+use Rattle.basic_laws.proofs.Lists.{all_weaker as each_has}
 use Rattle.tuple_codec.specs.Fields.{short}
 use Rattle.tuple_codec.specs.declared.addresses.Address.{Address}
 use Rattle.schema_model.specs.Limits.{has_short_names, is_short_name, is_within_limits}
@@ -15,13 +16,6 @@ use Rattle.table_root.specs.Tables.{IsTable, is_address, written_table}
 use Rattle.table_root.specs.declared.records.NamedTable.{NamedTable}
 use Rattle.table_root.specs.declared.records.Table.{Table}
 use Rattle.table_root.proofs.FormLemmas.{database_is}
-
--- what each item has, each has that follows from it
-each_has : {A : Type 0} (p q : A → Bool) → ((x : A) → p x ≡ true → q x ≡ true) → (xs : List A) → list_all p xs ≡ true → list_all q xs ≡ true
-each_has p q follows [] h = refl
-each_has p q follows (x ∷ xs) h =
-    let both = and_parts (p x) (list_all p xs) h in
-    and_from (q x) (list_all q xs) (follows x both.0) (each_has p q follows xs both.1)
 
 -- every address may be written
 pub all_allowed : {A : Type 0} (xs : List A) → list_all (λ _. true) xs ≡ true

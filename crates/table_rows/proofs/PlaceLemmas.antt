@@ -8,6 +8,7 @@ use Rattle.tuple_codec.specs.Rows.{Cells, key_of}
 use Rattle.tuple_codec.specs.declared.values.Value.{Value}
 use Rattle.tuple_codec.specs.declared.values.Value.TheVariants as cell
 use Rattle.schema_model.specs.PlainTables.{is_keyed, unkeyed_from}
+use Rattle.schema_model.proofs.TellingLemmas.{cell_in as head_at, cells_after as tail_at}
 use Rattle.table_rows.specs.Places.{cell_or_first, joined_from, keyed_cell, others_after}
 
 -- ---- where a position stands in a key
@@ -56,18 +57,6 @@ keyed_none cells key place h =
     ap (λ (b : Bool). option_and_then (λ at. slice_get cells at) (cond b (Some n) None)) (le-ltb n (length key) (omega (arith, e)))
 
 -- ---- the row
-
-head_at : (full : Cells) (place : ℕ) (value : Value) (row : Cells) → drop place full ≡ value ∷ row → get_or full place cell.Null ≡ value
-head_at [] zero value row e = absurd (cc)
-head_at [] (suc place) value row e = absurd (cc)
-head_at (first ∷ full) zero value row e = cc
-head_at (first ∷ full) (suc place) value row e = head_at full place value row e
-
-tail_at : (full : Cells) (place : ℕ) (value : Value) (row : Cells) → drop place full ≡ value ∷ row → drop (suc place) full ≡ row
-tail_at [] zero value row e = absurd (cc)
-tail_at [] (suc place) value row e = absurd (cc)
-tail_at (first ∷ full) zero value row e = cc
-tail_at (first ∷ full) (suc place) value row e = tail_at full place value row e
 
 joined_again : (key : List ℕ) (full : Cells) (place : ℕ) (row : Cells) → drop place full ≡ row
     → joined_from key (key_of key full) place (length row) (unkeyed_from key place row) ≡ row

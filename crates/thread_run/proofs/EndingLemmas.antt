@@ -5,6 +5,8 @@ use Rattle.std.specs.Prelude.{All}
 use Rattle.std.proofs.lemmas.Bool.Decides.{nat_tests}
 use Rattle.std.proofs.lemmas.List.{get_or-map, length-map}
 use Rattle.std.proofs.lemmas.Option.{get_or_from_slice_get, slice_get_within}
+use Rattle.std.proofs.lemmas.Bool.{and_from as join}
+use Rattle.basic_laws.proofs.Lists.{there_at as found_there}
 use Rattle.script_text.specs.Collisions.{AllTellTruly}
 use Rattle.script_text.specs.Output.{shortages_in}
 use Rattle.script_text.specs.Shown.{IsPrintable, IsShown, is_shown_moment}
@@ -23,7 +25,6 @@ use Rattle.run_laws.specs.Histories as laws
 use Rattle.run_laws.specs.Histories.{ToldTurn, Way, moment_of_entry}
 use Rattle.run_laws.proofs.HistoryLemmas.{ways_run}
 use Rattle.run_laws.specs.Replaying.{all_replies}
-use Rattle.run_laws.proofs.ListLemmas.{join}
 use Rattle.run_laws.proofs.ReplayLemmas.{shown_by_machine}
 use Rattle.session_laws.specs.Changes.{Parts, StateStands}
 use Rattle.session_laws.specs.Laws.{StatesFollow}
@@ -126,11 +127,6 @@ collected P (suc n) each =
 all_at : {X : Type 0} (p : X → Bool) (xs : List X) → ((k : ℕ) (x : X) → slice_get xs k ≡ Some x → p x ≡ true) → list_all p xs ≡ true
 all_at p [] each = refl
 all_at p (x ∷ xs) each = join (p x) (list_all p xs) (each 0 x refl) (all_at p xs (λ k y h. each (suc k) y h))
-
-pub found_there : {X : Type 0} (xs : List X) (k : ℕ) → k < length xs → (x : X) × (slice_get xs k ≡ Some x)
-found_there [] k below = absurd (omega arith)
-found_there (x ∷ xs) zero below = (x, refl)
-found_there (x ∷ xs) (suc k) below = found_there xs k (omega arith)
 
 work_at : {D : Type 0} (ws : List (Worker (Player D))) (k : ℕ) (player : Player D) → slice_get (works_of ws) k ≡ Some player → (w : Worker (Player D)) × (slice_get ws k ≡ Some w) × (w.work ≡ player)
 work_at [] k player h = absurd (cc)

@@ -2,6 +2,7 @@
 use Rattle.std.proofs.Common.{◌≡◌, refl, sym, ◌∙◌, ap, subst, ℕ, ℤ, ◌+◌, ◌*◌, ◌<◌, ◌≤◌, List, get_or, length, Some, slice_get, arith}
 use Rattle.std.specs.Prelude.{slice_index_or}
 use Rattle.std.proofs.lemmas.Option.{get_or_from_slice_get, slice_get_within}
+use Rattle.basic_laws.proofs.Lists.{there_at as found_there}
 use Rattle.script_text.specs.declared.scripts.Script.{Script}
 use Rattle.plain_sessions.specs.Commands.{command}
 use Rattle.plain_sessions.specs.Records.{opening}
@@ -24,7 +25,6 @@ use Rattle.script_run.proofs.PlayerLemmas.{at_count, first_at, new_at, new_is, n
 use Rattle.thread_run.specs.Going.{IsGoing}
 use Rattle.thread_run.specs.Opening.{IsOpenAtGate}
 use Rattle.thread_run.specs.declared.opening.AtGate.{AtGate}
-use Rattle.thread_run.proofs.EndingLemmas.{found_there}
 
 module _ {D : Type 0} (address : List ℕ → List ℕ) (epoch : ℤ) (script : Script) (parts : Parts) (statements : List ℕ) (players : List (Player D)) (sound : IsSoundScript script)
     (counted : statements ≡ counts (length script.names) script.lines) (stands : StateStands address parts (opening address epoch script.names)) (numbers : parts.numbers ≡ statements)

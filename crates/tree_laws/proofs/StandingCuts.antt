@@ -1,7 +1,8 @@
 -- How a list is cut: each node is cut from its own items alone, ends where the rule says, and has room for its last item.
-use Rattle.std.proofs.Common.{◌≡◌, ◌<◌, ◌≤◌, ◌+◌, ◌⊎◌, inl, inr, ℕ, Bool, true, false, cond, ◌&&◌, ◌||◌, leb, List, [], ◌∷◌, ◌++◌, length, refl, sym, ap, ◌∙◌, append_assoc, append-nil, arith}
+use Rattle.std.proofs.Common.{◌≡◌, ◌<◌, ◌≤◌, ◌+◌, ◌⊎◌, inl, inr, ℕ, Bool, true, false, cond, ◌&&◌, leb, List, [], ◌∷◌, ◌++◌, length, refl, sym, ap, ◌∙◌, append_assoc, append-nil, arith}
 use Rattle.std.proofs.lemmas.Bool.{leb-false}
 use Rattle.std.proofs.lemmas.Bool.Decides.{leb_tells}
+use Rattle.basic_laws.proofs.Truths.{left_so as both_true, left_not as or_false}
 use Rattle.tuple_codec.specs.Nodes.{Item, ends, items_bytes}
 use Rattle.tuple_codec.specs.Trees.{closes, cut, cut_from}
 use Rattle.tree_laws.specs.Found.{left}
@@ -14,7 +15,7 @@ pub record HasNoEnd (address : List ℕ → List ℕ) (level : ℕ) (held : List
 pub no_end_yet : (address : List ℕ → List ℕ) (level : ℕ) → HasNoEnd address level []
 no_end_yet address level = record { cuts = λ items. refl; lefts = λ items. refl }
 
-cut_open : (address : List ℕ → List ℕ) (level : ℕ) (held : List Item) (item : Item) (items : List Item) → closes address level (held ++ item ∷ []) ≡ false
+pub cut_open : (address : List ℕ → List ℕ) (level : ℕ) (held : List Item) (item : Item) (items : List Item) → closes address level (held ++ item ∷ []) ≡ false
     → cut_from address level held (item ∷ items) ≡ cut_from address level (held ++ item ∷ []) items
 cut_open address level held item items e =
     ap (λ (b : Bool). cond b ((held ++ item ∷ []) ∷ cut_from address level [] items) (cut_from address level (held ++ item ∷ []) items)) e
@@ -58,14 +59,6 @@ IsSmall level held = (length held ≤ 1) ⊎ (4 + length (items_bytes level held
 both_false : (a b : Bool) → (a && b) ≡ false → (a ≡ false) ⊎ (b ≡ false)
 both_false true b e = inr e
 both_false false b e = inl refl
-
-or_false : (a b : Bool) → (a || b) ≡ false → a ≡ false
-or_false true b e = e
-or_false false b e = refl
-
-both_true : (a b : Bool) → (a && b) ≡ true → a ≡ true
-both_true true b e = refl
-both_true false b e = e
 
 pub small_open : (address : List ℕ → List ℕ) (level : ℕ) (items : List Item) → closes address level items ≡ false → IsSmall level items
 unfolding closes ends

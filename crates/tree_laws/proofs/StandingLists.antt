@@ -67,7 +67,7 @@ pub length_one : (held : List Item) (item : Item) → length (held ++ item ∷ [
 length_one [] item = omega arith
 length_one (first ∷ held) item = let more = length_one held item in omega (arith, more)
 
-after_first : (before : Option (List ℕ)) (a b : List ℕ) → is_after before a ≡ true → is_lt (order a b) ≡ true → is_after before b ≡ true
+pub after_first : (before : Option (List ℕ)) (a b : List ℕ) → is_after before a ≡ true → is_lt (order a b) ≡ true → is_after before b ≡ true
 after_first None a b p q = refl
 after_first (Some before) a b p q = lt_trans before a b p q
 

@@ -5,6 +5,7 @@ use Rattle.std.specs.Int.{w16, w64, to_be_bytes}
 use Rattle.std.proofs.lemmas.List.Concat.{flat_map-cons}
 use Rattle.std.proofs.lemmas.List.{length-append}
 use Rattle.node_format.proofs.FieldLemmas.{wide16, wide64}
+use Rattle.node_format.proofs.BuildLemmas.{header_length}
 use Rattle.tuple_codec.specs.Nodes.{Item, IsItem, header_bytes, item_bytes, items_bytes, sized}
 use Rattle.tuple_codec.specs.Trees.{IsRow, bytes_of, last_key, rows_in}
 use Rattle.tree_laws.proofs.StandingCuts.{IsSmall}
@@ -20,7 +21,7 @@ two n = wide16.len n
 eight : (n : ℕ) → length (to_be_bytes w64 n) ≡ 8
 eight n = wide64.len n
 
-sized_length : (bytes : List ℕ) → length (sized bytes) ≡ 2 + length bytes
+pub sized_length : (bytes : List ℕ) → length (sized bytes) ≡ 2 + length bytes
 sized_length bytes = let e = two (length bytes) in omega (arith, length-append (to_be_bytes w16 (length bytes)) bytes, e)
 
 -- an item takes 4 bytes to 32,766
@@ -40,10 +41,10 @@ item_size (suc level) item fit =
     let twenty = fit.1 in
     (omega (arith, whole, front, key, rows), omega (arith, whole, front, key, rows, most, twenty))
 
-items_cons : (level : ℕ) (item : Item) (items : List Item) → length (items_bytes level (item ∷ items)) ≡ length (item_bytes level item) + length (items_bytes level items)
+pub items_cons : (level : ℕ) (item : Item) (items : List Item) → length (items_bytes level (item ∷ items)) ≡ length (item_bytes level item) + length (items_bytes level items)
 items_cons level item items = ap (λ (l : List ℕ). length l) (flat_map-cons (item_bytes level) item items) ∙ length-append (item_bytes level item) (items_bytes level items)
 
-items_one : (level : ℕ) (held : List Item) (item : Item) → length (items_bytes level (held ++ item ∷ [])) ≡ length (items_bytes level held) + length (item_bytes level item)
+pub items_one : (level : ℕ) (held : List Item) (item : Item) → length (items_bytes level (held ++ item ∷ [])) ≡ length (items_bytes level held) + length (item_bytes level item)
 items_one level [] item = let e = items_cons level item [] in omega (arith, e)
 items_one level (first ∷ held) item =
     let a = items_cons level first (held ++ item ∷ []) in
@@ -82,9 +83,6 @@ node_size level (first ∷ []) item fit (inl few) =
     let f = items_cons level first [] in
     omega (arith, one, last, e, f)
 node_size level (first ∷ other ∷ held) item fit (inl few) = absurd (omega (arith, few))
-
-header_length : (level count : ℕ) → length (header_bytes level count) ≡ 4
-header_length level count = let e = two count in omega (arith, e)
 
 pub bytes_length : (level : ℕ) (items : List Item) → length (bytes_of level items) ≡ 4 + length (items_bytes level items)
 bytes_length level items =

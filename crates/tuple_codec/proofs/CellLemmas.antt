@@ -1,11 +1,12 @@
 -- What is read from the front of bytes is what has them, cell by cell and row by row.
 use Rattle.std.proofs.Common.{◌≡◌, ℕ, zero, suc, ◌^◌, ◌<◌, ◌≤◌, ℤ, pos, negsuc, Bool, true, false, cond, eqb, leb, List, [], ◌∷◌, ◌++◌, length, Option, Some, None, refl, sym, ap, subst, ◌∙◌, append_assoc, arith, inl, inr}
 use Rattle.std.specs.Prelude.{◌&&◌, unsigned_abs}
-use Rattle.std.specs.Option.{option_map, option_and_then}
+use Rattle.std.specs.Option.{option_map}
 use Rattle.std.specs.Int.{w64, from_be_bytes, to_be_bytes}
 use Rattle.std.proofs.lemmas.Bool.{ltb-true, lt-ltb, leb-true, and_parts, and_from, cases_Bool, eqb-true}
 use Rattle.std.proofs.lemmas.List.{append-nil, nil_from_length}
 use Rattle.std.proofs.Math.Nat.{pow-le-pow_right}
+use Rattle.basic_laws.proofs.Options.{bound, chosen_some as chosen, mapped}
 use Rattle.tuple_codec.specs.Rows.{Cells, fits, fits_all, fits_bits}
 use Rattle.tuple_codec.specs.Limits.{is_type, are_types}
 use Rattle.tuple_codec.specs.KeyBytes.{bit}
@@ -101,10 +102,6 @@ value_takes f (kind.Decimal digits scale) bytes v rest fit e =
     let t = number_takes f bytes m.0 rest fit m.1 in
     at_value f bytes (to_be_bytes w64 (bits_of f m.0)) v (cell.Decimal m.0) rest t.0 (decimal_bytes f m.0) m.2
 
-chosen : {A : Type 0} (c : Bool) (x y : A) → cond c (Some x) None ≡ Some y → (c ≡ true) × (x ≡ y)
-chosen true x y e = (refl, some_is x y e)
-chosen false x y e = absurd cc
-
 fitting_takes : (type : SqlType) (o : Option (Value × List ℕ)) (v : Value) (rest : List ℕ) → fitting type o ≡ Some (v, rest) → (o ≡ Some (v, rest)) × (fits type v ≡ true)
 fitting_takes type None v rest e = absurd cc
 fitting_takes type (Some p) v rest e =
@@ -122,14 +119,6 @@ cell_takes f type (suc zero ∷ bytes) v rest fit e =
     let t = fitting_takes type (value_front f type bytes) v rest e in
     (value_takes f type bytes v rest (AreBytes-rest 1 bytes fit) t.0, t.1)
 cell_takes f type (suc (suc n) ∷ bytes) v rest fit e = absurd cc
-
-bound : {A B : Type 0} (o : Option A) (g : A → Option B) (y : B) → option_and_then g o ≡ Some y → (x : A) × (o ≡ Some x) × (g x ≡ Some y)
-bound None g y e = absurd cc
-bound (Some x) g y e = (x, refl, e)
-
-mapped : {A B : Type 0} (o : Option A) (g : A → B) (y : B) → option_map g o ≡ Some y → (x : A) × (o ≡ Some x) × (g x ≡ y)
-mapped None g y e = absurd cc
-mapped (Some x) g y e = (x, refl, some_is (g x) y e)
 
 cells_take : (f : Form) (types : List SqlType) (bytes : List ℕ) (x : Cells × List ℕ) → AreBytes bytes → cells_front f types bytes ≡ Some x → (bytes ≡ spelling f x.0 ++ x.1) × (fits_all types x.0 ≡ true)
 cells_take f [] bytes x fit e = subst (λ (y : Cells × List ℕ). (bytes ≡ spelling f y.0 ++ y.1) × (fits_all [] y.0 ≡ true)) (some_is ([], bytes) x e) (refl, refl)
@@ -175,7 +164,7 @@ cell_again f (kind.Varbinary most) (cell.Bytes text) rest wide fit = value_again
 cell_again f (kind.Decimal digits scale) (cell.Decimal n) rest wide fit = value_again f (kind.Decimal digits scale) (cell.Decimal n) (to_be_bytes w64 (bits_of f n)) rest (decimal_bytes f n) (ap (made (λ k. cell.Decimal k)) (number_again f n rest wide)) fit
 cell_again f type v rest wide fit = absurd cc
 
-bits_more : (n : ℤ) → fits_bits 31 n ≡ true → fits_bits 63 n ≡ true
+pub bits_more : (n : ℤ) → fits_bits 31 n ≡ true → fits_bits 63 n ≡ true
 bits_more (pos n) e = lt-ltb n (2 ^ 63) (omega (arith, ltb-true n (2 ^ 31) e))
 bits_more (negsuc n) e = lt-ltb n (2 ^ 63) (omega (arith, ltb-true n (2 ^ 31) e))
 

@@ -6,3 +6,4 @@ pub mod CellLemmas
 pub mod OrderLemmas
 pub mod AddressLemmas
 mod Vectors
+pub mod FieldLemmas

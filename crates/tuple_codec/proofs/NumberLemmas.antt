@@ -1,5 +1,5 @@
 -- Numbers of 64 bits and their eight bytes.
-use Rattle.std.proofs.Common.{◌≡◌, ℕ, zero, suc, ◌+◌, ◌-◌, ◌*◌, ◌/◌, ◌^◌, ◌%◌, ◌<◌, ◌≤◌, ℤ, pos, negsuc, Bool, true, false, cond, ltb, List, ◌++◌, length, get_or, take, drop, Some, None, refl, sym, ap, subst, ◌∙◌, add-one, arith, inl, inr}
+use Rattle.std.proofs.Common.{◌≡◌, ℕ, zero, suc, ◌+◌, ◌-◌, ◌*◌, ◌/◌, ◌^◌, ◌%◌, ◌<◌, ◌≤◌, ℤ, pos, negsuc, true, false, ltb, List, ◌++◌, length, get_or, take, drop, Some, refl, sym, ap, subst, ◌∙◌, add-one, arith, inl, inr}
 use Rattle.std.specs.Int.{w64, from_be_bytes, to_be_bytes, cast_signed, byte_at, bytes_high_first}
 use Rattle.std.proofs.lemmas.Bool.{cases_lt, ltb-false, ltb-true, le-ltb, cases_order}
 use Rattle.std.specs.Prelude.{unsigned_abs}
@@ -14,6 +14,7 @@ use Rattle.std.proofs.lemmas.Int.{ints, to_z-of_z}
 use Rattle.std.proofs.lemmas.List.{drop_at, take-append-drop, length-append, length-take, get_or-drop, get_or-take, get_or_past}
 use Rattle.std.proofs.lemmas.Nat.{be_bytes_8, from_be_bytes-to_be_bytes_8, mod-mul-add}
 use Rattle.std.proofs.lemmas.Grind.{pow_more}
+use Rattle.basic_laws.proofs.Options.{guard_some as passed}
 use Rattle.tuple_codec.specs.Rows.{fits_bits}
 use Rattle.tuple_codec.specs.KeyBytes.{turned}
 use Rattle.tuple_codec.specs.Cells.{bits_of}
@@ -67,11 +68,6 @@ wide bytes fits = omega (arith, fits 0, fits 1, fits 2, fits 3, fits 4, fits 5, 
 -- the rest of bytes are bytes
 pub AreBytes-after : (front bytes rest : List ℕ) → AreBytes bytes → bytes ≡ front ++ rest → AreBytes rest
 AreBytes-after front bytes rest fits e = subst AreBytes (drop_at front rest (length front) refl) (AreBytes-drop (length front) (front ++ rest) (subst AreBytes e fits))
-
--- a test that did not fail
-pub passed : {A : Type 0} (b : Bool) (x y : A) → cond b None (Some x) ≡ Some y → (b ≡ false) × (x ≡ y)
-passed true x y e = absurd cc
-passed false x y e = (refl, cc)
 
 pub number_takes : (form : Form) (bytes : List ℕ) (n : ℤ) (rest : List ℕ) → AreBytes bytes → number_front form bytes ≡ Some (n, rest) → (bytes ≡ to_be_bytes w64 (bits_of form n) ++ rest) × AreBytes rest
 number_takes form bytes n rest fits e =

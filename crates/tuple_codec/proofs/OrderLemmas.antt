@@ -5,10 +5,10 @@ use Rattle.std.specs.List.{list_all}
 use Rattle.std.specs.Int.{w64, to_be_bytes}
 use Rattle.std.specs.Ordering.{nat_cmp, int_cmp, ordering_then}
 use Rattle.std.specs.declared.cmp.Ordering.{Ordering}
-use Rattle.std.specs.declared.cmp.Ordering.TheVariants.{Less, Equal, Greater}
 use Rattle.std.specs.Cmp.Lexicographic.{slice_cmp}
 use Rattle.std.proofs.lemmas.Bool.{leb-true, lt-ltb, and_parts, and_from}
 use Rattle.std.proofs.lemmas.List.{append-nil}
+use Rattle.basic_laws.proofs.Orderings.{then_equal as ends}
 use Rattle.tuple_codec.specs.Texts.{is_utf8, char_count}
 use Rattle.tuple_codec.specs.Rows.{Cells, fits, fits_all, fits_bits, value_cmp, key_cmp}
 use Rattle.tuple_codec.specs.Limits.{is_type, are_types}
@@ -72,11 +72,6 @@ key_order (type ∷ types) (v ∷ a) (w ∷ b) x y t fa fb =
     ap (λ (l : List ℕ). slice_cmp nat_cmp l (key_bytes (w ∷ b) ++ y)) (append_assoc (key_cell v) (key_bytes a) x)
     ∙ ap (λ (r : List ℕ). slice_cmp nat_cmp (key_cell v ++ (key_bytes a ++ x)) r) (append_assoc (key_cell w) (key_bytes b) y)
     ∙ here ∙ ap (ordering_then (value_cmp v w)) more ∙ then_assoc (value_cmp v w) (key_cmp a b) (slice_cmp nat_cmp x y)
-
-ends : (o : Ordering) → ordering_then o Equal ≡ o
-ends Less = refl
-ends Equal = refl
-ends Greater = refl
 
 then_equal : (types : List SqlType) (a b : Cells) → are_types types ≡ true → fits_all types a ≡ true → fits_all types b ≡ true → slice_cmp nat_cmp (key_bytes a ++ []) (key_bytes b ++ []) ≡ key_cmp a b
 then_equal types a b t fa fb = key_order types a b [] [] t fa fb ∙ ends (key_cmp a b)

@@ -2,12 +2,13 @@
 use Rattle.std.proofs.Common.{◌≡◌, refl, ap, subst, ℕ, ℤ, pos, Bool, true, false, List, []}
 use Rattle.std.specs.Cmp.{IsTotalOrder}
 use Rattle.std.specs.Cmp.Lexicographic.{slice_cmp}
-use Rattle.std.specs.Ordering.{nat_cmp, int_cmp, bool_cmp, is_eq, on, then_cmp, ordering_then}
+use Rattle.std.specs.Ordering.{nat_cmp, int_cmp, bool_cmp, is_eq, on, then_cmp}
 use Rattle.std.specs.declared.cmp.Ordering.{Ordering}
-use Rattle.std.specs.declared.cmp.Ordering.TheVariants.{Less, Equal, Greater}
+use Rattle.std.specs.declared.cmp.Ordering.TheVariants.{Equal}
 use Rattle.std.proofs.lemmas.Cmp.{nat_cmp_total, int_cmp_total, nat_list_cmp_total, lists_total, on_total, then_total}
 use Rattle.std.specs.Cmp.{Equal-is, bool_cmp_total, tied_itself}
 use Rattle.std.specs.FinMap.{IsAntisymmetric, int_cmp-IsAntisymmetric, nat_cmp-IsAntisymmetric, slice_cmp-IsAntisymmetric}
+use Rattle.basic_laws.proofs.Orderings.{then_equal}
 use Rattle.tuple_codec.specs.Rows.{AreTold, key_cmp, rank, same_cells, same_value, value_cmp}
 use Rattle.tuple_codec.specs.declared.values.Value.{Value}
 use Rattle.tuple_codec.specs.declared.values.Value.TheVariants as cell
@@ -33,11 +34,6 @@ by_parts = then_cmp (on rank nat_cmp) (then_cmp (on number_in int_cmp) (then_cmp
 by_parts_total : IsTotalOrder by_parts
 unfolding by_parts
 by_parts_total = then_total (on_total rank nat_cmp_total) (then_total (on_total number_in int_cmp_total) (then_total (on_total truth_in bool_cmp_total) (on_total bytes_in nat_list_cmp_total)))
-
-then_equal : (o : Ordering) → ordering_then o Equal ≡ o
-then_equal Less = refl
-then_equal Equal = refl
-then_equal Greater = refl
 
 same : (a b : Value) → by_parts a b ≡ value_cmp a b
 unfolding by_parts number_in truth_in bytes_in

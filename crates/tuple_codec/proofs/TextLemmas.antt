@@ -8,10 +8,11 @@ use Rattle.std.specs.declared.cmp.Ordering.TheVariants.{Less, Greater}
 use Rattle.std.specs.Cmp.{nat_cmp_is}
 use Rattle.std.specs.Cmp.Lexicographic.{slice_cmp}
 use Rattle.std.proofs.lemmas.List.{take_at, drop_at, take-append-drop, length-append, length-take}
+use Rattle.basic_laws.proofs.Options.{guard_some as passed}
 use Rattle.tuple_codec.specs.KeyBytes.{escape, escaped}
 use Rattle.tuple_codec.specs.RowBytes.{counted}
 use Rattle.tuple_codec.specs.Fronts.{with_front, unescaped, uncounted}
-use Rattle.tuple_codec.proofs.NumberLemmas.{AreBytes, AreBytes-drop, passed, then_assoc}
+use Rattle.tuple_codec.proofs.NumberLemmas.{AreBytes, AreBytes-drop, then_assoc}
 
 pub AreBytes-rest : (b : ℕ) (bytes : List ℕ) → AreBytes (b ∷ bytes) → AreBytes bytes
 AreBytes-rest b bytes h i = h (suc i)

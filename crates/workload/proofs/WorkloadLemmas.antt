@@ -1,11 +1,12 @@
 -- Draws in the code's arithmetic, and what every workload has.
-use Rattle.std.proofs.Common.{◌≡◌, refl, ◌∙◌, ap, ℕ, zero, suc, ◌+◌, ◌*◌, ◌/◌, ◌%◌, ◌<◌, ◌≤◌, ◌==◌, ◌&&◌, Bool, true, false, nat_lt, if◌then◌else◌, List, [], ◌∷◌, ◌++◌, length, map, add_assoc, arith, length-append}
+use Rattle.std.proofs.Common.{◌≡◌, refl, ◌∙◌, ap, ℕ, zero, suc, ◌+◌, ◌*◌, ◌/◌, ◌%◌, ◌<◌, ◌≤◌, ◌==◌, Bool, true, false, nat_lt, if◌then◌else◌, List, [], ◌∷◌, ◌++◌, length, map, add_assoc, arith, length-append}
 use Rattle.std.specs.Prelude.{codes}
 use Rattle.std.specs.List.{list_all, IsDistinct}
 use Rattle.std.specs.Str.{bytes_eq}
 use Rattle.std.proofs.lemmas.List.{length-map, length_push}
 use Rattle.std.proofs.lemmas.List.Folds.{list_all-append}
 use Rattle.std.proofs.lemmas.Bool.Decides.{nat_tests}
+use Rattle.std.proofs.lemmas.Bool.{and_from as join}
 use Rattle.script_text.specs.Input.{most_statements}
 use Rattle.script_text.specs.Shown.{is_shown_name}
 use Rattle.script_text.specs.declared.scripts.Line.{Line}
@@ -144,10 +145,6 @@ line_count seed = each_counts length (λ session. 621) 8 (with_session seed) [] 
 -- each line is one of the eight sessions'
 abbrev is_within : Line → Bool
 is_within line = nat_lt line.session 8
-
-join : (a b : Bool) → a ≡ true → b ≡ true → (a && b) ≡ true
-join true b h g = g
-join false b h g = h
 
 own_lines : (session : ℕ) (texts : List (List ℕ)) → nat_lt session 8 ≡ true → list_all is_within (map (line session) texts) ≡ true
 own_lines session [] below = refl

@@ -6,6 +6,7 @@ use Rattle.std.specs.List.{list_all, AllByRecursion, find}
 use Rattle.std.specs.Option.{option_map}
 use Rattle.std.proofs.lemmas.Bool.{ltb-false, le-leb}
 use Rattle.std.proofs.lemmas.Cmp.{on_total}
+use Rattle.basic_laws.proofs.Lists.{all_both}
 use Rattle.tuple_codec.specs.Rows.{Cells}
 use Rattle.tuple_codec.proofs.Orders.{key_cmp_total}
 use Rattle.schema_model.specs.declared.schemas.Schema.{Schema}
@@ -18,7 +19,7 @@ use Rattle.plain_writes.specs.Writes.{Effect, by_key, effect_if, filled, keyed_c
 use Rattle.write_laws.specs.Laws.{IsKept}
 use Rattle.write_laws.proofs.OrderLemmas.{both_so, in_order_all, in_order_rises, left_so, right_so, two}
 use Rattle.write_laws.proofs.OutcomeLemmas.{ok_same, then_so, unless_so}
-use Rattle.write_laws.proofs.RowLemmas.{all_both, all_left, all_right, is_good}
+use Rattle.write_laws.proofs.RowLemmas.{all_left, all_right, is_good}
 
 -- a table within the limits
 pub record IsKeptTable (table : PlainTable) : Type 0 where
@@ -129,7 +130,7 @@ effect_so : (number : Option ℕ) (large : Bool) (given effect : Effect) → eff
 effect_so (Some number) large given effect e = cc
 effect_so None large given effect e = let parts = unless_so large 9010 (Ok given) effect e in (parts.0, ok_same (Ok given) given effect refl parts.1)
 
-few_so : (rows : List Cells) → nat_lt most_rows (length rows) ≡ false → nat_le (length rows) most_rows ≡ true
+pub few_so : (rows : List Cells) → nat_lt most_rows (length rows) ≡ false → nat_le (length rows) most_rows ≡ true
 few_so rows h = le-leb (length rows) most_rows (ltb-false most_rows (length rows) h)
 
 pub keyed_total : (schema : Schema) → IsTotalOrder (keyed_cmp schema)

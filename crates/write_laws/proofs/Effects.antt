@@ -1,36 +1,22 @@
 -- INSERT, UPDATE and DELETE keep a database within the limits.
-use Rattle.std.proofs.Common.{◌≡◌, refl, ℕ, true, ◌&&◌, List, ◌++◌, length, map, Ok, Err, bytes_eq}
-use Rattle.std.specs.List.{list_all, AllByRecursion, count_by}
+use Rattle.std.proofs.Common.{◌≡◌, refl, ℕ, List, ◌++◌, length, map, Ok, Err}
+use Rattle.std.specs.List.{AllByRecursion, count_by}
 use Rattle.std.specs.Prelude.{IfOk}
+use Rattle.basic_laws.proofs.Lists.{all_append}
 use Rattle.sql_ast.specs.declared.statements.Insert.{Insert}
 use Rattle.sql_ast.specs.declared.statements.Update.{Update}
 use Rattle.sql_ast.specs.declared.statements.Delete.{Delete}
 use Rattle.schema_model.specs.PlainTables.{PlainDatabase, PlainTable}
-use Rattle.schema_model.specs.Schemas.{are_checks, are_columns, are_distinct, are_few, are_foreign, are_indexes, is_column, is_key, is_schema}
-use Rattle.schema_model.specs.declared.schemas.Column.{Column}
-use Rattle.schema_model.specs.declared.schemas.Schema.{Schema}
+use Rattle.schema_model.proofs.FitLemmas.{columns_of as columns_well}
 use Rattle.expr_eval.specs.Binding.{Outcome, and_then}
 use Rattle.plain_sql.specs.Lists.{each, or_refuse}
 use Rattle.plain_writes.specs.Violations.{Checks, own_scope, table_in}
 use Rattle.plain_writes.specs.Writes.{Effect, bound_assignment, delete_effect, deleted, insert_effect, inserted, new_row, on_table, places_named, rest_of, result_of, stays, tests_of, tuple_said, turned_small, update_effect, updated}
 use Rattle.plain_writes.specs.declared.updating.Later.{Later}
 use Rattle.write_laws.specs.Laws.{IsKept, WritesKeep}
-use Rattle.write_laws.proofs.OrderLemmas.{left_so, right_so}
 use Rattle.write_laws.proofs.OutcomeLemmas.{each_have, found_so, then_so}
-use Rattle.write_laws.proofs.RowLemmas.{IsPlaced, all_append, all_rest, all_rows, assignment_placed, is_good, new_rows_good, stay_all_good, turned_all_good}
+use Rattle.write_laws.proofs.RowLemmas.{IsPlaced, all_rest, all_rows, assignment_placed, is_good, new_rows_good, stay_all_good, turned_all_good}
 use Rattle.write_laws.proofs.DatabaseLemmas.{IsKeptTable, found_kept, result_kept, rows_good}
-
-pub columns_well : (schema : Schema) → is_schema schema ≡ true → list_all is_column schema.columns ≡ true
-columns_well schema h =
-    let n = length schema.columns in
-    let foreign = are_foreign n schema.foreign in
-    let checks = are_checks schema.checks in
-    let indexes = are_indexes n schema.indexes in
-    let key = is_key schema.columns schema.key in
-    let columns = are_columns schema.columns in
-    let well : are_columns schema.columns ≡ true = left_so columns key (left_so (columns && key) indexes (left_so (columns && key && indexes) checks (left_so (columns && key && indexes && checks) foreign h))) in
-    right_so (are_few schema.columns) (list_all is_column schema.columns)
-    (left_so (are_few schema.columns && list_all is_column schema.columns) (are_distinct (λ (a b : Column). bytes_eq a.name b.name) schema.columns) well)
 
 -- of a table that is found
 kept_on : (database : PlainDatabase) (name : List ℕ) (next : PlainTable → Outcome Effect) (effect : Effect) → IsKept database

@@ -1,6 +1,7 @@
 -- Rows that statements write fit their table and keep the limits.
-use Rattle.std.proofs.Common.{◌≡◌, refl, sym, ap, ◌∙◌, subst, ℕ, zero, suc, ◌+◌, Bool, true, false, cond, not, ◌&&◌, ◌⊎◌, inl, inr, true≢false, List, [], ◌∷◌, ◌++◌, map, filter, set, slice_get, Option, Some, None, Result, Ok, Err, unwrap_or}
+use Rattle.std.proofs.Common.{◌≡◌, refl, sym, ap, ◌∙◌, subst, ℕ, zero, suc, ◌+◌, Bool, true, false, cond, not, ◌&&◌, ◌⊎◌, inl, inr, List, [], ◌∷◌, map, filter, set, slice_get, Option, Some, None, Result, Ok, Err, unwrap_or}
 use Rattle.std.specs.List.{list_all, AllByRecursion, enumerate_from}
+use Rattle.basic_laws.proofs.Truths.{not_both}
 use Rattle.tuple_codec.specs.Rows.{Cells, fits, fits_all, same_cells}
 use Rattle.tuple_codec.specs.declared.values.SqlType.{SqlType}
 use Rattle.tuple_codec.specs.declared.values.Value.{Value}
@@ -39,14 +40,14 @@ misfit_so (Err misfit) v e = cc
 pub assigned_fits : (k : Kind) (column : Column) (value kept : Value) → assigned k column value ≡ Ok kept → fits column.kind kept ≡ true
 assigned_fits k column value kept e = stored_fits k column.kind column.not_null value kept (misfit_so (stored k column.kind column.not_null value) kept e)
 
-default_so : (t : SqlType) (default : Option Value) → default_fits t default ≡ true → fits t (unwrap_or default cell.Null) ≡ true
+pub default_so : (t : SqlType) (default : Option Value) → default_fits t default ≡ true → fits t (unwrap_or default cell.Null) ≡ true
 default_so t None h = refl
 default_so t (Some value) h = h
 
 column_default : (column : Column) → is_column column ≡ true → default_fits column.kind column.default ≡ true
 column_default column h = right_so (is_name column.name && is_type column.kind) (default_fits column.kind column.default) h
 
-standard_fits : (column : Column) (v : Value) → is_column column ≡ true → standard column ≡ Ok v → fits column.kind v ≡ true
+pub standard_fits : (column : Column) (v : Value) → is_column column ≡ true → standard column ≡ Ok v → fits column.kind v ≡ true
 standard_fits column v h e =
     let parts = unless_so (column.not_null && is_null (unwrap_or column.default cell.Null)) 1048 (Ok (unwrap_or column.default cell.Null)) v e in
     ap (fits column.kind) (sym (ok_same (Ok (unwrap_or column.default cell.Null)) (unwrap_or column.default cell.Null) v refl parts.1)) ∙ default_so column.kind column.default (column_default column h)
@@ -145,10 +146,6 @@ changed_row schema sets old new one e = two (same_cells old new)
     (sym (ap (λ b. cond b (Ok (untouched old)) (unless (keeps_null schema sets new) 1048 (Ok (record { row = new; is_new = true })))) t) ∙ e) in
     inr (sym (ok_same (Ok (record { row = new; is_new = true })) (record { row = new; is_new = true }) one refl parts.1)))
 
-not_both : (a b : Bool) → (a && b) ≡ false → a ≡ true → b ≡ false
-not_both true b h t = h
-not_both false b h t = absurd (true≢false (sym t))
-
 -- a row behind UPDATE is the row, or a new one that fits
 turned_so : (schema : Schema) (tests : List Meaning) (sets : List Assign) (row : Cells) (one : Later) → AllByRecursion (IsPlaced schema) sets → is_row schema row ≡ true
     → turned schema tests sets row ≡ Ok one → (one ≡ untouched row) ⊎ ((one.is_new ≡ true) × (is_row schema one.row ≡ true))
@@ -214,15 +211,6 @@ all_rest schema (one ∷ later) h = two (not one.is_new)
     ∙ both_so (left_so (is_good_later schema one) (list_all (is_good_later schema) later) h) (all_rest schema later (right_so (is_good_later schema one) (list_all (is_good_later schema) later) h)))
     (λ e. ap (λ b. list_all (is_good schema) (map (λ (o : Later). o.row) (cond b (one ∷ filter (λ (o : Later). not o.is_new) later) (filter (λ (o : Later). not o.is_new) later)))) e
     ∙ all_rest schema later (right_so (is_good_later schema one) (list_all (is_good_later schema) later) h))
-
-pub all_append : {A : Type 0} (p : A → Bool) (xs ys : List A) → list_all p xs ≡ true → list_all p ys ≡ true → list_all p (xs ++ ys) ≡ true
-all_append p [] ys a b = b
-all_append p (x ∷ xs) ys a b = both_so (left_so (p x) (list_all p xs) a) (all_append p xs ys (right_so (p x) (list_all p xs) a) b)
-
-pub all_both : {A : Type 0} (p q : A → Bool) (xs : List A) → list_all p xs ≡ true → list_all q xs ≡ true → list_all (λ x. p x && q x) xs ≡ true
-all_both p q [] a b = refl
-all_both p q (x ∷ xs) a b =
-    both_so (both_so (left_so (p x) (list_all p xs) a) (left_so (q x) (list_all q xs) b)) (all_both p q xs (right_so (p x) (list_all p xs) a) (right_so (q x) (list_all q xs) b))
 
 pub all_left : {A : Type 0} (p q : A → Bool) (xs : List A) → list_all (λ x. p x && q x) xs ≡ true → list_all p xs ≡ true
 all_left p q [] h = refl

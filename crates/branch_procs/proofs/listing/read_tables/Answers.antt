@@ -2,10 +2,11 @@ use Rattle.std.proofs.lemmas.Result.{IfOk-weaker}
 use Rattle.chunk_store.specs.Drafts.{chunks_of}
 use Rattle.table_root.specs.Databases.{IsDatabaseFound}
 use Rattle.table_root.specs.Standing.{named_tables}
-use Rattle.sql_write.proofs.TableLemmas.{few_read, kept_few}
+use Rattle.sql_write.proofs.TableLemmas.{few_read}
 use Rattle.branch_procs.specs.Listing.{AreFewTables}
 use Rattle.branch_procs.proofs.TablesLemmas.{tables_kept}
 use Rattle.branch_procs.proofs.listing.read_tables.Goals as goal
+use Rattle.schema_model.proofs.SizeLemmas.{kept_few}
 
 pub read_database-requires-after_bounds : goal.read_database-requires-after_bounds
 read_database-requires-after_bounds g c κs within =

@@ -1,7 +1,7 @@
 use Rattle.std.proofs.Common.{◌∙◌, subst}
+use Rattle.basic_laws.proofs.Options.{some_is}
 use Rattle.schema_model.specs.WrittenForms.{CommitParts, commit_bytes}
 use Rattle.chunk_store.specs.Drafts.{chunks_of}
-use Rattle.schema_model.proofs.PartLemmas.{some_is}
 use Rattle.commit_graph.specs.Commits.{IsCommitFound, parts_of}
 use Rattle.commit_graph.proofs.CommitLemmas.{is_found, read_is}
 use Rattle.commit_graph.proofs.reading.read_commit.Goals as goal

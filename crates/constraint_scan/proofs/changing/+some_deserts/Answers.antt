@@ -1,12 +1,13 @@
 use Rattle.std.proofs.Common.{◌≡◌, ◌∙◌, ap, sym}
 use Rattle.std.specs.List.{list_any}
 use Rattle.std.proofs.lemmas.Result.{IfOk-weaker}
+use Rattle.basic_laws.proofs.Lists.{any_first, any_later}
 use Rattle.chunk_store.specs.Drafts.{chunks_of}
 use Rattle.schema_model.specs.PlainTables.{NamedTable, PlainDatabase}
 use Rattle.schema_model.specs.declared.schemas.ForeignKey.{ForeignKey}
 use Rattle.schema_model.specs.declared.schemas.Schema.{Schema}
 use Rattle.constraint_scan.specs.Pairs.{deserts, some_deserts}
-use Rattle.constraint_scan.proofs.PairLemmas.{any_first, any_later, no_pairs, none_below, pair_parts, schema_at}
+use Rattle.constraint_scan.proofs.PairLemmas.{no_pairs, none_below, pair_parts, schema_at}
 use Rattle.constraint_scan.proofs.changing.+some_deserts.Goals as goal
 
 pub deserts_by_any-requires-clause-child : goal.deserts_by_any-requires-clause-child

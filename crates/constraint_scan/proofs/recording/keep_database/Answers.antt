@@ -5,12 +5,13 @@ use Rattle.std.proofs.lemmas.List.{length-map}
 use Rattle.schema_model.specs.Limits.{is_named_within_limits, most_tables}
 use Rattle.schema_model.specs.PlainTables as plain
 use Rattle.schema_model.specs.WrittenForms.{table_address}
+use Rattle.schema_model.proofs.SizeLemmas.{short_names as short_in}
 use Rattle.chunk_store.specs.Chunks.{Extends, IsHeld}
 use Rattle.chunk_store.specs.Drafts.{chunks_of}
 use Rattle.chunk_store.specs.Kinds.{is_database}
 use Rattle.table_root.specs.Databases.{has_short_name, names_rise, written_database}
 use Rattle.table_root.specs.declared.records.NamedTable.{NamedTable}
-use Rattle.constraint_scan.proofs.RecordLemmas.{each_later, rise_names, short_in, short_names}
+use Rattle.constraint_scan.proofs.RecordLemmas.{each_later, rise_names, short_names}
 use Rattle.constraint_scan.proofs.recording.keep_database.Goals as goal
 
 pub write_database-requires-clause-few : goal.write_database-requires-clause-few

@@ -3,8 +3,9 @@ use Rattle.chunk_store.specs.Drafts.{chunks_of}
 use Rattle.table_root.specs.Standing.{named_tables}
 use Rattle.table_root.specs.declared.records.NamedTable.{NamedTable}
 use Rattle.constraint_scan.specs.Recording.{MayBeWritten, recorded_as}
-use Rattle.constraint_scan.proofs.RecordLemmas.{can_each, few_tables, may_write}
+use Rattle.constraint_scan.proofs.RecordLemmas.{can_each, may_write}
 use Rattle.constraint_scan.proofs.recording.record_violations.Goals as goal
+use Rattle.schema_model.proofs.SizeLemmas.{few_tables}
 
 pub read_database-requires-after_bounds : goal.read_database-requires-after_bounds
 read_database-requires-after_bounds g c κs within =

@@ -1,6 +1,7 @@
 use Rattle.std.proofs.Common.{◌∙◌, find, sym}
+use Rattle.basic_laws.proofs.Options.{none_so as none_of}
 use Rattle.load_run.specs.Loading.{is_main}
-use Rattle.load_run.proofs.CountLemmas.{none_in, none_of}
+use Rattle.load_run.proofs.CountLemmas.{none_in}
 use Rattle.load_run.proofs.counting.count_rows.Goals as goal
 
 pub rows_on_main-requires-clause-there : goal.rows_on_main-requires-clause-there

@@ -7,8 +7,9 @@ use Rattle.constraint_scan.specs.Scanning.{IsKeptAt}
 use Rattle.plain_schemas.specs.Statements.{checks}
 use Rattle.plain_sessions.specs.CommitRule.{recorded}
 use Rattle.plain_writes.specs.Violations.{violations}
-use Rattle.merge_procs.proofs.DatabasesLemmas.{all_recorded, can_record}
+use Rattle.merge_procs.proofs.DatabasesLemmas.{can_record}
 use Rattle.merge_procs.proofs.databases.record_all.Goals as goal
+use Rattle.root_merge.proofs.DecideLemmas.{all_recorded}
 
 pub record_violations-requires-after_bounds : goal.record_violations-requires-after_bounds
 record_violations-requires-after_bounds g c κs within =

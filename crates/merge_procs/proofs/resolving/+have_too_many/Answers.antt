@@ -1,11 +1,11 @@
 use Rattle.std.proofs.Common.{◌≡◌, length, nat_lt}
 use Rattle.std.proofs.lemmas.Result.{IfOk-weaker}
+use Rattle.basic_laws.proofs.Lists.{any_first, any_later}
 use Rattle.schema_model.specs.Limits.{most_rows}
 use Rattle.schema_model.specs.PlainTables.{NamedTable}
 use Rattle.chunk_store.specs.Drafts.{chunks_of}
 use Rattle.constraint_scan.proofs.StandLemmas.{parts_of}
 use Rattle.plain_sessions.specs.Merging.{has_too_many_rows}
-use Rattle.merge_procs.proofs.TakingLemmas.{any_first, any_later}
 use Rattle.merge_procs.proofs.resolving.+have_too_many.Goals as goal
 
 pub has_too_many-requires-after_bounds : goal.has_too_many-requires-after_bounds

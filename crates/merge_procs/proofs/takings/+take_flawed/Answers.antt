@@ -1,10 +1,10 @@
 use Rattle.std.proofs.Common.{◌≡◌}
 use Rattle.std.specs.List.{list_any}
 use Rattle.std.proofs.lemmas.Result.{IfOk-weaker}
+use Rattle.basic_laws.proofs.Lists.{any_first, any_later}
 use Rattle.chunk_store.specs.Drafts.{chunks_of}
 use Rattle.constraint_scan.proofs.StandLemmas.{parts_of}
 use Rattle.merge_procs.specs.Resolving.{takes_flawed}
-use Rattle.merge_procs.proofs.TakingLemmas.{any_first, any_later}
 use Rattle.merge_procs.proofs.takings.+take_flawed.Goals as goal
 
 pub named_takes_flawed-requires-after_bounds : goal.named_takes_flawed-requires-after_bounds

@@ -6,12 +6,13 @@ use Rattle.chunk_store.specs.Kinds.{is_node}
 use Rattle.chunk_store.proofs.GrowthLemmas.{drafts_grow}
 use Rattle.tree_laws.specs.Found.{nodes_in}
 use Rattle.tree_laws.proofs.Standing.{trees_lead}
+use Rattle.tree_laws.proofs.One.{one_tree as same_rows}
 use Rattle.prolly_edit.specs.Editing.{CanEdit}
 use Rattle.prolly_edit.specs.Fronts.{load, rest}
 use Rattle.prolly_tree.specs.Fronts.{Front}
 use Rattle.prolly_edit.specs.Stages.{Awaits, IsGoing}
 use Rattle.prolly_edit.proofs.StageLemmas.{awaits_none}
-use Rattle.prolly_edit.proofs.TurnLemmas.{root_begins, same_rows}
+use Rattle.prolly_edit.proofs.TurnLemmas.{root_begins}
 use Rattle.prolly_edit.proofs.applying.apply.Goals as goal
 
 pub node_at-requires-after_bounds : goal.node_at-requires-after_bounds

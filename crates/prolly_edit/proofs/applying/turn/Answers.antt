@@ -1,5 +1,6 @@
 use Rattle.std.proofs.Common.{◌≡◌, ◌+◌, ◌∷◌, suc, sym, subst, ◌∙◌, arith}
 use Rattle.std.proofs.lemmas.Result.{IfOk-weaker}
+use Rattle.basic_laws.proofs.Truths.{not_true}
 use Rattle.node_format.specs.Views.{ref_of}
 use Rattle.node_format.specs.Outlasting.{Outlasts}
 use Rattle.chunk_store.specs.Drafts.{chunks_of}
@@ -8,7 +9,7 @@ use Rattle.node_chunker.proofs.ClimbLemmas.{extended}
 use Rattle.node_chunker.proofs.TowerLemmas.{extends_both}
 use Rattle.prolly_edit.specs.Fronts.{is_over}
 use Rattle.prolly_edit.specs.Stages.{IsRead, IsTurn, is_past}
-use Rattle.prolly_edit.proofs.TurnLemmas.{before, can_push, not_true, part_low, pushed, three_true, turned}
+use Rattle.prolly_edit.proofs.TurnLemmas.{before, can_push, part_low, pushed, three_true, turned}
 use Rattle.prolly_edit.proofs.applying.turn.Goals as goal
 
 pub stays-requires-after_bounds : goal.stays-requires-after_bounds

@@ -1,6 +1,6 @@
 use Rattle.std.proofs.Common.{sym, ◌∙◌}
+use Rattle.basic_laws.proofs.Options.{some_is}
 use Rattle.node_format.proofs.NodeLemmas.{one_spelling}
-use Rattle.node_format.proofs.FieldLemmas.{some_is}
 use Rattle.prolly_tree.proofs.nodes.node_at.Goals as goal
 
 pub returns : goal.returns

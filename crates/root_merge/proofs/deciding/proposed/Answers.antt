@@ -1,11 +1,12 @@
 use Rattle.std.proofs.Common.{◌≡◌, IfOk, rules, subst, sym}
+use Rattle.std.proofs.lemmas.Bool.{false_from_ne_true as not_same}
 use Rattle.tuple_codec.specs.declared.records.BranchRecord.{BranchRecord}
 use Rattle.chunk_store.specs.Drafts.{chunks_of}
 use Rattle.expr_eval.specs.Binding.{Outcome}
 use Rattle.plain_sessions.specs.CommitRule.{candidate}
 use Rattle.plain_sessions.specs.Records.{BranchState, is_same_state}
 use Rattle.root_merge.specs.States.{IsCandidate, StateStands}
-use Rattle.root_merge.proofs.DecideLemmas.{moved, not_same, stands_for, unmoved}
+use Rattle.root_merge.proofs.DecideLemmas.{moved, stands_for, unmoved}
 use Rattle.root_merge.proofs.StateLemmas.{one_record, same_record}
 use Rattle.root_merge.proofs.deciding.proposed.Goals as goal
 

@@ -1,10 +1,11 @@
 use Rattle.std.proofs.Common.{◌≡◌, ◌∙◌, None, sym, take, drop, length, ◌-◌}
 use Rattle.std.proofs.lemmas.Result.{IfErr-weaker, on_ok_weaker}
+use Rattle.basic_laws.proofs.Lists.{none_below}
 use Rattle.chunk_store.specs.Drafts.{chunks_of}
 use Rattle.root_merge.specs.Merging.{IsSchemaFault, part_in}
 use Rattle.root_merge.specs.Names.{together}
 use Rattle.root_merge.proofs.ChoiceLemmas.{first_merges, later_fault, led, led_none, none_merge}
-use Rattle.root_merge.proofs.KeptLemmas.{by_first, none_below}
+use Rattle.root_merge.proofs.KeptLemmas.{by_first}
 use Rattle.root_merge.proofs.judging.+judge.Goals as goal
 
 pub returns-in_default-clause-ok : goal.returns-in_default-clause-ok

@@ -3,8 +3,9 @@ use Rattle.chunk_store.specs.Drafts.{chunks_of}
 use Rattle.table_root.specs.Databases.{IsDatabaseFound}
 use Rattle.table_root.specs.Standing.{named_tables}
 use Rattle.root_merge.specs.Kept.{AreKept}
-use Rattle.root_merge.proofs.KeptLemmas.{few_kept, kept_listed}
+use Rattle.root_merge.proofs.KeptLemmas.{kept_listed}
 use Rattle.root_merge.proofs.reading.read_tables.Goals as goal
+use Rattle.schema_model.proofs.SizeLemmas.{few_tables as few_kept}
 
 pub read_database-requires-after_bounds : goal.read_database-requires-after_bounds
 read_database-requires-after_bounds g c κs within =

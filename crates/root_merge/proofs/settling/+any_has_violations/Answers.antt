@@ -1,11 +1,11 @@
 use Rattle.std.proofs.Common.{◌≡◌, sym, ap, not}
 use Rattle.std.proofs.lemmas.Result.{IfOk-weaker}
+use Rattle.basic_laws.proofs.Lists.{none_below, any_first, any_later}
 use Rattle.schema_model.specs.PlainTables as plain
 use Rattle.chunk_store.specs.Drafts.{chunks_of}
 use Rattle.constraint_scan.proofs.StandLemmas.{parts_of}
 use Rattle.plain_sessions.specs.CommitRule.{has_violations, is_none}
-use Rattle.root_merge.proofs.KeptLemmas.{none_below}
-use Rattle.root_merge.proofs.StateLemmas.{any_first, any_later, there_none}
+use Rattle.root_merge.proofs.StateLemmas.{there_none}
 use Rattle.root_merge.proofs.settling.+any_has_violations.Goals as goal
 
 pub table_has_violations-requires-after_bounds : goal.table_has_violations-requires-after_bounds

@@ -1,9 +1,10 @@
 use Rattle.std.proofs.Common.{◌≡◌, ◌∙◌, ◌==◌, true, false, sym, subst, length}
 use Rattle.std.specs.List.{list_all}
+use Rattle.std.proofs.lemmas.Bool.{and_parts as both}
+use Rattle.basic_laws.proofs.Truths.{not_both}
 use Rattle.run_laws.specs.Orders.{asked_order}
-use Rattle.run_laws.proofs.ListLemmas.{both}
 use Rattle.script_run.specs.Following.{is_through}
-use Rattle.script_run.proofs.ReplayLemmas.{all_followed, as_many_by, as_many_test, not_both}
+use Rattle.script_run.proofs.ReplayLemmas.{all_followed, as_many_by, as_many_test}
 use Rattle.script_run.proofs.following.replay_script.Goals as goal
 
 pub follow_items-followed-requires-clause-opened : goal.follow_items-followed-requires-clause-opened

@@ -1,7 +1,8 @@
 use Rattle.std.proofs.Common.{arith, ◌∙◌, ap}
+use Rattle.basic_laws.proofs.Lists.{all_mapped}
 use Rattle.table_root.specs.Heads.{heads_rise}
 use Rattle.serving.specs.Ahead.{with_head}
-use Rattle.serving.proofs.AheadLemmas.{all_mapped, heads_still_rise}
+use Rattle.serving.proofs.AheadLemmas.{heads_still_rise}
 use Rattle.serving.proofs.ahead.heads_with.Goals as goal
 
 pub from_vec-requires : goal.from_vec-requires

@@ -3,8 +3,9 @@ use Rattle.chunk_store.specs.Drafts.{chunks_of}
 use Rattle.table_root.specs.Databases.{IsDatabaseFound}
 use Rattle.table_root.specs.Standing.{named_tables}
 use Rattle.sql_write.specs.Putting.{AreListedAt}
-use Rattle.sql_write.proofs.TableLemmas.{few_read, kept_few, kept_listed}
+use Rattle.sql_write.proofs.TableLemmas.{few_read, kept_listed}
 use Rattle.session_txn.proofs.tables.read_tables.Goals as goal
+use Rattle.schema_model.proofs.SizeLemmas.{kept_few}
 
 pub read_database-requires-after_bounds : goal.read_database-requires-after_bounds
 read_database-requires-after_bounds g c κs within =

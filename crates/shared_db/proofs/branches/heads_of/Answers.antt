@@ -1,7 +1,8 @@
 use Rattle.std.proofs.Common.{arith, ◌∙◌, ap}
+use Rattle.basic_laws.proofs.Lists.{all_mapped as all_done}
 use Rattle.table_root.specs.Heads.{heads_rise}
 use Rattle.shared_db.specs.Members.{branch_head, lines_of}
-use Rattle.shared_db.proofs.LineLemmas.{all_done, heads_are, heads_rise_so}
+use Rattle.shared_db.proofs.LineLemmas.{heads_are, heads_rise_so}
 use Rattle.shared_db.proofs.branches.heads_of.Goals as goal
 
 pub from_vec-requires : goal.from_vec-requires

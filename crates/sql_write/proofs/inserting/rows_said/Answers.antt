@@ -4,11 +4,11 @@ use Rattle.tuple_codec.specs.Rows.{Cells}
 use Rattle.plain_sql.specs.Lists.{each}
 use Rattle.plain_writes.specs.Seen.{given_seen}
 use Rattle.plain_writes.specs.Writes.{new_row}
-use Rattle.write_laws.proofs.Effects.{columns_well}
 use Rattle.write_laws.proofs.RowLemmas.{new_rows_good}
 use Rattle.sql_write.specs.Inserting.{is_good}
 use Rattle.sql_write.proofs.SaidLemmas.{gives_so, types_well}
 use Rattle.sql_write.proofs.inserting.rows_said.Goals as goal
+use Rattle.schema_model.proofs.FitLemmas.{columns_of as columns_well}
 
 pub new_rows-requires : goal.new_rows-requires
 new_rows-requires c = types_well c.args.schema.now c.requires

@@ -5,7 +5,8 @@ use Rattle.chunk_store.specs.Drafts.{chunks_of}
 use Rattle.chunk_store.specs.Kinds.{is_database}
 use Rattle.table_root.specs.Databases.{has_short_name, names_rise, written_database}
 use Rattle.table_root.specs.declared.records.NamedTable.{NamedTable}
-use Rattle.sql_write.proofs.TableLemmas.{count_names, few_read, rise_names, short_names, stand_later}
+use Rattle.table_root.proofs.ListingLemmas.{made_count as count_names}
+use Rattle.sql_write.proofs.TableLemmas.{few_read, rise_names, short_names, stand_later}
 use Rattle.sql_write.proofs.tables.put_database.Goals as goal
 
 pub write_database-requires-clause-few : goal.write_database-requires-clause-few

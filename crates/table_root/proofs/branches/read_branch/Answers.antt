@@ -1,8 +1,8 @@
 use Rattle.std.proofs.Common.{◌∙◌, sym, ap, subst}
+use Rattle.basic_laws.proofs.Options.{some_is}
 use Rattle.tuple_codec.specs.declared.records.BranchRecord.{BranchRecord}
 use Rattle.chunk_store.specs.Drafts.{chunks_of}
 use Rattle.schema_model.specs.WrittenForms.{branch_bytes}
-use Rattle.schema_model.proofs.PartLemmas.{some_is}
 use Rattle.table_root.specs.Branches.{IsBranchFound}
 use Rattle.table_root.specs.Reading.{branch_of}
 use Rattle.table_root.proofs.FormLemmas.{branch_again}

@@ -1,6 +1,6 @@
 use Rattle.std.proofs.Common.{List, ◌∙◌, sym, ap, subst}
+use Rattle.basic_laws.proofs.Options.{some_is}
 use Rattle.chunk_store.specs.Drafts.{chunks_of}
-use Rattle.schema_model.proofs.PartLemmas.{some_is}
 use Rattle.table_root.specs.Databases.{IsDatabaseFound, written_database}
 use Rattle.table_root.specs.Reading.{database_of}
 use Rattle.table_root.specs.declared.records.NamedTable.{NamedTable}

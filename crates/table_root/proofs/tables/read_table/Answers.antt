@@ -1,6 +1,6 @@
 use Rattle.std.proofs.Common.{◌≡◌, ◌∙◌, sym, subst}
+use Rattle.basic_laws.proofs.Options.{some_is}
 use Rattle.chunk_store.specs.Drafts.{chunks_of}
-use Rattle.schema_model.proofs.PartLemmas.{some_is}
 use Rattle.table_root.specs.Tables.{IsTable, IsTableFound, written_table}
 use Rattle.table_root.specs.declared.records.Table.{Table}
 use Rattle.table_root.proofs.tables.read_table.Goals as goal

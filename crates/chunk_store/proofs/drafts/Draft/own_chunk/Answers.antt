@@ -1,11 +1,12 @@
 use Rattle.std.proofs.Common.{◌≡◌, ◌≤◌, length, take, subst, ap, List, Some, None, slice_get}
+use Rattle.basic_laws.proofs.Lists.{have_at as all_get}
 use Rattle.chunk_region.specs.Pages.{IsWritten}
 use Rattle.chunk_store.specs.declared.index.Placed.{Placed}
 use Rattle.chunk_store.specs.Chunks.{Chunk, bytes_at}
 use Rattle.chunk_store.specs.Drafts.{Drafting}
 use Rattle.chunk_store.specs.Placing.{chunks_in}
 use Rattle.chunk_store.proofs.ChunkLemmas.{named_at, single_right}
-use Rattle.chunk_store.proofs.PlacingLemmas.{all_get, chunk_get, chunk_found, first_get}
+use Rattle.chunk_store.proofs.PlacingLemmas.{chunk_get, chunk_found, first_get}
 use Rattle.chunk_store.specs.Stores.{all_chunks}
 use Rattle.chunk_store.proofs.drafts.Draft.own_chunk.Goals as goal
 

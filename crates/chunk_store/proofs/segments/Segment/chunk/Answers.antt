@@ -1,9 +1,10 @@
 use Rattle.std.proofs.Common.{◌≡◌, ◌≤◌, length, subst, List, Some, slice_get}
+use Rattle.basic_laws.proofs.Lists.{have_at as all_get}
 use Rattle.chunk_region.specs.Pages.{IsWritten}
 use Rattle.chunk_store.specs.declared.index.Placed.{Placed}
 use Rattle.chunk_store.specs.Chunks.{Chunk, bytes_at}
 use Rattle.chunk_store.specs.Placing.{chunks_in}
-use Rattle.chunk_store.proofs.PlacingLemmas.{all_get, chunk_get, chunk_found}
+use Rattle.chunk_store.proofs.PlacingLemmas.{chunk_get, chunk_found}
 use Rattle.chunk_store.proofs.segments.Segment.chunk.Goals as goal
 
 pub bytes-requires : goal.bytes-requires

@@ -1,6 +1,7 @@
 use Rattle.std.proofs.Common.{◌≡◌, ℕ, List, Some, take, subst, sym, ◌∙◌}
+use Rattle.basic_laws.proofs.Lists.{take_at_get as take_next}
 use Rattle.chunk_store.specs.Chunks.{Chunk, Agree, bytes_at}
-use Rattle.chunk_store.proofs.ChunkLemmas.{agree_push, take_next}
+use Rattle.chunk_store.proofs.ChunkLemmas.{agree_push}
 use Rattle.chunk_store.proofs.ClashLemmas.{allowed_from}
 use Rattle.chunk_store.specs.Stores.{all_chunks}
 use Rattle.chunk_store.proofs.stores.Store.allows.Goals as goal
