@@ -31,6 +31,9 @@ placed_push old new cs c bytes placed keeps held fits absent =
 pub with_there : (cs : List Chunk) (c : Chunk) (x : List ℕ) → bytes_at cs c.0 ≡ Some x → with_chunk cs c ≡ cs
 with_there cs c x held = ap (λ (o : Option (List ℕ)). cond (is_some o) cs (cs ++ c ∷ [])) held
 
+pub with_found : (cs : List Chunk) (c : Chunk) → is_some (bytes_at cs c.0) ≡ true → with_chunk cs c ≡ cs
+with_found cs c is = ap (λ (t : Bool). cond t cs (cs ++ c ∷ [])) is
+
 pub with_absent : (cs : List Chunk) (c : Chunk) → bytes_at cs c.0 ≡ None → with_chunk cs c ≡ cs ++ c ∷ []
 with_absent cs c none = ap (λ (o : Option (List ℕ)). cond (is_some o) cs (cs ++ c ∷ [])) none
 

@@ -8,7 +8,7 @@ use Rattle.chunk_store.specs.Chunks.{bytes_at, Chunk, Listed, Lists}
 use Rattle.chunk_store.specs.Stores.{AreSome, IsSealed, StaysFew, drop_held, has_none, is_within, joined, joins, with_segment}
 use Rattle.chunk_store.proofs.ChunkLemmas.{joined_push, listed_finds, listed_left, listed_right}
 
-abbrev AreWithin : List (List Chunk) → List Chunk → Type 0
+abbrev pub AreWithin : List (List Chunk) → List Chunk → Type 0
 AreWithin segments other = AllByRecursion (λ s. is_within s other ≡ true) segments
 
 within_from : (segment other : List Chunk) → Lists segment other → is_within segment other ≡ true
@@ -18,7 +18,7 @@ within_from (c ∷ segment) other lists =
     and_from (is_some (bytes_at other c.0)) (is_within segment other) (ap (λ (o : Option (List ℕ)). is_some o) found.1)
     (within_from segment other (λ k bytes listed. lists k bytes (inr listed)))
 
-all_within : (segments : List (List Chunk)) (other : List Chunk) → Lists (joined segments) other → AreWithin segments other
+pub all_within : (segments : List (List Chunk)) (other : List Chunk) → Lists (joined segments) other → AreWithin segments other
 all_within [] other lists = tt
 all_within (s ∷ ss) other lists = (
   within_from s other (λ k bytes listed. lists k bytes (listed_left s (joined ss) k bytes listed)),
@@ -29,7 +29,7 @@ all_case : (w : Bool) (s : List Chunk) (D : List (List Chunk)) → w ≡ true �
 all_case true s D within none = ap (λ (l : List (List Chunk)). cond (has_none l && true) [] (s ∷ l)) none
 all_case false s D within none = cc
 
-all_held : (other : List Chunk) (segments : List (List Chunk)) → AreWithin segments other → drop_held other segments ≡ []
+pub all_held : (other : List Chunk) (segments : List (List Chunk)) → AreWithin segments other → drop_held other segments ≡ []
 all_held other [] all = refl
 all_held other (s ∷ ss) all = all_case (is_within s other) s (drop_held other ss) all.0 (all_held other ss all.1)
 

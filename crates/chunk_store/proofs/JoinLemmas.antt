@@ -17,7 +17,7 @@ none_case n true xs s is = cc
 none_case true false xs s is = refl
 none_case false false xs s is = refl
 
-push_same : (n m w : Bool) (D E : List (List Chunk)) (s : List Chunk) → n ≡ m → D ≡ E → cond (n && w) [] (s ∷ D) ≡ cond (m && w) [] (s ∷ E)
+pub push_same : (n m w : Bool) (D E : List (List Chunk)) (s : List Chunk) → n ≡ m → D ≡ E → cond (n && w) [] (s ∷ D) ≡ cond (m && w) [] (s ∷ E)
 push_same n m w D E s is same = ap (λ (b : Bool). cond (b && w) [] (s ∷ D)) is ∙ ap (λ (l : List (List Chunk)). cond (m && w) [] (s ∷ l)) same
 
 one_held : (w : Bool) (s : List Chunk) → w ≡ true → ◌≡◌ {A = List (List Chunk)} (cond (true && w) [] (s ∷ [])) []

@@ -6,4 +6,5 @@ pub mod FewLemmas
 pub mod FollowLemmas
 pub mod GrowthLemmas
 pub mod JoinLemmas
+pub mod MatchLemmas
 pub mod PlacingLemmas

@@ -1,4 +1,4 @@
-use Rattle.std.proofs.Common.{◌≡◌, ℕ, zero, suc, Bool, true, false, cond, List, [], ◌∷◌, ◌++◌, take, Option, Some, None, IsSome, option_map, unwrap_or, sym, refl, ap, ◌∙◌, subst, slice_get, bytes_eq}
+use Rattle.std.proofs.Common.{◌≡◌, ℕ, zero, suc, Bool, true, false, cond, List, [], ◌∷◌, ◌++◌, take, Option, Some, None, IsSome, is_some, option_map, unwrap_or, sym, refl, ap, ◌∙◌, subst, slice_get, bytes_eq}
 use Rattle.std.specs.List.{AllByRecursion}
 use Rattle.std.proofs.lemmas.List.{map-append, take-map}
 use Rattle.std.proofs.lemmas.Option.{slice_get-map, same_Some}
@@ -131,6 +131,18 @@ index_pop cs c old new index takes =
 pub index_same : (cs : List Placed) (old new : List ℕ → Option Span) → IsIndex cs old → ((k : List ℕ) → new k ≡ old k) → IsIndex cs new
 index_same cs old new index same = record { finds = λ k. same k ∙ index.finds k; apart = index.apart }
 
+restored_case : (t : Bool) (s other : Span) (o : Option Span) → (t ≡ true → o ≡ Some s) → cond t (Some s) (cond t (Some other) o) ≡ o
+restored_case true s other o there = sym (there refl)
+restored_case false s other o there = refl
+
+-- the table after another span was put at an address, and what was there put back
+pub index_restored : (cs : List Placed) (k : List ℕ) (s other : Span) (old between new : List ℕ → Option Span) → IsIndex cs old → old k ≡ Some s
+    → ((q : List ℕ) → between q ≡ cond (bytes_eq k q) (Some other) (old q)) → ((q : List ℕ) → new q ≡ cond (bytes_eq k q) (Some s) (between q)) → IsIndex cs new
+index_restored cs k s other old between new index there first second =
+    index_same cs old new index (λ q.
+    second q ∙ ap (λ o. cond (bytes_eq k q) (Some s) o) (first q)
+    ∙ restored_case (bytes_eq k q) s other (old q) (λ same. ap old (sym (same_bytes k q same)) ∙ there))
+
 pub absent_span : (f : Span → List ℕ) (o : Option Span) → option_map f o ≡ None → o ≡ None
 absent_span f None none = refl
 absent_span f (Some s) none = cc
@@ -157,6 +169,17 @@ found_at pages [] k = refl
 found_at pages (c ∷ cs) k =
     ap (λ o. cond (bytes_eq c.address.0 k) (Some (written pages c.span)) o) (found_at pages cs k)
     ∙ map_case (bytes_eq c.address.0 k) (written pages) c.span (span_at cs k)
+
+pub absent_at : (pages : Pages) (cs : List Placed) (k : List ℕ) → span_at cs k ≡ None → bytes_at (chunks_in pages cs) k ≡ None
+absent_at pages cs k none = found_at pages cs k ∙ ap (option_map (written pages)) none
+
+some_map : (f : Span → List ℕ) (o : Option Span) → is_some (option_map f o) ≡ is_some o
+some_map f None = refl
+some_map f (Some s) = refl
+
+-- where a chunk lies, bytes are found
+pub found_there : (pages : Pages) (cs : List Placed) (k : List ℕ) → is_some (span_at cs k) ≡ true → is_some (bytes_at (chunks_in pages cs) k) ≡ true
+found_there pages cs k is = ap (λ (o : Option (List ℕ)). is_some o) (found_at pages cs k) ∙ some_map (written pages) (span_at cs k) ∙ is
 
 found_case : (t : Bool) (P : Span → Type 0) (s found : Span) (o : Option Span) → cond t (Some s) o ≡ Some found → P s → (o ≡ Some found → P found) → P found
 found_case true P s found o is here later = let same : s ≡ found = cc in subst P same here

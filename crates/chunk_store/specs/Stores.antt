@@ -1,5 +1,5 @@
 -- Stores: the chunks of several segments, one segment after another; and how segments are joined and dropped.
-use Rattle.std.specs.Prelude.{◌≡◌, ◌⊎◌, ℕ, ◌+◌, ◌*◌, ◌^◌, ◌-◌, ◌<◌, ◌≤◌, nat_lt, Bool, true, false, ◌&&◌, List, [], ◌∷◌, ◌++◌, length, if◌then◌else◌, is_some}
+use Rattle.std.specs.Prelude.{◌≡◌, ◌⊎◌, ℕ, ◌+◌, ◌*◌, ◌^◌, ◌-◌, ◌<◌, ◌≤◌, nat_lt, Bool, true, false, ◌&&◌, List, [], ◌∷◌, ◌++◌, length, drop, if◌then◌else◌, is_some}
 use Rattle.std.specs.List.{AllByRecursion, list_all}
 use Rattle.chunk_store.specs.Chunks.{Chunk, Listed, Lists, bytes_at}
 
@@ -45,6 +45,12 @@ drop_held other (segment ∷ segments) =
 abbrev pub with_segment : List Chunk → List (List Chunk) → List (List Chunk)
 with_segment [] segments = segments
 with_segment (c ∷ segment) segments = drop_held (c ∷ segment) segments ++ (c ∷ segment) ∷ []
+
+-- behind its first chunks, the own ones, a segment has those of the segments from one on, and no other
+pub record IsMatched (segment : List Chunk) (segments : List (List Chunk)) (own from : ℕ) : Type 0 where
+  pub same : drop own segment ≡ joined (drop from segments)
+  pub own_within : own ≤ length segment
+  pub from_within : from ≤ length segments
 
 -- the segments from the first one on that has less than twice as many chunks as those after it and so many more
 abbrev pub joins : ℕ → List (List Chunk) → List (List Chunk)

@@ -1,8 +1,7 @@
 //! A segment that is being put together.
 
-ghost use Rattle.std.specs.Prelude.{◌≡◌, ◌≤◌, [], ◌∷◌, ◌++◌, length, None, IfOk, OnOk};
+ghost use Rattle.std.specs.Prelude.{◌≡◌, ◌≤◌, [], length, IfOk, OnOk};
 ghost use Rattle.chunk_store.specs.Building.{gather, with_chunk};
-ghost use Rattle.chunk_store.specs.Chunks.{bytes_at};
 
 use crate::index::{Index, Placed};
 use crate::segments::Segment;
@@ -41,31 +40,31 @@ impl Building {
         })
     }
 
-    /// Adds a chunk, unless one of its address is there.
+    /// Takes the memory for finding so many chunks more.
+    pub(crate) fn reserve(&mut self, chunks: usize) -> Result<(), AllocError>
+        ensures { self.new ≡ self.old }
+    {
+        self.index.make_room(chunks)
+    }
+
+    /// Adds a chunk, unless one of its address is there. That is rare, so its bytes are placed before it is looked for,
+    /// and taken back where they are not wanted.
     pub(crate) fn add(&mut self, address: Address, bytes: &[u8]) -> Result<(), AllocError>
         requires { length bytes.now ≤ 65536 }
         ensures { OnOk result (self.new ≡ with_chunk self.old (address.0, bytes.now)) }
     {
-        match self.index.find(&address) {
-            Some(_) => Ok(()),
-            None => self.push(address, bytes),
-        }
-    }
-
-    /// Adds a chunk whose address isn't there.
-    fn push(&mut self, address: Address, bytes: &[u8]) -> Result<(), AllocError>
-        requires size { length bytes.now ≤ 65536 }
-        requires absent { bytes_at self.old address.0 ≡ None }
-        ensures { OnOk result (self.new ≡ self.old ++ (address.0, bytes.now) ∷ []) }
-    {
-        self.index.make_room()?;
+        self.index.make_room(1)?;
         let before = self.region.mark();
         let span = self.region.place(bytes)?;
-        self.index.push(Placed {
+        let chunk = Placed {
             address,
             span,
             before,
-        });
+        };
+        if self.index.add(chunk) {
+            return Ok(());
+        }
+        self.region.back_to(before);
         Ok(())
     }
 
@@ -73,6 +72,7 @@ impl Building {
     pub(crate) fn add_all(&mut self, segment: &Segment) -> Result<(), AllocError>
         ensures { OnOk result (self.new ≡ gather self.old segment.now) }
     {
+        self.reserve(segment.len())?;
         for at in 0..segment.len() {
             let (address, bytes) = segment.chunk(at);
             self.add(address, bytes)?;

@@ -103,7 +103,7 @@ impl<D: Digester> Draft<D> {
         ensures segments { self.new.segments ≡ self.old.segments }
         ensures pages { TakesAtMostOnePage self.old self.new }
     {
-        self.index.make_room()?;
+        self.index.make_room(1)?;
         let before = self.region.mark();
         let span = self.region.place(bytes)?;
         self.index.push(Placed {
@@ -300,6 +300,7 @@ impl<D: Digester> Draft<D> {
     fn gather_own(&self, building: &mut Building) -> Result<(), AllocError>
         ensures { OnOk result (building.new ≡ gather building.old self.now.chunks.own) }
     {
+        building.reserve(self.own_count())?;
         for at in 0..self.own_count() {
             let (address, bytes) = self.own_chunk(at);
             building.add(address, bytes)?;

@@ -1,6 +1,6 @@
 //! Where chunks lie in a region, found by address.
 
-ghost use Rattle.std.specs.Prelude.{◌≡◌, ◌<◌, ◌++◌, [], ◌∷◌, length, slice_get, take, Some, None, OnOk};
+ghost use Rattle.std.specs.Prelude.{◌≡◌, ◌<◌, ◌≤◌, ◌++◌, [], ◌∷◌, true, false, length, slice_get, take, Some, None, is_some, OnOk};
 ghost use Rattle.chunk_store.specs.Placing.{AreApart, span_at};
 
 use chunk_region::{Mark, Span};
@@ -74,13 +74,13 @@ impl Index {
         self.spans.get(&address.0).copied()
     }
 
-    /// Takes the memory for one more chunk.
-    pub(crate) fn make_room(&mut self) -> Result<(), AllocError>
+    /// Takes the memory for so many chunks more.
+    pub(crate) fn make_room(&mut self, chunks: usize) -> Result<(), AllocError>
         ensures same { self.new.placed ≡ self.old.placed }
-        ensures room { OnOk result (0 < self.new.room) }
+        ensures room { OnOk result (chunks ≤ self.new.room) }
     {
-        self.placed.reserve(1)?;
-        self.spans.reserve(1)
+        self.placed.reserve(chunks)?;
+        self.spans.reserve(chunks)
     }
 
     /// Adds a chunk at the end.
@@ -92,6 +92,27 @@ impl Index {
         self.placed.push_reserved(chunk);
         match self.spans.insert(chunk.address.0, chunk.span) {
             Ok(_) => {}
+            Err(_) => unreachable!(),
+        }
+    }
+
+    /// Adds a chunk at the end, unless one of its address is there: whether it was added. The table is searched once.
+    pub(crate) fn add(&mut self, chunk: Placed) -> bool
+        requires { 0 < self.old.room }
+        ensures absent { result ≡ true → span_at self.old.placed chunk.address.0 ≡ None }
+        ensures longer { result ≡ true → self.new.placed ≡ self.old.placed ++ chunk ∷ [] }
+        ensures there { result ≡ false → is_some (span_at self.old.placed chunk.address.0) ≡ true }
+        ensures same { result ≡ false → self.new.placed ≡ self.old.placed }
+    {
+        match self.spans.insert(chunk.address.0, chunk.span) {
+            Ok(None) => {
+                self.placed.push_reserved(chunk);
+                true
+            }
+            Ok(Some(span)) => match self.spans.insert(chunk.address.0, span) {
+                Ok(_) => false,
+                Err(_) => unreachable!(),
+            },
             Err(_) => unreachable!(),
         }
     }

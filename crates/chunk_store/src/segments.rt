@@ -1,6 +1,6 @@
 //! A segment: chunks that were sealed together.
 
-ghost use Rattle.std.specs.Prelude.{◌≡◌, ◌<◌, ◌≤◌, length, option_map, slice_get, Some, is_some};
+ghost use Rattle.std.specs.Prelude.{◌≡◌, ◌<◌, ◌≤◌, ◌++◌, length, drop, option_map, slice_get, Some, is_some, IfSome};
 ghost use Rattle.chunk_store.specs.Chunks.{IsSingle, bytes_at};
 ghost use Rattle.chunk_store.specs.Stores.{is_within};
 
@@ -80,5 +80,30 @@ impl Segment {
             }
         }
         true
+    }
+
+    /// Where its chunks begin in another segment, if they all stand there just before a place: they are compared place by
+    /// place, without a look-up.
+    pub(crate) fn place_before(&self, other: &Segment, end: usize) -> Option<usize>
+        requires { end ≤ length other.now }
+        ensures same { IfSome result (λ start. drop start other.now ≡ self.now ++ drop end other.now) }
+        ensures before { IfSome result (λ start. start ≤ end) }
+    {
+        let count = self.len();
+        if end < count {
+            return None;
+        }
+        let start = end - count;
+        for at in 0..count {
+            let (address, bytes) = self.chunk(at);
+            let (there, others) = other.chunk(start + at);
+            if address != there {
+                return None;
+            }
+            if bytes != others {
+                return None;
+            }
+        }
+        Some(start)
     }
 }

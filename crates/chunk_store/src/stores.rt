@@ -6,7 +6,7 @@ ghost use Rattle.std.specs.Vec.{vec_capacity};
 ghost use Rattle.chunk_store.specs.Chunks.{Agree, IsSingle, bytes_at};
 ghost use Rattle.chunk_store.specs.Clashes.{Differ, IsCause};
 ghost use Rattle.chunk_store.specs.Building.{gather};
-ghost use Rattle.chunk_store.specs.Stores.{AreSome, IsUnion, all_chunks, drop_held, joined, joins, with_segment};
+ghost use Rattle.chunk_store.specs.Stores.{AreSome, IsMatched, IsUnion, all_chunks, drop_held, joined, joins, with_segment};
 
 use crate::building::Building;
 use crate::faults::{PutFault, is_there};
@@ -21,6 +21,13 @@ use tuple_codec::Address;
 #[derive(Debug, Drop)]
 pub struct Store {
     segments: Vec<Arc<Segment>>,
+}
+
+/// Which chunks of a segment are the store's: those behind its first `own` ones are those of the segments from `from` on.
+#[derive(Debug, Clone, Copy)]
+struct Matched {
+    own: usize,
+    from: usize,
 }
 
 impl Model for Store {
@@ -104,7 +111,8 @@ impl Store {
     ///
     /// Segments at the end whose chunks the new one has are dropped, and an empty one isn't added: so a store to which
     /// each segment was appended that a draft over it was sealed to has few segments. In room that was reserved it takes
-    /// no memory but to hold a collision.
+    /// no memory but to hold a collision. What such a segment has of this store's last segments is compared with them
+    /// place by place; only its other chunks are looked up.
     pub fn append(&mut self, segment: Arc<Segment>) -> Result<(), PutFault>
         ensures segments { OnOk result (self.new.segments ≡ with_segment (arc_value segment) self.old.segments) }
         ensures union { OnOk result (IsUnion (all_chunks self.old) (arc_value segment) (all_chunks self.new)) }
@@ -115,21 +123,52 @@ impl Store {
         ensures same { OnErr result (self.new.segments ≡ self.old.segments) }
         ensures kept { OnErr result (self.old.room ≤ self.new.room) }
     {
-        self.allows(&segment)?;
+        let from = self.kept_beside(&segment)?;
         if segment.len() == 0 {
             return Ok(());
         }
-        let from = self.kept(&segment);
         replace_from(&mut self.segments, from, segment)?;
         Ok(())
     }
 
+    /// How many segments stay where another one is appended, which must not have other bytes at some address.
+    fn kept_beside(&self, segment: &Segment) -> Result<usize, PutFault>
+        ensures kept { IfOk result (λ kept. take kept self.now.segments ≡ drop_held segment.now self.now.segments) }
+        ensures most { IfOk result (λ kept. kept ≤ length self.now.segments) }
+        ensures agree { OnOk result (Agree (bytes_at (all_chunks self.now)) (bytes_at segment.now)) }
+        ensures cause { IfErr result (IsCause (bytes_at (all_chunks self.now)) (bytes_at segment.now)) }
+        ensures differ { OnErr result (Differ (bytes_at (all_chunks self.now)) (bytes_at segment.now)) }
+    {
+        let matched = self.matching(segment);
+        self.allows(segment, matched)?;
+        Ok(self.kept(segment, matched))
+    }
+
+    /// How many chunks of a segment aren't those of this store's last segments, in their order, and which these are. A
+    /// segment that was sealed over this store ends with what was joined to it, so that nothing of this needs a look-up.
+    fn matching(&self, other: &Segment) -> Matched
+        ensures { IsMatched other.now self.now.segments result.own result.from }
+    {
+        let mut own = other.len();
+        let mut from = self.segments.len();
+        'segments: while from > 0 {
+            let segment = &self.segments[from - 1];
+            match segment.place_before(other, own) {
+                Some(start) => own = start,
+                None => return Matched { own, from },
+            }
+            from -= 1;
+        }
+        Matched { own, from }
+    }
+
     /// How many segments stay where those at the end are dropped whose chunks another one has.
-    fn kept(&self, other: &Segment) -> usize
+    fn kept(&self, other: &Segment, matched: Matched) -> usize
+        requires { IsMatched other.now self.now.segments matched.own matched.from }
         ensures kept { take result self.now.segments ≡ drop_held other.now self.now.segments }
         ensures most { result ≤ length self.now.segments }
     {
-        let mut kept = self.segments.len();
+        let mut kept = matched.from;
         'segments: while kept > 0 {
             let segment = &self.segments[kept - 1];
             if !segment.is_within(other) {
@@ -171,13 +210,14 @@ impl Store {
     }
 
     /// Refuses a segment that has other bytes than this store at some address.
-    fn allows(&self, segment: &Segment) -> Result<(), PutFault>
+    fn allows(&self, segment: &Segment, matched: Matched) -> Result<(), PutFault>
+        requires { IsMatched segment.now self.now.segments matched.own matched.from }
         ensures agree { OnOk result (Agree (bytes_at (all_chunks self.now)) (bytes_at segment.now)) }
         ensures cause { IfErr result (IsCause (bytes_at (all_chunks self.now)) (bytes_at segment.now)) }
         ensures differ { OnErr result (Differ (bytes_at (all_chunks self.now)) (bytes_at segment.now)) }
-        ensures single { IsSingle segment.now }
     {
-        for at in 0..segment.len() {
+        self.tell();
+        for at in 0..matched.own {
             let (address, bytes) = segment.chunk(at);
             is_there(self.allocator(), &address, self.get(&address), bytes)?;
         }

@@ -29,8 +29,6 @@ use Rattle.write_laws.proofs.CellLemmas.{stored_fits}
 use Rattle.write_laws.proofs.OrderLemmas.{both_so}
 use Rattle.write_laws.proofs.OutcomeLemmas.{found_so, ok_same, then_so}
 
--- ---- types
-
 -- ---- defaults
 
 kept_so : (outcome : Result Value Misfit) (own : Value) → kept outcome ≡ Some own → outcome ≡ Ok own

@@ -1,5 +1,5 @@
 use Rattle.std.proofs.Common.{inl, inr}
-use Rattle.chunk_store.specs.Stores.{joined, joins}
+use Rattle.chunk_store.specs.Stores.{joined}
 use Rattle.chunk_store.proofs.ChunkLemmas.{listed_left, listed_right}
 use Rattle.chunk_store.proofs.FewLemmas.{stays_few}
 use Rattle.chunk_store.proofs.JoinLemmas.{joins_fewer}

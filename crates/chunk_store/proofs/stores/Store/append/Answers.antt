@@ -18,9 +18,9 @@ returns-clause-segments c =
     let segments = c.args.self.now.segments in
     let P : List Chunk → Type 0 = λ l. length l ≡ 0 → ⊥ in
     let some : length segment ≡ 0 → ⊥ = λ none. c.if-len-eq0.false (c.len.ensures.count ∙ ap length c.deref-2.ensures ∙ none) in
-    replaced c.self.inside.segments.items c.replace_from.new.segments.items c.args.segment arc_value segments c.kept-from.result c.in_ok-replace_from.ensures.ok
+    replaced c.self.inside.segments.items c.replace_from.new.segments.items c.args.segment arc_value segments c.in_ok-from.from c.in_ok-replace_from.ensures.ok
     (ap (λ (s : Stored). s.segments) c.self.view_is)
-    ∙ ap (λ (l : List (List Chunk)). l ++ segment ∷ []) (c.kept-from.ensures.kept ∙ ap (λ (l : List Chunk). drop_held l segments) c.deref-3.ensures)
+    ∙ ap (λ (l : List (List Chunk)). l ++ segment ∷ []) (c.in_ok-from.ensures.kept ∙ ap (λ (l : List Chunk). drop_held l segments) c.deref.ensures)
     ∙ sym (with_some segment segments some)
 
 pub invariant_of-self-2 : goal.invariant_of-self-2
@@ -31,8 +31,8 @@ invariant_of-self-2 c =
     let P : List (List Chunk) → Type 0 = λ l. IsSingle (joined l) × AreSome l in
     let Q : List (List Chunk) → Type 0 = λ l. Agree (bytes_at (joined l)) (bytes_at segment) in
     let R : List Chunk → Type 0 = λ l. Agree (bytes_at (all_chunks c.args.self.now)) (bytes_at l) in
-    let agree = subst Q (sym seen) (subst R c.deref.ensures c.in_ok-allows.ensures.agree) in
-    let one = subst IsSingle c.deref.ensures c.allows.ensures.single in
+    let agree = subst Q (sym seen) (subst R c.deref.ensures c.in_ok-from.ensures.agree) in
+    let one = subst IsSingle c.deref-2.ensures c.len.ensures.single in
     subst P (sym (returns-clause-segments c ∙ ap (with_segment segment) (sym seen)))
     (with_single segment before c.self.invariant.0 one agree, with_are_some segment before c.self.invariant.1)
 
@@ -45,4 +45,4 @@ returns-clause-union c =
     let Q : List (List Chunk) → Type 0 = λ l. IsSingle (joined l) in
     let R : List Chunk → Type 0 = λ l. Agree (bytes_at (all_chunks c.args.self.now)) (bytes_at l) in
     subst P (sym (returns-clause-segments c))
-    (with_union segment segments (subst Q seen c.self.invariant.0) (subst R c.deref.ensures c.in_ok-allows.ensures.agree))
+    (with_union segment segments (subst Q seen c.self.invariant.0) (subst R c.deref.ensures c.in_ok-from.ensures.agree))

@@ -4,6 +4,7 @@ use Rattle.std.proofs.lemmas.List.{length-map}
 use Rattle.chunk_store.specs.Chunks.{Chunk}
 use Rattle.chunk_store.specs.Stores.{Stored, drop_held}
 use Rattle.chunk_store.proofs.JoinLemmas.{drop_last_held, drop_last_kept, segment_at, take_segment}
+use Rattle.chunk_store.proofs.MatchLemmas.{held_matched}
 use Rattle.chunk_store.proofs.stores.Store.kept.Goals as goal
 
 pub returns-then-not-is_within-clause-kept : goal.returns-then-not-is_within-clause-kept
@@ -47,3 +48,9 @@ segments-preserved c =
       held = sym (ap (drop_held other) taken ∙ drop_last_held other (take before segments) s (sym c.is_within.ensures ∙ c.if-not-is_within.false)) ∙ c.segments.invariant.held;
       most = omega arith;
     }
+
+pub segments-init : goal.segments-init
+segments-init c = record {
+  held = held_matched c.args.other.now c.args.self.now.segments c.args.matched.own c.args.matched.from c.requires;
+  most = c.requires.from_within;
+}
