@@ -1,14 +1,14 @@
 -- Chunks gathered into a segment.
 use Rattle.std.proofs.Common.{◌≡◌, ◌⊎◌, inl, inr, ℕ, ◌+◌, ◌≤◌, Bool, true, false, cond, List, [], ◌∷◌, ◌++◌, length, drop, Option, Some, None, is_some, sym, refl, ap, ◌∙◌, subst, slice_get, arith}
-use Rattle.std.proofs.lemmas.List.{append-nil, length-append}
+use Rattle.std.proofs.lemmas.List.{length-append}
 use Rattle.chunk_region.specs.Pages.{Pages, Stands, IsWritten, Keeps}
 use Rattle.chunk_region.proofs.PageLemmas.{is_written}
 use Rattle.chunk_store.specs.declared.index.Placed.{Placed}
 use Rattle.chunk_store.specs.Building.{gather, with_chunk}
 use Rattle.chunk_store.specs.Chunks.{Chunk, bytes_at, Listed, IsSingle}
 use Rattle.chunk_store.specs.Placing.{AllFit, ArePlaced, chunks_in, span_at, written}
-use Rattle.chunk_store.proofs.ChunkLemmas.{found_listed, listed_either, listed_left, listed_right, single_fewer, single_left, single_push}
-use Rattle.chunk_store.proofs.PlacingLemmas.{absent_span, all_push, all_stay, chunks_push, found_at, kept_written}
+use Rattle.chunk_store.proofs.ChunkLemmas.{found_listed, listed_either, listed_left, listed_right, single_fewer, single_push}
+use Rattle.chunk_store.proofs.PlacingLemmas.{all_push, all_stay, chunks_push, found_at, kept_written}
 use Rattle.std.specs.Option.{option_map}
 use Rattle.basic_laws.proofs.Lists.{drop_at_get as drop_next}
 

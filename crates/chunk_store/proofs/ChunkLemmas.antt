@@ -1,7 +1,7 @@
-use Rattle.std.proofs.Common.{◌≡◌, ◌⊎◌, inl, inr, ℕ, zero, suc, ◌<◌, Bool, true, false, cond, List, [], ◌∷◌, ◌++◌, ◌+◌, length, take, drop, map, get_or, Option, Some, None, sym, refl, ap, ◌∙◌, slice_get, bytes_eq}
+use Rattle.std.proofs.Common.{◌≡◌, ◌⊎◌, inl, inr, ℕ, zero, suc, Bool, true, false, cond, List, [], ◌∷◌, ◌++◌, take, Option, Some, None, sym, refl, ap, ◌∙◌, slice_get, bytes_eq}
 use Rattle.std.proofs.lemmas.Bool.{cond-true}
 use Rattle.std.proofs.lemmas.Option.{cond_some, same_Some}
-use Rattle.std.proofs.lemmas.List.{append-nil, append_assoc, drop_more}
+use Rattle.std.proofs.lemmas.List.{append-nil, append_assoc}
 use Rattle.basic_laws.proofs.Bytes.{bytes_same, same_bytes}
 use Rattle.chunk_store.specs.Chunks.{Chunk, Chunks, bytes_at, Listed, Lists, IsSingle, Agree, AreNamed}
 use Rattle.chunk_store.specs.Stores.{joined}
@@ -178,13 +178,6 @@ named_at a (c ∷ cs) zero k bytes named is =
 named_at a (c ∷ cs) (suc n) k bytes named is = named_at a cs n k bytes named.1 is
 
 -- ---- segments
-
--- what is found from one segment on
-pub joined_next : {X : Type 0} (view : X → List Chunk) (xs : List X) (i : ℕ) (x : X) (k : List ℕ) → i < length xs → x ≡ get_or xs i x
-    → bytes_at (joined (map view (drop i xs))) k ≡ either (bytes_at (view x) k) (bytes_at (joined (map view (drop (i + 1) xs))) k)
-joined_next view xs i x k within is =
-    ap (λ l. bytes_at (joined (map view l)) k) (drop_more xs i x within ∙ ap (λ y. y ∷ drop (i + 1) xs) (sym is))
-    ∙ at_join (view x) (joined (map view (drop (i + 1) xs))) k
 
 pub joined_push : (segments : List (List Chunk)) (segment : List Chunk) → joined (segments ++ segment ∷ []) ≡ joined segments ++ segment
 joined_push [] segment = append-nil segment

@@ -1,11 +1,11 @@
 -- A store to which each sealed segment is appended has few segments.
-use Rattle.std.proofs.Common.{◌≡◌, inl, inr, ℕ, zero, suc, ◌+◌, ◌*◌, ◌^◌, ◌-◌, ◌<◌, ◌≤◌, nat_lt, Bool, true, false, ◌&&◌, cond, List, [], ◌∷◌, ◌++◌, length, Option, Some, is_some, sym, refl, ap, ◌∙◌, subst, arith}
+use Rattle.std.proofs.Common.{◌≡◌, inl, inr, ℕ, ◌+◌, ◌*◌, ◌^◌, ◌-◌, ◌<◌, ◌≤◌, nat_lt, Bool, true, false, ◌&&◌, cond, List, [], ◌∷◌, ◌++◌, length, Option, is_some, sym, refl, ap, ◌∙◌, subst, arith}
 use Rattle.std.specs.List.{AllByRecursion}
-use Rattle.std.proofs.lemmas.List.{append-nil, length-append}
+use Rattle.std.proofs.lemmas.List.{length-append}
 use Rattle.std.proofs.lemmas.Bool.{and_from, ltb-false}
 use Rattle.std.proofs.lemmas.Grind.{pow_more}
-use Rattle.chunk_store.specs.Chunks.{bytes_at, Chunk, Listed, Lists}
-use Rattle.chunk_store.specs.Stores.{AreSome, IsSealed, StaysFew, drop_held, has_none, is_within, joined, joins, with_segment}
+use Rattle.chunk_store.specs.Chunks.{bytes_at, Chunk, Lists}
+use Rattle.chunk_store.specs.Stores.{AreSome, StaysFew, drop_held, has_none, is_within, joined, joins}
 use Rattle.chunk_store.proofs.ChunkLemmas.{joined_push, listed_finds, listed_left, listed_right}
 
 abbrev pub AreWithin : List (List Chunk) → List Chunk → Type 0

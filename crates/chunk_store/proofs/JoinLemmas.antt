@@ -1,14 +1,13 @@
 -- Segments that are dropped, joined and appended.
-use Rattle.std.proofs.Common.{◌≡◌, ◌⊎◌, inl, inr, ℕ, zero, suc, ◌+◌, ◌*◌, ◌^◌, ◌-◌, ◌<◌, ◌≤◌, nat_lt, Bool, true, false, ◌&&◌, cond, List, [], ◌∷◌, ◌++◌, length, map, get_or, take, drop, Option, Some, None, is_some, sym, refl, ap, ◌∙◌, subst, slice_get, arith}
-use Rattle.std.specs.List.{AllByRecursion, list_all}
-use Rattle.std.proofs.lemmas.List.{append-nil, length-append}
-use Rattle.std.proofs.lemmas.Bool.{ltb-true, and_parts as and_both}
+use Rattle.std.proofs.Common.{◌≡◌, ◌⊎◌, inl, inr, ℕ, zero, suc, ◌+◌, ◌*◌, ◌<◌, nat_lt, Bool, true, false, ◌&&◌, cond, List, [], ◌∷◌, ◌++◌, length, map, get_or, take, drop, Option, Some, None, is_some, sym, refl, ap, ◌∙◌, subst, slice_get, arith}
+use Rattle.std.proofs.lemmas.List.{length-append}
+use Rattle.std.proofs.lemmas.Bool.{and_parts as and_both}
 use Rattle.basic_laws.proofs.Lists.{drop_at_get as drop_next, take_at_get as take_next}
 use Rattle.chunk_store.specs.Building.{gather}
 use Rattle.chunk_store.specs.Chunks.{Agree, Chunk, bytes_at, IsSingle, Listed, Lists}
-use Rattle.chunk_store.specs.Stores.{AreSome, IsSealed, IsUnion, StaysFew, drop_held, has_none, is_within, joined, joins, with_segment}
+use Rattle.chunk_store.specs.Stores.{AreSome, IsSealed, IsUnion, drop_held, has_none, is_within, joined, joins, with_segment}
 use Rattle.chunk_store.proofs.BuildLemmas.{gather_has, gather_join, gather_keeps, gather_only, gather_size}
-use Rattle.chunk_store.proofs.ChunkLemmas.{found_listed, joined_push, listed_either, listed_finds, listed_is, listed_left, listed_right, single_fewer, single_join}
+use Rattle.chunk_store.proofs.ChunkLemmas.{at_join, either, found_listed, joined_push, listed_either, listed_is, listed_left, listed_right, single_fewer, single_join}
 
 -- ---- dropping from the end
 
@@ -220,6 +219,25 @@ pub joins_next : (more : ℕ) (segments : List (List Chunk)) (before at from ear
 joins_next more segments before at from earlier s t next few is held =
     ap (λ n. drop n segments) is ∙ earlier_case t before from segments (s ∷ drop at segments) (joins more (drop at segments)) next held
     ∙ ap (λ (b : Bool). cond b (s ∷ drop at segments) (joins more (drop at segments))) few ∙ sym (ap (joins more) next)
+
+-- ---- looked up in the last segments first
+
+listed_behind : (segments : List (List Chunk)) (n : ℕ) (k bytes : List ℕ) → Listed (joined (drop n segments)) k bytes → Listed (joined segments) k bytes
+listed_behind segments zero k bytes listed = listed
+listed_behind [] (suc n) k bytes listed = listed
+listed_behind (s ∷ segments) (suc n) k bytes listed = listed_right s (joined segments) k bytes (listed_behind segments n k bytes listed)
+
+pub held_behind : (segments : List (List Chunk)) (before at : ℕ) (s : List Chunk) (k bytes : List ℕ) → drop before segments ≡ s ∷ drop at segments
+    → IsSingle (joined segments) → bytes_at s k ≡ Some bytes → bytes_at (joined segments) k ≡ Some bytes
+held_behind segments before at s k bytes next single held =
+    let here = listed_left s (joined (drop at segments)) k bytes (found_listed s k bytes held) in
+    listed_is (joined segments) k bytes single (listed_behind segments before k bytes (subst (λ (l : List (List Chunk)). Listed (joined l) k bytes) (sym next) here))
+
+pub none_behind : (segments : List (List Chunk)) (before at : ℕ) (s : List Chunk) (k : List ℕ) → drop before segments ≡ s ∷ drop at segments
+    → bytes_at s k ≡ None → bytes_at (joined (drop at segments)) k ≡ None → bytes_at (joined (drop before segments)) k ≡ None
+none_behind segments before at s k next here rest =
+    let behind = bytes_at (joined (drop at segments)) k in
+    ap (λ (l : List (List Chunk)). bytes_at (joined l) k) next ∙ at_join s (joined (drop at segments)) k ∙ ap (λ o. either o behind) here ∙ rest
 
 pub size_next : (segments : List (List Chunk)) (before at : ℕ) (s : List Chunk) → drop before segments ≡ s ∷ drop at segments
     → length (joined (drop before segments)) ≡ length s + length (joined (drop at segments))

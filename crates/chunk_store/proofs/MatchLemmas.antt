@@ -1,5 +1,5 @@
 -- A segment that ends with the chunks of a store's last segments.
-use Rattle.std.proofs.Common.{◌≡◌, inl, inr, ℕ, zero, suc, ◌+◌, ◌≤◌, ◌-◌, List, [], ◌∷◌, ◌++◌, length, take, drop, Some, sym, refl, ap, ◌∙◌, subst, slice_get, bytes_eq, not, Bool, true, false, arith}
+use Rattle.std.proofs.Common.{◌≡◌, inl, inr, ℕ, zero, suc, ◌+◌, ◌≤◌, List, [], ◌∷◌, ◌++◌, take, drop, Some, sym, ap, ◌∙◌, subst, slice_get, bytes_eq, not, Bool, false, arith}
 use Rattle.std.proofs.lemmas.List.{append_assoc, take-append-drop}
 use Rattle.basic_laws.proofs.Bytes.{same_bytes}
 use Rattle.basic_laws.proofs.Lists.{drop_at_get as drop_next, take_at_get as take_next}

@@ -1,5 +1,5 @@
 -- Chunks gathered into a segment: one of each address.
-use Rattle.std.specs.Prelude.{ℕ, List, [], ◌∷◌, ◌++◌, if◌then◌else◌, is_some}
+use Rattle.std.specs.Prelude.{List, [], ◌∷◌, ◌++◌, if◌then◌else◌, is_some}
 use Rattle.chunk_store.specs.Chunks.{Chunk, bytes_at}
 
 -- a chunk more, where none of its address is there

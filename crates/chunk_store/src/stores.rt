@@ -87,12 +87,15 @@ impl Store {
         Ok(Store { segments })
     }
 
-    /// The bytes at an address, by one look-up in a table for each segment.
+    /// The bytes at an address, by one look-up in a table for each segment, the last one first: what was written last is read most.
     pub fn get(&self, address: &Address) -> Option<&[u8]>
         ensures held { option_map (λ bytes. bytes.now) result ≡ bytes_at (all_chunks self.now) address.now.0 }
         ensures single { IsSingle (all_chunks self.now) }
     {
-        for segment in &self.segments {
+        let mut at = self.segments.len();
+        'segments: while at > 0 {
+            at -= 1;
+            let segment = &self.segments[at];
             if let Some(bytes) = segment.get(address) {
                 return Some(bytes);
             }

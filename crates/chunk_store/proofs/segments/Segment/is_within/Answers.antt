@@ -1,4 +1,4 @@
-use Rattle.std.proofs.Common.{◌≡◌, ◌&&◌, ◌+◌, Bool, drop, sym, ap, ◌∙◌}
+use Rattle.std.proofs.Common.{◌&&◌, ◌+◌, Bool, drop, sym, ap, ◌∙◌}
 use Rattle.chunk_store.specs.Stores.{is_within}
 use Rattle.chunk_store.proofs.JoinLemmas.{within_next}
 use Rattle.chunk_store.proofs.segments.Segment.is_within.Goals as goal

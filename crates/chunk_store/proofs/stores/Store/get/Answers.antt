@@ -1,26 +1,53 @@
-use Rattle.std.proofs.Common.{◌+◌, List, map, drop, ap, sym, ◌∙◌}
+use Rattle.std.proofs.Common.{◌≡◌, ℕ, ◌<◌, ◌+◌, ◌-◌, None, length, drop, ap, sym, subst, arith}
 use Rattle.std.specs.Arc.{arc_value}
-use Rattle.chunk_store.specs.Chunks.{Chunk, bytes_at}
-use Rattle.chunk_store.specs.Stores.{joined}
-use Rattle.chunk_store.proofs.ChunkLemmas.{either, joined_next}
+use Rattle.std.proofs.lemmas.List.{length-map}
+use Rattle.chunk_store.specs.Chunks.{IsSingle, bytes_at}
+use Rattle.chunk_store.specs.Stores.{Stored, joined}
+use Rattle.chunk_store.proofs.JoinLemmas.{held_behind, none_behind, segment_at, segment_next}
 use Rattle.chunk_store.proofs.stores.Store.get.Goals as goal
 
 pub returns-in-Some-clause-held : goal.returns-in-Some-clause-held
 returns-in-Some-clause-held c =
-    let xs = c.deref-segment-items.result.now in
-    let i = c.loop-segment.segment-index in
+    let at = c.segments.at in
+    let before = at - 1 in
+    let segments = c.args.self.now.segments in
+    let items = c.self.inside.segments.items in
+    let s = c.deref.result.now in
     let k = c.args.address.now.0 in
-    let rest = bytes_at (joined (map arc_value (drop (i + 1) xs))) k in
-    let here = c.in-Some.ensures ∙ ap (λ (l : List Chunk). bytes_at l k) c.deref.ensures in
-    ap (λ o. either o rest) here ∙ sym (joined_next arc_value xs i c.segment-item.result k c.loop-segment-test.true c.segment-item.is)
-    ∙ c.loop-segment.invariant
+    let seen = ap (λ (st : Stored). length st.segments) c.self.view_is in
+    let test = c.segments-test.true in
+    let most = c.segments.invariant.most in
+    let count = length-map items arc_value in
+    let within : before < length items = omega arith in
+    let plus : before + 1 ≡ at = omega arith in
+    let here = segment_at items arc_value segments before c.index-segment.result.now s (ap (λ (st : Stored). st.segments) c.self.view_is)
+    within c.index-segment.ensures c.deref.ensures in
+    let single = subst (λ (st : Stored). IsSingle (joined st.segments)) c.self.view_is c.self.invariant.0 in
+    sym (held_behind segments before at s k c.in-Some.bytes.now (segment_next segments before at s plus here) single (sym c.in-Some.ensures))
 
-pub loop-segment-preserved : goal.loop-segment-preserved
-loop-segment-preserved c =
-    let xs = c.deref-segment-items.result.now in
-    let i = c.loop-segment.segment-index in
+pub segments-preserved : goal.segments-preserved
+segments-preserved c =
+    let at = c.segments.at in
+    let before = at - 1 in
+    let segments = c.args.self.now.segments in
+    let items = c.self.inside.segments.items in
+    let s = c.deref.result.now in
     let k = c.args.address.now.0 in
-    let rest = bytes_at (joined (map arc_value (drop (i + 1) xs))) k in
-    let here = c.in_default.ensures ∙ ap (λ (l : List Chunk). bytes_at l k) c.deref.ensures in
-    ap (λ o. either o rest) here ∙ sym (joined_next arc_value xs i c.segment-item.result k c.loop-segment-test.true c.segment-item.is)
-    ∙ c.loop-segment.invariant
+    let seen = ap (λ (st : Stored). length st.segments) c.self.view_is in
+    let test = c.segments-test.true in
+    let most = c.segments.invariant.most in
+    let count = length-map items arc_value in
+    let within : before < length items = omega arith in
+    let plus : before + 1 ≡ at = omega arith in
+    let here = segment_at items arc_value segments before c.index-segment.result.now s (ap (λ (st : Stored). st.segments) c.self.view_is)
+    within c.index-segment.ensures c.deref.ensures in
+    record {
+      behind = none_behind segments before at s k (segment_next segments before at s plus here) (sym c.in_default.ensures) c.segments.invariant.behind;
+      most = omega arith;
+    }
+
+pub returns-clause-held : goal.returns-clause-held
+returns-clause-held c =
+    let test = c.segments-test.false in
+    let none : c.segments.at ≡ 0 = omega arith in
+    sym (subst (λ (n : ℕ). bytes_at (joined (drop n c.args.self.now.segments)) c.args.address.now.0 ≡ None) none c.segments.invariant.behind)

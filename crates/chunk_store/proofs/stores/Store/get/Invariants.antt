@@ -1,8 +1,13 @@
-use Rattle.std.proofs.Common.{◌≡◌, drop, map}
-use Rattle.std.specs.Arc.{arc_value}
+use Rattle.std.proofs.Common.{◌≡◌, ◌≤◌, None, drop, length}
 use Rattle.chunk_store.specs.Chunks.{bytes_at}
-use Rattle.chunk_store.specs.Stores.{all_chunks, joined}
+use Rattle.chunk_store.specs.Stores.{joined}
 use Rattle.chunk_store.proofs.stores.Store.get.Given as goal
 
-abbrev pub invariant-loop-segment : goal.invariant-loop-segment
-invariant-loop-segment l = bytes_at (joined (map arc_value (drop l.segment-index l.segment-items))) l.address.0 ≡ bytes_at (all_chunks l.self) l.address.0
+abbrev pub invariant-segments : goal.invariant-segments
+invariant-segments l = record {
+  behind : bytes_at (joined (drop l.at l.self.segments)) l.address.0 ≡ None;
+  most : l.at ≤ length l.self.segments;
+}
+
+abbrev pub decreases-segments : goal.decreases-segments
+decreases-segments l = l.at

@@ -1,7 +1,6 @@
-use Rattle.std.proofs.Common.{◌≡◌, ◌<◌, ◌≤◌, ◌+◌, ◌-◌, Bool, false, List, length, take, sym, ap, ◌∙◌, arith}
+use Rattle.std.proofs.Common.{◌≡◌, ◌<◌, ◌+◌, ◌-◌, length, take, sym, ap, ◌∙◌, arith}
 use Rattle.std.specs.Arc.{arc_value}
 use Rattle.std.proofs.lemmas.List.{length-map}
-use Rattle.chunk_store.specs.Chunks.{Chunk}
 use Rattle.chunk_store.specs.Stores.{Stored, drop_held}
 use Rattle.chunk_store.proofs.JoinLemmas.{drop_last_held, drop_last_kept, segment_at, take_segment}
 use Rattle.chunk_store.proofs.MatchLemmas.{held_matched}
