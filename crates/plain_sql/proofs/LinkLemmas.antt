@@ -1,9 +1,12 @@
 -- Rows whose cell isn't equal to an earlier one are passed over by the test that compares the two.
-use Rattle.std.proofs.Common.{◌≡◌, ◌<◌, ◌≤◌, ◌∙◌, inl, inr, sym, ap, refl, subst, ℕ, zero, suc, ◌+◌, ◌*◌, ◌^◌, ℤ, pos, negsuc, neg_ℤ, unsigned_abs, ◌*ℤ◌, Bool, true, false, true≢false, cond, List, [], ◌∷◌, ◌++◌, Ok, Option, None, Some, length, map, take, drop, get_or, ◌-◌, arith}
+use Rattle.std.proofs.Common.{◌≡◌, ◌<◌, ◌≤◌, ◌∙◌, ◌⊎◌, inl, inr, sym, ap, refl, subst, ℕ, zero, suc, ◌+◌, ◌*◌, ◌^◌, ℤ, pos, negsuc, neg_ℤ, unsigned_abs, ◌*ℤ◌, Bool, true, false, true≢false, cond, List, [], ◌∷◌, ◌++◌, Ok, Option, None, Some, length, map, take, drop, get_or, ◌-◌, nat_lt, arith}
+use Rattle.std.proofs.lemmas.Bool.Decides.{nat_tests}
+use Rattle.std.specs.List.{All, Contains}
+use Rattle.std.proofs.lemmas.List.{length-append}
 use Rattle.std.specs.Option.{IfSome, option_map}
 use native.Mathlib.Nat.{eq_of_mul-eq-mul_right, mul-pos, one-le-pow}
 use Rattle.std.specs.Ordering.{int_cmp, is_eq}
-use Rattle.basic_laws.proofs.Truths.{two as case_of}
+use Rattle.basic_laws.proofs.Truths.{left_so, two as case_of}
 use Rattle.sql_ast.specs.declared.expressions.Comparison.{Comparison}
 use Rattle.sql_ast.specs.declared.expressions.Comparison.TheVariants as op
 use Rattle.tuple_codec.specs.Rows.{Cells, cell_at, same_value, value_cmp}
@@ -26,7 +29,7 @@ use Rattle.plain_sql.specs.Lists.{or_refuse}
 use Rattle.plain_sql.specs.Passing.{IsCalm, IsMissed, IsPassedOver, is_so}
 use Rattle.plain_sql.specs.Plans.{meaning}
 use Rattle.plain_sql.specs.declared.linking.Link.{Link}
-use Rattle.plain_sql.proofs.InsertionLemmas.{clash, either_way}
+use Rattle.plain_sql.proofs.InsertionLemmas.{clash, either_way, right_so}
 use Rattle.plain_sql.proofs.NestedLemmas.{rest_is}
 use Rattle.plain_sql.proofs.MissedLemmas.{holds_not, missed_at, missed_first, passed_over, times_one}
 
@@ -182,15 +185,25 @@ met_columns whole a b k l p q u v is other here there d =
       d,
     )
 
-near_cell : (width : ℕ) (link : Link) (row more : Cells) (near : ℕ) → length row ≡ width → near ≡ link.earlier → near < width → cell_at (row ++ more) near ≡ cell_at row link.earlier
-near_cell width link row more near wide is h = cell_before row more near (omega (arith, wide, h)) ∙ ap (cell_at row) is
+near_cell : (width : ℕ) (link : Link) (row more behind : Cells) (near : ℕ) → length row ≡ width → near ≡ link.earlier → near < width
+    → cell_at (row ++ more ++ behind) near ≡ cell_at row link.earlier
+near_cell width link row more behind near wide is h =
+    let many = length-append row more in
+    cell_before (row ++ more) behind near (omega (arith, many, wide, h)) ∙ cell_before row more near (omega (arith, wide, h)) ∙ ap (cell_at row) is
 
-far_cell : (width : ℕ) (link : Link) (row more : Cells) (far : ℕ) → length row ≡ width → far ≡ width + link.place → cell_at (row ++ more) far ≡ cell_at more link.place
-far_cell width link row more far wide is = let at : far ≡ length row + link.place = omega (arith, wide, is) in ap (cell_at (row ++ more)) at ∙ cell_behind row more link.place
+far_cell : (width : ℕ) (link : Link) (row more behind : Cells) (far : ℕ) → length row ≡ width → link.place < length more → far ≡ width + link.place
+    → cell_at (row ++ more ++ behind) far ≡ cell_at more link.place
+far_cell width link row more behind far wide within is =
+    let many = length-append row more in
+    let at : far ≡ length row + link.place = omega (arith, wide, is) in
+    cell_before (row ++ more) behind far (omega (arith, many, at, within)) ∙ ap (cell_at (row ++ more)) at ∙ cell_behind row more link.place
 
-columns_missed : (width : ℕ) (link : Link) (a b : Node) → AreColumns width link a b → (row more : Cells) → Misses link width row more
-    → IsMissed (two (comparison op.Equal) (worth (row ++ more) a) (worth (row ++ more) b))
-columns_missed width link a b are row more miss = by_ends are.7
+within_of : (place : ℕ) (more : Cells) → nat_lt place (length more) ≡ true → place < length more
+within_of place more h = grind (arith, nat_tests)
+
+columns_missed : (width : ℕ) (link : Link) (a b : Node) → AreColumns width link a b → (row more behind : Cells) → Misses link width row more
+    → IsMissed (two (comparison op.Equal) (worth (row ++ more ++ behind) a) (worth (row ++ more ++ behind) b))
+columns_missed width link a b are row more behind miss = by_ends are.7
   where
     u : Value
     u = cell_at row link.earlier
@@ -198,36 +211,43 @@ columns_missed width link a b are row more miss = by_ends are.7
     v : Value
     v = cell_at more link.place
 
-    by_ends : AreEnds width link are.1 are.3 → IsMissed (two (comparison op.Equal) (worth (row ++ more) a) (worth (row ++ more) b))
+    within : link.place < length more
+    within = within_of link.place more (left_so (nat_lt link.place (length more)) (suits link.kind v) miss.later)
+
+    later : suits link.kind v ≡ true
+    later = right_so (nat_lt link.place (length more)) (suits link.kind v) miss.later
+
+    by_ends : AreEnds width link are.1 are.3 → IsMissed (two (comparison op.Equal) (worth (row ++ more ++ behind) a) (worth (row ++ more ++ behind) b))
     by_ends (inl apart) =
-        met_columns (row ++ more) a b are.0 are.2 are.1 are.3 u v are.4 are.5
-        (near_cell width link row more are.1 miss.wide apart.0 apart.1) (far_cell width link row more are.3 miss.wide apart.2)
-        (differ link.kind are.0 are.2 u v are.6 miss.earlier miss.later miss.apart).0
+        met_columns (row ++ more ++ behind) a b are.0 are.2 are.1 are.3 u v are.4 are.5
+        (near_cell width link row more behind are.1 miss.wide apart.0 apart.1) (far_cell width link row more behind are.3 miss.wide within apart.2)
+        (differ link.kind are.0 are.2 u v are.6 miss.earlier later miss.apart).0
     by_ends (inr apart) =
-        met_columns (row ++ more) a b are.0 are.2 are.1 are.3 v u are.4 are.5
-        (far_cell width link row more are.1 miss.wide apart.2) (near_cell width link row more are.3 miss.wide apart.0 apart.1)
-        (differ link.kind are.2 are.0 u v (sym are.6) miss.earlier miss.later miss.apart).1
+        met_columns (row ++ more ++ behind) a b are.0 are.2 are.1 are.3 v u are.4 are.5
+        (far_cell width link row more behind are.1 miss.wide within apart.2) (near_cell width link row more behind are.3 miss.wide apart.0 apart.1)
+        (differ link.kind are.2 are.0 u v (sym are.6) miss.earlier later miss.apart).1
 
 pub part_missed : (width : ℕ) (link : Link) (part a b x y : Node) (operator : Comparison) → part ≡ n.Compare a operator b → operator ≡ op.Equal → x ≡ a → y ≡ b → AreColumns width link x y → Parts width link part
-part_missed width link part a b x y operator is equal same other are = λ row more miss.
-    let missed = columns_missed width link a b (subst (λ z. AreColumns width link a z) other (subst (λ z. AreColumns width link z y) same are)) row more miss in
-    (missed.0, ap (worth (row ++ more)) (is ∙ ap (λ o. n.Compare a o b) equal) ∙ worth_compare (row ++ more) a op.Equal b ∙ missed.1, missed.2)
+part_missed width link part a b x y operator is equal same other are = λ row more behind miss.
+    let missed = columns_missed width link a b (subst (λ z. AreColumns width link a z) other (subst (λ z. AreColumns width link z y) same are)) row more behind miss in
+    (missed.0, ap (worth (row ++ more ++ behind)) (is ∙ ap (λ o. n.Compare a o b) equal) ∙ worth_compare (row ++ more ++ behind) a op.Equal b ∙ missed.1, missed.2)
 
 -- ---- the test
 
-all_missed : (width : ℕ) (link : Link) (first : Node) (rest : List Node) → AreCalm first rest → PartsOne width link first rest → (row more : Cells) → Misses link width row more
-    → IsMissed (chained conjunction (worth (row ++ more) first) (map (worth (row ++ more)) rest))
-all_missed width link first rest calm (inl parts) row more miss = missed_first (row ++ more) (worth (row ++ more) first) rest (parts row more miss) calm.1
-all_missed width link first rest calm (inr there) row more miss =
-    missed_at (row ++ more) (worth (row ++ more) first) rest there.0 there.1.0 (calm.0 (row ++ more)) calm.1 there.1.1 there.1.2 (there.2 row more miss)
+all_missed : (width : ℕ) (link : Link) (first : Node) (rest : List Node) → AreCalm first rest → PartsOne width link first rest → (row more behind : Cells) → Misses link width row more
+    → IsMissed (chained conjunction (worth (row ++ more ++ behind) first) (map (worth (row ++ more ++ behind)) rest))
+all_missed width link first rest calm (inl parts) row more behind miss =
+    missed_first (row ++ more ++ behind) (worth (row ++ more ++ behind) first) rest (parts row more behind miss) calm.1
+all_missed width link first rest calm (inr there) row more behind miss =
+    missed_at (row ++ more ++ behind) (worth (row ++ more ++ behind) first) rest there.0 there.1.0 (calm.0 (row ++ more ++ behind)) calm.1 there.1.1 there.1.2 (there.2 row more behind miss)
 
 pub over_one : (width : ℕ) (link : Link) (test : BoundExpr) → AreCalm test.node [] × PartsOne width link test.node [] → PassesOver width link test
-over_one width link test is = λ row more miss. passed_over test (row ++ more) (all_missed width link test.node [] is.0 is.1 row more miss)
+over_one width link test is = λ row more behind miss. passed_over test (row ++ more ++ behind) (all_missed width link test.node [] is.0 is.1 row more behind miss)
 
-over_parts : (width : ℕ) (link : Link) (test : BoundExpr) (first : Node) (rest : List Node) → test.node ≡ n.And first rest → AreCalm first rest × PartsOne width link first rest → PassesOver width link test
-over_parts width link test first rest e is = λ row more miss.
-    let missed = all_missed width link first rest is.0 is.1 row more miss in
-    passed_over test (row ++ more) (missed.0, ap (worth (row ++ more)) e ∙ worth_and (row ++ more) first rest ∙ missed.1, missed.2)
+pub over_parts : (width : ℕ) (link : Link) (test : BoundExpr) (first : Node) (rest : List Node) → test.node ≡ n.And first rest → AreCalm first rest × PartsOne width link first rest → PassesOver width link test
+over_parts width link test first rest e is = λ row more behind miss.
+    let missed = all_missed width link first rest is.0 is.1 row more behind miss in
+    passed_over test (row ++ more ++ behind) (missed.0, ap (worth (row ++ more ++ behind)) e ∙ worth_and (row ++ more ++ behind) first rest ∙ missed.1, missed.2)
 
 pub over_and : (width : ℕ) (link : Link) (test : BoundExpr) (first a : Node) (rest xs : List Node) → test.node ≡ n.And first rest → a ≡ first → xs ≡ rest
     → AreCalm a xs × PartsOne width link a xs → PassesOver width link test
@@ -240,7 +260,7 @@ row_skipped test tests row over =
     ∙ ap (λ b. and_then {A = Bool} (cond b (passes tests row) (Ok false)) (λ stays. Ok (row_if row stays))) over.2
 
 pub skips_by : (width : ℕ) (link : Link) (test : BoundExpr) (tests : List Meaning) → PassesOver width link test → Skips (meaning test ∷ tests) width link
-skips_by width link test tests over = λ row more miss. row_skipped test tests (row ++ more) (over row more miss)
+skips_by width link test tests over = λ row more behind miss. row_skipped test tests (row ++ more ++ behind) (over row more behind miss)
 
 row_known : (test : BoundExpr) (tests : List Meaning) (row : Cells) (w : Worth) → worth row test.node ≡ Some w → kept_row tests row ≡ Ok [] → kept_row (meaning test ∷ tests) row ≡ Ok []
 unfolding given meaning
@@ -251,9 +271,9 @@ row_known test tests row w known none =
     (λ e. ap (λ b. and_then {A = Bool} (cond b (passes tests row) (Ok false)) (λ stays. Ok (row_if row stays))) e)
 
 pub skips_behind : (width : ℕ) (link : Link) (test : BoundExpr) (tests : List Meaning) → IsCalm test.node → Skips tests width link → Skips (meaning test ∷ tests) width link
-skips_behind width link test tests calm skips = λ row more miss.
-    let known = calm (row ++ more) in
-    row_known test tests (row ++ more) known.0 known.1 (skips row more miss)
+skips_behind width link test tests calm skips = λ row more behind miss.
+    let known = calm (row ++ more ++ behind) in
+    row_known test tests (row ++ more ++ behind) known.0 known.1 (skips row more behind miss)
 
 pub opened : (tests : List BoundExpr) (first : BoundExpr) → 1 ≤ length tests → first ≡ get_or tests 0 first → first ∷ take (length tests - 1) (drop 1 tests) ≡ tests
 opened [] first some is = absurd (omega (arith, some))

@@ -1,27 +1,31 @@
 -- The rows with one cell, of rows in the order of their cells there; and rows that give nothing.
-use Rattle.std.proofs.Common.{◌≡◌, ◌<◌, ◌≤◌, ◌∙◌, refl, sym, ap, subst, ℕ, zero, suc, ◌+◌, Bool, true, false, cond, not, ◌&&◌, List, [], ◌∷◌, ◌++◌, Ok, length, take, drop, filter, get_or, arith}
+use Rattle.std.proofs.Common.{◌≡◌, ◌<◌, ◌≤◌, ◌∙◌, refl, sym, ap, subst, ℕ, zero, suc, ◌+◌, ◌-◌, Bool, true, false, true≢false, cond, not, ◌&&◌, List, [], ◌∷◌, ◌++◌, Ok, Option, None, Some, length, take, drop, filter, get_or, nat_eq, arith}
 use Rattle.std.specs.Cmp.{IsTotalOrder, IsStrictWeakOrder}
+use Rattle.std.proofs.lemmas.Bool.Decides.{nat_tests}
 use Rattle.std.specs.List.{list_all}
+use Rattle.std.specs.Option.{IfSome}
 use Rattle.std.specs.List.Sorted.{IsPartitionPoint, IsPartitionedBy}
 use Rattle.std.specs.Ordering.{is_le, is_lt, ordering_reverse}
 use Rattle.std.specs.declared.cmp.Ordering.{Ordering}
 use Rattle.std.specs.declared.cmp.Ordering.TheVariants.{Less, Equal, Greater}
 use Rattle.std.proofs.lemmas.Cmp.{on_total}
-use Rattle.std.proofs.lemmas.List.{get_or-drop, length-drop}
+use Rattle.std.proofs.lemmas.List.{get_or-drop, length-drop, take_more}
 use Rattle.std.proofs.lemmas.List.Sorted.{ranks_by}
 use Rattle.basic_laws.proofs.Truths.{left_so, two, not_true as not_so}
 use Rattle.tuple_codec.specs.Rows.{Cells, cell_at, same_value, value_cmp}
 use Rattle.tuple_codec.specs.declared.values.Value.{Value}
 use Rattle.tuple_codec.specs.declared.values.Value.TheVariants as cell
 use Rattle.tuple_codec.proofs.Orders.{value_cmp_total}
-use Rattle.expr_eval.specs.Binding.{Outcome}
-use Rattle.plain_sql.specs.Answers.{Meaning, is_null, kept_row}
-use Rattle.plain_sql.specs.Links.{Serves, Skips, Sorts, cell_cmp, has_cell, meets, suits, suits_at}
+use Rattle.expr_eval.specs.Binding.{Outcome, and_then}
+use Rattle.plain_sql.specs.Answers.{Meaning, combinations, is_null, kept_row}
+use Rattle.plain_sql.specs.Links.{AreServed, Serves, Skips, Sorts, cell_cmp, has_cell, meets, suits, suits_at, tried, tried_by, tried_with}
 use Rattle.plain_sql.specs.Lists.{all_of, in_order}
+use Rattle.plain_sql.specs.Nesting.{kept_from}
 use Rattle.plain_sql.specs.declared.linking.Link.{Link}
 use Rattle.plain_sql.specs.declared.lookups.Lookup.{Lookup}
+use Rattle.plain_sql.specs.declared.sources.Read.{Read}
 use Rattle.plain_sql.proofs.InsertionLemmas.{clash, right_so}
-use Rattle.plain_sql.proofs.NestedLemmas.{behind, behind_nothing}
+use Rattle.plain_sql.proofs.NestedLemmas.{behind, behind_nothing, nested, rest_is}
 use Rattle.plain_sql.proofs.RunLemmas.{level_test}
 use Rattle.plain_sql.proofs.SortedLemmas.{before, falls_tail, fold_ties, in_order_falls, never_falls, tie_itself, tie_left, tie_of, tie_right, tied, tied_test, up_right, weak}
 
@@ -193,24 +197,79 @@ parted_rest place key rows all from are =
     subst (λ (l : List Cells). IsPartitionedBy (λ y. is_le (value_cmp (cell_at y place) key)) (drop from l)) (sym are)
     (subst (λ v. IsPartitionedBy (λ y. is_le (value_cmp (cell_at y place) v)) (drop from (in_order (cell_cmp place) all))) (probe_is place key) (parted_rest_by place (probe place key) all from))
 
--- ---- the last source's rows
+-- ---- a source's rows
 
-pub serves_by : (tests : List Meaning) (last : List Cells) (link : Link) (width : ℕ) (lookup : Lookup) → Skips tests width link → Sorts link width last lookup → Serves tests last lookup
-serves_by tests last link width lookup skips sorts = record {
+pub serves_by : (tests : List Meaning) (rows : List Cells) (link : Link) (width : ℕ) (lookup : Lookup) → Skips tests width link → Sorts link width rows lookup → Serves tests rows lookup
+serves_by tests rows link width lookup skips sorts = record {
   skips = subst (λ (l : Link). Skips tests lookup.width l) (sym sorts.link_is) (subst (λ w. Skips tests w link) (sym sorts.width_is) skips);
-  rows_are = sorts.rows_are ∙ ap (λ (l : Link). in_order (cell_cmp l.place) last) (sym sorts.link_is);
-  alike = subst (λ (l : Link). list_all (suits_at l.kind l.place) last ≡ true) (sym sorts.link_is) sorts.alike;
+  rows_are = sorts.rows_are ∙ ap (λ (l : Link). in_order (cell_cmp l.place) rows) (sym sorts.link_is);
+  alike = subst (λ (l : Link). list_all (suits_at l.kind l.place) rows ≡ true) (sym sorts.link_is) sorts.alike;
 }
 
-pub all_found : (tests : List Meaning) (last : List Cells) (lookup : Lookup) (row : Cells) (key : Value) → Serves tests last lookup → length row ≡ lookup.width
-    → cell_at row lookup.link.earlier ≡ key → suits lookup.link.kind key ≡ true
-    → all_of (λ more. kept_row tests (row ++ more)) (filter (has_cell lookup.link.place key) last) ≡ all_of (λ more. kept_row tests (row ++ more)) last
-all_found tests last lookup row key serves wide is fit =
-    all_of_filter (λ more. kept_row tests (row ++ more)) (suits_at lookup.link.kind lookup.link.place) (has_cell lookup.link.place key) last
-    (λ more good apart. serves.skips row more record {
-      wide = wide;
-      earlier = ap (suits lookup.link.kind) is ∙ fit;
-      later = good;
-      apart = ap (λ k. has_cell lookup.link.place k more) is ∙ apart;
-    })
+nothing_of : {A B : Type 0} (f : A → Outcome (List B)) (xs : List A) → ((x : A) → f x ≡ Ok []) → all_of f xs ≡ Ok []
+nothing_of f [] h = refl
+nothing_of f (x ∷ xs) h = ap (λ o. behind o (all_of f xs)) (h x) ∙ ap (behind (Ok [])) (nothing_of f xs h)
+
+-- whatever the sources behind have
+nothing_from : (tests : List Meaning) (sources : List (List Cells)) (row : Cells) → ((more : Cells) → kept_row tests (row ++ more) ≡ Ok []) → kept_from tests sources row ≡ Ok []
+nothing_from tests sources row h = nested tests sources row ∙ nothing_of (λ more. kept_row tests (row ++ more)) (combinations sources) h
+
+-- what is kept behind a row, of these rows and the sources behind them
+abbrev kept_behind : List Meaning → List (List Cells) → Cells → List Cells → Outcome (List Cells)
+kept_behind tests sources row rows = all_of (λ more. kept_from tests sources (row ++ more)) rows
+
+found_same : (tests : List Meaning) (sources : List (List Cells)) (rows : List Cells) (lookup : Lookup) (row : Cells) → Serves tests rows lookup → length row ≡ lookup.width
+    → suits lookup.link.kind (cell_at row lookup.link.earlier) ≡ true
+    → kept_behind tests sources row (filter (has_cell lookup.link.place (cell_at row lookup.link.earlier)) rows) ≡ kept_behind tests sources row rows
+found_same tests sources rows lookup row serves wide fit =
+    all_of_filter (λ more. kept_from tests sources (row ++ more)) (suits_at lookup.link.kind lookup.link.place) (has_cell lookup.link.place (cell_at row lookup.link.earlier)) rows
+    (λ more good apart. nothing_from tests sources (row ++ more)
+    (λ behind. serves.skips row more behind record { wide = wide; earlier = fit; later = good; apart = apart }))
     serves.alike
+
+wide_of : (row : Cells) (width : ℕ) → nat_eq (length row) width ≡ true → length row ≡ width
+wide_of row width h = grind (arith, nat_tests)
+
+with_same : (tests : List Meaning) (sources : List (List Cells)) (rows : List Cells) (lookup : Lookup) (row : Cells) → Serves tests rows lookup → length row ≡ lookup.width
+    → kept_behind tests sources row (tried_with rows lookup (cell_at row lookup.link.earlier)) ≡ kept_behind tests sources row rows
+with_same tests sources rows lookup row serves wide =
+    let key = cell_at row lookup.link.earlier in
+    let choose : Bool → Outcome (List Cells) = λ b. kept_behind tests sources row (cond b (filter (has_cell lookup.link.place key) rows) rows) in
+    two (suits lookup.link.kind key)
+    (λ e. ap choose e ∙ found_same tests sources rows lookup row serves wide e)
+    (λ e. ap choose e)
+
+by_same : (tests : List Meaning) (sources : List (List Cells)) (rows : List Cells) (lookup : Lookup) (row : Cells) → Serves tests rows lookup
+    → kept_behind tests sources row (tried_by rows lookup row) ≡ kept_behind tests sources row rows
+by_same tests sources rows lookup row serves =
+    let choose : Bool → Outcome (List Cells) = λ b. kept_behind tests sources row (cond b (tried_with rows lookup (cell_at row lookup.link.earlier)) rows) in
+    two (nat_eq (length row) lookup.width)
+    (λ e. ap choose e ∙ with_same tests sources rows lookup row serves (wide_of row lookup.width e))
+    (λ e. ap choose e)
+
+pub tried_same : (tests : List Meaning) (sources : List (List Cells)) (rows : List Cells) (lookup : Option Lookup) (row : Cells) → IfSome lookup (Serves tests rows)
+    → all_of (λ more. kept_from tests sources (row ++ more)) (tried rows lookup row) ≡ all_of (λ more. kept_from tests sources (row ++ more)) rows
+tried_same tests sources rows None row serves = refl
+tried_same tests sources rows (Some lookup) row serves = by_same tests sources rows lookup row serves
+
+-- ---- a lookup for each source
+
+served_end : (tests : List Meaning) (sources : List Read) (lookups : List (Option Lookup)) (source : Read) (lookup : Option Lookup)
+    → AreServed tests sources lookups → IfSome lookup (Serves tests source.rows) → AreServed tests (sources ++ source ∷ []) (lookups ++ lookup ∷ [])
+served_end tests [] [] source lookup are one = (one, tt)
+served_end tests [] (y ∷ lookups) source lookup are one = absurd are
+served_end tests (x ∷ sources) [] source lookup are one = absurd are
+served_end tests (x ∷ sources) (y ∷ lookups) source lookup are one = (are.0, served_end tests sources lookups source lookup are.1 one)
+
+pub served_more : (tests : List Meaning) (sources : List Read) (lookups : List (Option Lookup)) (i : ℕ) (source : Read) (lookup : Option Lookup) → i < length sources → source ≡ get_or sources i source
+    → AreServed tests (take i sources) lookups → IfSome lookup (Serves tests source.rows) → AreServed tests (take (i + 1) sources) (lookups ++ lookup ∷ [])
+served_more tests sources lookups i source lookup below is are one =
+    subst (λ (l : List Read). AreServed tests l (lookups ++ lookup ∷ [])) (ap (λ x. take i sources ++ x ∷ []) is ∙ sym (take_more sources i source below))
+    (served_end tests (take i sources) lookups source lookup are one)
+
+pub served_first : (tests : List Meaning) (sources : List Read) (lookups : List (Option Lookup)) (source : Read) (lookup : Option Lookup)
+    → 1 ≤ length sources → 1 ≤ length lookups → source ≡ get_or sources 0 source → lookup ≡ get_or lookups 0 lookup → AreServed tests sources lookups → IfSome lookup (Serves tests source.rows)
+served_first tests [] lookups source lookup some any is other are = absurd (omega (arith, some))
+served_first tests (x ∷ sources) [] source lookup some any is other are = absurd (omega (arith, any))
+served_first tests (x ∷ sources) (y ∷ lookups) source lookup some any is other are =
+    subst (λ (o : Option Lookup). IfSome o (Serves tests source.rows)) (sym other) (subst (λ (s : Read). IfSome y (Serves tests s.rows)) (sym is) are.0)

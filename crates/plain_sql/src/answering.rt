@@ -1,15 +1,15 @@
-ghost use Rattle.std.specs.Prelude.{◌≡◌, IfOk, map};
+ghost use Rattle.std.specs.Prelude.{◌≡◌, ◌∷◌, [], IfOk, map};
 ghost use Rattle.sql_values.specs.Kinds.{column_type};
-ghost use Rattle.plain_sql.specs.Answers.{answered, answered_of, are_too_many, arranged, cells_shown, headed, keys_shown, once_if, ranked};
+ghost use Rattle.plain_sql.specs.Answers.{answered, answered_of, are_too_many, arranged, cells_shown, groups, headed, keys_shown, once_if, ranked};
 ghost use Rattle.plain_sql.specs.Gives.{Gives};
 ghost use Rattle.plain_sql.specs.Lists.{each};
 ghost use Rattle.plain_sql.specs.Plans.{answer, query_on};
 ghost use Rattle.plain_sql.specs.Seen.{heading_seen, key_seen, plan_seen};
 
-use crate::combining::kept;
+use crate::combining::taken;
 use crate::distinct::once;
 use crate::faults::Refused;
-use crate::grouping::groups;
+use crate::grouping::{Grouping, groups};
 use crate::items::Heading;
 use crate::planning::{Plan, planned, planned_alone};
 use crate::ranking::{Rank, Sorter, cut, sorted};
@@ -17,13 +17,14 @@ use crate::shown::cell_of;
 use crate::sources::{Known, Read, scope_of, sources_read};
 use sql_ast::{Query, Select};
 use std::alloc::{AllocError, Global};
+use std::slice;
 use tuple_codec::{Answer, Row, Sequence, SqlType, Text};
 
 #[tactic(auto, unfolding(crate::specs::Answers::cells_shown))]
 fn cells_of(alloc: Global, headings: &[Heading], rows: &[Row]) -> Result<Row, Refused>
     ensures { Gives result (cells_shown (map heading_seen headings.now) rows.now) }
 {
-    let mut cells = Sequence::new(alloc);
+    let mut cells = Sequence::from_vec(Vec::with_capacity(alloc, headings.len())?);
     for heading in headings {
         cells.push(cell_of(alloc, &heading.shown, rows)?)?;
     }
@@ -34,7 +35,7 @@ fn cells_of(alloc: Global, headings: &[Heading], rows: &[Row]) -> Result<Row, Re
 fn keys_of(alloc: Global, keys: &[Sorter], rows: &[Row]) -> Result<Row, Refused>
     ensures { Gives result (keys_shown (map key_seen keys.now) rows.now) }
 {
-    let mut cells = Sequence::new(alloc);
+    let mut cells = Sequence::from_vec(Vec::with_capacity(alloc, keys.len())?);
     for key in keys {
         cells.push(cell_of(alloc, &key.shown, rows)?)?;
     }
@@ -62,6 +63,30 @@ fn all_ranked(
         ranks.push(ranked(alloc, plan, rows.as_slice())?)?;
     }
     Ok(ranks)
+}
+
+/// The same, where each row is a group of its own.
+fn each_ranked(alloc: Global, plan: &Plan, rows: &[Row]) -> Result<Sequence<Rank>, Refused>
+    ensures { Gives result (each (λ row. ranked (plan_seen plan.now) (row ∷ [])) rows.now) }
+{
+    let mut ranks = Sequence::new(alloc);
+    for row in rows {
+        ranks.push(ranked(alloc, plan, slice::from_ref(row))?)?;
+    }
+    Ok(ranks)
+}
+
+/// Where each row is a group of its own, no list of groups is made.
+fn ranks_of(alloc: Global, plan: &Plan, rows: Sequence<Row>) -> Result<Sequence<Rank>, Refused>
+    ensures { Gives result (each (ranked (plan_seen plan.now)) (groups plan.now.grouping rows)) }
+{
+    match &plan.grouping {
+        Grouping::Single => each_ranked(alloc, plan, rows.as_slice()),
+        _ => {
+            let groups = groups(alloc, &plan.grouping, rows)?;
+            all_ranked(alloc, plan, groups.as_slice())
+        }
+    }
 }
 
 fn are_too_many(rows: &[Row]) -> bool
@@ -135,25 +160,24 @@ fn answered_of(alloc: Global, plan: &Plan, rows: Sequence<Row>) -> Result<Answer
     ensures { Gives result (answered_of (plan_seen plan.now) rows) }
 {
     let too_many = are_too_many(rows.as_slice());
-    let groups = groups(alloc, &plan.grouping, rows)?;
-    let ranks = all_ranked(alloc, plan, groups.as_slice())?;
+    let ranks = ranks_of(alloc, plan, rows)?;
     if too_many {
         return Err(Refused::By(9010));
     }
     Ok(headed(alloc, plan, ranks)?)
 }
 
-fn answered(alloc: Global, plan: &Plan, sources: &[Read]) -> Result<Answer, Refused>
-    ensures { Gives result (answered (plan_seen plan.now) (map (λ source. source.rows) sources.now)) }
+fn answered(alloc: Global, plan: &Plan, sources: Sequence<Read>) -> Result<Answer, Refused>
+    ensures { Gives result (answered (plan_seen plan.now) (map (λ source. source.rows) sources)) }
 {
-    let rows = kept(alloc, plan.tests.as_slice(), sources)?;
+    let rows = taken(alloc, plan.tests.as_slice(), sources)?;
     answered_of(alloc, plan, rows)
 }
 
-fn query_on(alloc: Global, sources: &[Read], query: &Query) -> Result<Answer, Refused>
-    ensures { Gives result (query_on sources.now query.now) }
+fn query_on(alloc: Global, sources: Sequence<Read>, query: &Query) -> Result<Answer, Refused>
+    ensures { Gives result (query_on sources query.now) }
 {
-    let scope = scope_of(alloc, sources)?;
+    let scope = scope_of(alloc, sources.as_slice())?;
     let plan = planned(alloc, scope.as_slice(), query)?;
     answered(alloc, &plan, sources)
 }
@@ -165,11 +189,11 @@ pub fn answer(alloc: Global, known: &[Known], select: &Select) -> Result<Answer,
     match select {
         Select::From(query) => {
             let sources = sources_read(alloc, known, &query.from)?;
-            query_on(alloc, sources.as_slice(), query)
+            query_on(alloc, sources, query)
         }
         Select::Alone(list) => {
             let plan = planned_alone(alloc, list.as_slice())?;
-            answered(alloc, &plan, &[])
+            answered(alloc, &plan, Sequence::new(alloc))
         }
     }
 }

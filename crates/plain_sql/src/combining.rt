@@ -1,152 +1,130 @@
-ghost use Rattle.std.specs.Prelude.{◌≡◌, ◌++◌, ◌∷◌, IfOk, IfSome, [], map};
+ghost use Rattle.std.specs.Prelude.{◌≡◌, ◌++◌, IfOk, length, map};
 ghost use Rattle.plain_sql.specs.Answers.{combinations, kept, kept_row};
-ghost use Rattle.plain_sql.specs.Gives.{Gives};
-ghost use Rattle.plain_sql.specs.Links.{Serves};
-ghost use Rattle.plain_sql.specs.Lists.{all_of};
+ghost use Rattle.plain_sql.specs.Gives.{Adds, Gives};
+ghost use Rattle.plain_sql.specs.Links.{AreServed};
 ghost use Rattle.plain_sql.specs.Nesting.{kept_from};
 ghost use Rattle.plain_sql.specs.Plans.{meaning};
 
 use crate::asking::passes;
 use crate::faults::Refused;
-use crate::lists::append;
-use crate::lookups::{Lookup, lookup_of, rows_with, suits};
+use crate::lookups::{Lookup, lookups_of, tried};
 use crate::sources::Read;
 use expr_eval::BoundExpr;
 use std::alloc::{AllocError, Global};
-use tuple_codec::{Row, Sequence, Value, cell_at, copy_row, copy_value};
+use tuple_codec::{Row, Sequence, Value, copy_value};
 
 fn joined(alloc: Global, row: &[Value], more: &[Value]) -> Result<Row, AllocError>
     ensures { IfOk result (λ whole. whole ≡ row.now ++ more.now) }
 {
-    let mut whole = copy_row(alloc, row)?;
+    let mut whole = Vec::with_capacity(alloc, row.len().saturating_add(more.len()))?;
+    for value in row {
+        whole.push(copy_value(alloc, value)?)?;
+    }
     for value in more {
         whole.push(copy_value(alloc, value)?)?;
     }
-    Ok(whole)
+    Ok(Sequence::from_vec(whole))
 }
 
-fn kept_row(alloc: Global, tests: &[BoundExpr], row: &Row) -> Result<Sequence<Row>, Refused>
-    ensures { Gives result (kept_row (map meaning tests.now) row.now) }
+/// Puts a row behind those that are kept, where it passes all tests.
+fn keep(
+    alloc: Global,
+    tests: &[BoundExpr],
+    row: Row,
+    kept: &mut Sequence<Row>,
+) -> Result<(), Refused>
+    ensures { Adds result kept.old kept.new (kept_row (map meaning tests.now) row) }
+{
+    if passes(alloc, tests, &row)? {
+        kept.push(row)?;
+    }
+    Ok(())
+}
+
+/// The rows that pass all tests, none of them copied.
+fn passing(alloc: Global, tests: &[BoundExpr], rows: Vec<Row>) -> Result<Sequence<Row>, Refused>
+    ensures { Gives result (kept (map meaning tests.now) rows.items) }
 {
     let mut kept = Sequence::new(alloc);
-    if passes(alloc, tests, row)? {
-        kept.push(copy_row(alloc, row.as_slice())?)?;
+    for row in rows {
+        keep(alloc, tests, row, &mut kept)?;
     }
     Ok(kept)
 }
 
-/// The rows that pass all tests, of those that begin with this row and end with one of these.
-fn kept_among(
-    alloc: Global,
-    tests: &[BoundExpr],
-    row: &Row,
-    rows: &[Row],
-) -> Result<Sequence<Row>, Refused>
-    ensures { Gives result (all_of (λ more. kept_row (map meaning tests.now) (row.now ++ more)) rows.now) }
-{
-    let mut kept = Sequence::new(alloc);
-    for more in rows {
-        let whole = joined(alloc, row.as_slice(), more.as_slice())?;
-        let found = kept_row(alloc, tests, &whole)?;
-        append(&mut kept, found)?;
-    }
-    Ok(kept)
-}
-
-/// The same of all the last source's rows, where those that aren't looked up give nothing.
-fn kept_found(
-    alloc: Global,
-    tests: &[BoundExpr],
-    row: &Row,
-    last: &[Row],
-    lookup: &Lookup,
-) -> Result<Sequence<Row>, Refused>
-    requires { Serves (map meaning tests.now) last.now lookup.now }
-    ensures { Gives result (all_of (λ more. kept_row (map meaning tests.now) (row.now ++ more)) last.now) }
-{
-    if row.as_slice().len() != lookup.width {
-        return kept_among(alloc, tests, row, last);
-    }
-    let key = cell_at(alloc, row.as_slice(), lookup.link.earlier)?;
-    if !suits(&lookup.link.kind, &key) {
-        return kept_among(alloc, tests, row, last);
-    }
-    let rows = rows_with(lookup.rows.as_slice(), lookup.link.place, &key);
-    kept_among(alloc, tests, row, rows)
-}
-
-fn kept_behind(
-    alloc: Global,
-    tests: &[BoundExpr],
-    row: &Row,
-    last: &[Row],
-    lookup: &Option<Lookup>,
-) -> Result<Sequence<Row>, Refused>
-    requires { IfSome lookup.now (Serves (map meaning tests.now) last.now) }
-    ensures { Gives result (all_of (λ more. kept_row (map meaning tests.now) (row.now ++ more)) last.now) }
-{
-    match lookup {
-        None => kept_among(alloc, tests, row, last),
-        Some(lookup) => kept_found(alloc, tests, row, last, lookup),
-    }
-}
-
-/// The rows that pass all tests, of those that begin with these cells; the first of the earlier sources is outermost.
+/// Puts behind those that are kept the rows that pass all tests, of those that begin with these cells; the first source is outermost.
 fn kept_from(
     alloc: Global,
     tests: &[BoundExpr],
-    earlier: &[Read],
-    last: &[Row],
-    lookup: &Option<Lookup>,
-    row: &Row,
-) -> Result<Sequence<Row>, Refused>
-    requires { IfSome lookup.now (Serves (map meaning tests.now) last.now) }
-    ensures { Gives result (kept_from (map meaning tests.now) (map (λ source. source.rows) earlier.now ++ last.now ∷ []) row.now) }
+    sources: &[Read],
+    lookups: &[Option<Lookup>],
+    row: Row,
+    kept: &mut Sequence<Row>,
+) -> Result<(), Refused>
+    requires { AreServed (map meaning tests.now) sources.now lookups.now }
+    ensures { Adds result kept.old kept.new (kept_from (map meaning tests.now) (map (λ source. source.rows) sources.now) row) }
 {
-    match earlier {
-        [] => kept_behind(alloc, tests, row, last, lookup),
-        [first, rest @ ..] => {
-            let mut kept = Sequence::new(alloc);
-            let rows = first.rows.as_slice();
-            for more in rows {
-                let whole = joined(alloc, row.as_slice(), more.as_slice())?;
-                let found = kept_from(alloc, tests, rest, last, lookup, &whole)?;
-                append(&mut kept, found)?;
+    match sources {
+        [] => keep(alloc, tests, row, kept),
+        [first, rest @ ..] => match lookups {
+            [] => unreachable!(),
+            [lookup, others @ ..] => {
+                let rows = tried(first.rows.as_slice(), lookup, row.as_slice());
+                for more in rows {
+                    let whole = joined(alloc, row.as_slice(), more.as_slice())?;
+                    kept_from(alloc, tests, rest, others, whole, kept)?;
+                }
+                Ok(())
             }
-            Ok(kept)
-        }
+        },
     }
 }
 
-/// How many columns these sources have.
-fn width(sources: &[Read]) -> usize {
-    let mut width = 0usize;
-    for source in sources {
-        width = width.saturating_add(source.columns.as_slice().len());
-    }
-    width
-}
-
-/// Where the first test compares a column of the last source with one before, only rows with equal cells are joined.
-fn kept_of(
-    alloc: Global,
-    tests: &[BoundExpr],
-    earlier: &[Read],
-    last: &[Row],
-) -> Result<Sequence<Row>, Refused>
-    ensures { Gives result (kept_from (map meaning tests.now) (map (λ source. source.rows) earlier.now ++ last.now ∷ []) []) }
-{
-    let lookup = lookup_of(alloc, tests, width(earlier), last)?;
-    kept_from(alloc, tests, earlier, last, &lookup, &Sequence::new(alloc))
-}
-
-/// All combinations of the sources' rows that pass all tests.
+/// All combinations of the sources' rows that pass all tests. Where a test compares a column of a source with one before, only rows with
+/// equal cells are joined.
 #[tactic(auto, using(crate::proofs::NestedLemmas::kept_is))]
 pub fn kept(alloc: Global, tests: &[BoundExpr], sources: &[Read]) -> Result<Sequence<Row>, Refused>
     ensures { Gives result (kept (map meaning tests.now) (combinations (map (λ source. source.rows) sources.now))) }
 {
-    match sources {
-        [] => kept_row(alloc, tests, &Sequence::new(alloc)),
-        [earlier @ .., last] => kept_of(alloc, tests, earlier, last.rows.as_slice()),
+    let lookups = lookups_of(alloc, tests, sources)?;
+    let mut kept = Sequence::new(alloc);
+    kept_from(
+        alloc,
+        tests,
+        sources,
+        lookups.as_slice(),
+        Sequence::new(alloc),
+        &mut kept,
+    )?;
+    Ok(kept)
+}
+
+fn kept_of_one(
+    alloc: Global,
+    tests: &[BoundExpr],
+    sources: Vec<Read>,
+) -> Result<Sequence<Row>, Refused>
+    requires { length sources.items ≡ 1 }
+    ensures { Gives result (kept (map meaning tests.now) (combinations (map (λ source. source.rows) sources.items))) }
+{
+    let mut sources = sources;
+    match sources.pop() {
+        Some(source) => passing(alloc, tests, source.rows.into_vec()),
+        None => Ok(Sequence::new(alloc)),
+    }
+}
+
+/// The same, where the sources are given up: the rows of one alone are moved.
+pub fn taken(
+    alloc: Global,
+    tests: &[BoundExpr],
+    sources: Sequence<Read>,
+) -> Result<Sequence<Row>, Refused>
+    ensures { Gives result (kept (map meaning tests.now) (combinations (map (λ source. source.rows) sources))) }
+{
+    if sources.as_slice().len() == 1 {
+        kept_of_one(alloc, tests, sources.into_vec())
+    } else {
+        kept(alloc, tests, sources.as_slice())
     }
 }

@@ -86,14 +86,14 @@ fn keep(
     ensures seen { OnOk result (AreSeen seen.new.keys kept.new.items) }
     ensures kept { OnOk result (kept.new.items ≡ (if has cells_cmp kept.old.items rank then kept.old.items else kept.old.items ++ rank ∷ [])) }
 {
-    let line = Line {
-        cells: copy_row(alloc, rank.cells.as_slice())?,
-    };
+    let Rank { keys, cells } = rank;
+    let line = Line { cells };
     if seen.contains(&line) {
         return Ok(());
     }
+    let copy = copy_row(alloc, line.cells.as_slice())?;
     seen.insert(line)?;
-    kept.push(rank)?;
+    kept.push(Rank { keys, cells: copy })?;
     Ok(())
 }
 

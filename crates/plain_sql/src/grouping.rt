@@ -8,7 +8,7 @@ use crate::ranking::compare_cells;
 use std::alloc::{AllocError, Global};
 use std::cmp::Ordering;
 use std::mem;
-use tuple_codec::{Row, Sequence, Value, cell_at, copy_row};
+use tuple_codec::{Row, Sequence, Value, cell_at};
 
 /// Which rows are one.
 #[derive(Drop)]
@@ -81,16 +81,16 @@ fn take_row(
     run.push(row)
 }
 
-fn only(alloc: Global, row: &Row) -> Result<Sequence<Row>, AllocError>
-    ensures { IfOk result (λ group. group ≡ row.now ∷ []) }
+fn only(alloc: Global, row: Row) -> Result<Sequence<Row>, AllocError>
+    ensures { IfOk result (λ group. group ≡ row ∷ []) }
 {
     let mut group = Sequence::new(alloc);
-    group.push(copy_row(alloc, row.as_slice())?)?;
+    group.push(row)?;
     Ok(group)
 }
 
-fn each_alone(alloc: Global, rows: &[Row]) -> Result<Sequence<Sequence<Row>>, AllocError>
-    ensures { IfOk result (λ groups. groups ≡ map (λ row. row ∷ []) rows.now) }
+fn each_alone(alloc: Global, rows: Vec<Row>) -> Result<Sequence<Sequence<Row>>, AllocError>
+    ensures { IfOk result (λ groups. groups ≡ map (λ row. row ∷ []) rows.items) }
 {
     let mut groups = Sequence::new(alloc);
     for row in rows {
@@ -139,7 +139,7 @@ pub fn groups(
     ensures { IfOk result (λ found. found ≡ groups grouping.now rows) }
 {
     match grouping {
-        Grouping::Single => each_alone(alloc, rows.as_slice()),
+        Grouping::Single => each_alone(alloc, rows.into_vec()),
         Grouping::Whole => {
             let mut groups = Sequence::new(alloc);
             groups.push(rows)?;

@@ -9,28 +9,28 @@ use expr_eval::{BoundExpr, Node};
 use sql_ast::Comparison;
 use sql_values::Kind;
 
-/// A column of the last source that a test compares by `=` with one before it.
+/// A column of a source that a test compares by `=` with one before it.
 #[derive(Drop)]
 pub struct Link {
     /// The place of the column before.
     pub earlier: usize,
-    /// The place in the last source's own rows.
+    /// The place in the source's own rows.
     pub place: usize,
     /// What both are.
     pub kind: Kind,
 }
 
-/// The last source's columns begin at the width.
-fn ends(width: usize, kind: Kind, a: usize, b: usize) -> Option<Link>
+/// The source's columns begin at the width, and those of the sources behind it at the end.
+fn ends(width: usize, end: usize, kind: Kind, a: usize, b: usize) -> Option<Link>
     ensures { IfSome result (λ link. AreEnds width link a b) }
 {
-    if a < width && width <= b {
+    if a < width && width <= b && b < end {
         Some(Link {
             earlier: a,
             place: b - width,
             kind,
         })
-    } else if b < width && width <= a {
+    } else if b < width && width <= a && a < end {
         Some(Link {
             earlier: b,
             place: a - width,
@@ -42,22 +42,29 @@ fn ends(width: usize, kind: Kind, a: usize, b: usize) -> Option<Link>
 }
 
 /// Decimals of two scales may be equal though their cells aren't.
-fn scaled_ends(width: usize, kind: &Kind, a: usize, other: &Kind, b: usize) -> Option<Link>
+fn scaled_ends(
+    width: usize,
+    end: usize,
+    kind: &Kind,
+    a: usize,
+    other: &Kind,
+    b: usize,
+) -> Option<Link>
     ensures { IfSome result (λ link. (scale_of kind.now ≡ scale_of other.now) × AreEnds width link a b) }
 {
     if kind.scale().get() == other.scale().get() {
-        ends(width, kind.copied(), a, b)
+        ends(width, end, kind.copied(), a, b)
     } else {
         None
     }
 }
 
-fn columns(width: usize, a: &Node, b: &Node) -> Option<Link>
+fn columns(width: usize, end: usize, a: &Node, b: &Node) -> Option<Link>
     ensures { IfSome result (λ link. AreColumns width link a.now b.now) }
 {
     match a {
         Node::Column(kind, near) => match b {
-            Node::Column(other, far) => scaled_ends(width, kind, *near, other, *far),
+            Node::Column(other, far) => scaled_ends(width, end, kind, *near, other, *far),
             _ => None,
         },
         _ => None,
@@ -73,30 +80,30 @@ fn is_equal(comparison: Comparison) -> bool
     }
 }
 
-fn compared(width: usize, a: &Node, comparison: Comparison, b: &Node) -> Option<Link>
+fn compared(width: usize, end: usize, a: &Node, comparison: Comparison, b: &Node) -> Option<Link>
     ensures { IfSome result (λ link. (comparison ≡ Comparison.Equal) × AreColumns width link a.now b.now) }
 {
     if is_equal(comparison) {
-        columns(width, a, b)
+        columns(width, end, a, b)
     } else {
         None
     }
 }
 
-fn link_in(width: usize, part: &Node) -> Option<Link>
+fn link_in(width: usize, end: usize, part: &Node) -> Option<Link>
     ensures { IfSome result (λ link. Parts width link part.now) }
 {
     match part {
-        Node::Compare(a, comparison, b) => compared(width, a.get(), *comparison, b.get()),
+        Node::Compare(a, comparison, b) => compared(width, end, a.get(), *comparison, b.get()),
         _ => None,
     }
 }
 
-fn link_among(width: usize, parts: &[Node]) -> Option<Link>
+fn link_among(width: usize, end: usize, parts: &[Node]) -> Option<Link>
     ensures { IfSome result (λ link. (part : Node) × Contains parts.now part × Parts width link part) }
 {
     for part in parts {
-        match link_in(width, part) {
+        match link_in(width, end, part) {
             Some(link) => return Some(link),
             None => {}
         }
@@ -104,17 +111,17 @@ fn link_among(width: usize, parts: &[Node]) -> Option<Link>
     None
 }
 
-fn first_link(width: usize, first: &Node, rest: &[Node]) -> Option<Link>
+fn first_link(width: usize, end: usize, first: &Node, rest: &[Node]) -> Option<Link>
     ensures { IfSome result (λ link. PartsOne width link first.now rest.now) }
 {
-    match link_in(width, first) {
+    match link_in(width, end, first) {
         Some(link) => Some(link),
-        None => link_among(width, rest),
+        None => link_among(width, end, rest),
     }
 }
 
 /// An AND evaluates all its parts, so a row is passed over unseen only where each of them is calm.
-fn calm_link(width: usize, first: &Node, rest: &[Node]) -> Option<Link>
+fn calm_link(width: usize, end: usize, first: &Node, rest: &[Node]) -> Option<Link>
     ensures { IfSome result (λ link. AreCalm first.now rest.now × PartsOne width link first.now rest.now) }
 {
     if !is_calm(first) {
@@ -123,27 +130,27 @@ fn calm_link(width: usize, first: &Node, rest: &[Node]) -> Option<Link>
     if !are_calm(rest) {
         return None;
     }
-    first_link(width, first, rest)
+    first_link(width, end, first, rest)
 }
 
-fn link_of_test(width: usize, test: &BoundExpr) -> Option<Link>
+fn link_of_test(width: usize, end: usize, test: &BoundExpr) -> Option<Link>
     ensures { IfSome result (λ link. PassesOver width link test.now) }
 {
     match &test.node {
-        Node::And(first, rest) => calm_link(width, first.get(), rest.as_slice()),
-        _ => calm_link(width, &test.node, &[]),
+        Node::And(first, rest) => calm_link(width, end, first.get(), rest.as_slice()),
+        _ => calm_link(width, end, &test.node, &[]),
     }
 }
 
 /// A test is made only where those before it are true, so a row that it passes over gives nothing where those are calm.
-pub fn link_of(width: usize, tests: &[BoundExpr]) -> Option<Link>
+pub fn link_of(width: usize, end: usize, tests: &[BoundExpr]) -> Option<Link>
     ensures { IfSome result (λ link. Skips (map meaning tests.now) width link) }
 {
     match tests {
         [] => None,
-        [first, rest @ ..] => match link_of_test(width, first) {
+        [first, rest @ ..] => match link_of_test(width, end, first) {
             Some(link) => Some(link),
-            None if is_calm(&first.node) => link_of(width, rest),
+            None if is_calm(&first.node) => link_of(width, end, rest),
             None => None,
         },
     }

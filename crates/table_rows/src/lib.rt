@@ -12,4 +12,3 @@ mod types;
 pub use items::{row_item, row_of};
 pub use laws::law_of_row_items;
 pub use reading::read_rows;
-
