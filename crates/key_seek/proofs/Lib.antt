@@ -1,3 +1,5 @@
-pub mod EqualLemmas
 pub mod KeyLemmas
-pub mod RowLemmas
+pub mod ScanLemmas
+pub mod SpanLemmas
+pub mod TableLemmas
+pub mod TellLemmas

@@ -1,2 +1,3 @@
-pub mod Seeking
 pub mod Parts
+pub mod Seeking
+pub mod Spans

@@ -1,19 +1,25 @@
--- What is looked for in a test: parts that have a value on each row, and among them a key's columns, each compared with a literal.
-use Rattle.std.specs.Prelude.{◌≡◌, ◌⊎◌, ℕ, Bool, true, false, List, Some, slice_get}
-use Rattle.std.specs.List.{All, AllZip, Contains}
+-- What is looked for in a test: parts that have a value on each row, and among them some that tell where the columns of the primary key lie.
+use Rattle.std.specs.Prelude.{◌≡◌, ◌⊎◌, ⊤, ℕ, Bool, true, false, List, [], ◌∷◌, Some, slice_get}
+use Rattle.std.specs.List.{All, Contains}
+use Rattle.sql_ast.specs.declared.expressions.Comparison.{Comparison}
 use Rattle.sql_ast.specs.declared.expressions.Comparison.TheVariants as op
-use Rattle.tuple_codec.specs.Rows.{Cells, fits}
+use Rattle.tuple_codec.specs.Rows.{Cells, cell_at, fits, value_cmp}
 use Rattle.tuple_codec.specs.declared.values.SqlType.{SqlType}
 use Rattle.tuple_codec.specs.declared.values.Value.{Value}
 use Rattle.tuple_codec.specs.declared.values.Value.TheVariants as cell
 use Rattle.schema_model.specs.declared.schemas.Column.{Column}
 use Rattle.schema_model.specs.declared.schemas.Schema.{Schema}
+use Rattle.sql_values.specs.Worths.{Worth}
 use Rattle.sql_values.specs.declared.kinds.Kind.{Kind}
+use Rattle.expr_eval.specs.Valuing.{holds, worth}
 use Rattle.expr_eval.specs.declared.bound.Node.{Node}
 use Rattle.expr_eval.specs.declared.bound.Node.TheVariants as node
-use Rattle.plain_sql.specs.Passing.{IsCalm}
+use Rattle.plain_sql.specs.Passing.{IsCalm, is_so}
+use Rattle.key_seek.specs.declared.spans.End.{End}
+use Rattle.key_seek.specs.declared.spans.End.TheVariants as end
+use Rattle.key_seek.specs.declared.spans.Span.{Span}
 
--- a cell that equals it, in a column that both fit, is the same cell; decimals of a literal may have another scale
+-- in a column that both fit, it compares with a cell as the two values do; decimals of a literal may have another scale
 abbrev pub is_exact : Value → Bool
 is_exact cell.Null = false
 is_exact (cell.Decimal n) = false
@@ -25,22 +31,48 @@ IsColumn place part = (kind : Kind) × (part ≡ node.Column kind place)
 abbrev pub IsLiteral : SqlType → Value → Node → Type 0
 IsLiteral type value part = (kind : Kind) × (part ≡ node.Constant kind value) × (fits type value ≡ true) × (is_exact value ≡ true)
 
--- the column at the place, and a literal that fits its type, in either order
-abbrev pub AreSides : SqlType → ℕ → Value → Node → Node → Type 0
-AreSides type place value a b = (IsColumn place a × IsLiteral type value b) ⊎ (IsColumn place b × IsLiteral type value a)
+-- the comparison with its sides changed
+abbrev pub turned : Comparison → Comparison
+turned op.Equal = op.Equal
+turned op.NotEqual = op.NotEqual
+turned op.Less = op.Greater
+turned op.AtMost = op.AtLeast
+turned op.Greater = op.Less
+turned op.AtLeast = op.AtMost
 
-abbrev pub IsEquality : SqlType → ℕ → Value → Node → Type 0
-IsEquality type place value part = (a : Node) × (b : Node) × (part ≡ node.Compare a op.Equal b) × AreSides type place value a b
+-- the value is the type's, and the part isn't true on a row whose cell at the place doesn't compare so with the value
+abbrev pub Tells : SqlType → ℕ → Comparison → Value → Node → Type 0
+Tells type place comparison value part =
+    (fits type value ≡ true)
+    × ((row : Cells) (w : Worth) → fits type (cell_at row place) ≡ true → holds comparison (value_cmp (cell_at row place) value) ≡ false → worth row part ≡ Some w → is_so w ≡ false)
 
--- one of these parts says that the column at the place has this value
-abbrev pub IsSaid : SqlType → ℕ → Value → Node → List Node → Type 0
-IsSaid type place value first rest = IsEquality type place value first ⊎ ((part : Node) × Contains rest part × IsEquality type place value part)
+-- one of these parts tells it
+abbrev pub IsSaid : SqlType → ℕ → Comparison → Value → Node → List Node → Type 0
+IsSaid type place comparison value first rest = Tells type place comparison value first ⊎ ((part : Node) × Contains rest part × Tells type place comparison value part)
 
-abbrev pub IsFixed : Schema → Node → List Node → ℕ → Value → Type 0
-IsFixed schema first rest place value = (column : Column) × (slice_get schema.columns place ≡ Some column) × IsSaid column.kind place value first rest
+-- of the schema's column at the place
+abbrev pub IsFixed : Schema → Node → List Node → Comparison → ℕ → Value → Type 0
+IsFixed schema first rest comparison place value = (column : Column) × (slice_get schema.columns place ≡ Some column) × IsSaid column.kind place comparison value first rest
 
--- the parts are calm, and they fix each column of the primary key
-pub record IsKeyIn (schema : Schema) (first : Node) (rest : List Node) (key : Cells) : Type 0 where
+abbrev pub IsLow : Schema → Node → List Node → ℕ → End → Type 0
+IsLow schema first rest place end.Open = ⊤
+IsLow schema first rest place (end.With value) = IsFixed schema first rest op.AtLeast place value
+IsLow schema first rest place (end.Without value) = IsFixed schema first rest op.Greater place value
+
+abbrev pub IsHigh : Schema → Node → List Node → ℕ → End → Type 0
+IsHigh schema first rest place end.Open = ⊤
+IsHigh schema first rest place (end.With value) = IsFixed schema first rest op.AtMost place value
+IsHigh schema first rest place (end.Without value) = IsFixed schema first rest op.Less place value
+
+-- the parts fix the columns at the first of these places, and bound that at the next
+abbrev pub AreTold : Schema → Node → List Node → List ℕ → Cells → End → End → Type 0
+AreTold schema first rest [] [] low high = (low ≡ end.Open) × (high ≡ end.Open)
+AreTold schema first rest [] (value ∷ fixed) low high = ⊥
+AreTold schema first rest (place ∷ places) [] low high = IsLow schema first rest place low × IsHigh schema first rest place high
+AreTold schema first rest (place ∷ places) (value ∷ fixed) low high = IsFixed schema first rest op.Equal place value × AreTold schema first rest places fixed low high
+
+-- the parts are calm, and tell the span
+pub record IsSpanIn (schema : Schema) (first : Node) (rest : List Node) (span : Span) : Type 0 where
   pub first_calm : IsCalm first
   pub rest_calm : All IsCalm rest
-  pub fixed : AllZip (IsFixed schema first rest) schema.key key
+  pub told : AreTold schema first rest schema.key span.fixed span.low span.high

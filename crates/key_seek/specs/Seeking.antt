@@ -1,16 +1,21 @@
--- Which rows a test passes over, and which row has a key.
-use Rattle.std.specs.Prelude.{◌≡◌, true, false, List, Option}
-use Rattle.std.specs.List.{find}
-use Rattle.tuple_codec.specs.Rows.{Cells, same_cells}
-use Rattle.schema_model.specs.PlainTables.{is_row, primary_key}
+-- Which rows a test seeks, so that it passes over the others.
+use Rattle.std.specs.Prelude.{◌≡◌, Bool, true, false, length, take}
+use Rattle.tuple_codec.specs.Rows.{Cells, fits_all}
+use Rattle.schema_model.specs.PlainTables.{is_row, key_types, primary_key}
 use Rattle.schema_model.specs.declared.schemas.Schema.{Schema}
 use Rattle.expr_eval.specs.declared.bound.BoundExpr.{BoundExpr}
 use Rattle.plain_sql.specs.Passing.{IsPassedOver}
+use Rattle.key_seek.specs.Spans.{is_in, start_of}
+use Rattle.key_seek.specs.declared.spans.Span.{Span}
 
--- of the rows of the schema only that of this key may pass the test; every other one is passed over without a refusal
-abbrev pub SeeksKey : Schema → BoundExpr → Cells → Type 0
-SeeksKey schema test key = (row : Cells) → is_row schema row ≡ true → same_cells (primary_key schema row) key ≡ false → IsPassedOver test row
+-- the row's primary key lies in the span
+abbrev pub is_sought : Schema → Span → Cells → Bool
+is_sought schema span row = is_in span (primary_key schema row)
 
--- the row of this primary key, if there is one
-abbrev pub row_with : Schema → Cells → List Cells → Option Cells
-row_with schema key rows = find (λ row. same_cells (primary_key schema row) key) rows
+-- each other row of the schema is passed over, without a refusal
+abbrev pub Seeks : Schema → BoundExpr → Span → Type 0
+Seeks schema test span = (row : Cells) → is_row schema row ≡ true → is_sought schema span row ≡ false → IsPassedOver test row
+
+-- the cells that it begins with fit the first columns of the key
+abbrev pub IsSpanOf : Schema → Span → Type 0
+IsSpanOf schema span = fits_all (take (length (start_of span)) (key_types schema)) (start_of span) ≡ true

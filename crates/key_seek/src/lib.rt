@@ -1,10 +1,13 @@
-//! The row that a test names by its primary key: its key is found in the test, and the row is read from the tree of the table's rows.
+//! The rows that a test names by their primary keys: a span of keys is found in the test, and the rows of these keys are read from the tree of the table's rows.
 //!
-//! The crates above use `specs/Seeking.antt`: which rows a test passes over, and which row has a key.
+//! The crates above use `specs/Seeking.antt`: which rows a test seeks, so that it passes over the others.
 #![tactic(auto)]
 
+mod naming;
 mod reading;
 mod seeking;
+mod spans;
 
-pub use reading::row_at;
-pub use seeking::sought_key;
+pub use reading::rows_sought;
+pub use seeking::sought;
+pub use spans::{End, Span};

@@ -1,51 +1,90 @@
-//! The row of a key.
+//! The rows whose primary keys lie in a span.
 
-ghost use Rattle.std.specs.Prelude.{◌≡◌, true, List, IfOk};
+ghost use Rattle.std.specs.Prelude.{◌≡◌, true, IfOk, filter, take};
 ghost use Rattle.chunk_store.specs.Drafts.{chunks_of};
 ghost use Rattle.tuple_codec.specs.KeyBytes.{key_bytes};
-ghost use Rattle.tuple_codec.specs.Rows.{Cells, fits_all};
-ghost use Rattle.schema_model.specs.PlainTables.{key_types};
+ghost use Rattle.schema_model.specs.PlainTables.{PlainTable, key_types, primary_key};
 ghost use Rattle.schema_model.specs.Schemas.{is_schema};
-ghost use Rattle.table_rows.specs.Rows.{AreRowsAt, HasRowsAt};
-ghost use Rattle.key_seek.specs.Seeking.{row_with};
+ghost use Rattle.table_root.specs.Standing.{IsTableOf};
+ghost use Rattle.key_seek.specs.Seeking.{IsSpanOf, is_sought};
+ghost use Rattle.key_seek.specs.Spans.{place_of, start_of};
 
+use crate::spans::{Span, place_of, start_of};
 use chunk_store::Draft;
-use prolly_tree::get;
+use prolly_tree::scan_from;
 use schema_model::Schema;
 use std::alloc::{AllocError, Global};
+use std::cmp::Ordering;
+use table_root::Table;
 use table_rows::row_of;
-use tuple_codec::{Address, Blob, Digester, Row, SqlType, encode_key, keys_keep_order};
+use tuple_codec::{
+    Blob, Digester, Row, Sequence, SqlType, Value, encode_key, key_of, keys_keep_order,
+};
 
-/// The row of this primary key in the tree at an address. One node a level is read.
-pub fn row_at<D: Digester>(
+/// The rows of a table whose primary keys lie in a span, in the table's order. Its tree is read from the first of them on, until
+/// the first behind them.
+pub fn rows_sought<D: Digester>(
     alloc: Global,
     draft: &Draft<D>,
-    schema: &Schema,
-    root: &Address,
-    key: &Row,
-) -> Result<Option<Row>, AllocError>
-    requires schema { is_schema schema.now ≡ true }
-    requires tree { HasRowsAt D.address (chunks_of draft.now.chunks) root.now.0 schema.now }
-    requires key { fits_all (key_types schema.now) key.now ≡ true }
-    ensures { (rows : List Cells) → AreRowsAt D.address (chunks_of draft.now.chunks) root.now.0 schema.now rows
-        → IfOk result (λ found. found ≡ row_with schema.now key.now rows) }
+    table: &Table,
+    span: &Span,
+) -> Result<Sequence<Row>, AllocError>
+    requires table { (contents : PlainTable) × IsTableOf D.address (chunks_of draft.now.chunks) table.now contents }
+    requires span { IsSpanOf table.now.schema span.now }
+    ensures { (contents : PlainTable) → IsTableOf D.address (chunks_of draft.now.chunks) table.now contents
+        → IfOk result (λ rows. rows ≡ filter (is_sought table.now.schema span.now) contents.rows) }
 {
     keys_keep_order();
-    let bytes = written_key(alloc, schema, key)?;
-    match get(draft, root, bytes.as_slice()) {
-        Some(value) => Ok(Some(row_of(alloc, schema, bytes.as_slice(), value)?)),
-        None => Ok(None),
+    let start = start_bytes(alloc, &table.schema, span)?;
+    let mut rows = Sequence::new(alloc);
+    let mut scan = scan_from(alloc, draft, &table.rows, start.as_slice())?;
+    'rows: while let Some((key, value)) = scan.next() {
+        let row = row_of(alloc, &table.schema, key, value)?;
+        match side_of_row(alloc, &table.schema, span, row.as_slice())? {
+            Ordering::Less => {}
+            Ordering::Equal => rows.push(row)?,
+            Ordering::Greater => return Ok(rows),
+        }
     }
+    Ok(rows)
 }
 
-/// The bytes of a key.
-fn written_key(alloc: Global, schema: &Schema, key: &Row) -> Result<Blob, AllocError>
+/// Where a row's primary key stands beside a span.
+fn side_of_row(
+    alloc: Global,
+    schema: &Schema,
+    span: &Span,
+    row: &[Value],
+) -> Result<Ordering, AllocError>
+    ensures { IfOk result (λ side. side ≡ place_of span.now.fixed span.now.low span.now.high (primary_key schema.now row.now)) }
+{
+    let key = key_of(alloc, schema.key.as_slice(), row)?;
+    Ok(place_of(span.fixed.as_slice(), &span.low, &span.high, key.as_slice()))
+}
+
+/// The bytes of the cells with which a span begins.
+fn start_bytes(alloc: Global, schema: &Schema, span: &Span) -> Result<Blob, AllocError>
     requires schema { is_schema schema.now ≡ true }
-    requires key { fits_all (key_types schema.now) key.now ≡ true }
-    ensures { IfOk result (λ bytes. bytes ≡ key_bytes key.now) }
+    requires span { IsSpanOf schema.now span.now }
+    ensures { IfOk result (λ bytes. bytes ≡ key_bytes (start_of span.now)) }
 {
     let types = key_types(alloc, schema)?;
-    encode_key(alloc, types.as_slice(), key)
+    let cells = start_of(alloc, span)?;
+    encode_key(
+        alloc,
+        first_types(types.as_slice(), cells.as_slice().len()),
+        &cells,
+    )
+}
+
+/// So many of the first types.
+fn first_types(types: &[SqlType], count: usize) -> &[SqlType]
+    ensures { result.now ≡ take count types.now }
+{
+    match types.get(..count) {
+        Some(first) => first,
+        None => types,
+    }
 }
 
 /// The types of the primary key, in its order.

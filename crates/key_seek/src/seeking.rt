@@ -1,44 +1,39 @@
-//! The primary key that a test names.
+//! The span of primary keys that a test names.
 
-ghost use Rattle.std.specs.Prelude.{◌≡◌, true, Some, IfOk};
-ghost use Rattle.std.specs.List.{AllZip, Contains};
-ghost use Rattle.tuple_codec.specs.Rows.{Cells, fits, fits_all};
-ghost use Rattle.tuple_codec.specs.declared.values.Value.{Value};
-ghost use Rattle.schema_model.specs.PlainTables.{key_types};
-ghost use Rattle.key_seek.specs.Parts.{AreSides, IsColumn, IsEquality, IsFixed, IsKeyIn, IsLiteral, IsSaid, is_exact};
-ghost use Rattle.key_seek.specs.Seeking.{SeeksKey};
+ghost use Rattle.std.specs.Prelude.{◌≡◌, Some, IfOk};
+ghost use Rattle.key_seek.specs.Parts.{AreTold, IsHigh, IsLow, IsSpanIn};
+ghost use Rattle.key_seek.specs.Seeking.{IsSpanOf, Seeks};
+ghost use Rattle.key_seek.specs.declared.spans.Span as spans;
 
+use crate::naming::fixed_value;
+use crate::spans::{End, Span};
 use expr_eval::{BoundExpr, Node};
 use plain_sql::{are_calm, is_calm};
 use schema_model::Schema;
 use sql_ast::Comparison;
 use std::alloc::{AllocError, Global};
-use tuple_codec::{Row, SqlType, Value, copy_value, value_fits};
+use tuple_codec::Row;
 
-/// The primary key that a row needs to pass the test, where the test names it by equality with literals. The test is bound over
+/// The span in which a row's primary key has to lie for the row to pass the test, where literals bound it. The test is bound over
 /// the schema's own columns, each at its position.
-pub fn sought_key(
-    alloc: Global,
-    schema: &Schema,
-    test: &BoundExpr,
-) -> Result<Option<Row>, AllocError>
-    ensures seeks { (key : Cells) → IfOk result (λ found. found ≡ Some key → SeeksKey schema.now test.now key) }
-    ensures fits { (key : Cells) → IfOk result (λ found. found ≡ Some key → fits_all (key_types schema.now) key ≡ true) }
+pub fn sought(alloc: Global, schema: &Schema, test: &BoundExpr) -> Result<Option<Span>, AllocError>
+    ensures seeks { (span : spans.Span) → IfOk result (λ found. found ≡ Some span → Seeks schema.now test.now span) }
+    ensures fits { (span : spans.Span) → IfOk result (λ found. found ≡ Some span → IsSpanOf schema.now span) }
 {
     match &test.node {
-        Node::And(first, rest) => key_in(alloc, schema, first.get(), rest.as_slice()),
-        _ => key_in(alloc, schema, &test.node, &[]),
+        Node::And(first, rest) => span_in(alloc, schema, first.get(), rest.as_slice()),
+        _ => span_in(alloc, schema, &test.node, &[]),
     }
 }
 
-/// The key whose columns these parts fix, where all of them are calm.
-fn key_in(
+/// The span that these parts tell, where all of them are calm and it isn't that of all keys.
+fn span_in(
     alloc: Global,
     schema: &Schema,
     first: &Node,
     rest: &[Node],
-) -> Result<Option<Row>, AllocError>
-    ensures { (key : Cells) → IfOk result (λ found. found ≡ Some key → IsKeyIn schema.now first.now rest.now key) }
+) -> Result<Option<Span>, AllocError>
+    ensures { (span : spans.Span) → IfOk result (λ found. found ≡ Some span → IsSpanIn schema.now first.now rest.now span) }
 {
     if !is_calm(first) {
         return Ok(None);
@@ -46,171 +41,104 @@ fn key_in(
     if !are_calm(rest) {
         return Ok(None);
     }
-    fixed_key(alloc, schema, first, rest)
+    let span = told_span(alloc, schema, first, rest)?;
+    if is_bounded(&span) {
+        Ok(Some(span))
+    } else {
+        Ok(None)
+    }
 }
 
-fn fixed_key(
+/// Whether it leaves out any key.
+fn is_bounded(span: &Span) -> bool {
+    !(span.fixed.as_slice().is_empty()
+        && matches!(&span.low, End::Open)
+        && matches!(&span.high, End::Open))
+}
+
+fn told_span(
     alloc: Global,
     schema: &Schema,
     first: &Node,
     rest: &[Node],
-) -> Result<Option<Row>, AllocError>
-    ensures { (key : Cells) → IfOk result (λ found. found ≡ Some key → AllZip (IsFixed schema.now first.now rest.now) schema.now.key key) }
+) -> Result<Span, AllocError>
+    ensures { IfOk result (λ span. AreTold schema.now first.now rest.now schema.now.key span.fixed span.low span.high) }
 {
-    let mut key = Row::new(alloc);
+    let mut fixed = Row::new(alloc);
     for position in schema.key.as_slice() {
-        match fixed_value(alloc, schema, usize::from(*position), first, rest)? {
-            Some(value) => key.push(value)?,
-            None => return Ok(None),
+        let place = usize::from(*position);
+        match fixed_value(alloc, schema, place, Comparison::Equal, first, rest)? {
+            Some(value) => fixed.push(value)?,
+            None => {
+                let low = low_end(alloc, schema, place, first, rest)?;
+                let high = high_end(alloc, schema, place, first, rest)?;
+                return Ok(Span { fixed, low, high });
+            }
         }
     }
-    Ok(Some(key))
+    Ok(Span {
+        fixed,
+        low: End::Open,
+        high: End::Open,
+    })
 }
 
-/// The value that these parts fix for the column at a position.
-fn fixed_value(
+fn low_end(
     alloc: Global,
     schema: &Schema,
     place: usize,
     first: &Node,
     rest: &[Node],
-) -> Result<Option<Value>, AllocError>
-    ensures { (value : Value) → IfOk result (λ found. found ≡ Some value → IsFixed schema.now first.now rest.now place value) }
+) -> Result<End, AllocError>
+    ensures { IfOk result (λ low. IsLow schema.now first.now rest.now place low) }
 {
-    match schema.columns.as_slice().get(place) {
-        Some(column) => said_value(alloc, &column.kind, place, first, rest),
-        None => Ok(None),
+    match fixed_value(alloc, schema, place, Comparison::Greater, first, rest)? {
+        Some(value) => Ok(End::Without(value)),
+        None => low_end_with(alloc, schema, place, first, rest),
     }
 }
 
-fn said_value(
+fn low_end_with(
     alloc: Global,
-    kind: &SqlType,
+    schema: &Schema,
     place: usize,
     first: &Node,
     rest: &[Node],
-) -> Result<Option<Value>, AllocError>
-    ensures { (value : Value) → IfOk result (λ found. found ≡ Some value → IsSaid kind.now place value first.now rest.now) }
+) -> Result<End, AllocError>
+    ensures { IfOk result (λ low. IsLow schema.now first.now rest.now place low) }
 {
-    match equal_value(alloc, kind, place, first)? {
-        Some(value) => Ok(Some(value)),
-        None => value_among(alloc, kind, place, rest),
+    match fixed_value(alloc, schema, place, Comparison::AtLeast, first, rest)? {
+        Some(value) => Ok(End::With(value)),
+        None => Ok(End::Open),
     }
 }
 
-fn value_among(
+fn high_end(
     alloc: Global,
-    kind: &SqlType,
+    schema: &Schema,
     place: usize,
-    parts: &[Node],
-) -> Result<Option<Value>, AllocError>
-    ensures { (value : Value) → IfOk result (λ found. found ≡ Some value → (part : Node) × Contains parts.now part × IsEquality kind.now place value part) }
+    first: &Node,
+    rest: &[Node],
+) -> Result<End, AllocError>
+    ensures { IfOk result (λ high. IsHigh schema.now first.now rest.now place high) }
 {
-    for part in parts {
-        match equal_value(alloc, kind, place, part)? {
-            Some(value) => return Ok(Some(value)),
-            None => {}
-        }
+    match fixed_value(alloc, schema, place, Comparison::Less, first, rest)? {
+        Some(value) => Ok(End::Without(value)),
+        None => high_end_with(alloc, schema, place, first, rest),
     }
-    Ok(None)
 }
 
-/// The literal that the column at a place is compared with by `=`.
-fn equal_value(
+fn high_end_with(
     alloc: Global,
-    kind: &SqlType,
+    schema: &Schema,
     place: usize,
-    part: &Node,
-) -> Result<Option<Value>, AllocError>
-    ensures { (value : Value) → IfOk result (λ found. found ≡ Some value → IsEquality kind.now place value part.now) }
+    first: &Node,
+    rest: &[Node],
+) -> Result<End, AllocError>
+    ensures { IfOk result (λ high. IsHigh schema.now first.now rest.now place high) }
 {
-    match part {
-        Node::Compare(a, comparison, b) => {
-            compared_value(alloc, kind, place, *comparison, a.get(), b.get())
-        }
-        _ => Ok(None),
-    }
-}
-
-fn compared_value(
-    alloc: Global,
-    kind: &SqlType,
-    place: usize,
-    comparison: Comparison,
-    a: &Node,
-    b: &Node,
-) -> Result<Option<Value>, AllocError>
-    ensures { (value : Value) → IfOk result (λ found. found ≡ Some value → (comparison ≡ Comparison.Equal) × AreSides kind.now place value a.now b.now) }
-{
-    if is_equal(comparison) {
-        side_value(alloc, kind, place, a, b)
-    } else {
-        Ok(None)
-    }
-}
-
-fn is_equal(comparison: Comparison) -> bool
-    ensures { result ≡ true → comparison ≡ Comparison.Equal }
-{
-    match comparison {
-        Comparison::Equal => true,
-        _ => false,
-    }
-}
-
-fn side_value(
-    alloc: Global,
-    kind: &SqlType,
-    place: usize,
-    a: &Node,
-    b: &Node,
-) -> Result<Option<Value>, AllocError>
-    ensures { (value : Value) → IfOk result (λ found. found ≡ Some value → AreSides kind.now place value a.now b.now) }
-{
-    if is_column(place, a) {
-        literal_value(alloc, kind, b)
-    } else if is_column(place, b) {
-        literal_value(alloc, kind, a)
-    } else {
-        Ok(None)
-    }
-}
-
-fn is_column(place: usize, part: &Node) -> bool
-    ensures { result ≡ true → IsColumn place part.now }
-{
-    match part {
-        Node::Column(_, other) => *other == place,
-        _ => false,
-    }
-}
-
-/// A literal's value, where it is of the type's own kind.
-fn literal_value(alloc: Global, kind: &SqlType, part: &Node) -> Result<Option<Value>, AllocError>
-    ensures { (value : Value) → IfOk result (λ found. found ≡ Some value → IsLiteral kind.now value part.now) }
-{
-    match part {
-        Node::Constant(_, value) => exact_value(alloc, kind, value),
-        _ => Ok(None),
-    }
-}
-
-fn exact_value(alloc: Global, kind: &SqlType, value: &Value) -> Result<Option<Value>, AllocError>
-    ensures { (copy : Value) → IfOk result (λ found. found ≡ Some copy → (copy ≡ value.now) × (fits kind.now copy ≡ true) × (is_exact copy ≡ true)) }
-{
-    if is_exact(value) && value_fits(kind, value) {
-        Ok(Some(copy_value(alloc, value)?))
-    } else {
-        Ok(None)
-    }
-}
-
-/// Whether it isn't NULL and no decimal.
-fn is_exact(value: &Value) -> bool
-    ensures { result ≡ is_exact value.now }
-{
-    match value {
-        Value::Null | Value::Decimal(_) => false,
-        _ => true,
+    match fixed_value(alloc, schema, place, Comparison::AtMost, first, rest)? {
+        Some(value) => Ok(End::With(value)),
+        None => Ok(End::Open),
     }
 }

@@ -1,17 +1,12 @@
--- A SELECT of one source shows of the row of the key that its WHERE names what it shows of all rows.
-use Rattle.std.proofs.Common.{◌≡◌, ◌⊎◌, inl, inr, refl, sym, ap, ◌∙◌, ℕ, suc, Bool, true, false, cond, not, List, [], ◌∷◌, ◌++◌, append-nil, map, ◌==◌, length, Option, Some, Result, Ok, Err, IfOk, bytes_eq, arith}
-use Rattle.std.specs.List.{AllZip, find, list_all, list_any}
+-- A SELECT of one source shows of the rows that its WHERE seeks what it shows of all rows.
+use Rattle.std.proofs.Common.{◌≡◌, ◌⊎◌, inl, inr, refl, sym, ap, ◌∙◌, ℕ, suc, Bool, true, false, cond, filter, find, List, [], ◌∷◌, ◌++◌, append-nil, map, ◌==◌, length, Option, Some, Result, Ok, Err, IfOk, bytes_eq, arith}
+use Rattle.std.specs.List.{AllZip, list_all, list_any}
 use Rattle.std.specs.Option.{option_to_list}
-use Rattle.std.specs.Ordering.{is_eq, is_lt, ordering_reverse}
-use Rattle.std.specs.declared.cmp.Ordering.TheVariants.{Less}
-use Rattle.std.proofs.lemmas.Bool.{and_from, and_parts, eqb-true}
-use Rattle.basic_laws.proofs.Truths.{not_true as false_of}
-use Rattle.basic_laws.proofs.Orderings.{less_is}
-use Rattle.tuple_codec.specs.Rows.{Cells, key_cmp, same_cells}
+use Rattle.std.proofs.lemmas.Bool.{and_parts, eqb-true}
+use Rattle.tuple_codec.specs.Rows.{Cells}
 use Rattle.tuple_codec.specs.declared.answers.Answer.{Answer}
-use Rattle.tuple_codec.proofs.Orders.{cells_told, key_cmp_total}
 use Rattle.schema_model.specs.PlainTables as plain
-use Rattle.schema_model.specs.PlainTables.{PlainTable, is_row, primary_key, rises}
+use Rattle.schema_model.specs.PlainTables.{PlainTable, is_row}
 use Rattle.schema_model.specs.declared.schemas.Schema.{Schema}
 use Rattle.sql_ast.specs.declared.expressions.Expr.{Expr}
 use Rattle.sql_ast.specs.declared.selects.Join.{Join}
@@ -27,7 +22,9 @@ use Rattle.plain_sql.specs.Temporary.{source_name}
 use Rattle.plain_sql.specs.declared.sources.Known.{Known}
 use Rattle.plain_sql.specs.declared.sources.Read.{Read}
 use Rattle.plain_sql.specs.Passing.{IsPassedOver}
-use Rattle.key_seek.specs.Seeking.{SeeksKey, row_with}
+use Rattle.key_seek.specs.Seeking as seeking
+use Rattle.key_seek.specs.Seeking.{is_sought}
+use Rattle.key_seek.specs.declared.spans.Span.{Span}
 use Rattle.sql_select.specs.Seeks.{AddsServing, AreNeeded, Serves, scope_in}
 use Rattle.sql_select.specs.Sources.{known_table}
 
@@ -57,55 +54,18 @@ behind : (tests : List Meaning) (row : Cells) (rows others : List Cells) → kep
     → kept tests (combinations ((row ∷ rows) ∷ [])) ≡ kept tests (combinations ((row ∷ others) ∷ []))
 behind tests row rows others e = ap (λ o. and_then (kept_row tests (row ++ [])) (λ ys. and_then o (λ more. Ok (ys ++ more)))) e
 
--- ---- no row behind that of the key has it
-
-abbrev is_other : Schema → Cells → Cells → Bool
-is_other schema key row = not (same_cells (primary_key schema row) key)
-
-above_other : (a b : Cells) → key_cmp a b ≡ Less → not (same_cells b a) ≡ true
-above_other a b e = ap (λ o. not (is_eq o)) (key_cmp_total.antisymm b a ∙ ap ordering_reverse e)
-
-all_above : (schema : Schema) (key row : Cells) (rows : List Cells) → key_cmp key (primary_key schema row) ≡ Less
-    → rises (λ a b. key_cmp (primary_key schema a) (primary_key schema b)) (row ∷ rows) ≡ true → list_all (is_other schema key) (row ∷ rows) ≡ true
-all_above schema key row [] low rise = and_from (is_other schema key row) true (above_other key (primary_key schema row) low) refl
-all_above schema key row (next ∷ rows) low rise =
-    let parts = and_parts (is_lt (key_cmp (primary_key schema row) (primary_key schema next))) (rises (λ a b. key_cmp (primary_key schema a) (primary_key schema b)) (next ∷ rows)) rise in
-    and_from (is_other schema key row) (list_all (is_other schema key) (next ∷ rows)) (above_other key (primary_key schema row) low)
-    (all_above schema key next rows (key_cmp_total.trans key (primary_key schema row) (primary_key schema next) low (less_is _ parts.0)) parts.1)
-
-others_differ : (schema : Schema) (key row : Cells) (rows : List Cells) → same_cells (primary_key schema row) key ≡ true
-    → rises (λ a b. key_cmp (primary_key schema a) (primary_key schema b)) (row ∷ rows) ≡ true → list_all (is_other schema key) rows ≡ true
-others_differ schema key row [] same rise = refl
-others_differ schema key row (next ∷ rows) same rise =
-    let parts = and_parts (is_lt (key_cmp (primary_key schema row) (primary_key schema next))) (rises (λ a b. key_cmp (primary_key schema a) (primary_key schema b)) (next ∷ rows)) rise in
-    all_above schema key next rows (ap (λ k. key_cmp k (primary_key schema next)) (sym ((cells_told (primary_key schema row) key).0 same)) ∙ less_is _ parts.0) parts.1
-
-rest_rises : (schema : Schema) (row : Cells) (rows : List Cells) → rises (λ a b. key_cmp (primary_key schema a) (primary_key schema b)) (row ∷ rows) ≡ true
-    → rises (λ a b. key_cmp (primary_key schema a) (primary_key schema b)) rows ≡ true
-rest_rises schema row [] rise = refl
-rest_rises schema row (next ∷ rows) rise =
-    (and_parts (is_lt (key_cmp (primary_key schema row) (primary_key schema next))) (rises (λ a b. key_cmp (primary_key schema a) (primary_key schema b)) (next ∷ rows)) rise).1
-
 -- ---- the rows that are kept
 
-none_kept : (schema : Schema) (test : BoundExpr) (key : Cells) → SeeksKey schema test key → (rows : List Cells) → list_all (is_row schema) rows ≡ true → list_all (is_other schema key) rows ≡ true
-    → kept (meaning test ∷ []) (combinations (rows ∷ [])) ≡ kept (meaning test ∷ []) (combinations ([] ∷ []))
-none_kept schema test key seeks [] fit others = refl
-none_kept schema test key seeks (row ∷ rows) fit others =
+kept_alike : (schema : Schema) (test : BoundExpr) (span : Span) → seeking.Seeks schema test span → (rows : List Cells) → list_all (is_row schema) rows ≡ true
+    → kept (meaning test ∷ []) (combinations (rows ∷ [])) ≡ kept (meaning test ∷ []) (combinations (filter (is_sought schema span) rows ∷ []))
+kept_alike schema test span seeks [] fit = refl
+kept_alike schema test span seeks (row ∷ rows) fit =
     let fits = and_parts (is_row schema row) (list_all (is_row schema) rows) fit in
-    let other = and_parts (is_other schema key row) (list_all (is_other schema key) rows) others in
-    skipped test row rows (seeks row fits.0 (false_of (same_cells (primary_key schema row) key) other.0)) ∙ none_kept schema test key seeks rows fits.1 other.1
-
-kept_alike : (schema : Schema) (test : BoundExpr) (key : Cells) → SeeksKey schema test key → (rows : List Cells) → list_all (is_row schema) rows ≡ true
-    → rises (λ a b. key_cmp (primary_key schema a) (primary_key schema b)) rows ≡ true
-    → kept (meaning test ∷ []) (combinations (rows ∷ [])) ≡ kept (meaning test ∷ []) (combinations (option_to_list (row_with schema key rows) ∷ []))
-kept_alike schema test key seeks [] fit rise = refl
-kept_alike schema test key seeks (row ∷ rows) fit rise =
-    let fits = and_parts (is_row schema row) (list_all (is_row schema) rows) fit in
-    elim (same_cells (primary_key schema row) key) as (λ b. same_cells (primary_key schema row) key ≡ b → kept (meaning test ∷ []) (combinations ((row ∷ rows) ∷ []))
-    ≡ kept (meaning test ∷ []) (combinations (option_to_list (cond b (Some row) (row_with schema key rows)) ∷ []))) [
-      | true ↦ λ same. behind (meaning test ∷ []) row rows [] (none_kept schema test key seeks rows fits.1 (others_differ schema key row rows same rise))
-      | false ↦ λ other. skipped test row rows (seeks row fits.0 other) ∙ kept_alike schema test key seeks rows fits.1 (rest_rises schema row rows rise)
+    let more = kept_alike schema test span seeks rows fits.1 in
+    elim (is_sought schema span row) as (λ b. is_sought schema span row ≡ b → kept (meaning test ∷ []) (combinations ((row ∷ rows) ∷ []))
+    ≡ kept (meaning test ∷ []) (combinations (cond b (row ∷ filter (is_sought schema span) rows) (filter (is_sought schema span) rows) ∷ []))) [
+      | true ↦ λ within. behind (meaning test ∷ []) row rows (filter (is_sought schema span) rows) more
+      | false ↦ λ out. skipped test row rows (seeks row fits.0 out) ∙ more
     ] refl
 
 -- ---- the plan's only test is the WHERE
@@ -171,19 +131,19 @@ pub serves : (query : Query) (name : List ℕ) (table : PlainTable) (part : Know
 serves query name table part read is named made (inl all) =
     (named, inl (made ∙ (λ i. record { name = named i; columns = (known_table (record { name = name; table = table })).columns; rows = all i })))
 serves query name table part read is named made (inr needed) =
-    let key = needed.0 in
+    let span = needed.0 in
     let alone = needed.1.0 in
-    let filter = needed.1.1 in
+    let where_is = needed.1.1 in
     let filtered = needed.1.2 in
     let by = needed.1.3 in
     let columns = scope_in query.from.first table.schema in
-    let same = kept_alike table.schema by.test key by.seeks table.rows is.rows is.keys in (
+    let same = kept_alike table.schema by.test span by.seeks table.rows is.rows in (
       named,
       inr (
         alone,
         ap (λ (k : Known). query_on (read_as (source_name query.from.first) k ∷ []) query) made
             ∙ ap (λ rows. query_on (record { columns = columns; rows = rows } ∷ []) query) needed.2
-            ∙ rows_alike query columns table.rows (option_to_list (row_with table.schema key table.rows)) filter (meaning by.test) alone filtered by.bound same,
+            ∙ rows_alike query columns table.rows (filter (is_sought table.schema span) table.rows) where_is (meaning by.test) alone filtered by.bound same,
       ),
     )
 

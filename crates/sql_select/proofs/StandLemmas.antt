@@ -6,11 +6,10 @@ use Rattle.schema_model.specs.PlainTables as plain
 use Rattle.schema_model.specs.PlainTables.{PlainDatabase, PlainTable}
 use Rattle.chunk_store.specs.Chunks.{Chunks}
 use Rattle.table_root.specs.Databases.{IsDatabaseFound}
-use Rattle.table_root.specs.Standing.{DatabasesStand, IsTableAt, TablesStand, named_tables, table_of_lists}
+use Rattle.table_root.specs.Standing.{DatabasesStand, IsTableAt, IsTableOf, TableValuesStand, TablesStand, named_tables, table_of_lists}
 use Rattle.table_root.specs.Tables.{IsTableFound}
 use Rattle.table_root.specs.declared.records.NamedTable.{NamedTable}
 use Rattle.table_root.specs.declared.records.Table.{Table}
-use Rattle.table_rows.specs.Rows.{AreRowsAt}
 use Rattle.schema_model.specs.WrittenForms.{table_address}
 use Rattle.plain_sql.specs.declared.sources.Known.{Known}
 use Rattle.sql_ast.specs.declared.selects.Query.{Query}
@@ -24,12 +23,9 @@ pub table_same : (address : List ℕ → List ℕ) (chunks : Chunks) (k : List �
     → read ≡ table_of_lists address table
 table_same address chunks k stand table at read found = stand.same address chunks k table read at found
 
-pub rows_there : (address : List ℕ → List ℕ) (chunks : Chunks) (k : List ℕ) → TablesStand → (table : PlainTable) → IsTableAt address chunks k table → (read : Table) → IsTableFound chunks k read
-    → AreRowsAt address chunks read.rows.0 read.schema table.rows
-rows_there address chunks k stand table at read found =
-    let is = at.is_table in
-    let trees = at.trees in
-    subst (λ (t : Table). AreRowsAt address chunks t.rows.0 t.schema table.rows) (sym (table_same address chunks k stand table at read found)) (record { fit = is.rows; tree = trees.rows })
+pub table_of : (address : List ℕ → List ℕ) (chunks : Chunks) (k : List ℕ) → TableValuesStand → (table : PlainTable) → IsTableAt address chunks k table → (read : Table) → IsTableFound chunks k read
+    → IsTableOf address chunks read table
+table_of address chunks k stand table at read found = stand.read address chunks k table read at found
 
 pub database_found : (address : List ℕ → List ℕ) (chunks : Chunks) (k : List ℕ) → DatabasesStand → (database : PlainDatabase) → IsReadAt address chunks k database → (tables : List NamedTable) × IsDatabaseFound chunks k tables
 database_found address chunks k stand database at = (named_tables address database, stand.found address chunks k database at.stands at.few)

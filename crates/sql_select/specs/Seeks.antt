@@ -1,9 +1,7 @@
 -- What a SELECT of one source may read of a table in place of all its rows.
-use Rattle.std.specs.Prelude.{◌≡◌, ◌⊎◌, true, List, [], ◌∷◌, ◌++◌, map, Some, Ok}
+use Rattle.std.specs.Prelude.{◌≡◌, ◌⊎◌, List, [], ◌∷◌, ◌++◌, filter, map, Some, Ok}
 use Rattle.std.specs.List.{AllZip}
-use Rattle.std.specs.Option.{option_to_list}
-use Rattle.tuple_codec.specs.Rows.{Cells, fits_all}
-use Rattle.schema_model.specs.PlainTables.{key_types}
+use Rattle.tuple_codec.specs.Rows.{Cells}
 use Rattle.schema_model.specs.declared.schemas.Schema.{Schema}
 use Rattle.sql_ast.specs.declared.expressions.Expr.{Expr}
 use Rattle.sql_ast.specs.declared.selects.Query.{Query}
@@ -13,27 +11,29 @@ use Rattle.expr_eval.specs.declared.scopes.ScopeColumn.{ScopeColumn}
 use Rattle.plain_sql.specs.Plans.{condition, meaning, query_on, read_as, scope_column}
 use Rattle.plain_sql.specs.Temporary.{source_name}
 use Rattle.plain_sql.specs.declared.sources.Known.{Known}
-use Rattle.key_seek.specs.Seeking.{SeeksKey, row_with}
+use Rattle.key_seek.specs.Seeking as seeking
+use Rattle.key_seek.specs.Seeking.{IsSpanOf, is_sought}
+use Rattle.key_seek.specs.declared.spans.Span.{Span}
 use Rattle.sql_select.specs.Sources.{typed_column}
 
 -- the columns that an expression of the source may name
 abbrev pub scope_in : Source → Schema → List ScopeColumn
 scope_in source schema = map (scope_column (source_name source)) (map typed_column schema.columns)
 
--- the filter names this key
-pub record SeeksBy (source : Source) (filter : Expr) (schema : Schema) (key : Cells) : Type 0 where
+-- the filter seeks the rows of this span
+pub record SeeksBy (source : Source) (filter : Expr) (schema : Schema) (span : Span) : Type 0 where
   pub test : BoundExpr
   pub bound : condition (scope_in source schema) filter ≡ Ok (meaning test)
-  pub seeks : SeeksKey schema test key
-  pub fits : fits_all (key_types schema) key ≡ true
+  pub seeks : seeking.Seeks schema test span
+  pub fits : IsSpanOf schema span
 
 -- the WHERE over the only source does
-abbrev pub Seeks : Query → Schema → Cells → Type 0
-Seeks query schema key = (query.from.joins ≡ []) × (filter : Expr) × (query.clauses.filter ≡ Some filter) × SeeksBy query.from.first filter schema key
+abbrev pub Seeks : Query → Schema → Span → Type 0
+Seeks query schema span = (query.from.joins ≡ []) × (filter : Expr) × (query.clauses.filter ≡ Some filter) × SeeksBy query.from.first filter schema span
 
--- all rows, or that of the key alone
+-- all rows, or those of the span alone
 abbrev pub AreNeeded : Query → Schema → List Cells → List Cells → Type 0
-AreNeeded query schema rows read = (read ≡ rows) ⊎ ((key : Cells) × Seeks query schema key × (read ≡ option_to_list (row_with schema key rows)))
+AreNeeded query schema rows read = (read ≡ rows) ⊎ ((span : Span) × Seeks query schema span × (read ≡ filter (is_sought schema span) rows))
 
 -- of a table by the same name the query shows the same
 abbrev pub Serves : Query → Known → Known → Type 0

@@ -1,13 +1,10 @@
-//! The rows of a table that a SELECT needs: where the WHERE of its only source names the primary key, the row of that key.
+//! The rows of a table that a SELECT needs: where the WHERE of its only source bounds the primary key, the rows within.
 
-ghost use Rattle.std.specs.Prelude.{◌≡◌, true, List, Some, IfOk, map};
-ghost use Rattle.std.specs.Option.{option_to_list};
+ghost use Rattle.std.specs.Prelude.{◌≡◌, Some, IfOk, map};
 ghost use Rattle.chunk_store.specs.Drafts.{chunks_of};
-ghost use Rattle.tuple_codec.specs.Rows.{Cells, fits_all};
-ghost use Rattle.schema_model.specs.PlainTables.{key_types};
-ghost use Rattle.schema_model.specs.Schemas.{is_schema};
-ghost use Rattle.key_seek.specs.Seeking.{row_with};
-ghost use Rattle.table_rows.specs.Rows.{AreRowsAt, HasRowsAt};
+ghost use Rattle.schema_model.specs.PlainTables.{PlainTable};
+ghost use Rattle.table_root.specs.Standing.{IsTableOf};
+ghost use Rattle.key_seek.specs.declared.spans.Span as spans;
 ghost use Rattle.plain_sql.specs.Plans.{scope_column};
 ghost use Rattle.plain_sql.specs.Temporary.{source_name};
 ghost use Rattle.sql_select.specs.Seeks.{AreNeeded, Seeks, SeeksBy};
@@ -15,7 +12,7 @@ ghost use Rattle.sql_select.specs.Sources.{typed_column};
 
 use chunk_store::Draft;
 use expr_eval::ScopeColumn;
-use key_seek::{row_at, sought_key};
+use key_seek::{Span, rows_sought};
 use plain_sql::{Refused, condition};
 use schema_model::{Column, Schema};
 use sql_ast::{Expr, Query, Source};
@@ -31,47 +28,19 @@ pub(crate) fn rows_needed<D: Digester>(
     query: &Query,
     table: &Table,
 ) -> Result<Sequence<Row>, AllocError>
-    requires schema { is_schema table.now.schema ≡ true }
-    requires tree { HasRowsAt D.address (chunks_of draft.now.chunks) table.now.rows.0 table.now.schema }
-    ensures { (rows : List Cells) → AreRowsAt D.address (chunks_of draft.now.chunks) table.now.rows.0 table.now.schema rows
-        → IfOk result (λ read. AreNeeded query.now table.now.schema rows read) }
+    requires { (contents : PlainTable) × IsTableOf D.address (chunks_of draft.now.chunks) table.now contents }
+    ensures { (contents : PlainTable) → IsTableOf D.address (chunks_of draft.now.chunks) table.now contents
+        → IfOk result (λ read. AreNeeded query.now table.now.schema contents.rows read) }
 {
     match sought(alloc, query, &table.schema)? {
-        Some(key) => row_alone(alloc, draft, table, &key),
+        Some(span) => rows_sought(alloc, draft, table, &span),
         None => read_rows(alloc, draft, &table.schema, &table.rows),
     }
 }
 
-/// The row of this key, where there is one.
-fn row_alone<D: Digester>(
-    alloc: Global,
-    draft: &Draft<D>,
-    table: &Table,
-    key: &Row,
-) -> Result<Sequence<Row>, AllocError>
-    requires schema { is_schema table.now.schema ≡ true }
-    requires tree { HasRowsAt D.address (chunks_of draft.now.chunks) table.now.rows.0 table.now.schema }
-    requires key { fits_all (key_types table.now.schema) key.now ≡ true }
-    ensures { (rows : List Cells) → AreRowsAt D.address (chunks_of draft.now.chunks) table.now.rows.0 table.now.schema rows
-        → IfOk result (λ read. read ≡ option_to_list (row_with table.now.schema key.now rows)) }
-{
-    let row = row_at(alloc, draft, &table.schema, &table.rows, key)?;
-    only(alloc, row)
-}
-
-fn only(alloc: Global, row: Option<Row>) -> Result<Sequence<Row>, AllocError>
-    ensures { IfOk result (λ rows. rows ≡ option_to_list row) }
-{
-    let mut rows = Sequence::new(alloc);
-    if let Some(row) = row {
-        rows.push(row)?;
-    }
-    Ok(rows)
-}
-
-/// The primary key that the WHERE of the only source names. A WHERE that is refused is judged later, in its place.
-fn sought(alloc: Global, query: &Query, schema: &Schema) -> Result<Option<Row>, AllocError>
-    ensures { (key : Cells) → IfOk result (λ found. found ≡ Some key → Seeks query.now schema.now key) }
+/// The span of primary keys in which the WHERE of the only source seeks. A WHERE that is refused is judged later, in its place.
+fn sought(alloc: Global, query: &Query, schema: &Schema) -> Result<Option<Span>, AllocError>
+    ensures { (span : spans.Span) → IfOk result (λ found. found ≡ Some span → Seeks query.now schema.now span) }
 {
     if !query.from.joins.as_slice().is_empty() {
         return Ok(None);
@@ -87,13 +56,13 @@ fn sought_by(
     source: &Source,
     filter: &Expr,
     schema: &Schema,
-) -> Result<Option<Row>, AllocError>
-    ensures { (key : Cells) → IfOk result (λ found. found ≡ Some key → SeeksBy source.now filter.now schema.now key) }
+) -> Result<Option<Span>, AllocError>
+    ensures { (span : spans.Span) → IfOk result (λ found. found ≡ Some span → SeeksBy source.now filter.now schema.now span) }
 {
     let name = name_of(source).as_slice();
     let scope = scope_columns(alloc, name, schema.columns.as_slice())?;
     match condition(alloc, scope.as_slice(), filter) {
-        Ok(test) => sought_key(alloc, schema, &test),
+        Ok(test) => key_seek::sought(alloc, schema, &test),
         Err(Refused::By(_)) => Ok(None),
         Err(Refused::Memory) => Err(AllocError),
     }

@@ -1,9 +1,8 @@
 -- What an UPDATE or a DELETE does to a table's rows is what it does to those that its tests don't leave out, among the others.
-use Rattle.std.proofs.Common.{◌≡◌, refl, sym, ap, ◌∙◌, subst, ℕ, ◌+◌, Bool, true, false, cond, ◌&&◌, not, ◌==◌, List, [], ◌∷◌, ◌++◌, map, filter, set, find, Option, Some, Ok, Err, arith}
+use Rattle.std.proofs.Common.{◌≡◌, refl, sym, ap, ◌∙◌, subst, ℕ, ◌+◌, Bool, true, false, cond, ◌&&◌, not, ◌==◌, List, [], ◌∷◌, ◌++◌, map, filter, set, Ok, Err, arith}
 use Rattle.std.specs.Cmp.{IsTotalOrder}
-use Rattle.std.specs.List.{AllByRecursion, count_by, list_all, list_any}
-use Rattle.std.specs.Option.{option_to_list}
-use Rattle.std.specs.Ordering.{is_eq, is_lt, ordering_reverse}
+use Rattle.std.specs.List.{AllByRecursion, count_by, list_any}
+use Rattle.std.specs.Ordering.{is_lt}
 use Rattle.std.specs.declared.cmp.Ordering.{Ordering}
 use Rattle.std.proofs.lemmas.Bool.{eqb-false}
 use Rattle.std.proofs.lemmas.List.{get_or-set_other, map-append}
@@ -12,8 +11,7 @@ use Rattle.basic_laws.proofs.Orderings.{less_is}
 use Rattle.tuple_codec.specs.Rows.{Cells, key_cmp, key_of, same_cells}
 use Rattle.tuple_codec.specs.declared.values.Value.{Value}
 use Rattle.tuple_codec.specs.declared.values.Value.TheVariants as cell
-use Rattle.tuple_codec.proofs.Orders.{cells_told}
-use Rattle.schema_model.specs.PlainTables.{is_row, primary_key, rises}
+use Rattle.schema_model.specs.PlainTables.{primary_key, rises}
 use Rattle.schema_model.specs.declared.schemas.Schema.{Schema}
 use Rattle.expr_eval.specs.Binding.{Outcome, and_then}
 use Rattle.plain_sql.specs.Answers.{Meaning, given, passes}
@@ -24,7 +22,7 @@ use Rattle.plain_writes.proofs.SortLemmas.{risen_rows}
 use Rattle.write_laws.proofs.DatabaseLemmas.{keyed_total}
 use Rattle.write_laws.proofs.OrderLemmas.{both_so, left_not, left_so, neither_so, right_not, right_so, two}
 use Rattle.write_laws.proofs.OutcomeLemmas.{ok_same, then_so, unless_so}
-use Rattle.sql_write.specs.Passing.{ArePassed, AreRead, LeavesOthers, among, sets_key}
+use Rattle.sql_write.specs.Passing.{ArePassed, AreRead, among, sets_key}
 use Rattle.sql_write.specs.Turning.{rows_deleted_by, rows_turned_by, turned_rows}
 use Rattle.sql_write.specs.declared.turning.Turned.{Turned}
 use Rattle.sql_write.proofs.PlaceLemmas.{then_assoc}
@@ -274,43 +272,6 @@ module _ (schema : Schema) where
           let whole = wrapped_rows are.front are.back later ∙ ap (λ (l : List Cells). are.front ++ (l ++ are.back)) (stays_rows tests read later e) ∙ sym are.split in
           turned_among are.front are.back (rest_of later) (rest_of (wrapped are.front are.back later)) (news later) (news (wrapped are.front are.back later)) (wrapped_count are.front are.back later)
           (wrapped_rest are.front are.back later) (rest_rise (wrapped are.front are.back later) (ap (λ (l : List Cells). rises cmp l) whole ∙ rise))
-
-  -- ---- the row of a key
-
-  apart_after : (row next : Cells) → is_lt (cmp row next) ≡ true → is_eq (cmp next row) ≡ false
-  apart_after row next less = let order = keyed_total schema in ap is_eq (order.antisymm next row ∙ ap ordering_reverse (less_is (cmp row next) less))
-
-  below_passed : (tests : List Meaning) (key row : Cells) (rows : List Cells) → LeavesOthers schema tests key → primary_key schema row ≡ key → Below cmp total row rows → list_all (is_row schema) rows ≡ true
-      → ArePassed tests rows
-  below_passed tests key row [] leaves same below fit = tt
-  below_passed tests key row (next ∷ rows) leaves same below fit = (
-    leaves next (left_so (is_row schema next) (list_all (is_row schema) rows) fit)
-        (ap (λ (k : Cells). same_cells (primary_key schema next) k) (sym same) ∙ apart_after row next below.0),
-    below_passed tests key row rows leaves same below.1 (right_so (is_row schema next) (list_all (is_row schema) rows) fit),
-  )
-
-  -- where the tests name a key, all rows but that of the key are left out
-  pub read_by_key : (tests : List Meaning) (key : Cells) (rows : List Cells) → LeavesOthers schema tests key → list_all (is_row schema) rows ≡ true → rises cmp rows ≡ true
-      → AreRead tests rows (option_to_list (find (λ row. same_cells (primary_key schema row) key) rows))
-  read_by_key tests key [] leaves fit rise = record { front = []; back = []; split = refl; front_passed = tt; back_passed = tt }
-  read_by_key tests key (row ∷ rows) leaves fit rise = two (has_key schema key row)
-      (λ t. subst (λ (o : Option Cells). AreRead tests (row ∷ rows) (option_to_list o)) (sym (ap (λ b. cond b (Some row) (find (has_key schema key) rows)) t)) (record {
-        front = [];
-        back = rows;
-        split = refl;
-        front_passed = tt;
-        back_passed = below_passed tests key row rows leaves ((cells_told (primary_key schema row) key).0 t) (below_all cmp total row rows rise)
-            (right_so (is_row schema row) (list_all (is_row schema) rows) fit);
-      }))
-      (λ t.
-      let rest = read_by_key tests key rows leaves (right_so (is_row schema row) (list_all (is_row schema) rows) fit) (rest_rises cmp total row rows rise) in
-      subst (λ (o : Option Cells). AreRead tests (row ∷ rows) (option_to_list o)) (sym (ap (λ b. cond b (Some row) (find (has_key schema key) rows)) t)) (record {
-        front = row ∷ rest.front;
-        back = rest.back;
-        split = ap (λ (l : List Cells). row ∷ l) rest.split;
-        front_passed = (leaves row (left_so (is_row schema row) (list_all (is_row schema) rows) fit) t, rest.front_passed);
-        back_passed = rest.back_passed;
-      }))
 
   -- ---- UPDATE
 

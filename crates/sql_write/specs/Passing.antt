@@ -1,11 +1,13 @@
 -- Rows that a statement's tests leave out, and the others, which alone are read.
 use Rattle.std.specs.Prelude.{◌≡◌, Bool, true, false, List, ◌++◌, Ok}
 use Rattle.std.specs.List.{AllByRecursion, list_any}
-use Rattle.tuple_codec.specs.Rows.{Cells, same_cells}
-use Rattle.schema_model.specs.PlainTables.{is_row, primary_key}
+use Rattle.tuple_codec.specs.Rows.{Cells}
+use Rattle.schema_model.specs.PlainTables.{is_row}
 use Rattle.schema_model.specs.declared.schemas.Schema.{Schema}
 use Rattle.plain_sql.specs.Answers.{Meaning, passes}
 use Rattle.plain_writes.specs.Writes.{Assign, assigns}
+use Rattle.key_seek.specs.Seeking.{is_sought}
+use Rattle.key_seek.specs.declared.spans.Span.{Span}
 use Rattle.sql_write.specs.declared.turning.Turned.{Turned}
 
 -- the tests leave out these rows, with no refusal
@@ -20,9 +22,9 @@ pub record AreRead (tests : List Meaning) (all read : List Cells) : Type 0 where
   pub front_passed : ArePassed tests front
   pub back_passed : ArePassed tests back
 
--- the tests leave out each row of the schema that has another key
-abbrev pub LeavesOthers : Schema → List Meaning → Cells → Type 0
-LeavesOthers schema tests key = (row : Cells) → is_row schema row ≡ true → same_cells (primary_key schema row) key ≡ false → passes tests row ≡ Ok false
+-- the tests leave out each row of the schema whose key lies outside the span
+abbrev pub LeavesOthers : Schema → List Meaning → Span → Type 0
+LeavesOthers schema tests span = (row : Cells) → is_row schema row ≡ true → is_sought schema span row ≡ false → passes tests row ≡ Ok false
 
 -- an assignment names a column of the primary key
 abbrev pub sets_key : Schema → List Assign → Bool

@@ -4,17 +4,17 @@ use Rattle.table_root.specs.declared.records.Table.{Table}
 use Rattle.sql_select.specs.Sources.{typed_column}
 use Rattle.sql_select.specs.Seeks.{AreNeeded}
 use Rattle.sql_select.proofs.SeekLemmas.{serves}
-use Rattle.sql_select.proofs.StandLemmas.{rows_there, table_found, table_same}
+use Rattle.sql_select.proofs.StandLemmas.{table_found, table_of, table_same}
 use Rattle.sql_select.proofs.reading.table_known.Goals as goal
 
 pub read_table-requires-after_bounds : goal.read_table-requires-after_bounds
 read_table-requires-after_bounds g c κs within =
     table_found g.D.Digester.address (chunks_of c.args.draft.now.chunks) c.args.address.now.0 c.law_of_tables.ensures.tables c.requires.0 c.requires.1
 
-pub rows_needed-requires-clause-tree : goal.rows_needed-requires-clause-tree
-rows_needed-requires-clause-tree g c κs within =
+pub rows_needed-requires-after_bounds : goal.rows_needed-requires-after_bounds
+rows_needed-requires-after_bounds g c κs within =
     let contents = c.requires.0 in
-    (contents.rows, rows_there g.D.Digester.address (chunks_of c.args.draft.now.chunks) c.args.address.now.0 c.law_of_tables.ensures.tables contents c.requires.1 c.in_ok-table.table c.in_ok-table.ensures)
+    (contents, table_of g.D.Digester.address (chunks_of c.args.draft.now.chunks) c.args.address.now.0 c.law_of_tables.ensures.values contents c.requires.1 c.in_ok-table.table c.in_ok-table.ensures)
 
 pub returns : goal.returns
 returns g c = λ contents at.
@@ -24,6 +24,6 @@ returns g c = λ contents at.
     let name = c.in_ok-from_slice.ensures ∙ c.as_slice.ensures in
     let columns = c.in_ok-typed_columns.ensures ∙ ap (map typed_column) c.as_slice-2.ensures ∙ ap (λ (t : Table). map typed_column t.schema.columns) same in
     let needed = subst (λ (t : Table). AreNeeded c.args.query.now t.schema contents.rows c.in_ok-rows.rows) same
-    (c.in_ok-rows.ensures contents.rows (rows_there address chunks c.args.address.now.0 c.law_of_tables.ensures.tables contents at c.in_ok-table.table c.in_ok-table.ensures)) in
+    (c.in_ok-rows.ensures contents (table_of address chunks c.args.address.now.0 c.law_of_tables.ensures.values contents at c.in_ok-table.table c.in_ok-table.ensures)) in
     serves c.args.query.now c.args.name.now contents (record { name = c.in_ok-from_slice.field-0; columns = c.in_ok-typed_columns.field-0; rows = c.in_ok-rows.rows }) c.in_ok-rows.rows at.is_table name
     (λ i. record { name = c.in_ok-from_slice.field-0; columns = columns i; rows = c.in_ok-rows.rows }) needed

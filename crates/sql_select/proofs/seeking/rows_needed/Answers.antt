@@ -1,21 +1,35 @@
-use Rattle.std.proofs.Common.{◌≡◌, inl, inr}
-use Rattle.std.specs.Option.{option_to_list}
+use Rattle.std.proofs.Common.{◌≡◌, inl, inr, filter}
 use Rattle.std.proofs.lemmas.Result.{IfOk-weaker}
-use Rattle.key_seek.specs.Seeking.{row_with}
+use Rattle.chunk_store.specs.Drafts.{chunks_of}
+use Rattle.key_seek.specs.Seeking.{is_sought}
+use Rattle.key_seek.proofs.TableLemmas.{has_rows}
 use Rattle.sql_select.specs.Seeks.{AreNeeded}
 use Rattle.sql_select.proofs.seeking.rows_needed.Goals as goal
 
-pub row_alone-requires-clause-key : goal.row_alone-requires-clause-key
-row_alone-requires-clause-key g c κs within =
-    let seeks = c.in_ok-key.ensures c.in-Some.key c.in-Some.is in
+pub rows_sought-requires-clause-span : goal.rows_sought-requires-clause-span
+rows_sought-requires-clause-span g c κs within =
+    let seeks = c.in_ok-span.ensures c.in-Some.span c.in-Some.is in
     let by = seeks.3 in
     by.fits
 
 pub returns-in-Some : goal.returns-in-Some
-returns-in-Some g c = λ rows at.
-    IfOk-weaker c.row_alone.result (λ read. read ≡ option_to_list (row_with c.args.table.now.schema c.in-Some.key rows)) (λ read. AreNeeded c.args.query.now c.args.table.now.schema rows read)
-    (λ read e. inr (c.in-Some.key, c.in_ok-key.ensures c.in-Some.key c.in-Some.is, e)) (c.row_alone.ensures rows at)
+returns-in-Some g c = λ contents of.
+    IfOk-weaker c.rows_sought.result (λ read. read ≡ filter (is_sought c.args.table.now.schema c.in-Some.span) contents.rows) (λ read. AreNeeded c.args.query.now c.args.table.now.schema contents.rows read)
+    (λ read e. inr (c.in-Some.span, c.in_ok-span.ensures c.in-Some.span c.in-Some.is, e)) (c.rows_sought.ensures contents of)
+
+pub read_rows-requires-clause-schema : goal.read_rows-requires-clause-schema
+read_rows-requires-clause-schema g c κs within =
+    let has = has_rows g.D.Digester.address (chunks_of c.args.draft.now.chunks) c.args.table.now c.requires.0 c.requires.1 in
+    has.valid
+
+pub read_rows-requires-clause-tree : goal.read_rows-requires-clause-tree
+read_rows-requires-clause-tree g c κs within =
+    let has = has_rows g.D.Digester.address (chunks_of c.args.draft.now.chunks) c.args.table.now c.requires.0 c.requires.1 in
+    let rows = c.requires.0.rows in
+    (rows, record { fit = has.fit; tree = has.tree })
 
 pub returns-in-None : goal.returns-in-None
-returns-in-None g c = λ rows at.
-    IfOk-weaker c.read_rows.result (λ read. read ≡ rows) (λ read. AreNeeded c.args.query.now c.args.table.now.schema rows read) (λ read e. inl e) (c.read_rows.ensures rows at)
+returns-in-None g c = λ contents of.
+    let has = has_rows g.D.Digester.address (chunks_of c.args.draft.now.chunks) c.args.table.now contents of in
+    IfOk-weaker c.read_rows.result (λ read. read ≡ contents.rows) (λ read. AreNeeded c.args.query.now c.args.table.now.schema contents.rows read) (λ read e. inl e)
+    (c.read_rows.ensures contents.rows (record { fit = has.fit; tree = has.tree }))

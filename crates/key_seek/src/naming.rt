@@ -1,0 +1,188 @@
+//! What a part of a test tells of one column: a literal that it compares the column with.
+
+ghost use Rattle.std.specs.Prelude.{◌≡◌, true, Some, IfOk};
+ghost use Rattle.std.specs.List.{Contains};
+ghost use Rattle.expr_eval.specs.declared.bound.Node.TheVariants as node;
+ghost use Rattle.tuple_codec.specs.Rows.{fits};
+ghost use Rattle.tuple_codec.specs.declared.values.Value.{Value};
+ghost use Rattle.key_seek.specs.Parts.{IsColumn, IsFixed, IsLiteral, IsSaid, Tells, is_exact, turned};
+
+use expr_eval::Node;
+use schema_model::Schema;
+use sql_ast::Comparison;
+use std::alloc::{AllocError, Global};
+use tuple_codec::{SqlType, Value, copy_value, value_fits};
+
+/// The value that these parts compare the column at a position with so.
+pub(crate) fn fixed_value(
+    alloc: Global,
+    schema: &Schema,
+    place: usize,
+    wanted: Comparison,
+    first: &Node,
+    rest: &[Node],
+) -> Result<Option<Value>, AllocError>
+    ensures { (value : Value) → IfOk result (λ found. found ≡ Some value → IsFixed schema.now first.now rest.now wanted place value) }
+{
+    match schema.columns.as_slice().get(place) {
+        Some(column) => said_value(alloc, &column.kind, place, wanted, first, rest),
+        None => Ok(None),
+    }
+}
+
+fn said_value(
+    alloc: Global,
+    kind: &SqlType,
+    place: usize,
+    wanted: Comparison,
+    first: &Node,
+    rest: &[Node],
+) -> Result<Option<Value>, AllocError>
+    ensures { (value : Value) → IfOk result (λ found. found ≡ Some value → IsSaid kind.now place wanted value first.now rest.now) }
+{
+    match told_value(alloc, kind, place, wanted, first)? {
+        Some(value) => Ok(Some(value)),
+        None => value_among(alloc, kind, place, wanted, rest),
+    }
+}
+
+fn value_among(
+    alloc: Global,
+    kind: &SqlType,
+    place: usize,
+    wanted: Comparison,
+    parts: &[Node],
+) -> Result<Option<Value>, AllocError>
+    ensures { (value : Value) → IfOk result (λ found. found ≡ Some value → (part : Node) × Contains parts.now part × Tells kind.now place wanted value part) }
+{
+    for part in parts {
+        match told_value(alloc, kind, place, wanted, part)? {
+            Some(value) => return Ok(Some(value)),
+            None => {}
+        }
+    }
+    Ok(None)
+}
+
+/// The literal that a part compares the column at a place with so.
+fn told_value(
+    alloc: Global,
+    kind: &SqlType,
+    place: usize,
+    wanted: Comparison,
+    part: &Node,
+) -> Result<Option<Value>, AllocError>
+    ensures { (value : Value) → IfOk result (λ found. found ≡ Some value → Tells kind.now place wanted value part.now) }
+{
+    match part {
+        Node::Compare(a, comparison, b) => {
+            compared_value(alloc, kind, place, wanted, a.get(), *comparison, b.get())
+        }
+        Node::Between(a, low, high) => {
+            end_value(alloc, kind, place, wanted, a.get(), low.get(), high.get())
+        }
+        _ => Ok(None),
+    }
+}
+
+fn compared_value(
+    alloc: Global,
+    kind: &SqlType,
+    place: usize,
+    wanted: Comparison,
+    a: &Node,
+    comparison: Comparison,
+    b: &Node,
+) -> Result<Option<Value>, AllocError>
+    ensures { (value : Value) → IfOk result (λ found. found ≡ Some value → Tells kind.now place wanted value (node.Compare a.now comparison b.now)) }
+{
+    if is_column_so(place, wanted, a, comparison) {
+        literal_value(alloc, kind, b)
+    } else if is_column_so(place, wanted, b, turned(comparison)) {
+        literal_value(alloc, kind, a)
+    } else {
+        Ok(None)
+    }
+}
+
+/// The end of a BETWEEN that is wanted.
+fn end_value(
+    alloc: Global,
+    kind: &SqlType,
+    place: usize,
+    wanted: Comparison,
+    a: &Node,
+    low: &Node,
+    high: &Node,
+) -> Result<Option<Value>, AllocError>
+    ensures { (value : Value) → IfOk result (λ found. found ≡ Some value → Tells kind.now place wanted value (node.Between a.now low.now high.now)) }
+{
+    if is_column_so(place, wanted, a, Comparison::AtLeast) {
+        literal_value(alloc, kind, low)
+    } else if is_column_so(place, wanted, a, Comparison::AtMost) {
+        literal_value(alloc, kind, high)
+    } else {
+        Ok(None)
+    }
+}
+
+/// The comparison with its sides changed.
+fn turned(comparison: Comparison) -> Comparison
+    ensures { result ≡ turned comparison }
+{
+    match comparison {
+        Comparison::Equal => Comparison::Equal,
+        Comparison::NotEqual => Comparison::NotEqual,
+        Comparison::Less => Comparison::Greater,
+        Comparison::AtMost => Comparison::AtLeast,
+        Comparison::Greater => Comparison::Less,
+        Comparison::AtLeast => Comparison::AtMost,
+    }
+}
+
+/// Whether the part is the column at a place, and the comparison is the wanted one.
+fn is_column_so(place: usize, wanted: Comparison, part: &Node, comparison: Comparison) -> bool
+    ensures column { result ≡ true → IsColumn place part.now }
+    ensures wanted { result ≡ true → comparison ≡ wanted }
+{
+    is_column(place, part) && comparison == wanted
+}
+
+fn is_column(place: usize, part: &Node) -> bool
+    ensures { result ≡ true → IsColumn place part.now }
+{
+    match part {
+        Node::Column(_, other) => *other == place,
+        _ => false,
+    }
+}
+
+/// A literal's value, where it is of the type's own kind.
+fn literal_value(alloc: Global, kind: &SqlType, part: &Node) -> Result<Option<Value>, AllocError>
+    ensures { (value : Value) → IfOk result (λ found. found ≡ Some value → IsLiteral kind.now value part.now) }
+{
+    match part {
+        Node::Constant(_, value) => exact_value(alloc, kind, value),
+        _ => Ok(None),
+    }
+}
+
+fn exact_value(alloc: Global, kind: &SqlType, value: &Value) -> Result<Option<Value>, AllocError>
+    ensures { (copy : Value) → IfOk result (λ found. found ≡ Some copy → (copy ≡ value.now) × (fits kind.now copy ≡ true) × (is_exact copy ≡ true)) }
+{
+    if is_exact(value) && value_fits(kind, value) {
+        Ok(Some(copy_value(alloc, value)?))
+    } else {
+        Ok(None)
+    }
+}
+
+/// Whether it isn't NULL and no decimal.
+fn is_exact(value: &Value) -> bool
+    ensures { result ≡ is_exact value.now }
+{
+    match value {
+        Value::Null | Value::Decimal(_) => false,
+        _ => true,
+    }
+}

@@ -1,0 +1,16 @@
+use Rattle.std.proofs.Common.{◌≡◌, List, Some, map, sym, subst}
+use Rattle.std.proofs.lemmas.Result.{IfOk-weaker}
+use Rattle.expr_eval.specs.declared.bound.BoundExpr.{BoundExpr}
+use Rattle.plain_sql.specs.Plans.{meaning}
+use Rattle.key_seek.specs.Seeking.{Seeks}
+use Rattle.sql_write.specs.Passing.{LeavesOthers}
+use Rattle.sql_write.proofs.ReadingLemmas.{leaves_others, only_one}
+use Rattle.sql_write.proofs.reading.span_named.Goals as goal
+
+pub returns-in-len1-clause-leaves : goal.returns-in-len1-clause-leaves
+returns-in-len1-clause-leaves c = λ span.
+    let schema = c.args.schema.now in
+    let test = c.test-item.result in
+    IfOk-weaker c.sought.result (λ found. found ≡ Some span → Seeks schema test span) (λ found. found ≡ Some span → LeavesOthers schema (map meaning c.args.tests.now) span)
+    (λ found seeks is. subst (λ (l : List BoundExpr). LeavesOthers schema (map meaning l) span) (sym (only_one c.args.tests.now test c.test-item.is c.in-len1.len_at_least c.in-len1.len_below))
+    (leaves_others schema test span (seeks is))) (c.sought.ensures.seeks span)
