@@ -1,13 +1,14 @@
 -- Tables and databases whose lists of violations are put in place of others.
-use Rattle.std.proofs.Common.{◌≡◌, refl, sym, ap, ◌∙◌, subst, ℕ, suc, arith, Bool, true, false, cond, ◌&&◌, nat_le, nat_cmp, List, [], ◌∷◌, ◌++◌, append_assoc, length, map, filter, flat_map, Option, Some, None}
+use Rattle.std.proofs.Common.{◌≡◌, ◌<◌, ◌^◌, ◌==◌, refl, sym, ap, ◌∙◌, subst, ℕ, suc, arith, Bool, true, false, cond, ◌&&◌, ◌||◌, nat_le, nat_cmp, List, [], ◌∷◌, ◌++◌, append_assoc, length, map, filter, flat_map, Option, Some, None, true≢false}
 use Rattle.std.specs.Cmp.{IsTotalOrder}
 use Rattle.std.specs.Cmp.Lexicographic.{bytes_decides, slice_cmp}
-use Rattle.std.specs.List.{AllByRecursion, find, list_all}
+use Rattle.std.specs.List.{AllByRecursion, find, list_all, list_any}
 use Rattle.std.specs.Option.{option_map, option_map_or}
 use Rattle.std.specs.Ordering.{is_lt, ordering_then}
 use Rattle.std.specs.declared.cmp.Ordering.{Ordering}
 use Rattle.std.specs.declared.cmp.Ordering.TheVariants.{Less, Equal, Greater}
-use Rattle.std.proofs.lemmas.Bool.{and_from, and_parts}
+use Rattle.std.proofs.lemmas.Bool.{and_from, and_parts, leb-true}
+use Rattle.std.proofs.lemmas.Bool.Decides.{nat_tests}
 use Rattle.std.proofs.lemmas.Cmp.{nat_cmp_total, nat_list_cmp_total, on_total, then_total}
 use Rattle.std.proofs.lemmas.List.{length-map}
 use Rattle.basic_laws.proofs.Truths.{both_so as both, two}
@@ -15,8 +16,8 @@ use Rattle.basic_laws.proofs.Orderings.{less_is as is_less}
 use Rattle.tuple_codec.specs.Nodes.{Item}
 use Rattle.tuple_codec.specs.declared.addresses.Address.{Address}
 use Rattle.tuple_codec.proofs.Orders.{key_cmp_total}
-use Rattle.schema_model.specs.Limits.{is_named_within_limits, is_short_name, is_table_within_limits, is_violation_within_limits, most_tables}
-use Rattle.schema_model.specs.PlainTables.{IsTable, NamedTable, PlainDatabase, PlainTable, Violation, is_violation, rises, violation_cmp, violation_item}
+use Rattle.schema_model.specs.Limits.{is_database_within_limits, is_named_within_limits, is_short_name, is_table_within_limits, is_violation_within_limits, most_tables}
+use Rattle.schema_model.specs.PlainTables.{IsTable, NamedTable, PlainDatabase, PlainTable, Violation, is_violation, rises, violation_cmp, violation_item, violation_items}
 use Rattle.schema_model.specs.Schemas.{is_name}
 use Rattle.schema_model.specs.WrittenForms.{table_address}
 use Rattle.schema_model.specs.declared.schemas.Schema.{Schema}
@@ -28,7 +29,7 @@ use Rattle.table_root.specs.Tables.{IsTableFound}
 use Rattle.table_root.specs.declared.records.NamedTable as entries
 use Rattle.table_root.specs.declared.records.Table.{Table}
 use Rattle.plain_writes.specs.Violations.{Found, table_in}
-use Rattle.constraint_scan.specs.Recording.{CanRecord, CanRecordEach, CanRecordTable, IsEntry, MayBeWritten, MayList, MayListNamed, MayStand, found_cmp, has_name, is_of, listed_if, listed_item, listed_items, may_stand, may_stand_in, recorded_as, recorded_in, violations_of, with_list}
+use Rattle.constraint_scan.specs.Recording.{CanRecord, CanRecordEach, CanRecordTable, IsEntry, MayBeWritten, MayList, MayListNamed, MayStand, found_cmp, has_name, is_listed, is_of, listed_if, listed_item, listed_items, may_stand, may_stand_in, recorded_as, recorded_in, violations_of, with_list}
 use Rattle.constraint_scan.specs.Scanning.{AreThere}
 use Rattle.constraint_scan.specs.Written.{written, written_in}
 use Rattle.constraint_scan.specs.declared.listing.Violation as listing
@@ -88,6 +89,43 @@ may_keep address old new more values k name list contents found table violations
   stands = relisted address new table contents (listed_items name list) found violations (values.later address old new contents table more (values.read address old k contents table can.at read)) can.may tree;
   limits = can.limits;
 }
+
+-- ---- a table of which there is nothing to record
+
+none_listed : (name : List ℕ) (list : List listing.Violation) → list_any (is_listed name) list ≡ false → listed_items name list ≡ []
+none_listed name [] none = refl
+none_listed name (one ∷ list) none = by (is_listed name one) (none_listed name list) none where
+  by : (b : Bool) → (list_any (is_listed name) list ≡ false → listed_items name list ≡ []) → (b || list_any (is_listed name) list) ≡ false → cond b (listed_item one ∷ []) [] ++ listed_items name list ≡ []
+  by true more h = absurd (true≢false h)
+  by false more h = more h
+
+none_found : (schema : Schema) (found : List Violation) → [] ≡ map (violation_item schema) found → found ≡ []
+none_found schema [] is = refl
+none_found schema (one ∷ found) is = absurd (nothing is) where
+  nothing : [] ≡ violation_item schema one ∷ map (violation_item schema) found → ⊥
+  nothing e = cc
+
+none_counted : (items : List Item) → (length items == 0) ≡ true → items ≡ []
+none_counted [] none = refl
+none_counted (item ∷ items) none = absurd (nothing (length items) none) where
+  nothing : (n : ℕ) → (suc n == 0) ≡ true → ⊥
+  nothing n e = grind (arith, nat_tests)
+
+-- the tree of the violations that a table which was read has recorded
+pub recorded_tree : (address : List ℕ → List ℕ) (chunks : Chunks) (table : Table) (contents : PlainTable) → IsTableOf address chunks table contents → IsTree address chunks table.violations.0 (violation_items contents)
+recorded_tree address chunks table contents stands =
+    subst (λ (k : List ℕ). IsTree address chunks k (violation_items contents)) (sym (ap (λ (t : Table). t.violations.0) stands.value)) stands.trees.violations
+
+-- a table that the list doesn't name, and that has recorded none, stays
+pub stays : (address : List ℕ → List ℕ) (chunks : Chunks) (k name : List ℕ) (list : List listing.Violation) (contents : PlainTable) (found : List Violation) → CanRecordTable address chunks k name list contents found
+    → list_any (is_listed name) list ≡ false → (length (violation_items contents) == 0) ≡ true → IsTableAt address chunks k (with_list contents found)
+stays address chunks k name list contents found can unlisted none =
+    let may = can.may in
+    let new : found ≡ [] = none_found contents.schema found (sym (none_listed name list unlisted) ∙ may.items_are) in
+    let old : contents.violations ≡ [] = none_found contents.schema contents.violations (sym (none_counted (violation_items contents) none)) in
+    let same : contents ≡ with_list contents found =
+    λ i. record { schema = contents.schema; rows = contents.rows; conflicts = contents.conflicts; violations = (old ∙ sym new) i } in
+    subst (λ (t : PlainTable). IsTableAt address chunks k t) same can.at
 
 -- ---- the tables of a list
 

@@ -78,8 +78,12 @@ pub record CanRecord (address : List ℕ → List ℕ) (chunks : Chunks) (k : Li
 abbrev pub listed_item : listing.Violation → Item
 listed_item one = leaf_item (one.kind ∷ (key_cell (cell.Text one.constraint) ++ one.key)) one.row
 
+-- it is a violation of the table of this name
+abbrev pub is_listed : List ℕ → listing.Violation → Bool
+is_listed name one = bytes_eq one.table name
+
 abbrev pub listed_if : List ℕ → listing.Violation → List Item
-listed_if name one = if bytes_eq one.table name then listed_item one ∷ [] else []
+listed_if name one = if is_listed name one then listed_item one ∷ [] else []
 
 -- the items of the violations of the table of this name
 abbrev pub listed_items : List ℕ → List listing.Violation → List Item

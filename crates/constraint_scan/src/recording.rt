@@ -1,8 +1,9 @@
 //! Violations recorded in the lists of a database's tables.
 
-ghost use Rattle.std.specs.Prelude.{◌≡◌, ◌++◌, [], ◌∷◌, IfErr, IfOk, List, OnOk, map, true};
-ghost use Rattle.std.specs.List.{list_all};
+ghost use Rattle.std.specs.Prelude.{◌≡◌, ◌==◌, ◌++◌, [], ◌∷◌, IfErr, IfOk, List, OnOk, length, map, true};
+ghost use Rattle.std.specs.List.{list_all, list_any};
 ghost use Rattle.tuple_codec.specs.KeyBytes.{key_cell};
+ghost use Rattle.tuple_codec.specs.Nodes.{Item};
 ghost use Rattle.tuple_codec.specs.declared.values.Value.TheVariants as cell;
 ghost use Rattle.node_format.specs.Views.{leaf_of};
 ghost use Rattle.schema_model.specs.PlainTables as plain;
@@ -14,13 +15,14 @@ ghost use Rattle.chunk_store.specs.Standing.{IsTree};
 ghost use Rattle.table_root.specs.Standing.{IsTableAt};
 ghost use Rattle.plain_writes.specs.Violations.{Found};
 ghost use Rattle.constraint_scan.specs.Scanning.{AreThere, IsKeptAt};
-ghost use Rattle.constraint_scan.specs.Recording.{AreRising, CanRecord, CanRecordEach, CanRecordTable, IsEntry, MayBeWritten, MayStand, has_name, is_data, listed_if, listed_item, listed_items, recorded_as, with_list};
+ghost use Rattle.constraint_scan.specs.Recording.{AreRising, CanRecord, CanRecordEach, CanRecordTable, IsEntry, MayBeWritten, MayStand, has_name, is_data, is_listed, listed_if, listed_item, listed_items, recorded_as, with_list};
 
 use crate::laws::laws_of_growth;
 use crate::listing::Violation;
 use chunk_store::{Draft, PutFault};
 use node_chunker::build;
 use node_format::LeafItem;
+use prolly_tree::count;
 use std::alloc::{AllocError, Global};
 use table_root::{NamedTable, Table, read_database, read_table, write_database, write_table};
 use tuple_codec::{
@@ -141,7 +143,23 @@ fn keep_database<D: Digester>(
     Ok(at)
 }
 
-/// Puts the list's violations of the table of this name in place of those that it has recorded: the table's new address.
+/// Whether the list has a violation of the table of this name.
+fn is_listed(name: &[u8], list: &[Violation]) -> bool
+    ensures { result ≡ list_any (is_listed name.now) list.now }
+{
+    list.iter().any(|one| one.table.as_slice() == name)
+}
+
+/// Whether a tree has no rows.
+fn is_empty<D: Digester>(draft: &Draft<D>, root: &Address) -> bool
+    requires { (rows : List Item) × IsTree D.address (chunks_of draft.now.chunks) root.now.0 rows }
+    ensures { (rows : List Item) → IsTree D.address (chunks_of draft.now.chunks) root.now.0 rows → result ≡ (length rows == 0) }
+{
+    count(draft, root) == 0
+}
+
+/// Puts the list's violations of the table of this name in place of those that it has recorded: the table's new address. A table that the list
+/// doesn't name and that has recorded none keeps its address.
 fn record_table<D: Digester>(
     alloc: Global,
     draft: &mut Draft<D>,
@@ -159,6 +177,9 @@ fn record_table<D: Digester>(
     laws_of_growth();
     keys_keep_order();
     let table = read_table(alloc, draft, address)?;
+    if !is_listed(name, list) && is_empty(draft, &table.violations) {
+        return Ok(*address);
+    }
     let violations = build_list(alloc, draft, name, list)?;
     let recorded = Table {
         schema: table.schema,

@@ -1,9 +1,9 @@
 -- The commit rule, case by case.
-use Rattle.std.proofs.Common.{◌≡◌, refl, sym, ap, ◌∙◌, subst, ℕ, true, false, Bool, cond, ◌&&◌, not, ◌==◌, List, Option, Some, None, Result, Ok, Err}
+use Rattle.std.proofs.Common.{◌≡◌, refl, sym, ap, ◌∙◌, subst, ℕ, true, false, Bool, cond, ◌&&◌, ◌||◌, not, ◌==◌, List, [], ◌∷◌, ◌++◌, length, arith, true≢false, Option, Some, None, Result, Ok, Err}
 use Rattle.tuple_codec.specs.declared.addresses.Address.{Address}
 use Rattle.tuple_codec.specs.declared.records.BranchRecord.{BranchRecord}
 use Rattle.schema_model.specs.Limits.{is_database_within_limits}
-use Rattle.schema_model.specs.PlainTables.{IsDatabase, PlainDatabase}
+use Rattle.schema_model.specs.PlainTables.{IsDatabase, PlainDatabase, PlainTable}
 use Rattle.schema_model.proofs.SizeLemmas.{few_tables as few_kept}
 use Rattle.chunk_store.specs.Chunks.{Chunks, Extends}
 use Rattle.table_root.specs.Standing.{DatabasesStand}
@@ -12,17 +12,19 @@ use Rattle.plain_merge.specs.RootMerge.{MergedDatabase, SchemaConflict}
 use Rattle.plain_sql.specs.Lists.{unless}
 use Rattle.table_merge.specs.declared.faults.MergeFault.{MergeFault}
 use Rattle.table_merge.specs.declared.faults.MergeFault.TheVariants as fault
-use Rattle.std.specs.List.{flat_map}
-use Rattle.std.proofs.lemmas.Bool.{and_right as and_fails}
+use Rattle.std.specs.List.{flat_map, list_all}
+use Rattle.std.specs.Option.{option_map_or}
+use Rattle.std.proofs.lemmas.Bool.{and_parts, and_right as and_fails}
+use Rattle.basic_laws.proofs.Lists.{none_below}
 use Rattle.basic_laws.proofs.Truths.{not_true as bool_false, not_false as bool_true}
-use Rattle.plain_writes.specs.Violations.{violations}
+use Rattle.plain_writes.specs.Violations.{Found, table_in, violations}
 use Rattle.plain_schemas.specs.Statements.{checks}
 use Rattle.constraint_scan.specs.Recorded.{AllAreRecorded}
 use Rattle.constraint_scan.specs.Recording as recording
 use Rattle.constraint_scan.specs.Scanning.{IsKeptAt, IsReadAt}
-use Rattle.constraint_scan.specs.Written.{written_in}
+use Rattle.constraint_scan.specs.Written.{written, written_in}
 use Rattle.constraint_scan.specs.declared.listing.Violation.{Violation}
-use Rattle.plain_sessions.specs.CommitRule.{both_merged, candidate, decide, is_in_conflict, is_in_violation, judged, merged, recorded, without_conflicts}
+use Rattle.plain_sessions.specs.CommitRule.{both_merged, candidate, decide, has_violations, is_in_conflict, is_in_violation, is_none, judged, merged, recorded, without_conflicts}
 use Rattle.plain_sessions.specs.Records.{BranchState, is_same_state}
 use Rattle.plain_sessions.specs.Sessions.{Variables}
 use Rattle.root_merge.specs.Deciding.{AreStates, ComesTo, IsSide, anew, are_unsettled, refusal, settled, together}
@@ -215,3 +217,44 @@ can_record address chunks k list database laws kept is = record {
   kept = kept;
   recordable = subst (λ (l : List Violation). recording.IsRecordable database l (violations checks database)) (sym is) (laws.recordable address chunks k database kept);
 }
+
+nothing_first : {A : Type 0} (x : A) (xs : List A) → x ∷ xs ≡ [] → ⊥
+nothing_first x xs e = cc
+
+none_found : (database : PlainDatabase) (found : List Found) → list_all (recording.may_stand_in database) found ≡ true → flat_map (written_in database) found ≡ [] → found ≡ []
+none_found database [] all none = refl
+none_found database (one ∷ found) all none =
+    absurd (by (table_in database one.table) (and_parts (recording.may_stand_in database one) (list_all (recording.may_stand_in database) found) all).0 none)
+  where
+    by : (o : Option PlainTable) → option_map_or (λ (table : PlainTable). recording.may_stand table.schema one.violation) o false ≡ true
+        → option_map_or (λ (table : PlainTable). written table.schema one ∷ []) o [] ++ flat_map (written_in database) found ≡ [] → ⊥
+    by None may none = true≢false (sym may)
+    by (Some table) may none = nothing_first (written table.schema one) (flat_map (written_in database) found) none
+
+neither : (a b : Bool) → (a || b) ≡ false → (a ≡ false) × (b ≡ false)
+neither true b e = absurd (true≢false e)
+neither false b e = (refl, e)
+
+no_items : {A : Type 0} (items : List A) → is_none items ≡ true → items ≡ []
+no_items items none = let zero = zero_is (length items) none in none_below items (omega (arith, zero))
+
+recorded_bare : (database : PlainDatabase) → has_violations database ≡ false → recording.recorded_as [] database ≡ database
+recorded_bare [] none = refl
+recorded_bare (named ∷ database) none =
+    let parts = neither (not (is_none named.table.violations)) (has_violations database) none in
+    let own = no_items named.table.violations (bool_true (is_none named.table.violations) parts.0) in
+    let more = recorded_bare database parts.1 in
+    λ i. record {
+      name = named.name;
+      table = record { schema = named.table.schema; rows = named.table.rows; conflicts = named.table.conflicts; violations = sym own i };
+    } ∷ more i
+
+-- a database without violations that has recorded none stays
+pub stays_recorded : (address : List ℕ → List ℕ) (chunks : Chunks) (k : List ℕ) (list : List Violation) (database : PlainDatabase) → AllAreRecorded → IsKeptAt address chunks k database
+    → list ≡ flat_map (written_in database) (violations checks database) → is_none list ≡ true → has_violations database ≡ false → recorded database ≡ database
+stays_recorded address chunks k list database laws kept is none bare =
+    let can = laws.recordable address chunks k database kept in
+    let nothing = none_found database (violations checks database) can.stand (sym is ∙ no_items list none) in
+    sym (all_recorded laws database kept.stands.is_database)
+    ∙ ap (λ (found : List Found). recording.recorded_as found database) nothing
+    ∙ recorded_bare database bare

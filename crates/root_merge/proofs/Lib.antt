@@ -8,6 +8,7 @@ mod ChoiceLemmas
 mod RootLemmas
 mod NatLemmas
 pub mod StateLemmas
+mod SettlingLemmas
 mod CountLemmas
 pub mod DecideLemmas
 mod ChangingLemmas

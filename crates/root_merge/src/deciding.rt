@@ -1,24 +1,25 @@
 //! The commit rule: what becomes of a branch where a transaction ends.
 
-ghost use Rattle.std.specs.Prelude.{◌≡◌, Bool, IfErr, IfOk, List, Result};
+ghost use Rattle.std.specs.Prelude.{◌≡◌, ◌&&◌, Bool, IfErr, IfOk, List, OnOk, Result, not};
 ghost use Rattle.schema_model.specs.PlainTables.{PlainDatabase};
 ghost use Rattle.chunk_store.specs.Clashes.{IsReason};
 ghost use Rattle.chunk_store.specs.Drafts.{Grows, chunks_of};
 ghost use Rattle.plain_merge.specs.RootMerge.{MergedDatabase, SchemaConflict, root3};
 ghost use Rattle.constraint_scan.specs.Scanning.{HasKeptAt, IsKeptAt};
-ghost use Rattle.plain_sessions.specs.CommitRule.{candidate, decide, judged, merged, recorded};
+ghost use Rattle.plain_sessions.specs.CommitRule.{candidate, decide, is_none, judged, merged, recorded};
 ghost use Rattle.plain_sessions.specs.Records.{BranchState};
 ghost use Rattle.root_merge.specs.Deciding.{AreBoth, AreStates, IsSide, PassesAt, anew, are_unsettled, refusal, set, settled, together};
 ghost use Rattle.root_merge.specs.Merging.{AreRoots, is_data};
+ghost use Rattle.root_merge.specs.Settling.{IsSettled};
 ghost use Rattle.root_merge.specs.States.{HasState, IsCandidate, StateStands};
 
 use crate::candidates::Candidate;
 use crate::counting::roots_conflict;
 use crate::laws::{laws_of_growth, laws_of_states};
 use crate::merging::merge_roots;
-use crate::settling::{is_in_conflict, is_in_violation, is_unsettled};
+use crate::settling::{Left, Settled, is_unsettled, left_in_database, left_in_record};
 use chunk_store::{Draft, PutFault};
-use constraint_scan::{record_violations, violations};
+use constraint_scan::{Violation, record_violations, violations};
 use std::alloc::{AllocError, Global};
 use table_merge::MergeFault;
 use tuple_codec::{Address, BranchRecord, Digester};
@@ -34,21 +35,35 @@ enum Side {
     Limit,
 }
 
-/// The database at an address with its violations recorded anew.
+/// Whether a database has neither violations nor recorded ones.
+fn has_none(list: &[Violation], left: Left) -> bool
+    ensures { result ≡ (is_none list.now && not left.violations) }
+{
+    list.is_empty() && !left.violations
+}
+
+/// The database at an address with its violations recorded anew. One that has none, and has recorded none, keeps its address.
 fn record_all<D: Digester>(
     alloc: Global,
     draft: &mut Draft<D>,
     database: &Address,
+    settled: &mut Settled,
 ) -> Result<Address, PutFault>
-    requires { HasKeptAt D.address (chunks_of draft.old.chunks) database.now.0 }
+    requires database { HasKeptAt D.address (chunks_of draft.old.chunks) database.now.0 }
+    requires settled { IsSettled D.address (chunks_of draft.old.chunks) settled.old }
     ensures stands { (contents : PlainDatabase) → IsKeptAt D.address (chunks_of draft.old.chunks) database.now.0 contents
         → IfOk result (λ at. IsKeptAt D.address (chunks_of draft.new.chunks) at.0 (recorded contents)) }
+    ensures settled { IsSettled D.address (chunks_of draft.new.chunks) settled.new }
     ensures grows { Grows is_data draft.old draft.new }
     ensures cause { IfErr result (IsReason D.address (chunks_of draft.new.chunks)) }
 {
     laws_of_growth();
     laws_of_states();
     let list = violations(alloc, draft, database)?;
+    let left = left_in_database(alloc, draft, database, settled)?;
+    if has_none(list.as_slice(), left) {
+        return Ok(*database);
+    }
     record_violations(alloc, draft, database, list.as_slice())
 }
 
@@ -114,16 +129,19 @@ fn record_merged<D: Digester>(
     head: Address,
     working: &Address,
     staged: &Address,
+    settled: &mut Settled,
 ) -> Result<BranchRecord, PutFault>
     requires working { HasKeptAt D.address (chunks_of draft.old.chunks) working.now.0 }
     requires staged { HasKeptAt D.address (chunks_of draft.old.chunks) staged.now.0 }
+    requires settled { IsSettled D.address (chunks_of draft.old.chunks) settled.old }
     ensures stands { (w s : PlainDatabase) → IsKeptAt D.address (chunks_of draft.old.chunks) working.now.0 w → IsKeptAt D.address (chunks_of draft.old.chunks) staged.now.0 s
         → IfOk result (λ made. StateStands D.address (chunks_of draft.new.chunks) made (anew head.0 w s)) }
+    ensures settled { IsSettled D.address (chunks_of draft.new.chunks) settled.new }
     ensures grows { Grows is_data draft.old draft.new }
     ensures cause { IfErr result (IsReason D.address (chunks_of draft.new.chunks)) }
 {
     laws_of_growth();
-    let working = record_all(alloc, draft, working)?;
+    let working = record_all(alloc, draft, working, settled)?;
     Ok(BranchRecord {
         head,
         working,
@@ -139,10 +157,13 @@ fn both<D: Digester>(
     head: Address,
     working: &Side,
     staged: &Side,
+    settled: &mut Settled,
 ) -> Result<Candidate, PutFault>
-    requires { (w : Result MergedDatabase SchemaConflict) × (s : Result MergedDatabase SchemaConflict) × AreBoth D.address (chunks_of draft.old.chunks) working.now staged.now w s }
+    requires both { (w : Result MergedDatabase SchemaConflict) × (s : Result MergedDatabase SchemaConflict) × AreBoth D.address (chunks_of draft.old.chunks) working.now staged.now w s }
+    requires settled { IsSettled D.address (chunks_of draft.old.chunks) settled.old }
     ensures is { (w s : Result MergedDatabase SchemaConflict) (present : BranchState) → AreBoth D.address (chunks_of draft.old.chunks) working.now staged.now w s → head.0 ≡ present.head
         → IfOk result (λ made. IsCandidate D.address (chunks_of draft.new.chunks) made (together present w s)) }
+    ensures settled { OnOk result (IsSettled D.address (chunks_of draft.new.chunks) settled.new) }
     ensures grows { Grows is_data draft.old draft.new }
     ensures cause { IfErr result (IsReason D.address (chunks_of draft.new.chunks)) }
 {
@@ -157,7 +178,7 @@ fn both<D: Digester>(
             Side::Conflict => Ok(Candidate::Refused(1213)),
             Side::Limit => Ok(Candidate::Refused(9010)),
             Side::Clean(staged) => {
-                let record = record_merged(alloc, draft, head, working, staged)?;
+                let record = record_merged(alloc, draft, head, working, staged, settled)?;
                 Ok(Candidate::Record(record))
             }
         },
@@ -171,20 +192,23 @@ fn any_unsettled<D: Digester>(
     start: &BranchRecord,
     present: &BranchRecord,
     own: &BranchRecord,
+    settled: &mut Settled,
 ) -> Result<bool, AllocError>
-    requires { (s : BranchState) × (p : BranchState) × (o : BranchState) × AreStates D.address (chunks_of draft.now.chunks) start.now present.now own.now s p o }
-    ensures { (s p o : BranchState) → AreStates D.address (chunks_of draft.now.chunks) start.now present.now own.now s p o
+    requires states { (s : BranchState) × (p : BranchState) × (o : BranchState) × AreStates D.address (chunks_of draft.now.chunks) start.now present.now own.now s p o }
+    requires settled { IsSettled D.address (chunks_of draft.now.chunks) settled.old }
+    ensures is { (s p o : BranchState) → AreStates D.address (chunks_of draft.now.chunks) start.now present.now own.now s p o
         → IfOk result (λ found. found ≡ are_unsettled s p o) }
+    ensures settled { IsSettled D.address (chunks_of draft.now.chunks) settled.new }
 {
-    let at_present = is_unsettled(alloc, draft, present)?;
+    let at_present = is_unsettled(alloc, draft, present, settled)?;
     if at_present {
         return Ok(true);
     }
-    let at_start = is_unsettled(alloc, draft, start)?;
+    let at_start = is_unsettled(alloc, draft, start, settled)?;
     if at_start {
         return Ok(true);
     }
-    is_unsettled(alloc, draft, own)
+    is_unsettled(alloc, draft, own, settled)
 }
 
 /// What settled states come to.
@@ -194,17 +218,20 @@ fn merge_settled<D: Digester>(
     start: &BranchRecord,
     present: &BranchRecord,
     own: &BranchRecord,
+    seen: &mut Settled,
 ) -> Result<Candidate, PutFault>
-    requires { (s : BranchState) × (p : BranchState) × (o : BranchState) × AreStates D.address (chunks_of draft.old.chunks) start.now present.now own.now s p o }
+    requires states { (s : BranchState) × (p : BranchState) × (o : BranchState) × AreStates D.address (chunks_of draft.old.chunks) start.now present.now own.now s p o }
+    requires settled { IsSettled D.address (chunks_of draft.old.chunks) seen.old }
     ensures is { (s p o : BranchState) → AreStates D.address (chunks_of draft.old.chunks) start.now present.now own.now s p o
         → IfOk result (λ made. IsCandidate D.address (chunks_of draft.new.chunks) made (settled s p o)) }
+    ensures settled { OnOk result (IsSettled D.address (chunks_of draft.new.chunks) seen.new) }
     ensures grows { Grows is_data draft.old draft.new }
     ensures cause { IfErr result (IsReason D.address (chunks_of draft.new.chunks)) }
 {
     laws_of_growth();
     let working = merge_side(alloc, draft, &start.working, &present.working, &own.working)?;
     let staged = merge_side(alloc, draft, &start.staged, &present.staged, &own.staged)?;
-    both(alloc, draft, present.head, &working, &staged)
+    both(alloc, draft, present.head, &working, &staged, seen)
 }
 
 /// What the states of a branch come to where it has moved.
@@ -214,19 +241,22 @@ fn merge_states<D: Digester>(
     start: &BranchRecord,
     present: &BranchRecord,
     own: &BranchRecord,
+    settled: &mut Settled,
 ) -> Result<Candidate, PutFault>
-    requires { (s : BranchState) × (p : BranchState) × (o : BranchState) × AreStates D.address (chunks_of draft.old.chunks) start.now present.now own.now s p o }
+    requires states { (s : BranchState) × (p : BranchState) × (o : BranchState) × AreStates D.address (chunks_of draft.old.chunks) start.now present.now own.now s p o }
+    requires settled { IsSettled D.address (chunks_of draft.old.chunks) settled.old }
     ensures is { (s p o : BranchState) → AreStates D.address (chunks_of draft.old.chunks) start.now present.now own.now s p o
         → IfOk result (λ made. IsCandidate D.address (chunks_of draft.new.chunks) made (merged s p o)) }
+    ensures settled { OnOk result (IsSettled D.address (chunks_of draft.new.chunks) settled.new) }
     ensures grows { Grows is_data draft.old draft.new }
     ensures cause { IfErr result (IsReason D.address (chunks_of draft.new.chunks)) }
 {
     laws_of_growth();
-    let unsettled = any_unsettled(alloc, draft, start, present, own)?;
+    let unsettled = any_unsettled(alloc, draft, start, present, own, settled)?;
     if unsettled {
         return Ok(Candidate::Refused(1213));
     }
-    merge_settled(alloc, draft, start, present, own)
+    merge_settled(alloc, draft, start, present, own, settled)
 }
 
 /// What a branch comes to before its conflicts and violations are judged.
@@ -236,10 +266,13 @@ fn proposed<D: Digester>(
     start: &BranchRecord,
     present: &BranchRecord,
     own: &BranchRecord,
+    settled: &mut Settled,
 ) -> Result<Candidate, PutFault>
-    requires { (s : BranchState) × (p : BranchState) × (o : BranchState) × AreStates D.address (chunks_of draft.old.chunks) start.now present.now own.now s p o }
+    requires states { (s : BranchState) × (p : BranchState) × (o : BranchState) × AreStates D.address (chunks_of draft.old.chunks) start.now present.now own.now s p o }
+    requires settled { IsSettled D.address (chunks_of draft.old.chunks) settled.old }
     ensures is { (s p o : BranchState) → AreStates D.address (chunks_of draft.old.chunks) start.now present.now own.now s p o
         → IfOk result (λ made. IsCandidate D.address (chunks_of draft.new.chunks) made (candidate s p o)) }
+    ensures settled { OnOk result (IsSettled D.address (chunks_of draft.new.chunks) settled.new) }
     ensures grows { Grows is_data draft.old draft.new }
     ensures cause { IfErr result (IsReason D.address (chunks_of draft.new.chunks)) }
 {
@@ -248,7 +281,7 @@ fn proposed<D: Digester>(
     if present == start {
         return Ok(Candidate::Record(*own));
     }
-    merge_states(alloc, draft, start, present, own)
+    merge_states(alloc, draft, start, present, own, settled)
 }
 
 fn refusal(conflict: bool, violation: bool, allow: bool, force: bool) -> Option<u16>
@@ -270,14 +303,16 @@ fn judged<D: Digester>(
     decided: BranchRecord,
     allow: bool,
     force: bool,
+    settled: &mut Settled,
 ) -> Result<Candidate, AllocError>
-    requires { HasState D.address (chunks_of draft.now.chunks) decided }
-    ensures { (state : BranchState) (autocommit : Bool) → StateStands D.address (chunks_of draft.now.chunks) decided state
+    requires decided { HasState D.address (chunks_of draft.now.chunks) decided }
+    requires settled { IsSettled D.address (chunks_of draft.now.chunks) settled.old }
+    ensures is { (state : BranchState) (autocommit : Bool) → StateStands D.address (chunks_of draft.now.chunks) decided state
         → IfOk result (λ made. IsCandidate D.address (chunks_of draft.now.chunks) made (judged (set autocommit allow force) state)) }
+    ensures settled { IsSettled D.address (chunks_of draft.now.chunks) settled.new }
 {
-    let conflict = is_in_conflict(alloc, draft, &decided)?;
-    let violation = is_in_violation(alloc, draft, &decided)?;
-    match refusal(conflict, violation, allow, force) {
+    let left = left_in_record(alloc, draft, &decided, settled)?;
+    match refusal(left.conflicts, left.violations, allow, force) {
         Some(number) => Ok(Candidate::Refused(number)),
         None => Ok(Candidate::Record(decided)),
     }
@@ -305,11 +340,12 @@ pub fn candidate<D: Digester>(
     ensures cause { IfErr result (IsReason D.address (chunks_of draft.new.chunks)) }
 {
     laws_of_growth();
-    let proposal = proposed(alloc, draft, start, present, own)?;
+    let mut settled = Settled::new(alloc);
+    let proposal = proposed(alloc, draft, start, present, own, &mut settled)?;
     match proposal {
         Candidate::Refused(number) => Ok(Candidate::Refused(number)),
         Candidate::Record(decided) => {
-            let made = judged(alloc, draft, decided, allow, force)?;
+            let made = judged(alloc, draft, decided, allow, force, &mut settled)?;
             Ok(made)
         }
     }

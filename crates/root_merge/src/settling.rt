@@ -1,14 +1,16 @@
-//! What a merge has left open in databases and branch records: conflicts and violations that tables have recorded.
+//! What a merge has left left in databases and branch records: conflicts and violations that tables have recorded.
 
-ghost use Rattle.std.specs.Prelude.{◌≡◌, ◌==◌, ◌&&◌, not, List, length, IfOk};
+ghost use Rattle.std.specs.Prelude.{◌≡◌, ◌==◌, ℕ, not, List, length, IfOk};
 ghost use Rattle.tuple_codec.specs.Nodes.{Item};
 ghost use Rattle.schema_model.specs.PlainTables.{PlainDatabase, PlainTable};
+ghost use Rattle.chunk_store.specs.Chunks.{Chunks};
 ghost use Rattle.chunk_store.specs.Drafts.{chunks_of};
 ghost use Rattle.chunk_store.specs.Standing.{IsTree};
 ghost use Rattle.table_root.specs.Standing.{IsTableAt};
 ghost use Rattle.constraint_scan.specs.Scanning.{AreThere, HasKeptAt, IsKeptAt};
-ghost use Rattle.plain_sessions.specs.CommitRule.{has_conflicts, has_violations, is_in_conflict, is_in_violation, is_none, is_unsettled};
+ghost use Rattle.plain_sessions.specs.CommitRule.{is_unsettled};
 ghost use Rattle.plain_sessions.specs.Records.{BranchState};
+ghost use Rattle.root_merge.specs.Settling.{IsSettled, IsSettledDatabase, IsSettledTable, database_left, either, has, is_any, state_left, table_left};
 ghost use Rattle.root_merge.specs.States.{HasState, StateStands};
 
 use crate::laws::laws_of_growth;
@@ -16,8 +18,82 @@ use crate::reading::read_tables;
 use chunk_store::Draft;
 use prolly_tree::count;
 use std::alloc::{AllocError, Global};
+use std::collections::BTreeSet;
 use table_root::{NamedTable, read_table};
 use tuple_codec::{Address, BranchRecord, Digester};
+
+/// Whether tables have recorded conflicts, and whether violations.
+#[derive(Clone, Copy, Debug, PartialEq, Eq)]
+pub(crate) struct Left {
+    pub conflicts: bool,
+    pub violations: bool,
+}
+
+/// Addresses of tables and of databases that were seen to have recorded neither conflicts nor violations. They need no second look: an address
+/// stands for one table, also once the draft has grown.
+#[derive(Drop)]
+pub(crate) struct Settled {
+    tables: BTreeSet<[u8; 20]>,
+    databases: BTreeSet<[u8; 20]>,
+}
+
+impl Settled {
+    /// None was seen yet.
+    pub(crate) fn new(alloc: Global) -> Settled
+        ensures { (address : List ℕ → List ℕ) (chunks : Chunks) → IsSettled address chunks result }
+    {
+        Settled {
+            tables: BTreeSet::new(alloc),
+            databases: BTreeSet::new(alloc),
+        }
+    }
+
+    fn has_table(&self, address: &Address) -> bool
+        ensures { result ≡ has self.now.tables address.now.0 }
+    {
+        self.tables.contains(&address.0)
+    }
+
+    fn has_database(&self, address: &Address) -> bool
+        ensures { result ≡ has self.now.databases address.now.0 }
+    {
+        self.databases.contains(&address.0)
+    }
+
+    /// Keeps the address of a table that has recorded nothing.
+    fn keep_table<D: Digester>(
+        &mut self,
+        draft: &Draft<D>,
+        address: &Address,
+    ) -> Result<(), AllocError>
+        requires settled { IsSettled D.address (chunks_of draft.now.chunks) self.old }
+        requires table { IsSettledTable D.address (chunks_of draft.now.chunks) address.now.0 }
+        ensures { IsSettled D.address (chunks_of draft.now.chunks) self.new }
+    {
+        self.tables.insert(address.0)?;
+        Ok(())
+    }
+
+    /// Keeps the address of a database that has recorded nothing.
+    fn keep_database<D: Digester>(
+        &mut self,
+        draft: &Draft<D>,
+        address: &Address,
+    ) -> Result<(), AllocError>
+        requires settled { IsSettled D.address (chunks_of draft.now.chunks) self.old }
+        requires database { IsSettledDatabase D.address (chunks_of draft.now.chunks) address.now.0 }
+        ensures { IsSettled D.address (chunks_of draft.now.chunks) self.new }
+    {
+        self.databases.insert(address.0)?;
+        Ok(())
+    }
+}
+
+fn is_any(left: Left) -> bool
+    ensures { result ≡ is_any left }
+{
+    left.conflicts || left.violations
+}
 
 /// Whether a tree has rows.
 fn has_rows<D: Digester>(draft: &Draft<D>, root: &Address) -> bool
@@ -27,132 +103,130 @@ fn has_rows<D: Digester>(draft: &Draft<D>, root: &Address) -> bool
     count(draft, root) != 0
 }
 
-fn table_has_conflicts<D: Digester>(
+/// What the table at an address has recorded.
+fn read_left<D: Digester>(
     alloc: Global,
     draft: &Draft<D>,
     address: &Address,
-) -> Result<bool, AllocError>
+) -> Result<Left, AllocError>
     requires { (contents : PlainTable) × IsTableAt D.address (chunks_of draft.now.chunks) address.now.0 contents }
     ensures { (contents : PlainTable) → IsTableAt D.address (chunks_of draft.now.chunks) address.now.0 contents
-        → IfOk result (λ found. found ≡ not (is_none contents.conflicts)) }
+        → IfOk result (λ left. left ≡ table_left contents) }
 {
     laws_of_growth();
     let table = read_table(alloc, draft, address)?;
-    Ok(has_rows(draft, &table.conflicts))
+    Ok(Left {
+        conflicts: has_rows(draft, &table.conflicts),
+        violations: has_rows(draft, &table.violations),
+    })
 }
 
-fn table_has_violations<D: Digester>(
+/// The same, where a table that was seen isn't read again.
+fn left_in_table<D: Digester>(
     alloc: Global,
     draft: &Draft<D>,
     address: &Address,
-) -> Result<bool, AllocError>
-    requires { (contents : PlainTable) × IsTableAt D.address (chunks_of draft.now.chunks) address.now.0 contents }
-    ensures { (contents : PlainTable) → IsTableAt D.address (chunks_of draft.now.chunks) address.now.0 contents
-        → IfOk result (λ found. found ≡ not (is_none contents.violations)) }
+    settled: &mut Settled,
+) -> Result<Left, AllocError>
+    requires table { (contents : PlainTable) × IsTableAt D.address (chunks_of draft.now.chunks) address.now.0 contents }
+    requires settled { IsSettled D.address (chunks_of draft.now.chunks) settled.old }
+    ensures is { (contents : PlainTable) → IsTableAt D.address (chunks_of draft.now.chunks) address.now.0 contents
+        → IfOk result (λ left. left ≡ table_left contents) }
+    ensures settled { IsSettled D.address (chunks_of draft.now.chunks) settled.new }
 {
     laws_of_growth();
-    let table = read_table(alloc, draft, address)?;
-    Ok(has_rows(draft, &table.violations))
+    if settled.has_table(address) {
+        return Ok(Left {
+            conflicts: false,
+            violations: false,
+        });
+    }
+    let left = read_left(alloc, draft, address)?;
+    if is_any(left) {
+        return Ok(left);
+    }
+    settled.keep_table(draft, address)?;
+    Ok(left)
 }
 
-/// Whether one of these tables has conflicts. There are few tables, so the calls don't go deep.
-fn any_has_conflicts<D: Digester>(
+fn either(one: Left, other: Left) -> Left
+    ensures { result ≡ either one other }
+{
+    Left {
+        conflicts: one.conflicts || other.conflicts,
+        violations: one.violations || other.violations,
+    }
+}
+
+/// What some of these tables have recorded. There are few tables, so the calls don't go deep.
+fn left_in_tables<D: Digester>(
     alloc: Global,
     draft: &Draft<D>,
     tables: &[NamedTable],
-) -> Result<bool, AllocError>
-    requires { (database : PlainDatabase) × AreThere D.address (chunks_of draft.now.chunks) database tables.now }
-    ensures { (database : PlainDatabase) → AreThere D.address (chunks_of draft.now.chunks) database tables.now
-        → IfOk result (λ found. found ≡ has_conflicts database) }
+    settled: &mut Settled,
+) -> Result<Left, AllocError>
+    requires there { (database : PlainDatabase) × AreThere D.address (chunks_of draft.now.chunks) database tables.now }
+    requires settled { IsSettled D.address (chunks_of draft.now.chunks) settled.old }
+    ensures is { (database : PlainDatabase) → AreThere D.address (chunks_of draft.now.chunks) database tables.now
+        → IfOk result (λ left. left ≡ database_left database) }
+    ensures settled { IsSettled D.address (chunks_of draft.now.chunks) settled.new }
 {
     let [first, rest @ ..] = tables else {
-        return Ok(false);
+        return Ok(Left {
+            conflicts: false,
+            violations: false,
+        });
     };
-    let found = table_has_conflicts(alloc, draft, &first.table)?;
-    if found {
-        return Ok(true);
-    }
-    any_has_conflicts(alloc, draft, rest)
+    let one = left_in_table(alloc, draft, &first.table, settled)?;
+    let more = left_in_tables(alloc, draft, rest, settled)?;
+    Ok(either(one, more))
 }
 
-/// Whether one of these tables has violations.
-fn any_has_violations<D: Digester>(
-    alloc: Global,
-    draft: &Draft<D>,
-    tables: &[NamedTable],
-) -> Result<bool, AllocError>
-    requires { (database : PlainDatabase) × AreThere D.address (chunks_of draft.now.chunks) database tables.now }
-    ensures { (database : PlainDatabase) → AreThere D.address (chunks_of draft.now.chunks) database tables.now
-        → IfOk result (λ found. found ≡ has_violations database) }
-{
-    let [first, rest @ ..] = tables else {
-        return Ok(false);
-    };
-    let found = table_has_violations(alloc, draft, &first.table)?;
-    if found {
-        return Ok(true);
-    }
-    any_has_violations(alloc, draft, rest)
-}
-
-fn has_conflicts<D: Digester>(
+/// What the tables of the database at an address have recorded. A database that was seen isn't read again.
+pub(crate) fn left_in_database<D: Digester>(
     alloc: Global,
     draft: &Draft<D>,
     database: &Address,
-) -> Result<bool, AllocError>
-    requires { HasKeptAt D.address (chunks_of draft.now.chunks) database.now.0 }
-    ensures { (contents : PlainDatabase) → IsKeptAt D.address (chunks_of draft.now.chunks) database.now.0 contents
-        → IfOk result (λ found. found ≡ has_conflicts contents) }
+    settled: &mut Settled,
+) -> Result<Left, AllocError>
+    requires database { HasKeptAt D.address (chunks_of draft.now.chunks) database.now.0 }
+    requires settled { IsSettled D.address (chunks_of draft.now.chunks) settled.old }
+    ensures is { (contents : PlainDatabase) → IsKeptAt D.address (chunks_of draft.now.chunks) database.now.0 contents
+        → IfOk result (λ left. left ≡ database_left contents) }
+    ensures settled { IsSettled D.address (chunks_of draft.now.chunks) settled.new }
 {
+    laws_of_growth();
+    if settled.has_database(database) {
+        return Ok(Left {
+            conflicts: false,
+            violations: false,
+        });
+    }
     let tables = read_tables(alloc, draft, database)?;
-    any_has_conflicts(alloc, draft, tables.as_slice())
+    let left = left_in_tables(alloc, draft, tables.as_slice(), settled)?;
+    if is_any(left) {
+        return Ok(left);
+    }
+    settled.keep_database(draft, database)?;
+    Ok(left)
 }
 
-fn has_violations<D: Digester>(
-    alloc: Global,
-    draft: &Draft<D>,
-    database: &Address,
-) -> Result<bool, AllocError>
-    requires { HasKeptAt D.address (chunks_of draft.now.chunks) database.now.0 }
-    ensures { (contents : PlainDatabase) → IsKeptAt D.address (chunks_of draft.now.chunks) database.now.0 contents
-        → IfOk result (λ found. found ≡ has_violations contents) }
-{
-    let tables = read_tables(alloc, draft, database)?;
-    any_has_violations(alloc, draft, tables.as_slice())
-}
-
-/// Whether a branch's databases have recorded conflicts.
-pub(crate) fn is_in_conflict<D: Digester>(
+/// What a branch's databases have recorded.
+pub(crate) fn left_in_record<D: Digester>(
     alloc: Global,
     draft: &Draft<D>,
     record: &BranchRecord,
-) -> Result<bool, AllocError>
-    requires { HasState D.address (chunks_of draft.now.chunks) record.now }
-    ensures { (state : BranchState) → StateStands D.address (chunks_of draft.now.chunks) record.now state
-        → IfOk result (λ found. found ≡ is_in_conflict state) }
+    settled: &mut Settled,
+) -> Result<Left, AllocError>
+    requires record { HasState D.address (chunks_of draft.now.chunks) record.now }
+    requires settled { IsSettled D.address (chunks_of draft.now.chunks) settled.old }
+    ensures is { (state : BranchState) → StateStands D.address (chunks_of draft.now.chunks) record.now state
+        → IfOk result (λ left. left ≡ state_left state) }
+    ensures settled { IsSettled D.address (chunks_of draft.now.chunks) settled.new }
 {
-    let found = has_conflicts(alloc, draft, &record.working)?;
-    if found {
-        return Ok(true);
-    }
-    has_conflicts(alloc, draft, &record.staged)
-}
-
-/// Whether a branch's databases have recorded violations.
-pub(crate) fn is_in_violation<D: Digester>(
-    alloc: Global,
-    draft: &Draft<D>,
-    record: &BranchRecord,
-) -> Result<bool, AllocError>
-    requires { HasState D.address (chunks_of draft.now.chunks) record.now }
-    ensures { (state : BranchState) → StateStands D.address (chunks_of draft.now.chunks) record.now state
-        → IfOk result (λ found. found ≡ is_in_violation state) }
-{
-    let found = has_violations(alloc, draft, &record.working)?;
-    if found {
-        return Ok(true);
-    }
-    has_violations(alloc, draft, &record.staged)
+    let working = left_in_database(alloc, draft, &record.working, settled)?;
+    let staged = left_in_database(alloc, draft, &record.staged, settled)?;
+    Ok(either(working, staged))
 }
 
 /// Whether a branch has a merge in progress, conflicts or violations.
@@ -160,17 +234,17 @@ pub(crate) fn is_unsettled<D: Digester>(
     alloc: Global,
     draft: &Draft<D>,
     record: &BranchRecord,
+    settled: &mut Settled,
 ) -> Result<bool, AllocError>
-    requires { HasState D.address (chunks_of draft.now.chunks) record.now }
-    ensures { (state : BranchState) → StateStands D.address (chunks_of draft.now.chunks) record.now state
+    requires record { HasState D.address (chunks_of draft.now.chunks) record.now }
+    requires settled { IsSettled D.address (chunks_of draft.now.chunks) settled.old }
+    ensures is { (state : BranchState) → StateStands D.address (chunks_of draft.now.chunks) record.now state
         → IfOk result (λ found. found ≡ is_unsettled state) }
+    ensures settled { IsSettled D.address (chunks_of draft.now.chunks) settled.new }
 {
     if record.merging.is_some() {
         return Ok(true);
     }
-    let conflict = is_in_conflict(alloc, draft, record)?;
-    if conflict {
-        return Ok(true);
-    }
-    is_in_violation(alloc, draft, record)
+    let left = left_in_record(alloc, draft, record, settled)?;
+    Ok(is_any(left))
 }

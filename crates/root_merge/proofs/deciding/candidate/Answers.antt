@@ -10,8 +10,11 @@ use Rattle.root_merge.specs.declared.candidates.Candidate.TheVariants as candida
 use Rattle.root_merge.proofs.DecideLemmas.{proposed_is, refusal_stays}
 use Rattle.root_merge.proofs.deciding.candidate.Goals as goal
 
-pub judged-requires-after_bounds : goal.judged-requires-after_bounds
-judged-requires-after_bounds g c κs within =
+pub proposed-requires-clause-settled : goal.proposed-requires-clause-settled
+proposed-requires-clause-settled g c κs within = c.new-settled.ensures g.D.Digester.address (chunks_of c.args.draft.now.chunks)
+
+pub judged-requires-clause-decided : goal.judged-requires-clause-decided
+judged-requires-clause-decided g c κs within =
     let address = g.D.Digester.address in
     let old = chunks_of c.args.draft.now.chunks in
     let now = chunks_of c.proposed.new.draft.chunks in
@@ -32,11 +35,11 @@ returns-in-Refused-clause-is g c = λ s p o autocommit states.
     subst (λ (one : Candidate). IsCandidate address now one (candidate s p o)) c.in-Refused.is (c.in_ok-proposal.ensures.is s p o states) in
     refusal_stays address now s p o (set autocommit c.args.allow c.args.force) c.in-Refused.number made
 
-pub returns-in_ok-made-in-Record-clause-is : goal.returns-in_ok-made-in-Record-clause-is
-returns-in_ok-made-in-Record-clause-is g c = λ s p o autocommit states.
+pub returns-clause-is : goal.returns-clause-is
+returns-clause-is g c = λ s p o autocommit states.
     let address = g.D.Digester.address in
     let now = chunks_of c.proposed.new.draft.chunks in
     let made : IsCandidate address now (candidate_of.Record c.in-Record.decided) (candidate s p o) =
     subst (λ (one : Candidate). IsCandidate address now one (candidate s p o)) c.in-Record.is (c.in_ok-proposal.ensures.is s p o states) in
     let is = proposed_is address now c.in-Record.decided s p o (set autocommit c.args.allow c.args.force) made in
-    subst (λ (outcome : Outcome BranchState). IsCandidate address now c.in_ok-made-in-Record.made outcome) (sym is.decided) (c.in_ok-made-in-Record.ensures is.state autocommit is.stands)
+    subst (λ (outcome : Outcome BranchState). IsCandidate address now c.in_ok-made-in-Record.made outcome) (sym is.decided) (c.in_ok-made-in-Record.ensures.is is.state autocommit is.stands)
