@@ -86,7 +86,7 @@ past (a ∷ p) (x ∷ k) (y ∷ l) at not_so more = by (past p k l) (nat_cmp x a
   by again Greater e Greater f at more = absurd (cc)
 
 -- what is above a key that isn't below another isn't either
-still : (p k l : List ℕ) → is_lt (order k p) ≡ false → is_lt (order k l) ≡ true → is_lt (order l p) ≡ false
+pub still : (p k l : List ℕ) → is_lt (order k p) ≡ false → is_lt (order k l) ≡ true → is_lt (order l p) ≡ false
 still p k l at more = by (is_lt (order l p)) refl where
   by : (b : Bool) → is_lt (order l p) ≡ b → b ≡ false
   by true e = absurd (differ (sym (lt_trans k l p more e) ∙ at))

@@ -1,6 +1,7 @@
 -- Parts that tell a span pass over every row whose key lies outside, and its cells fit the columns of the key.
-use Rattle.std.proofs.Common.{◌≡◌, ◌∙◌, ◌⊎◌, ◌+◌, ◌<◌, ◌≤◌, inl, inr, sym, ap, refl, subst, ℕ, zero, suc, Bool, true, false, cond, not, List, [], ◌∷◌, ◌++◌, Option, Some, length, map, slice_get, take, drop, get_or, drop-cons, append_assoc, append-nil, arith}
-use Rattle.std.specs.List.{All, Contains, flat_map}
+use Rattle.std.proofs.Common.{◌≡◌, ◌∙◌, ◌⊎◌, ◌+◌, ◌<◌, ◌≤◌, inl, inr, sym, ap, refl, subst, ℕ, zero, suc, Bool, true, false, cond, not, List, [], ◌∷◌, ◌++◌, Option, None, Some, length, map, slice_get, take, drop, get_or, ltb, drop-cons, append_assoc, append-nil, arith}
+use Rattle.std.specs.List.{All, AllZip, Contains, flat_map, list_all}
+use Rattle.std.specs.Option.{option_to_list}
 use Rattle.std.specs.Ordering.{is_eq, is_lt, ordering_reverse, ordering_then}
 use Rattle.std.specs.declared.cmp.Ordering.{Ordering}
 use Rattle.std.specs.declared.cmp.Ordering.TheVariants.{Less, Equal, Greater}
@@ -8,10 +9,10 @@ use Rattle.std.proofs.lemmas.Bool.{and_from, and_parts}
 use Rattle.std.proofs.lemmas.List.{drop_all}
 use Rattle.sql_ast.specs.declared.expressions.Comparison.{Comparison}
 use Rattle.sql_ast.specs.declared.expressions.Comparison.TheVariants as op
-use Rattle.tuple_codec.specs.Rows.{Cells, cell_at, fits, fits_all, key_of, value_cmp}
+use Rattle.tuple_codec.specs.Rows.{Cells, cell_at, fits, fits_all, key_of, same_cells, value_cmp}
 use Rattle.tuple_codec.specs.declared.values.SqlType.{SqlType}
 use Rattle.tuple_codec.specs.declared.values.Value.{Value}
-use Rattle.tuple_codec.proofs.Orders.{value_cmp_total}
+use Rattle.tuple_codec.proofs.Orders.{cells_told, value_cmp_total}
 use Rattle.schema_model.specs.PlainTables.{is_row, kinds}
 use Rattle.schema_model.specs.declared.schemas.Column.{Column}
 use Rattle.schema_model.specs.declared.schemas.Schema.{Schema}
@@ -20,11 +21,14 @@ use Rattle.expr_eval.specs.declared.bound.Node.{Node}
 use Rattle.expr_eval.specs.declared.bound.Node.TheVariants as n
 use Rattle.expr_eval.specs.Valuing.{chained, conjunction, holds, worth}
 use Rattle.expr_eval.proofs.WorthNodes.{worth_and}
-use Rattle.plain_sql.specs.Passing.{IsCalm, IsMissed}
+use Rattle.plain_sql.specs.Passing.{IsCalm, IsMissed, IsPassedOver}
 use Rattle.plain_sql.proofs.MissedLemmas.{holds_not, missed_at, missed_first, passed_over}
-use Rattle.key_seek.specs.Parts.{AreTold, IsFixed, IsHigh, IsLow, IsSaid, IsSpanIn, Tells}
-use Rattle.key_seek.specs.Seeking.{IsSpanOf, Seeks, is_sought}
+use Rattle.plain_writes.specs.Violations.{types_at}
+use Rattle.key_seek.specs.Entries.{AreEntriesOf, SeeksEntries, has_cells_in, is_entered}
+use Rattle.key_seek.specs.Parts.{AreEntriesIn, AreTold, IsFixed, IsHigh, IsLow, IsSaid, IsSpanIn, Tells}
+use Rattle.key_seek.specs.Seeking.{IsSpanOf, Seeks}
 use Rattle.key_seek.specs.Spans.{is_before, is_beyond, place_of, side_of, value_at}
+use Rattle.key_seek.specs.declared.entries.Entries.{Entries}
 use Rattle.key_seek.specs.declared.spans.End.{End}
 use Rattle.key_seek.specs.declared.spans.End.TheVariants as end
 use Rattle.key_seek.specs.declared.spans.Span.{Span}
@@ -112,27 +116,63 @@ module _ (schema : Schema) (row : Cells) (first : Node) (rest : List Node) (firs
         | false ↦ λ e. fixed_missed place op.Equal v (holds_not (value_cmp (cell_at row place) v) e) told.0
       ] refl
 
-all_missed : (schema : Schema) (row : Cells) (first : Node) (rest : List Node) (span : Span) → is_row schema row ≡ true → IsSpanIn schema first rest span
-    → is_sought schema span row ≡ false → IsMissed (chained conjunction (worth row first) (map (worth row) rest))
-all_missed schema row first rest span fit is h =
-    elim (span_missed schema row first rest is.first_calm is.rest_calm fit schema.key span.fixed span.low span.high is.told h) as (λ o. IsMissed (chained conjunction (worth row first) (map (worth row) rest))) [
-      | inl missed ↦ missed_first row (worth row first) rest missed is.rest_calm
-      | inr there ↦ let at = there.1 in missed_at row (worth row first) rest there.0 at.0 (is.first_calm row) is.rest_calm at.1 at.2 there.2
-    ]
+  cells_missed : (places : List ℕ) (cells : Cells) → AllZip (IsFixed schema first rest op.Equal) places cells → same_cells (key_of places row) cells ≡ false → Said row first rest
+  cells_missed [] [] fixed h = absurd (cc)
+  cells_missed [] (v ∷ cells) fixed h = absurd (fixed)
+  cells_missed (place ∷ places) [] fixed h = absurd (fixed)
+  cells_missed (place ∷ places) (v ∷ cells) fixed h =
+      elim (is_eq (value_cmp (cell_at row place) v)) as (λ b. is_eq (value_cmp (cell_at row place) v) ≡ b → Said row first rest) [
+        | true ↦ λ e. cells_missed places cells fixed.1 (sym (cmp_then (value_cmp (cell_at row place) v) _ e) ∙ h)
+        | false ↦ λ e. fixed_missed place op.Equal v (holds_not (value_cmp (cell_at row place) v) e) fixed.0
+      ] refl
+
+parts_missed : (row : Cells) (first : Node) (rest : List Node) → IsCalm first → All IsCalm rest → Said row first rest → IsMissed (chained conjunction (worth row first) (map (worth row) rest))
+parts_missed row first rest first_calm rest_calm (inl missed) = missed_first row (worth row first) rest missed rest_calm
+parts_missed row first rest first_calm rest_calm (inr there) =
+    let at = there.1 in missed_at row (worth row first) rest there.0 at.0 (first_calm row) rest_calm at.1 at.2 there.2
 
 -- ---- the test
 
-pub seeks_one : (schema : Schema) (test : BoundExpr) (span : Span) → IsSpanIn schema test.node [] span → Seeks schema test span
-seeks_one schema test span is = λ row fit h. passed_over test row (all_missed schema row test.node [] span fit is h)
+over_one : (test : BoundExpr) (row : Cells) → IsCalm test.node → All IsCalm [] → Said row test.node [] → IsPassedOver test row
+over_one test row calm none said = passed_over test row (parts_missed row test.node [] calm none said)
 
-seeks_parts : (schema : Schema) (test : BoundExpr) (first : Node) (rest : List Node) (span : Span) → test.node ≡ n.And first rest → IsSpanIn schema first rest span → Seeks schema test span
-seeks_parts schema test first rest span e is = λ row fit h.
-    let missed = all_missed schema row first rest span fit is h in
+over_parts : (test : BoundExpr) (row : Cells) (first : Node) (rest : List Node) → test.node ≡ n.And first rest → IsCalm first → All IsCalm rest → Said row first rest → IsPassedOver test row
+over_parts test row first rest e first_calm rest_calm said =
+    let missed = parts_missed row first rest first_calm rest_calm said in
     passed_over test row (missed.0, ap (worth row) e ∙ worth_and row first rest ∙ missed.1, missed.2)
 
+-- the parts of an AND as they were read
+read_and : (test : BoundExpr) (first a : Node) (rest xs : List Node) → test.node ≡ n.And first rest → a ≡ first → xs ≡ rest → test.node ≡ n.And a xs
+read_and test first a rest xs e same others = e ∙ ap (λ x. n.And x rest) (sym same) ∙ ap (λ l. n.And a l) (sym others)
+
+pub seeks_one : (schema : Schema) (test : BoundExpr) (span : Span) → IsSpanIn schema test.node [] span → Seeks schema test span
+seeks_one schema test span is = λ row fit h.
+    over_one test row is.first_calm is.rest_calm (span_missed schema row test.node [] is.first_calm is.rest_calm fit schema.key span.fixed span.low span.high is.told h)
+
 pub seeks_and : (schema : Schema) (test : BoundExpr) (first a : Node) (rest xs : List Node) (span : Span) → test.node ≡ n.And first rest → a ≡ first → xs ≡ rest → IsSpanIn schema a xs span → Seeks schema test span
-seeks_and schema test first a rest xs span e same others is =
-    seeks_parts schema test a xs span (e ∙ ap (λ x. n.And x rest) (sym same) ∙ ap (λ l. n.And a l) (sym others)) is
+seeks_and schema test first a rest xs span e same others is = λ row fit h.
+    over_parts test row a xs (read_and test first a rest xs e same others) is.first_calm is.rest_calm
+    (span_missed schema row a xs is.first_calm is.rest_calm fit schema.key span.fixed span.low span.high is.told h)
+
+-- ---- rows with other cells in an index's columns
+
+same_false : (a b : Cells) → same_cells a b ≡ false → same_cells b a ≡ false
+same_false a b h = by (same_cells b a) refl where
+  by : (c : Bool) → same_cells b a ≡ c → c ≡ false
+  by true e = absurd (cc (sym h ∙ (cells_told a b).1 (sym ((cells_told b a).0 e))))
+  by false e = refl
+
+others_missed : (schema : Schema) (row : Cells) (first : Node) (rest : List Node) (entries : Entries) → AreEntriesIn schema first rest entries → is_row schema row ≡ true → is_entered schema entries row ≡ false → Said row first rest
+others_missed schema row first rest entries is fit h =
+    cells_missed schema row first rest is.first_calm is.rest_calm fit is.index.columns entries.cells is.fixed
+    (same_false entries.cells (key_of is.index.columns row) (ap (λ o. has_cells_in o entries.cells row) (sym is.there) ∙ h))
+
+pub entries_one : (schema : Schema) (test : BoundExpr) (entries : Entries) → AreEntriesIn schema test.node [] entries → SeeksEntries schema test entries
+entries_one schema test entries is = λ row fit h. over_one test row is.first_calm is.rest_calm (others_missed schema row test.node [] entries is fit h)
+
+pub entries_and : (schema : Schema) (test : BoundExpr) (first a : Node) (rest xs : List Node) (entries : Entries) → test.node ≡ n.And first rest → a ≡ first → xs ≡ rest → AreEntriesIn schema a xs entries → SeeksEntries schema test entries
+entries_and schema test first a rest xs entries e same others is = λ row fit h.
+    over_parts test row a xs (read_and test first a rest xs e same others) is.first_calm is.rest_calm (others_missed schema row a xs entries is fit h)
 
 -- ---- it fits
 
@@ -141,20 +181,20 @@ said_fits t place comparison v first rest (inl is) = is.0
 said_fits t place comparison v first rest (inr is) = is.2.0
 
 module _ (schema : Schema) (first : Node) (rest : List Node) where
-  types_at : List ℕ → List SqlType
-  types_at places = flat_map (λ place. kinds (slice_get schema.columns place)) places
+  key_types_at : List ℕ → List SqlType
+  key_types_at places = flat_map (λ place. kinds (slice_get schema.columns place)) places
 
   -- of one more column
-  one_more : (place : ℕ) (places : List ℕ) (comparison : Comparison) (v : Value) (cells : Cells) → IsFixed schema first rest comparison place v → fits_all (take (length cells) (types_at places)) cells ≡ true
-      → fits_all (take (suc (length cells)) (types_at (place ∷ places))) (v ∷ cells) ≡ true
-  unfolding types_at
+  one_more : (place : ℕ) (places : List ℕ) (comparison : Comparison) (v : Value) (cells : Cells) → IsFixed schema first rest comparison place v → fits_all (take (length cells) (key_types_at places)) cells ≡ true
+      → fits_all (take (suc (length cells)) (key_types_at (place ∷ places))) (v ∷ cells) ≡ true
+  unfolding key_types_at
   one_more place places comparison v cells is more =
-      subst (λ (o : Option Column). fits_all (take (suc (length cells)) (kinds o ++ types_at places)) (v ∷ cells) ≡ true) (sym is.1)
-      (and_from (fits is.0.kind v) (fits_all (take (length cells) (types_at places)) cells) (said_fits is.0.kind place comparison v first rest is.2) more)
+      subst (λ (o : Option Column). fits_all (take (suc (length cells)) (kinds o ++ key_types_at places)) (v ∷ cells) ≡ true) (sym is.1)
+      (and_from (fits is.0.kind v) (fits_all (take (length cells) (key_types_at places)) cells) (said_fits is.0.kind place comparison v first rest is.2) more)
 
   all_fit : (places : List ℕ) (fixed : Cells) (low high : End) → AreTold schema first rest places fixed low high
-      → fits_all (take (length (fixed ++ value_at low)) (types_at places)) (fixed ++ value_at low) ≡ true
-  unfolding types_at
+      → fits_all (take (length (fixed ++ value_at low)) (key_types_at places)) (fixed ++ value_at low) ≡ true
+  unfolding key_types_at
   all_fit [] [] low high told = subst (λ l. fits_all (take (length (value_at l)) []) (value_at l) ≡ true) (sym told.0) refl
   all_fit [] (v ∷ fixed) low high told = absurd (told)
   all_fit (place ∷ places) [] end.Open high told = refl
@@ -163,8 +203,50 @@ module _ (schema : Schema) (first : Node) (rest : List Node) where
   all_fit (place ∷ places) (v ∷ fixed) low high told = one_more place places op.Equal v (fixed ++ value_at low) told.0 (all_fit places fixed low high told.1)
 
 pub span_fits : (schema : Schema) (first : Node) (rest : List Node) (span : Span) → IsSpanIn schema first rest span → IsSpanOf schema span
-unfolding types_at
+unfolding key_types_at
 span_fits schema first rest span is = all_fit schema first rest schema.key span.fixed span.low span.high is.told
+
+-- ---- cells of an index
+
+types_alike_at : (o : Option Column) → map (λ (column : Column). column.kind) (option_to_list o) ≡ kinds o
+types_alike_at None = refl
+types_alike_at (Some column) = refl
+
+types_alike : (schema : Schema) (places : List ℕ) → types_at schema places ≡ flat_map (λ place. kinds (slice_get schema.columns place)) places
+types_alike schema [] = refl
+types_alike schema (place ∷ places) = (λ i. types_alike_at (slice_get schema.columns place) i ++ types_alike schema places i)
+
+-- of places as they were read
+pub types_of : (schema : Schema) (places read : List ℕ) → read ≡ places → types_at schema places ≡ flat_map (λ place. kinds (slice_get schema.columns place)) read
+types_of schema places read is = types_alike schema places ∙ ap (flat_map (λ place. kinds (slice_get schema.columns place))) (sym is)
+
+pub places_of : (schema : Schema) (places read : List ℕ) → read ≡ places → list_all (λ place. ltb place (length schema.columns)) places ≡ true → list_all (λ place. ltb place (length schema.columns)) read ≡ true
+places_of schema places read is h = subst (λ l. list_all (λ place. ltb place (length schema.columns)) l ≡ true) (sym is) h
+
+cells_told_fit : (schema : Schema) (first : Node) (rest : List Node) (places : List ℕ) (cells : Cells) → AllZip (IsFixed schema first rest op.Equal) places cells → fits_all (types_at schema places) cells ≡ true
+cells_told_fit schema first rest [] [] fixed = refl
+cells_told_fit schema first rest [] (v ∷ cells) fixed = absurd (fixed)
+cells_told_fit schema first rest (place ∷ places) [] fixed = absurd (fixed)
+cells_told_fit schema first rest (place ∷ places) (v ∷ cells) fixed =
+    let is = fixed.0 in
+    subst (λ (o : Option Column). fits_all (map (λ (column : Column). column.kind) (option_to_list o) ++ types_at schema places) (v ∷ cells) ≡ true) (sym is.1)
+    (and_from (fits is.0.kind v) (fits_all (types_at schema places) cells) (said_fits is.0.kind place op.Equal v first rest is.2) (cells_told_fit schema first rest places cells fixed.1))
+
+pub entries_fit : (schema : Schema) (first : Node) (rest : List Node) (entries : Entries) → AreEntriesIn schema first rest entries → AreEntriesOf schema entries
+entries_fit schema first rest entries is = (is.index, is.there, cells_told_fit schema first rest is.index.columns entries.cells is.fixed)
+
+-- one more column
+pub zip_more : {A B : Type 0} (R : A → B → Type 0) (xs : List A) (ys : List B) (x : A) (y : B) → AllZip R xs ys → R x y → AllZip R (xs ++ x ∷ []) (ys ++ y ∷ [])
+zip_more R [] [] x y all one = (one, tt)
+zip_more R [] (z ∷ ys) x y all one = absurd (all)
+zip_more R (z ∷ xs) [] x y all one = absurd (all)
+zip_more R (w ∷ xs) (z ∷ ys) x y all one = (all.0, zip_more R xs ys x y all.1 one)
+
+pub same_cells_found : (a b : Cells) → Some a ≡ Some b → a ≡ b
+same_cells_found a b e = cc
+
+pub same_entries : (a b : Entries) → Some a ≡ Some b → a ≡ b
+same_entries a b e = cc
 
 pub same_span : (a b : Span) → Some a ≡ Some b → a ≡ b
 same_span a b e = cc

@@ -1,4 +1,6 @@
+pub mod EntryLemmas
 pub mod KeyLemmas
+pub mod RowLemmas
 pub mod ScanLemmas
 pub mod SpanLemmas
 pub mod TableLemmas

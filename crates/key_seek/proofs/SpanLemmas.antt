@@ -235,7 +235,7 @@ rest_rises schema row [] rise = refl
 rest_rises schema row (next ∷ rows) rise =
     (and_parts (is_lt (key_cmp (primary_key schema row) (primary_key schema next))) (rises (λ a b. key_cmp (primary_key schema a) (primary_key schema b)) (next ∷ rows)) rise).1
 
-next_less : (schema : Schema) (row next : Cells) (rows : List Cells) → Rises schema (row ∷ next ∷ rows) → key_cmp (primary_key schema row) (primary_key schema next) ≡ Less
+pub next_less : (schema : Schema) (row next : Cells) (rows : List Cells) → Rises schema (row ∷ next ∷ rows) → key_cmp (primary_key schema row) (primary_key schema next) ≡ Less
 next_less schema row next rows rise =
     less_is _ (and_parts (is_lt (key_cmp (primary_key schema row) (primary_key schema next))) (rises (λ a b. key_cmp (primary_key schema a) (primary_key schema b)) (next ∷ rows)) rise).0
 

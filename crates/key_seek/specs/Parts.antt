@@ -1,6 +1,6 @@
 -- What is looked for in a test: parts that have a value on each row, and among them some that tell where the columns of the primary key lie.
 use Rattle.std.specs.Prelude.{◌≡◌, ◌⊎◌, ⊤, ℕ, Bool, true, false, List, [], ◌∷◌, Some, slice_get}
-use Rattle.std.specs.List.{All, Contains}
+use Rattle.std.specs.List.{All, AllZip, Contains}
 use Rattle.sql_ast.specs.declared.expressions.Comparison.{Comparison}
 use Rattle.sql_ast.specs.declared.expressions.Comparison.TheVariants as op
 use Rattle.tuple_codec.specs.Rows.{Cells, cell_at, fits, value_cmp}
@@ -8,6 +8,7 @@ use Rattle.tuple_codec.specs.declared.values.SqlType.{SqlType}
 use Rattle.tuple_codec.specs.declared.values.Value.{Value}
 use Rattle.tuple_codec.specs.declared.values.Value.TheVariants as cell
 use Rattle.schema_model.specs.declared.schemas.Column.{Column}
+use Rattle.schema_model.specs.declared.schemas.IndexDef.{IndexDef}
 use Rattle.schema_model.specs.declared.schemas.Schema.{Schema}
 use Rattle.sql_values.specs.Worths.{Worth}
 use Rattle.sql_values.specs.declared.kinds.Kind.{Kind}
@@ -15,6 +16,7 @@ use Rattle.expr_eval.specs.Valuing.{holds, worth}
 use Rattle.expr_eval.specs.declared.bound.Node.{Node}
 use Rattle.expr_eval.specs.declared.bound.Node.TheVariants as node
 use Rattle.plain_sql.specs.Passing.{IsCalm, is_so}
+use Rattle.key_seek.specs.declared.entries.Entries.{Entries}
 use Rattle.key_seek.specs.declared.spans.End.{End}
 use Rattle.key_seek.specs.declared.spans.End.TheVariants as end
 use Rattle.key_seek.specs.declared.spans.Span.{Span}
@@ -76,3 +78,11 @@ pub record IsSpanIn (schema : Schema) (first : Node) (rest : List Node) (span : 
   pub first_calm : IsCalm first
   pub rest_calm : All IsCalm rest
   pub told : AreTold schema first rest schema.key span.fixed span.low span.high
+
+-- the parts are calm, and fix the columns of the index at a place
+pub record AreEntriesIn (schema : Schema) (first : Node) (rest : List Node) (entries : Entries) : Type 0 where
+  pub first_calm : IsCalm first
+  pub rest_calm : All IsCalm rest
+  pub index : IndexDef
+  pub there : slice_get schema.indexes entries.place ≡ Some index
+  pub fixed : AllZip (IsFixed schema first rest op.Equal) index.columns entries.cells

@@ -1,6 +1,7 @@
 -- Which rows a test seeks, so that it passes over the others.
-use Rattle.std.specs.Prelude.{◌≡◌, Bool, true, false, length, take}
-use Rattle.tuple_codec.specs.Rows.{Cells, fits_all}
+use Rattle.std.specs.Prelude.{◌≡◌, Bool, true, false, List, length, take, Option}
+use Rattle.std.specs.List.{find}
+use Rattle.tuple_codec.specs.Rows.{Cells, fits_all, same_cells}
 use Rattle.schema_model.specs.PlainTables.{is_row, key_types, primary_key}
 use Rattle.schema_model.specs.declared.schemas.Schema.{Schema}
 use Rattle.expr_eval.specs.declared.bound.BoundExpr.{BoundExpr}
@@ -19,3 +20,7 @@ Seeks schema test span = (row : Cells) → is_row schema row ≡ true → is_sou
 -- the cells that it begins with fit the first columns of the key
 abbrev pub IsSpanOf : Schema → Span → Type 0
 IsSpanOf schema span = fits_all (take (length (start_of span)) (key_types schema)) (start_of span) ≡ true
+
+-- the row of this primary key, if there is one
+abbrev pub row_with : Schema → Cells → List Cells → Option Cells
+row_with schema key rows = find (λ row. same_cells (primary_key schema row) key) rows

@@ -3,11 +3,13 @@
 //! The crates above use `specs/Seeking.antt`: which rows a test seeks, so that it passes over the others.
 #![tactic(auto)]
 
+mod entries;
 mod naming;
 mod reading;
 mod seeking;
 mod spans;
 
+pub use entries::{Entries, rows_entered, sought_entries};
 pub use reading::rows_sought;
 pub use seeking::sought;
 pub use spans::{End, Span};

@@ -1,9 +1,10 @@
 //! The rows whose primary keys lie in a span.
 
-ghost use Rattle.std.specs.Prelude.{◌≡◌, true, IfOk, filter, take};
+ghost use Rattle.std.specs.Prelude.{◌≡◌, true, IfOk, filter, length, ltb, slice_get, take};
+ghost use Rattle.std.specs.List.{flat_map, list_all};
 ghost use Rattle.chunk_store.specs.Drafts.{chunks_of};
 ghost use Rattle.tuple_codec.specs.KeyBytes.{key_bytes};
-ghost use Rattle.schema_model.specs.PlainTables.{PlainTable, key_types, primary_key};
+ghost use Rattle.schema_model.specs.PlainTables.{PlainTable, kinds, primary_key};
 ghost use Rattle.schema_model.specs.Schemas.{is_schema};
 ghost use Rattle.table_root.specs.Standing.{IsTableOf};
 ghost use Rattle.key_seek.specs.Seeking.{IsSpanOf, is_sought};
@@ -68,7 +69,7 @@ fn start_bytes(alloc: Global, schema: &Schema, span: &Span) -> Result<Blob, Allo
     requires span { IsSpanOf schema.now span.now }
     ensures { IfOk result (λ bytes. bytes ≡ key_bytes (start_of span.now)) }
 {
-    let types = key_types(alloc, schema)?;
+    let types = types_at(alloc, schema, schema.key.as_slice())?;
     let cells = start_of(alloc, span)?;
     encode_key(
         alloc,
@@ -87,14 +88,18 @@ fn first_types(types: &[SqlType], count: usize) -> &[SqlType]
     }
 }
 
-/// The types of the primary key, in its order.
-fn key_types(alloc: Global, schema: &Schema) -> Result<Vec<SqlType>, AllocError>
-    requires { is_schema schema.now ≡ true }
-    ensures { IfOk result (λ types. types.items ≡ key_types schema.now) }
+/// The types of the columns at these positions.
+pub(crate) fn types_at(
+    alloc: Global,
+    schema: &Schema,
+    positions: &[u8],
+) -> Result<Vec<SqlType>, AllocError>
+    requires { list_all (λ position. ltb position (length schema.now.columns)) positions.now ≡ true }
+    ensures { IfOk result (λ types. types.items ≡ flat_map (λ position. kinds (slice_get schema.now.columns position)) positions.now) }
 {
     let columns = schema.columns.as_slice();
     let mut types = Vec::new(alloc);
-    for position in schema.key.as_slice() {
+    for position in positions {
         types.push(columns[usize::from(*position)].kind)?;
     }
     Ok(types)

@@ -22,11 +22,9 @@ use Rattle.plain_sql.specs.Temporary.{source_name}
 use Rattle.plain_sql.specs.declared.sources.Known.{Known}
 use Rattle.plain_sql.specs.declared.sources.Read.{Read}
 use Rattle.plain_sql.specs.Passing.{IsPassedOver}
-use Rattle.key_seek.specs.Seeking as seeking
-use Rattle.key_seek.specs.Seeking.{is_sought}
-use Rattle.key_seek.specs.declared.spans.Span.{Span}
 use Rattle.sql_select.specs.Seeks.{AddsServing, AreNeeded, Serves, scope_in}
 use Rattle.sql_select.specs.Sources.{known_table}
+use Rattle.sql_select.specs.declared.seeking.Seek.{Seek}
 
 -- ---- rows that are passed over
 
@@ -56,16 +54,16 @@ behind tests row rows others e = ap (λ o. and_then (kept_row tests (row ++ []))
 
 -- ---- the rows that are kept
 
-kept_alike : (schema : Schema) (test : BoundExpr) (span : Span) → seeking.Seeks schema test span → (rows : List Cells) → list_all (is_row schema) rows ≡ true
-    → kept (meaning test ∷ []) (combinations (rows ∷ [])) ≡ kept (meaning test ∷ []) (combinations (filter (is_sought schema span) rows ∷ []))
-kept_alike schema test span seeks [] fit = refl
-kept_alike schema test span seeks (row ∷ rows) fit =
+kept_alike : (schema : Schema) (test : BoundExpr) (wanted : Cells → Bool) → ((row : Cells) → is_row schema row ≡ true → wanted row ≡ false → IsPassedOver test row) → (rows : List Cells) → list_all (is_row schema) rows ≡ true
+    → kept (meaning test ∷ []) (combinations (rows ∷ [])) ≡ kept (meaning test ∷ []) (combinations (filter wanted rows ∷ []))
+kept_alike schema test wanted passes [] fit = refl
+kept_alike schema test wanted passes (row ∷ rows) fit =
     let fits = and_parts (is_row schema row) (list_all (is_row schema) rows) fit in
-    let more = kept_alike schema test span seeks rows fits.1 in
-    elim (is_sought schema span row) as (λ b. is_sought schema span row ≡ b → kept (meaning test ∷ []) (combinations ((row ∷ rows) ∷ []))
-    ≡ kept (meaning test ∷ []) (combinations (cond b (row ∷ filter (is_sought schema span) rows) (filter (is_sought schema span) rows) ∷ []))) [
-      | true ↦ λ within. behind (meaning test ∷ []) row rows (filter (is_sought schema span) rows) more
-      | false ↦ λ out. skipped test row rows (seeks row fits.0 out) ∙ more
+    let more = kept_alike schema test wanted passes rows fits.1 in
+    elim (wanted row) as (λ b. wanted row ≡ b → kept (meaning test ∷ []) (combinations ((row ∷ rows) ∷ []))
+    ≡ kept (meaning test ∷ []) (combinations (cond b (row ∷ filter wanted rows) (filter wanted rows) ∷ []))) [
+      | true ↦ λ within. behind (meaning test ∷ []) row rows (filter wanted rows) more
+      | false ↦ λ out. skipped test row rows (passes row fits.0 out) ∙ more
     ] refl
 
 -- ---- the plan's only test is the WHERE
@@ -131,19 +129,19 @@ pub serves : (query : Query) (name : List ℕ) (table : PlainTable) (part : Know
 serves query name table part read is named made (inl all) =
     (named, inl (made ∙ (λ i. record { name = named i; columns = (known_table (record { name = name; table = table })).columns; rows = all i })))
 serves query name table part read is named made (inr needed) =
-    let span = needed.0 in
+    let wanted = needed.0 in
     let alone = needed.1.0 in
     let where_is = needed.1.1 in
     let filtered = needed.1.2 in
     let by = needed.1.3 in
     let columns = scope_in query.from.first table.schema in
-    let same = kept_alike table.schema by.test span by.seeks table.rows is.rows in (
+    let same = kept_alike table.schema by.test wanted by.passes table.rows is.rows in (
       named,
       inr (
         alone,
         ap (λ (k : Known). query_on (read_as (source_name query.from.first) k ∷ []) query) made
             ∙ ap (λ rows. query_on (record { columns = columns; rows = rows } ∷ []) query) needed.2
-            ∙ rows_alike query columns table.rows (filter (is_sought table.schema span) table.rows) where_is (meaning by.test) alone filtered by.bound same,
+            ∙ rows_alike query columns table.rows (filter wanted table.rows) where_is (meaning by.test) alone filtered by.bound same,
       ),
     )
 
@@ -230,3 +228,6 @@ no_items (x ∷ xs) ys same none = let none_long : suc (length xs) ≡ 0 = eqb-t
 pub both_ok : {A E : Type 0} (r : Result A E) (P Q R : A → Type 0) → ((x : A) → P x → Q x → R x) → IfOk r P → IfOk r Q → IfOk r R
 both_ok (Ok x) P Q R f p q = f x p q
 both_ok (Err e) P Q R f p q = p
+
+pub same_seek : (a b : Seek) → Some a ≡ Some b → a ≡ b
+same_seek a b e = cc
