@@ -12,8 +12,9 @@ use atomic_table::Seat;
 use std::sync::Wait;
 use std::thread::yield_now;
 
-/// So often a waiting thread looks before it sleeps.
-const LOOKS: u64 = 64;
+/// So often a waiting thread looks before it sleeps. Few times: where other work keeps the processors busy, a thread that yields waits for all of it, and
+/// one that sleeps is run soon after it is woken.
+const LOOKS: u64 = 4;
 
 impl<T: Kept> Gate<T> {
     pub(crate) fn draw_ticket(&self, seat: &mut Seat<Option<T>, Place>) -> u64
