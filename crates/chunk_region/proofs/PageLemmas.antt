@@ -6,7 +6,7 @@ use Rattle.std.proofs.lemmas.Option.{cond_some}
 use Rattle.std.proofs.lemmas.Bool.{and_from, leb-true, le-leb, lt-ltb, ltb-true, and_parts as and_both}
 use Rattle.chunk_region.specs.declared.span.Span.{Span}
 use Rattle.chunk_region.specs.declared.mark.Mark.{Mark}
-use Rattle.chunk_region.specs.Pages.{Pages, bytes_at, part_of, Stands, has_room, on_last_page, mark_of, cut, cut_page, cut_pages, place_on, write_on_last, IsLater, IsLaterPage, IsBefore, IsWritten, WritesOn}
+use Rattle.chunk_region.specs.Pages.{Pages, bytes_at, part_of, Stands, has_room, on_last_page, mark_of, cut, cut_page, cut_pages, place_on, write_on_last, IsLater, IsLaterPage, IsBefore, IsWritten, Keeps, WritesOn, behind}
 
 page_itself : (pages : Pages) (page : List ℕ) → IsLaterPage pages page page
 page_itself [] page = ([], sym (append-nil page))
@@ -320,6 +320,36 @@ stays pages mark span bytes before held = stays_in pages mark.pages mark.last sp
 
 pub stood : (pages : Pages) (mark : Mark) (span : Span) (bytes : List ℕ) → Stands (cut mark pages) span bytes → Stands pages span bytes
 stood pages mark span bytes held = stood_in pages mark.pages mark.last span.page span.start span.len bytes held
+
+-- ---- pages behind others
+
+front_at : (xs ys : Pages) (at start len : ℕ) (bytes : List ℕ) → option_and_then (part_of start len) (slice_get xs at) ≡ Some bytes
+    → option_and_then (part_of start len) (slice_get (xs ++ ys) at) ≡ Some bytes
+front_at [] ys at start len bytes held = cc
+front_at (x ∷ xs) ys zero start len bytes held = held
+front_at (x ∷ xs) ys (suc at) start len bytes held = front_at xs ys at start len bytes held
+
+-- what stands on pages stands there with others behind them
+pub front_keeps : (xs ys : Pages) → Keeps xs (xs ++ ys)
+front_keeps xs ys span bytes held = front_at xs ys span.page span.start span.len bytes held
+
+behind_get : (xs ys : Pages) (at : ℕ) → slice_get (xs ++ ys) (at + length xs) ≡ slice_get ys at
+behind_get [] ys at = let none : at + 0 ≡ at = omega arith in ap (slice_get ys) none
+behind_get (x ∷ xs) ys at =
+    let next : at + suc (length xs) ≡ suc (at + length xs) = omega arith in
+    ap (slice_get (x ∷ xs ++ ys)) next ∙ behind_get xs ys at
+
+-- what stands on pages stands there with others before them, so many pages further on
+pub behind_is : (xs ys : Pages) (span : Span) → bytes_at (xs ++ ys) (behind (length xs) span) ≡ bytes_at ys span
+behind_is xs ys span = ap (option_and_then (part_of span.start span.len)) (behind_get xs ys span.page)
+
+page_within : (pages : Pages) (at start len : ℕ) → IsSome (option_and_then (part_of start len) (slice_get pages at)) → at < length pages
+page_within [] at start len none = cc
+page_within (p ∷ pages) zero start len some = omega arith
+page_within (p ∷ pages) (suc at) start len some = let rest = page_within pages at start len some in omega arith
+
+pub written_within : (pages : Pages) (span : Span) → IsWritten pages span → span.page < length pages
+written_within pages span some = page_within pages span.page span.start span.len some
 
 pub writes_on : WritesOn
 writes_on = record {

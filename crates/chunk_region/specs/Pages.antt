@@ -22,6 +22,10 @@ Stands pages span bytes = bytes_at pages span ≡ Some bytes
 abbrev pub IsWritten : Pages → Span → Type 0
 IsWritten pages span = IsSome (bytes_at pages span)
 
+-- the span where so many pages come before those that it is of
+abbrev pub behind : ℕ → Span → Span
+behind pages span = record { page = span.page + pages; start = span.start; len = span.len }
+
 -- how many bytes are written on the last page
 abbrev pub on_last_page : Pages → ℕ
 on_last_page [] = 0

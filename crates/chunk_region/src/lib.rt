@@ -11,6 +11,7 @@ mod page;
 mod pool;
 mod region;
 mod sealed;
+mod shared;
 mod span;
 
 pub use laws::law_of_writing;
@@ -18,6 +19,7 @@ pub use mark::Mark;
 pub use pool::PagePool;
 pub use region::Region;
 pub use sealed::Sealed;
+pub use shared::Shared;
 pub use span::Span;
 
 #[cfg(test)]

@@ -7,7 +7,8 @@ ghost use Rattle.chunk_region.specs.Pages.{AllBefore, IsLater, IsWritten, Keeps,
 
 use crate::page::{PAGE_BYTES, Page};
 use crate::pool::fill;
-use crate::{Mark, PagePool, Sealed, Span};
+use crate::shared::SharedPage;
+use crate::{Mark, PagePool, Sealed, Shared, Span};
 use std::alloc::AllocError;
 use std::marker::Model;
 
@@ -158,6 +159,19 @@ impl Region {
         ensures { Stands self.now.pages span result.now }
     {
         read(&self.pages, span)
+    }
+
+    /// A copy of what was placed, to be read by the same spans, on pages of just the size of what is written on them.
+    pub fn shared_copy(&self) -> Result<Shared, AllocError>
+        ensures { IfOk result (λ copy. copy ≡ self.now.pages) }
+    {
+        let alloc = *self.pages.allocator();
+        let mut pages = Vec::with_capacity(alloc, self.used)?;
+        for at in 0..self.used {
+            let page = &self.pages[at];
+            pages.push(SharedPage::copy_of(alloc, page.as_slice())?)?;
+        }
+        Ok(Shared { pages })
     }
 
     /// Where the writing ends now, to go back to.

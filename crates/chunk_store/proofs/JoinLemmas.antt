@@ -171,28 +171,22 @@ joins_fewer more (s ∷ ss) k bytes listed =
 
 -- what is gathered of own chunks and of joined segments is what they are sealed to
 pub sealed_is : (segments : List (List Chunk)) (own : List Chunk) → IsSingle (joined segments ++ own)
-    → IsSealed segments own (gather (gather [] own) (joined (joins (length own) segments)))
+    → IsSealed segments own (gather own (joined (joins (length own) segments)))
 sealed_is segments own single =
     let others = joined (joins (length own) segments) in
-    let mine : IsSingle own = single_fewer own (joined segments ++ own) (listed_right (joined segments) own) single in
-    let apart : IsSingle (gather [] own ++ others) =
-    single_fewer (gather [] own ++ others) (joined segments ++ own) (λ k bytes listed.
-    elim (listed_either (gather [] own) others k bytes listed) [
-      | inl first ↦ elim (gather_only [] own k bytes first) [ inl none ↦ absurd none | inr is ↦ listed_right (joined segments) own k bytes is ]
+    let apart : IsSingle (own ++ others) =
+    single_fewer (own ++ others) (joined segments ++ own) (λ k bytes listed.
+    elim (listed_either own others k bytes listed) [
+      | inl first ↦ listed_right (joined segments) own k bytes first
       | inr second ↦ listed_left (joined segments) own k bytes (joins_fewer (length own) segments k bytes second)
     ]) single in
-    let first = gather_size [] own in
-    let second = gather_size (gather [] own) others in
     record {
       union = record {
-        left = λ k bytes listed. gather_keeps (gather [] own) others k bytes (gather_has [] own k bytes mine listed);
-        right = λ k bytes listed. gather_has (gather [] own) others k bytes apart listed;
-        only = λ k bytes listed. elim (gather_only (gather [] own) others k bytes listed) [
-          | inl front ↦ elim (gather_only [] own k bytes front) [ inl none ↦ absurd none | inr is ↦ inl is ]
-          | inr later ↦ inr later
-        ];
+        left = λ k bytes listed. gather_keeps own others k bytes listed;
+        right = λ k bytes listed. gather_has own others k bytes apart listed;
+        only = λ k bytes listed. gather_only own others k bytes listed;
       };
-      size = omega arith;
+      size = gather_size own others;
     }
 
 -- ---- places of segments

@@ -170,16 +170,13 @@ found_at pages (c ∷ cs) k =
     ap (λ o. cond (bytes_eq c.address.0 k) (Some (written pages c.span)) o) (found_at pages cs k)
     ∙ map_case (bytes_eq c.address.0 k) (written pages) c.span (span_at cs k)
 
-pub absent_at : (pages : Pages) (cs : List Placed) (k : List ℕ) → span_at cs k ≡ None → bytes_at (chunks_in pages cs) k ≡ None
-absent_at pages cs k none = found_at pages cs k ∙ ap (option_map (written pages)) none
-
 some_map : (f : Span → List ℕ) (o : Option Span) → is_some (option_map f o) ≡ is_some o
 some_map f None = refl
 some_map f (Some s) = refl
 
--- where a chunk lies, bytes are found
-pub found_there : (pages : Pages) (cs : List Placed) (k : List ℕ) → is_some (span_at cs k) ≡ true → is_some (bytes_at (chunks_in pages cs) k) ≡ true
-found_there pages cs k is = ap (λ (o : Option (List ℕ)). is_some o) (found_at pages cs k) ∙ some_map (written pages) (span_at cs k) ∙ is
+-- bytes are found just where a chunk lies
+pub same_found : (pages : Pages) (cs : List Placed) (k : List ℕ) → is_some (bytes_at (chunks_in pages cs) k) ≡ is_some (span_at cs k)
+same_found pages cs k = ap (λ (o : Option (List ℕ)). is_some o) (found_at pages cs k) ∙ some_map (written pages) (span_at cs k)
 
 found_case : (t : Bool) (P : Span → Type 0) (s found : Span) (o : Option Span) → cond t (Some s) o ≡ Some found → P s → (o ≡ Some found → P found) → P found
 found_case true P s found o is here later = let same : s ≡ found = cc in subst P same here

@@ -1,9 +1,9 @@
 -- Chunks placed on pages, found by address.
-use Rattle.std.specs.Prelude.{◌≡◌, ◌≤◌, ◌++◌, ℕ, length, List, [], ◌∷◌, Option, Some, None, map, if◌then◌else◌, bytes_eq, unwrap_or}
+use Rattle.std.specs.Prelude.{◌≡◌, ◌≤◌, ◌++◌, ℕ, length, List, [], ◌∷◌, Option, Some, None, map, if◌then◌else◌, bytes_eq, is_some, unwrap_or}
 use Rattle.std.specs.List.{AllByRecursion}
 use Rattle.chunk_region.specs.declared.span.Span.{Span}
 use Rattle.chunk_region.specs.Pages as region
-use Rattle.chunk_region.specs.Pages.{Pages, IsWritten, IsBefore}
+use Rattle.chunk_region.specs.Pages.{Pages, IsWritten, IsBefore, behind}
 use Rattle.chunk_store.specs.declared.index.Placed.{Placed}
 use Rattle.chunk_store.specs.Chunks.{Chunk, AreNamed, IsSingle}
 
@@ -16,6 +16,19 @@ pub record Indexed : Type 0 where
 abbrev pub span_at : List Placed → List ℕ → Option Span
 span_at [] k = None
 span_at (c ∷ cs) k = if bytes_eq c.address.0 k then Some c.span else span_at cs k
+
+-- a chunk that lies so many pages further on
+abbrev pub placed_behind : ℕ → Placed → Placed
+placed_behind pages c = record { address = c.address; span = behind pages c.span; before = c.before }
+
+-- a chunk more, where none of its address is there
+abbrev pub with_placed : List Placed → Placed → List Placed
+with_placed placed c = if is_some (span_at placed c.address.0) then placed else placed ++ c ∷ []
+
+-- chunks, and of others those whose addresses aren't there
+abbrev pub gather_placed : List Placed → List Placed → List Placed
+gather_placed placed [] = placed
+gather_placed placed (c ∷ more) = gather_placed (with_placed placed c) more
 
 -- no two chunks have one address
 abbrev pub AreApart : List Placed → Type 0

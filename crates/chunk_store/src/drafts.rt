@@ -6,10 +6,8 @@ ghost use Rattle.chunk_region.specs.Pages.{Pages};
 ghost use Rattle.chunk_store.specs.Chunks.{Agree, AreNamed, IsHeld, IsSingle, bytes_at};
 ghost use Rattle.chunk_store.specs.Clashes.{IsCause};
 ghost use Rattle.chunk_store.specs.Drafts.{IsSound, Puts, TakesAtMostOnePage, chunks_of, cut_to, pages_in};
-ghost use Rattle.chunk_store.specs.Building.{gather};
 ghost use Rattle.chunk_store.specs.Stores.{IsSealed, all_chunks};
 
-use crate::building::Building;
 use crate::faults::{PutFault, is_there};
 use crate::index::{Index, Placed};
 use crate::segments::Segment;
@@ -214,8 +212,16 @@ impl<D: Digester> Draft<D> {
         self.fits(&store)?;
         let pool = PagePool::with_pages(self.index.allocator(), 0)?;
         let mut draft = Draft::new(store, pool);
+        draft.reserve(self.own_count())?;
         self.copy_into(&mut draft)?;
         Ok(draft)
+    }
+
+    /// Takes the memory for finding so many own chunks more.
+    fn reserve(&mut self, chunks: usize) -> Result<(), AllocError>
+        ensures { self.new ≡ self.old }
+    {
+        self.index.make_room(chunks)
     }
 
     /// Adds the own chunks to those of a draft that has none and whose store agrees with them.
@@ -272,7 +278,8 @@ impl<D: Digester> Draft<D> {
     /// Seals the own chunks, to be appended to a store, and gives back the pool, with all pages free.
     ///
     /// The store's last segments are joined to them, from the first one on that has less than twice as many chunks as come
-    /// after it, so that a store to which this is appended has few segments. The segment's bytes lie on pages of its own.
+    /// after it, so that a store to which this is appended has few segments. The bytes of the own chunks are copied; the
+    /// pages of the segments that are joined are shared with these.
     pub fn seal(self) -> Result<(Arc<Segment>, PagePool), SealFault<D>>
         ensures sealed { IfOk result (λ sealed. IsSealed self.segments self.chunks.own (arc_value sealed.0)) }
         ensures pool { IfOk result (λ sealed. sealed.1.free ≡ pages_in self) }
@@ -288,23 +295,10 @@ impl<D: Digester> Draft<D> {
     fn gathered(&self) -> Result<Arc<Segment>, AllocError>
         ensures { IfOk result (λ sealed. IsSealed self.now.segments self.now.chunks.own (arc_value sealed)) }
     {
-        let alloc = self.index.allocator();
-        let mut building = Building::new(alloc)?;
-        self.gather_own(&mut building)?;
         let from = self.base.joined_from(self.index.len());
-        self.base.gather_from(from, &mut building)?;
-        Ok(Arc::new(alloc, building.seal())?)
-    }
-
-    /// Adds the own chunks to a segment that is put together.
-    fn gather_own(&self, building: &mut Building) -> Result<(), AllocError>
-        ensures { OnOk result (building.new ≡ gather building.old self.now.chunks.own) }
-    {
-        building.reserve(self.own_count())?;
-        for at in 0..self.own_count() {
-            let (address, bytes) = self.own_chunk(at);
-            building.add(address, bytes)?;
-        }
-        Ok(())
+        let more = self.base.count_from(from);
+        let own = Segment::of(&self.index, &self.region, more)?;
+        let whole = self.base.joined_by(from, own)?;
+        Ok(Arc::new(self.index.allocator(), whole)?)
     }
 }

@@ -1,7 +1,8 @@
 //! Where chunks lie in a region, found by address.
 
-ghost use Rattle.std.specs.Prelude.{◌≡◌, ◌<◌, ◌≤◌, ◌++◌, [], ◌∷◌, true, false, length, slice_get, take, Some, None, is_some, OnOk};
-ghost use Rattle.chunk_store.specs.Placing.{AreApart, span_at};
+ghost use Rattle.std.specs.Prelude.{◌≡◌, ◌+◌, ◌<◌, ◌≤◌, ◌^◌, ◌++◌, [], ◌∷◌, true, false, length, map, slice_get, take, Some, None, is_some, IfOk, OnOk};
+ghost use Rattle.std.specs.List.{AllByRecursion};
+ghost use Rattle.chunk_store.specs.Placing.{AreApart, gather_placed, placed_behind, span_at};
 
 use chunk_region::{Mark, Span};
 use std::alloc::{AllocError, Global};
@@ -15,6 +16,21 @@ pub(crate) struct Placed {
     pub(crate) address: Address,
     pub(crate) span: Span,
     pub(crate) before: Mark,
+}
+
+impl Placed {
+    /// The chunk where so many pages come before those that it lies on.
+    fn behind(self, pages: u32) -> Placed
+        requires { self.span.page + pages < 2 ^ 32 }
+        ensures { result ≡ placed_behind pages self }
+    {
+        let page = self.span.page + pages;
+        Placed {
+            address: self.address,
+            span: Span { page, ..self.span },
+            before: self.before,
+        }
+    }
 }
 
 /// Chunks in the order in which they were placed, with a table that finds them by address.
@@ -115,6 +131,32 @@ impl Index {
             },
             Err(_) => unreachable!(),
         }
+    }
+
+    /// A copy, with room for so many chunks more.
+    pub(crate) fn copied(&self, more: usize) -> Result<Index, AllocError>
+        ensures { IfOk result (λ copy. copy.placed ≡ self.now.placed) }
+    {
+        let mut copy = Index::new(self.allocator());
+        copy.make_room(self.len().saturating_add(more))?;
+        for at in 0..self.len() {
+            copy.make_room(1)?;
+            copy.push(self.at(at));
+        }
+        Ok(copy)
+    }
+
+    /// Adds the chunks of another index whose addresses aren't there, where so many pages come before those that they
+    /// lie on.
+    pub(crate) fn join(&mut self, other: &Index, pages: u32) -> Result<(), AllocError>
+        requires { AllByRecursion (λ c. c.span.page + pages < 2 ^ 32) other.now.placed }
+        ensures { OnOk result (self.new.placed ≡ gather_placed self.old.placed (map (placed_behind pages) other.now.placed)) }
+    {
+        for at in 0..other.len() {
+            self.make_room(1)?;
+            let _added = self.add(other.at(at).behind(pages));
+        }
+        Ok(())
     }
 
     /// Takes away all chunks but the first so many.

@@ -4,7 +4,6 @@
 //! list of chunks holds at an address) and `specs/Drafts.antt` (what a draft holds, and what putting bytes adds).
 #![tactic(auto)]
 
-mod building;
 mod crossing;
 mod digests;
 mod drafts;
@@ -131,5 +130,8 @@ mod tests {
             store.append(segment).expect(&rt, "no collision");
         }
         assert_eq!(rt; store.segments(), 2);
+        let first = Sha512Cut::address_of(b"a");
+        let found = store.get(&first).expect(&rt, "the first chunk");
+        assert_eq!(rt; found, b"a".as_slice());
     }
 }

@@ -1,19 +1,22 @@
 //! A segment: chunks that were sealed together.
 
-ghost use Rattle.std.specs.Prelude.{◌≡◌, ◌<◌, ◌≤◌, ◌++◌, length, drop, option_map, slice_get, Some, is_some, IfSome};
+ghost use Rattle.std.specs.Prelude.{◌≡◌, ◌<◌, ◌≤◌, ◌++◌, length, drop, option_map, slice_get, Some, is_some, IfOk, IfSome};
+ghost use Rattle.chunk_store.specs.Building.{gather};
+ghost use Rattle.chunk_store.specs.Placing.{ArePlaced, chunks_in};
 ghost use Rattle.chunk_store.specs.Chunks.{IsSingle, bytes_at};
 ghost use Rattle.chunk_store.specs.Stores.{is_within};
 
 use crate::index::Index;
-use chunk_region::Sealed;
+use chunk_region::{Region, Shared};
+use std::alloc::AllocError;
 use std::marker::Model;
 use tuple_codec::Address;
 
 /// Chunks that were sealed together, never to change again. A contract sees the list of them.
 #[derive(Debug, Drop)]
 pub struct Segment {
-    pub(crate) index: Index,
-    pub(crate) sealed: Sealed,
+    index: Index,
+    sealed: Shared,
 }
 
 impl Model for Segment {
@@ -29,6 +32,28 @@ impl Model for Segment {
 }
 
 impl Segment {
+    /// Chunks of a region, copied to pages of just their size, with room to find so many more.
+    pub(crate) fn of(index: &Index, region: &Region, more: usize) -> Result<Segment, AllocError>
+        requires { ArePlaced region.now.pages index.now.placed }
+        ensures { IfOk result (λ segment. segment ≡ chunks_in region.now.pages index.now.placed) }
+    {
+        let index = index.copied(more)?;
+        let sealed = region.shared_copy()?;
+        Ok(Segment { index, sealed })
+    }
+
+    /// Its chunks, and behind them those of another segment whose addresses it hasn't. The other one's pages are shared,
+    /// and lie behind its own.
+    pub(crate) fn joined(self, other: &Segment) -> Result<Segment, AllocError>
+        ensures { IfOk result (λ both. both ≡ gather self other.now) }
+    {
+        let Segment { mut index, sealed } = self;
+        let pages = sealed.pages();
+        let sealed = sealed.joined(&other.sealed)?;
+        index.join(&other.index, pages)?;
+        Ok(Segment { index, sealed })
+    }
+
     /// How many chunks it has.
     pub(crate) fn len(&self) -> usize
         ensures count { result ≡ length self.now }

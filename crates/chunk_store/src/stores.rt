@@ -8,7 +8,6 @@ ghost use Rattle.chunk_store.specs.Clashes.{Differ, IsCause};
 ghost use Rattle.chunk_store.specs.Building.{gather};
 ghost use Rattle.chunk_store.specs.Stores.{AreSome, IsMatched, IsUnion, all_chunks, drop_held, joined, joins, with_segment};
 
-use crate::building::Building;
 use crate::faults::{PutFault, is_there};
 use crate::segments::Segment;
 use std::alloc::{AllocError, Global};
@@ -200,16 +199,29 @@ impl Store {
         from
     }
 
-    /// Adds the chunks of the segments from one on to a segment that is put together.
-    pub(crate) fn gather_from(&self, from: usize, building: &mut Building) -> Result<(), AllocError>
+    /// How many chunks the segments from one on have, or 2^64 - 1 where they have more.
+    pub(crate) fn count_from(&self, from: usize) -> usize
         requires { from ≤ length self.now.segments }
-        ensures { OnOk result (building.new ≡ gather building.old (joined (drop from self.now.segments))) }
     {
+        let mut count: usize = 0;
         for at in from..self.segments.len() {
             let segment = &self.segments[at];
-            building.add_all(segment)?;
+            count = count.saturating_add(segment.len());
         }
-        Ok(())
+        count
+    }
+
+    /// A segment, joined by the segments from one on.
+    pub(crate) fn joined_by(&self, from: usize, own: Segment) -> Result<Segment, AllocError>
+        requires { from ≤ length self.now.segments }
+        ensures { IfOk result (λ whole. whole ≡ gather own (joined (drop from self.now.segments))) }
+    {
+        let mut whole = own;
+        for at in from..self.segments.len() {
+            let segment = &self.segments[at];
+            whole = whole.joined(segment)?;
+        }
+        Ok(whole)
     }
 
     /// Refuses a segment that has other bytes than this store at some address.

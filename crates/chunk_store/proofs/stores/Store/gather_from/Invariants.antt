@@ -1,7 +1,0 @@
-use Rattle.std.proofs.Common.{◌≡◌, ◌≤◌, drop}
-use Rattle.chunk_store.specs.Building.{gather}
-use Rattle.chunk_store.specs.Stores.{joined}
-use Rattle.chunk_store.proofs.stores.Store.gather_from.Given as goal
-
-abbrev pub invariant-loop-at : goal.invariant-loop-at
-invariant-loop-at l = gather l.building (joined (drop l.at l.self.segments)) ≡ gather l.fn.building (joined (drop l.from l.self.segments))
