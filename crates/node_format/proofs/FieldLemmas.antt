@@ -155,7 +155,7 @@ unfolding item_at
 item_takes zero bytes x fits e = leaf_takes bytes x fits e
 item_takes (suc level) bytes x fits e = inner_takes level bytes x fits e
 
-leaf_again : (item : Item) (rest : List ℕ) → IsItem 0 item → leaf_at (item_bytes 0 item ++ rest) ≡ Some (item, rest)
+pub leaf_again : (item : Item) (rest : List ℕ) → IsItem 0 item → leaf_at (item_bytes 0 item ++ rest) ≡ Some (item, rest)
 unfolding leaf_at
 leaf_again item rest is =
     let regrouped : item_bytes 0 item ++ rest ≡ sized item.key ++ (sized item.body ++ rest) = append_assoc (sized item.key) (sized item.body) rest in
@@ -164,7 +164,7 @@ leaf_again item rest is =
     let same : leaf_item item.key item.body ≡ item = ap (λ (n : ℕ). record { key = item.key; body = item.body; rows = n }) (sym is.2) in
     read ∙ ap (λ (i : Item). Some (i, rest)) same
 
-inner_again : (level : ℕ) (item : Item) (rest : List ℕ) → IsItem (suc level) item → inner_at (item_bytes (suc level) item ++ rest) ≡ Some (item, rest)
+pub inner_again : (level : ℕ) (item : Item) (rest : List ℕ) → IsItem (suc level) item → inner_at (item_bytes (suc level) item ++ rest) ≡ Some (item, rest)
 unfolding inner_at
 inner_again level item rest is =
     let number = to_be_bytes w64 item.rows in

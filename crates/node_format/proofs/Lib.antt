@@ -2,6 +2,7 @@ pub mod BuildLemmas
 pub mod EndLemmas
 pub mod FieldLemmas
 pub mod ItemLemmas
+pub mod KnownLemmas
 pub mod MarkLemmas
 pub mod NodeLemmas
 pub mod ScanLemmas

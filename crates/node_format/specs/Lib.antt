@@ -1,5 +1,6 @@
 pub mod Views
 pub mod Reading
+pub mod Known
 pub mod Marks
 pub mod Faults
 pub mod Found

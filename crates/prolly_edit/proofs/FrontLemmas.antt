@@ -29,6 +29,10 @@ pub over_is : (level : ℕ) (items : List Item) → is_over (on_level level item
 over_is level [] = refl
 over_is level (item ∷ items) = sym (eqb-suc-zero (length items))
 
+pub some_left : (level : ℕ) (items : List Item) → is_over (on_level level items) ≡ false → 0 < length items
+some_left level [] over = absurd cc
+some_left level (item ∷ items) over = omega arith
+
 -- a path without a step has no node left, and one with a step has
 pub over_path : (steps : List Node) → HaveNames steps → is_over (front_of steps) ≡ (length steps == 0)
 over_path [] have = refl

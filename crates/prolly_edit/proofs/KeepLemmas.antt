@@ -77,12 +77,6 @@ size_next level items at item size more here more_is size_is =
     ap (λ l. length (items_bytes level l)) (take_next items at item here) in
     omega (arith, e, items_more level (take at items) item)
 
--- the same from behind
-pub size_before : (level : ℕ) (items : List Item) (at : ℕ) (item : Item) (size more : ℕ) → slice_get items at ≡ Some item → more ≡ length (item_bytes level item)
-    → size ≡ 4 + length (items_bytes level (take (at + 1) items)) → size ≡ more + (4 + length (items_bytes level (take at items)))
-size_before level items at item size more here more_is size_is =
-    omega (arith, size_next level items at item (4 + length (items_bytes level (take at items))) more here more_is refl)
-
 pub size_within : (level : ℕ) (items : List Item) (n : ℕ) → length (bytes_of level items) ≤ 65536 → 4 + length (items_bytes level (take n items)) ≤ 65536
 size_within level items n small = omega (arith, bytes_length level items, items_part level items n)
 
@@ -95,16 +89,6 @@ name_size (suc level) item above body =
       length-append (item.key ++ item.body) (to_be_bytes w64 item.rows),
       length-append item.key item.body,
       wide64.len item.rows,
-    )
-
-pub name_within : (level : ℕ) (items : List Item) (at : ℕ) (item : Item) → 0 < level → length item.body ≡ 20 → slice_get items at ≡ Some item
-    → length (bytes_of level items) ≤ 65536 → 30 + length item.key ≤ 65536
-name_within level items at item above body here small =
-    omega (
-      arith,
-      name_size level item above body,
-      size_next level items at item (4 + length (items_bytes level (take at items))) (length (item_bytes level item)) here refl refl,
-      size_within level items (at + 1) small,
     )
 
 -- an item that isn't the last doesn't end its node where it stands

@@ -1,4 +1,5 @@
 pub mod KeepLemmas
+pub mod NameLemmas
 pub mod EditLemmas
 pub mod StageLemmas
 pub mod FrontLemmas

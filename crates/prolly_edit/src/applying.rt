@@ -21,11 +21,11 @@ ghost use Rattle.prolly_edit.specs.Stages.{Awaits, IsBefore, IsGoing, IsRead, Is
 
 use crate::merging::{edit_rows, is_past, put_edits};
 use crate::paths::{Name, Path};
-use crate::reading::{bytes_at, node_of, step_at};
+use crate::reading::{bytes_at, step_at};
 use chunk_store::{Draft, PutFault};
 use node_chunker::Tower;
-use node_format::RefItem;
-use prolly_tree::node_at;
+use node_format::{KnownNode, RefItem};
+use prolly_tree::known_at;
 use std::alloc::{AllocError, Global};
 use tuple_codec::{Address, Digester, Edit};
 
@@ -49,10 +49,12 @@ pub fn apply<D: Digester>(
 {
     let mut tower = Tower::new(alloc)?;
     let mut path = Path::new(alloc);
-    let level = node_at(draft, root).level();
+    let level = known_at(draft, root).level();
     let mut left = read(alloc, draft, &mut tower, &mut path, edits, level, root)?;
-    'parts: while let Some((level, name)) = path.next() {
+    let mut room = Vec::new(alloc);
+    'parts: while let Some((level, name)) = path.next(room)? {
         left = turn(alloc, draft, &mut tower, &mut path, left, level, &name)?;
+        room = name.item.key.into_vec();
     }
     put_edits(&mut tower, draft, left)?;
     tower.finish(draft)
@@ -155,6 +157,6 @@ fn read_rows<'a, D: Digester>(
     ensures cause { IfErr result (IsReason D.address (chunks_of draft.new.chunks)) }
 {
     let bytes = bytes_at(alloc, draft, address)?;
-    let leaf = node_of(&bytes);
+    let leaf = KnownNode::of(&bytes);
     edit_rows(tower, draft, edits, &leaf)
 }

@@ -14,7 +14,7 @@ ghost use Rattle.prolly_edit.specs.Stages.{Awaits, IsFirstAt, IsFirstBefore, are
 use crate::reading::steps_at;
 use chunk_store::{Draft, PutFault};
 use node_chunker::Tower;
-use node_format::{NodeRef, row_size};
+use node_format::{KnownNode, first_row, row_size};
 use tuple_codec::{Digester, Edit};
 
 /// Pushes a row; no leaf of fewer than so many steps ends after it.
@@ -176,7 +176,7 @@ pub(crate) fn edit_rows<'a, D: Digester>(
     tower: &mut Tower,
     draft: &mut Draft<D>,
     edits: &'a [Edit],
-    leaf: &NodeRef<'_>,
+    leaf: &KnownNode<'_>,
 ) -> Result<&'a [Edit], PutFault>
     requires leaf { leaf.now.level ≡ 0 }
     requires small { length (node_bytes leaf.now) ≤ 65536 }
@@ -189,9 +189,13 @@ pub(crate) fn edit_rows<'a, D: Digester>(
 {
     let mut left = edits;
     let mut size = 4;
+    let mut rest = leaf.items();
     for at in 0..leaf.count() {
-        let (key, value) = leaf.leaf_item(at);
-        size += row_size(key, value);
+        let (key, value) = first_row(rest);
+        let wide = row_size(key, value);
+        let (_, others) = rest.split_at(wide as usize);
+        size += wide;
+        rest = others;
         let steps = steps_at(leaf, at, size);
         left = edit_row(tower, draft, left, key, value, steps)?;
     }

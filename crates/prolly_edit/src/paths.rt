@@ -1,44 +1,48 @@
 //! What a walk through a tree has left, apart from the draft that changes meanwhile.
 
-ghost use Rattle.std.specs.Prelude.{◌≡◌, ◌<◌, ◌∷◌, ◌++◌, [], ℕ, suc, List, MatchOption, IfSome, OnOk, length, map, reverse};
-ghost use Rattle.tuple_codec.specs.Nodes.{Item, Node};
+ghost use Rattle.std.specs.Prelude.{◌≡◌, ◌<◌, ◌≤◌, ◌-◌, ◌∷◌, ◌++◌, [], ℕ, suc, false, List, MatchOption, IfOk, IfSome, OnOk, length};
+ghost use Rattle.tuple_codec.specs.Nodes.{IsNode, Item, Node, ends, node_bytes};
 ghost use Rattle.node_format.specs.Outlasting.{Outlasts};
-ghost use Rattle.prolly_edit.specs.Names.{AreKnown, item_of};
+ghost use Rattle.prolly_edit.specs.Keeping.{StaysOpen};
+ghost use Rattle.prolly_edit.specs.Names.{item_of};
 ghost use Rattle.prolly_edit.specs.Fronts.{front_of, is_over};
 ghost use Rattle.prolly_tree.specs.Fronts.{on_level};
 
-use node_format::RefItem;
+use node_format::{KnownNode, RefItem, first_name, steps_of};
 use smallvec::SmallVec;
 use std::alloc::{AllocError, Global};
 use std::default::MadeWith;
 use std::marker::{Model, PhantomData};
-use tuple_codec::Digester;
+use tuple_codec::{Blob, Digester};
 
 /// The name of a node, and how many steps it outlasts where it stands, as its old place tells.
-#[derive(Debug, Drop)]
+#[derive(Drop)]
 pub(crate) struct Name {
     pub item: RefItem,
     pub steps: u32,
 }
 
-/// The names of nodes of one level, which stand in one node: the last comes first.
+/// The names of nodes of one level that are left of an inner node, in the node's bytes.
 #[derive(Drop)]
 pub(crate) struct Step<D: Digester> {
     level: u8,
-    names: Vec<Name>,
+    taken: u16,
+    left: u16,
+    // where the first of those left begins
+    start: usize,
+    bytes: Vec<u8>,
     digester: PhantomData<D>,
 }
 
 impl<D: Digester> Model for Step<D> {
-    ghost use Rattle.std.specs.Prelude.{map, reverse, suc};
     ghost use Rattle.tuple_codec.specs.Nodes.{Node};
-    ghost use Rattle.prolly_edit.specs.Names.{AreKnown, item_of};
+    ghost use Rattle.prolly_edit.specs.Names.{AreLeft, names_from};
 
     ghost Value = { Node };
 
-    ghost view = { λ s. record { level = s.level; items = reverse (map item_of s.names.items) } };
+    ghost view = { λ s. record { level = s.level; items = names_from s.level s.left s.start s.bytes.items } };
 
-    ghost invariant = { λ s. AreKnown D.address (suc s.level) s.names.items };
+    ghost invariant = { λ s. AreLeft D.address s.level s.taken s.left s.start s.bytes.items (names_from s.level s.left s.start s.bytes.items) };
 }
 
 /// A step that has nothing left.
@@ -46,21 +50,30 @@ impl<D: Digester> MadeWith<Global> for Step<D> {
     fn made_with(alloc: Global) -> Step<D> {
         Step {
             level: 0,
-            names: Vec::new(alloc),
+            taken: 0,
+            left: 0,
+            start: 0,
+            bytes: Vec::new(alloc),
             digester: PhantomData,
         }
     }
 }
 
 impl<D: Digester> Step<D> {
-    /// The names of nodes of this level, given from the last to the first.
-    pub(crate) fn new(level: u8, names: Vec<Name>) -> Step<D>
-        requires { AreKnown D.address (suc level) names.items }
-        ensures { result ≡ record { level = level; items = reverse (map item_of names.items) } }
+    /// The names in the inner node whose bytes these are.
+    pub(crate) fn new(bytes: Vec<u8>) -> Step<D>
+        requires { (node : Node) × (bytes.items ≡ node_bytes node) × IsNode node × (0 < node.level) × (length (node_bytes node) ≤ 65536) × StaysOpen D.address node.level node.items }
+        ensures { (node : Node) → bytes.items ≡ node_bytes node → IsNode node → 0 < node.level → result ≡ record { level = node.level - 1; items = node.items } }
     {
+        let node = KnownNode::of(&bytes);
+        let level = node.level() - 1;
+        let left = node.count();
         Step {
             level,
-            names,
+            taken: 0,
+            left,
+            start: 4,
+            bytes,
             digester: PhantomData,
         }
     }
@@ -74,17 +87,44 @@ impl<D: Digester> Step<D> {
     fn is_empty(&self) -> bool
         ensures { result ≡ is_over (on_level self.now.level self.now.items) }
     {
-        self.names.is_empty()
+        self.left == 0
     }
 
-    /// Takes the first name.
-    fn next(&mut self) -> Option<Name>
+    /// Takes the first name; its key goes into the room.
+    fn next(&mut self, room: Vec<u8>) -> Result<Name, AllocError>
+        requires { 0 < length self.old.items }
         ensures level { self.new.level ≡ self.old.level }
-        ensures items { MatchOption result (self.old.items ≡ []) (λ name. self.old.items ≡ item_of name ∷ self.new.items) }
-        ensures known { IfSome result (λ name. Outlasts D.address (suc self.old.level) name.steps (item_of name).key) }
+        ensures items { IfOk result (λ name. self.old.items ≡ item_of name ∷ self.new.items) }
+        ensures known { IfOk result (λ name. Outlasts D.address (suc self.old.level) name.steps (item_of name).key) }
     {
-        self.names.pop()
+        let (_, names) = self.bytes.split_at(self.start);
+        let (key, address, rows) = first_name(names);
+        let end = self.start + 30 + key.len();
+        let key = Blob::from_vec(copied(room, key)?);
+        let item = RefItem { key, address, rows };
+        let steps = steps_of_next(self.left, end as u32, u32::from(self.taken) + 1);
+        self.taken += 1;
+        self.left -= 1;
+        self.start = end;
+        Ok(Name { item, steps })
     }
+}
+
+/// Bytes copied into room that is there.
+fn copied(room: Vec<u8>, bytes: &[u8]) -> Result<Vec<u8>, AllocError>
+    ensures { IfOk result (λ copy. copy.items ≡ bytes.now) }
+{
+    let mut room = room;
+    room.clear();
+    room.extend_from_slice(bytes)?;
+    Ok(room)
+}
+
+/// How many steps an item outlasts, by which a node has so many bytes and items: none are known of the last.
+fn steps_of_next(left: u16, size: u32, count: u32) -> u32
+    ensures { (address : List ℕ → List ℕ) (level : ℕ) (key : List ℕ) → (1 < left → ends address level size count key ≡ false) → Outlasts address level result key }
+{
+    if left > 1 { steps_of(size, count) } else { 0 }
 }
 
 /// The nodes that a walk hasn't read yet, in the order of their keys; each step has a name.
@@ -128,20 +168,24 @@ impl<D: Digester> Path<D> {
         Ok(())
     }
 
-    /// Takes the first node: its level, and the item that names it.
-    pub(crate) fn next(&mut self) -> Option<(u8, Name)>
-        ensures front { MatchOption result (self.old ≡ []) (λ part. self.old ≡ (part.0, item_of part.1) ∷ self.new) }
-        ensures known { IfSome result (λ part. Outlasts D.address (suc part.0) part.1.steps (item_of part.1).key) }
+    /// Takes the first node: its level, and the item that names it, whose key goes into the room.
+    pub(crate) fn next(&mut self, room: Vec<u8>) -> Result<Option<(u8, Name)>, AllocError>
+        ensures front { IfOk result (λ next. MatchOption next (self.old ≡ []) (λ part. self.old ≡ (part.0, item_of part.1) ∷ self.new)) }
+        ensures known { IfOk result (λ next. IfSome next (λ part. Outlasts D.address (suc part.0) part.1.steps (item_of part.1).key)) }
     {
         // a length is within the capacity, so a step that was taken out has room when it is put back
         let _depth = self.steps.len();
-        let mut step = self.steps.pop()?;
-        let level = step.level();
-        let name = step.next()?;
-        if step.is_empty() {
-            return Some((level, name));
+        match self.steps.pop() {
+            None => Ok(None),
+            Some(mut step) => {
+                let level = step.level();
+                let name = step.next(room)?;
+                if step.is_empty() {
+                    return Ok(Some((level, name)));
+                }
+                self.steps.push_reserved(step);
+                Ok(Some((level, name)))
+            }
         }
-        self.steps.push_reserved(step);
-        Some((level, name))
     }
 }

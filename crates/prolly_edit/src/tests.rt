@@ -1,3 +1,5 @@
+//! Edited trees beside trees that are built anew.
+
 ghost use Rattle.std.specs.Prelude.{◌≡◌, ◌≤◌, ◌<◌, ◌+◌, ◌-◌, ◌^◌, ℕ, map, length, IfOk, OnOk};
 ghost use Rattle.std.specs.Int.{w64, to_be_bytes};
 ghost use Rattle.node_format.specs.Views.{leaf_of};

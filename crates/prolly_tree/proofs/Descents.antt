@@ -60,7 +60,7 @@ upto_each f (item ∷ items) all rise = (
   upto_each f items all.1 (rise_right None (f item) (each_of f items) rise),
 )
 
-all_at : (P : Item → Type 0) (items : List Item) (at : ℕ) (item : Item) → AllByRecursion P items → slice_get items at ≡ Some item → P item
+pub all_at : (P : Item → Type 0) (items : List Item) (at : ℕ) (item : Item) → AllByRecursion P items → slice_get items at ≡ Some item → P item
 all_at P [] at item all is = absurd (none_some item is)
 all_at P (first ∷ items) zero item all is = subst P (item_same first item is) all.0
 all_at P (first ∷ items) (suc at) item all is = all_at P items at item all.1 is

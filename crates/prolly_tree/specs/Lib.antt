@@ -3,3 +3,4 @@ pub mod Walks
 pub mod Heads
 pub mod Samples
 pub mod Fronts
+pub mod Meets

@@ -1,8 +1,11 @@
 -- Lists of rows by rising key: the rest from a key on.
-use Rattle.std.specs.Prelude.{ℕ, suc, if◌then◌else◌, List, [], ◌∷◌, Option, None, Some, bytes_eq}
+use Rattle.std.specs.Prelude.{ℕ, suc, Bool, if◌then◌else◌, List, [], ◌∷◌, Option, None, Some, is_some, bytes_eq}
+use Rattle.std.specs.List.{list_any}
 use Rattle.std.specs.Ordering.{nat_cmp, is_lt}
 use Rattle.std.specs.Cmp.Lexicographic.{slice_cmp}
+use Rattle.tuple_codec.specs.Edits.{value_at}
 use Rattle.tuple_codec.specs.Nodes.{Item}
+use Rattle.tuple_codec.specs.declared.edits.Edit.{Edit}
 use Rattle.chunk_store.specs.Chunks.{Chunks}
 use Rattle.chunk_store.specs.Standing.{IsTree}
 
@@ -28,3 +31,7 @@ first_of key (row ∷ rows) = if bytes_eq row.key key then Some row.body else No
 -- a row as its key and its value
 abbrev pub pair_of : Item → List ℕ × List ℕ
 pair_of row = (row.key, row.body)
+
+-- whether a row has the key of an edit
+abbrev pub has_any : List Item → List Edit → Bool
+has_any rows edits = list_any (λ edit. is_some (value_at edit.key rows)) edits

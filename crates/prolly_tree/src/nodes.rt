@@ -1,21 +1,21 @@
 //! Nodes that are found at addresses, and what is looked up in them.
 
-ghost use Rattle.std.specs.Prelude.{◌≡◌, ◌<◌, ◌≤◌, ◌^◌, ℕ, List, Some, length, option_map, slice_get};
+ghost use Rattle.std.specs.Prelude.{◌≡◌, ◌<◌, ◌≤◌, ℕ, List, Some, length, option_map, slice_get};
 ghost use Rattle.std.specs.Ordering.{nat_cmp, is_lt};
 ghost use Rattle.std.specs.Cmp.Lexicographic.{slice_cmp};
 ghost use Rattle.tuple_codec.specs.Nodes.{Item, Node, IsNode};
-ghost use Rattle.tuple_codec.specs.Trees.{rows_in};
 ghost use Rattle.chunk_store.specs.Drafts.{chunks_of};
 ghost use Rattle.chunk_store.specs.Standing.{IsTree};
 ghost use Rattle.tree_laws.specs.Standing.{IsOpen, IsStored, rows_below};
 ghost use Rattle.tuple_codec.specs.Edits.{value_at};
 ghost use Rattle.prolly_tree.specs.Lists.{StandsForRows, first_of, from_key, place_of};
 
+use crate::passing::{address_from, rows_in, value_from};
 use chunk_store::Draft;
-use node_format::NodeRef;
+use node_format::{KnownNode, NodeRef};
 use tuple_codec::{Address, Digester};
 
-/// The value of the row with this key. One node a level is read, and each is searched by halves.
+/// The value of the row with this key. One node a level is gone through, from its front up to the key.
 pub fn get<'a, D: Digester>(draft: &'a Draft<D>, root: &Address, key: &[u8]) -> Option<&'a [u8]>
     requires tree { StandsForRows D.address (chunks_of draft.now.chunks) root.now.0 }
     ensures { (rows : List Item) → IsTree D.address (chunks_of draft.now.chunks) root.now.0 rows
@@ -29,7 +29,7 @@ pub fn count<D: Digester>(draft: &Draft<D>, root: &Address) -> u64
     requires tree { StandsForRows D.address (chunks_of draft.now.chunks) root.now.0 }
     ensures { (rows : List Item) → IsTree D.address (chunks_of draft.now.chunks) root.now.0 rows → result ≡ length rows }
 {
-    rows_in(&node_at(draft, root))
+    rows_in(&known_at(draft, root))
 }
 
 /// The node at an address, for crates that go through trees by themselves. It reads one chunk.
@@ -46,6 +46,17 @@ pub fn node_at<'a, D: Digester>(draft: &'a Draft<D>, address: &Address) -> NodeR
     }
 }
 
+/// The node at an address, for crates that go through trees by themselves. Its items aren't read.
+pub fn known_at<'a, D: Digester>(draft: &'a Draft<D>, address: &Address) -> KnownNode<'a>
+    requires { (node : Node) × IsStored (chunks_of draft.now.chunks) address.now.0 node }
+    ensures { (node : Node) → IsStored (chunks_of draft.now.chunks) address.now.0 node → result ≡ node }
+{
+    match draft.get(address) {
+        Some(bytes) => KnownNode::of(bytes),
+        None => unreachable!(),
+    }
+}
+
 /// The value at a key among the rows below the node at an address.
 fn get_below<'a, D: Digester>(
     draft: &'a Draft<D>,
@@ -56,20 +67,18 @@ fn get_below<'a, D: Digester>(
     ensures { (node : Node) → IsOpen (chunks_of draft.now.chunks) address.now.0 node
         → option_map (λ value. value.now) result ≡ value_at key.now (rows_below (chunks_of draft.now.chunks) node) }
 {
-    let mut node = node_at(draft, address);
+    let mut node = known_at(draft, address);
     'levels: while node.level() > 0 {
-        let at = place_of(&node, key);
-        if at == node.count() {
-            return None;
+        match address_from(&node, key) {
+            None => return None,
+            Some(address) => node = known_at(draft, &address),
         }
-        let (_, address, _) = node.inner_item(at);
-        node = node_at(draft, &address);
     }
-    value_in(&node, key)
+    value_from(&node, key)
 }
 
 /// The value at a key in a leaf.
-fn value_in<'a>(leaf: &NodeRef<'a>, key: &[u8]) -> Option<&'a [u8]>
+pub(crate) fn value_in<'a>(leaf: &NodeRef<'a>, key: &[u8]) -> Option<&'a [u8]>
     requires { leaf.now.level ≡ 0 }
     ensures { option_map (λ value. value.now) result ≡ first_of key.now (from_key key.now leaf.now.items) }
 {
@@ -99,7 +108,7 @@ pub(crate) fn place_of(node: &NodeRef<'_>, key: &[u8]) -> u16
     low
 }
 
-fn is_below(some: &[u8], other: &[u8]) -> bool
+pub(crate) fn is_below(some: &[u8], other: &[u8]) -> bool
     ensures { result ≡ is_lt (slice_cmp nat_cmp some.now other.now) }
 {
     some.cmp(other).is_lt()
@@ -114,28 +123,5 @@ fn key_at<'a>(node: &NodeRef<'a>, at: u16) -> &'a [u8]
     match node.level() {
         0 => node.leaf_item(at).0,
         _ => node.inner_item(at).0,
-    }
-}
-
-/// How many rows are below a node.
-fn rows_in(node: &NodeRef<'_>) -> u64
-    requires { rows_in node.now.items < 2 ^ 64 }
-    ensures { result ≡ rows_in node.now.items }
-{
-    let mut rows = 0;
-    for at in 0..node.count() {
-        rows += rows_at(node, at);
-    }
-    rows
-}
-
-/// How many rows an item of a node counts.
-fn rows_at(node: &NodeRef<'_>, at: u16) -> u64
-    requires { at < length node.now.items }
-    ensures { option_map (λ item. item.rows) (slice_get node.now.items at) ≡ Some result }
-{
-    match node.level() {
-        0 => 1,
-        _ => node.inner_item(at).2,
     }
 }

@@ -1,3 +1,5 @@
+//! Looks and scans in small trees.
+
 ghost use Rattle.std.specs.Prelude.{◌≡◌, IfOk};
 ghost use Rattle.tuple_codec.specs.Trees.{bytes_of};
 ghost use Rattle.chunk_store.specs.Drafts.{chunks_of};

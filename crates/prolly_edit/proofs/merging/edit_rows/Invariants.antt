@@ -8,6 +8,7 @@ use Rattle.prolly_edit.proofs.merging.edit_rows.Given as goal
 
 abbrev pub invariant-loop-at : goal.invariant-loop-at
 invariant-loop-at g l = record {
+  spelled : l.rest ≡ items_bytes 0 (drop l.at l.leaf.items);
   size_is : l.size ≡ 4 + length (items_bytes 0 (take l.at l.leaf.items));
   grows : Grows is_node l.fn.draft l.draft;
   awaits : (more whole : List Item) → Awaits g.D.Digester.address (chunks_of l.fn.draft.chunks) l.fn.tower (edited (l.leaf.items ++ more) l.edits) whole
