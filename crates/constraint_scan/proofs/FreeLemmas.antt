@@ -12,7 +12,7 @@ use Rattle.schema_model.specs.Schemas.{is_empty}
 use Rattle.schema_model.specs.PlainTables.{NamedTable, PlainDatabase, Violation, violation_cmp}
 use Rattle.plain_writes.specs.Violations.{Checks, Found, breaks_not_null, broken, breaks_unique, first_of, first_violation, found_in, had_row, number_of, numbers_of, of_check, of_column, of_foreign, of_index, same_violation, violation, violations, violations_in}
 use Rattle.write_laws.proofs.OrderLemmas.{both_so, in_order_all, left_not, left_so, right_not, right_so}
-use Rattle.constraint_scan.specs.Scanning.{has_constraints, is_constrained, skeleton}
+use Rattle.constraint_scan.specs.Scanning.{has_constraints, is_constrained}
 
 abbrev is_null : Violation → Bool
 is_null found = found.kind == 4
@@ -111,9 +111,3 @@ pub free_of_refusals : (checks : Checks) (old new : PlainDatabase) → has_const
 free_of_refusals checks old new free =
     none_first (numbers_of old (violations checks old) (violations checks new))
     (null_numbers old (λ one. not (list_any (same_violation one) (violations checks old))) (violations checks new) (tables_null checks new new free))
-
--- ---- schemas tell
-
-pub constraints_told : (database : PlainDatabase) → has_constraints (skeleton database) ≡ has_constraints database
-constraints_told [] = refl
-constraints_told (named ∷ database) = ap (λ b. is_constrained named.table.schema || b) (constraints_told database)

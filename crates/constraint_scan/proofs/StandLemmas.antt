@@ -65,6 +65,12 @@ pub parts_of : (address : List ℕ → List ℕ) (chunks : Chunks) (database : P
 parts_of address chunks [] tables first there is long = absurd (none_long (length tables) long (ap length there.listed))
 parts_of address chunks (named ∷ others) tables first there is long = parted address chunks named others tables first there is
 
+pub there_none : (address : List ℕ → List ℕ) (chunks : Chunks) (database : PlainDatabase) (tables : List entries.NamedTable) → tables ≡ [] → AreThere address chunks database tables → database ≡ []
+there_none address chunks [] tables is there = refl
+there_none address chunks (named ∷ others) tables is there = absurd (nothing (sym is ∙ there.listed)) where
+  nothing : [] ≡ named_tables address (named ∷ others) → ⊥
+  nothing e = cc
+
 -- ---- what is read of them
 
 pub read_more : (f : plain.NamedTable → plain.NamedTable) (tables more new : List NamedTable) (one : NamedTable) (named : plain.NamedTable) (others database : PlainDatabase) → database ≡ named ∷ others

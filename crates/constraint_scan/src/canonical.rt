@@ -1,3 +1,5 @@
+//! The reader of CHECKs that judging needs: a CHECK's text is canonical, and is read as such.
+
 use plain_writes::Reads;
 use sql_ast::Expr;
 use sql_parse::read_check;

@@ -1,22 +1,24 @@
-ghost use Rattle.std.specs.Prelude.{◌≡◌, IfOk, map};
+//! The refusal of a statement, by the rows that it changed.
+
+ghost use Rattle.std.specs.Prelude.{◌≡◌, IfOk};
 ghost use Rattle.std.specs.List.{list_any};
-ghost use Rattle.schema_model.specs.PlainTables.{PlainDatabase};
+ghost use Rattle.schema_model.specs.PlainTables.{PlainDatabase, PlainTable};
 ghost use Rattle.chunk_store.specs.Drafts.{chunks_of};
-ghost use Rattle.plain_writes.specs.Seen.{named_seen};
 ghost use Rattle.plain_writes.specs.Violations.{first_violation};
 ghost use Rattle.plain_schemas.specs.Statements.{checks};
-ghost use Rattle.constraint_scan.specs.Scanning.{CanRead, IsReadAt, has_constraints, is_constrained};
+ghost use Rattle.table_root.specs.Standing.{IsTableAt};
+ghost use Rattle.constraint_scan.specs.Scanning.{AreThere, CanRead, IsReadAt, has_constraints, is_constrained};
 
 use crate::canonical::CanonicalChecks;
 use crate::changing::told_by_pairs;
 use crate::laws::{law_of_changes, law_of_refusals};
 use crate::pairing::read_pairs;
-use crate::reading::{read_schemas, read_tables};
+use crate::reading::read_tables;
 use chunk_store::Draft;
-use plain_writes::{NamedTable, first_violation as first_of_tables};
+use plain_writes::first_violation as first_of_tables;
 use schema_model::{IndexDef, Schema};
 use std::alloc::{AllocError, Global};
-use table_root::law_of_databases;
+use table_root::{NamedTable as Entry, law_of_databases, law_of_tables, read_database, read_table};
 use tuple_codec::{Address, Digester};
 
 fn is_any_unique(indexes: &[IndexDef]) -> bool
@@ -33,13 +35,39 @@ pub(crate) fn is_constrained(schema: &Schema) -> bool
         || (!schema.checks.as_slice().is_empty() || !schema.foreign.as_slice().is_empty())
 }
 
-fn has_constraints(tables: &[NamedTable]) -> bool
-    ensures { result ≡ has_constraints (map named_seen tables.now) }
+/// Whether the table at an address has a constraint beside NOT NULL.
+fn is_table_constrained<D: Digester>(
+    alloc: Global,
+    draft: &Draft<D>,
+    address: &Address,
+) -> Result<bool, AllocError>
+    requires { (contents : PlainTable) × IsTableAt D.address (chunks_of draft.now.chunks) address.now.0 contents }
+    ensures { (contents : PlainTable) → IsTableAt D.address (chunks_of draft.now.chunks) address.now.0 contents
+        → IfOk result (λ found. found ≡ is_constrained contents.schema) }
 {
-    match tables {
-        [] => false,
-        [first, rest @ ..] => is_constrained(&first.table.schema) || has_constraints(rest),
+    law_of_tables();
+    let table = read_table(alloc, draft, address)?;
+    Ok(is_constrained(&table.schema))
+}
+
+/// Whether one of these tables has one. Those behind it aren't read. There are few tables, so the calls don't go deep.
+fn is_any_constrained<D: Digester>(
+    alloc: Global,
+    draft: &Draft<D>,
+    entries: &[Entry],
+) -> Result<bool, AllocError>
+    requires { (database : PlainDatabase) × AreThere D.address (chunks_of draft.now.chunks) database entries.now }
+    ensures { (database : PlainDatabase) → AreThere D.address (chunks_of draft.now.chunks) database entries.now
+        → IfOk result (λ found. found ≡ has_constraints database) }
+{
+    let [first, rest @ ..] = entries else {
+        return Ok(false);
+    };
+    let found = is_table_constrained(alloc, draft, &first.table)?;
+    if found {
+        return Ok(true);
     }
+    is_any_constrained(alloc, draft, rest)
 }
 
 /// Whether some table of the database at an address has a constraint beside NOT NULL. No row is read.
@@ -52,8 +80,9 @@ fn is_database_constrained<D: Digester>(
     ensures { (contents : PlainDatabase) → IsReadAt D.address (chunks_of draft.now.chunks) database.now.0 contents
         → IfOk result (λ found. found ≡ has_constraints contents) }
 {
-    let tables = read_schemas(alloc, draft, database)?;
-    Ok(has_constraints(tables.as_slice()))
+    law_of_databases();
+    let entries = read_database(alloc, draft, database)?;
+    is_any_constrained(alloc, draft, entries.as_slice())
 }
 
 /// The refusal by all rows of both databases.

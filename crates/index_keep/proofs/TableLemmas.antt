@@ -1,5 +1,5 @@
 -- What a table that is edited asks of the calls below, and that it stands afterwards.
-use Rattle.std.proofs.Common.{◌≡◌, ◌<◌, ◌^◌, ℕ, true, List, [], ◌∷◌, length, map, None, Some, sym, ap, subst, ◌∙◌}
+use Rattle.std.proofs.Common.{◌≡◌, ◌<◌, ◌^◌, ℕ, true, List, [], ◌∷◌, length, map, None, Some, refl, sym, ap, subst, ◌∙◌}
 use Rattle.std.proofs.lemmas.List.{length-map}
 use Rattle.tuple_codec.specs.Edits.{edited}
 use Rattle.tuple_codec.specs.Nodes.{Item, Rise}
@@ -44,6 +44,11 @@ stand_later address old new more schema rows [] (k ∷ roots) all = absurd all
 stand_later address old new more schema rows (index ∷ indexes) [] all = absurd all
 stand_later address old new more schema rows (index ∷ indexes) (k ∷ roots) all =
     (tree_later address old new more k.0 (plain.index_items (table_of_rows schema rows) index) all.0, stand_later address old new more schema rows indexes roots all.1)
+
+none_at : (address : List ℕ → List ℕ) (chunks : Chunks) (schema : Schema) (rows : List Cells) (indexes : List IndexDef) → StandAt address chunks schema rows indexes []
+    → (P : List IndexDef → Type 0) → P [] → P indexes
+none_at address chunks schema rows [] all P here = here
+none_at address chunks schema rows (index ∷ indexes) all P here = absurd all
 
 module _ (address : List ℕ → List ℕ) (chunks : Chunks) (table : Table) (edits : List Edit) (contents : PlainTable) (rows : List Cells) (can : CanEditTable address chunks table edits contents rows) where
   pub schema_is : table.schema ≡ contents.schema
@@ -113,6 +118,13 @@ module _ (address : List ℕ → List ℕ) (chunks : Chunks) (table : Table) (ed
         value = ap (λ (x : Address). table_with address contents x roots) is ∙ ap (λ (l : List Address). table_with address contents (record { 0 = root address items }) l) are;
       })
       stand
+
+  -- a table without lists of indexes has no index, so none stands whatever the rows are
+  pub none_stand : RowItemsFollow → (later last : Chunks) → Extends chunks later → table.indexes ≡ [] → StandAt address last table.schema rows table.schema.indexes []
+  none_stand follow later last more none =
+      let all = indexes_can follow later more (changes_at table.schema contents.rows rows (keys_of edits)) refl in
+      none_at address later table.schema contents.rows table.schema.indexes (subst (λ (l : List Address). StandAt address later table.schema contents.rows table.schema.indexes l) none all.stand)
+      (λ (l : List IndexDef). StandAt address last table.schema rows l []) tt
 
 -- ---- indexes made anew
 

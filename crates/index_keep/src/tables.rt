@@ -1,6 +1,6 @@
 //! A table whose rows are edited.
 
-ghost use Rattle.std.specs.Prelude.{◌≡◌, List, IfOk, IfErr};
+ghost use Rattle.std.specs.Prelude.{◌≡◌, List, [], IfOk, IfErr};
 ghost use Rattle.tuple_codec.specs.Rows.{Cells};
 ghost use Rattle.schema_model.specs.PlainTables.{PlainTable};
 ghost use Rattle.chunk_store.specs.Clashes.{IsReason};
@@ -17,12 +17,12 @@ use prolly_edit::apply;
 use std::alloc::Global;
 use table_root::Table;
 use table_rows::law_of_row_items;
-use tuple_codec::{Digester, Edit};
+use tuple_codec::{Digester, Edit, Sequence};
 
 /// Edits a table's rows and, with them, the list of each of its indexes. All else of the table stays.
 ///
 /// An edit's key is the bytes of a primary key, and its value those of the row's other cells. Of the rows nothing is read but those
-/// under the edits' keys.
+/// under the edits' keys, and none where the table has no index.
 pub fn apply_with_indexes<D: Digester>(
     alloc: Global,
     draft: &mut Draft<D>,
@@ -35,6 +35,9 @@ pub fn apply_with_indexes<D: Digester>(
     ensures grows { Grows is_node draft.old draft.new }
     ensures cause { IfErr result (IsReason D.address (chunks_of draft.new.chunks)) }
 {
+    if table.indexes.as_slice().is_empty() {
+        return apply_to_rows(alloc, draft, table, edits);
+    }
     law_of_row_items();
     let changes = row_changes(alloc, draft, &table.schema, &table.rows, edits)?;
     let rows = apply(alloc, draft, &table.rows, edits)?;
@@ -49,6 +52,31 @@ pub fn apply_with_indexes<D: Digester>(
         schema: copy_schema(alloc, &table.schema)?,
         rows,
         indexes,
+        conflicts: table.conflicts,
+        violations: table.violations,
+    })
+}
+
+/// Edits the rows of a table that has no index. None of them is looked up or decoded.
+fn apply_to_rows<D: Digester>(
+    alloc: Global,
+    draft: &mut Draft<D>,
+    table: &Table,
+    edits: &[Edit],
+) -> Result<Table, PutFault>
+    requires none { table.now.indexes ≡ [] }
+    requires can { (contents : PlainTable) × (rows : List Cells) × CanEditTable D.address (chunks_of draft.old.chunks) table.now edits.now contents rows }
+    ensures ok { (contents : PlainTable) (rows : List Cells) → CanEditTable D.address (chunks_of draft.old.chunks) table.now edits.now contents rows
+        → IfOk result (λ made. IsTableOf D.address (chunks_of draft.new.chunks) made (with_rows contents rows)) }
+    ensures grows { Grows is_node draft.old draft.new }
+    ensures cause { IfErr result (IsReason D.address (chunks_of draft.new.chunks)) }
+{
+    law_of_row_items();
+    let rows = apply(alloc, draft, &table.rows, edits)?;
+    Ok(Table {
+        schema: copy_schema(alloc, &table.schema)?,
+        rows,
+        indexes: Sequence::new(alloc),
         conflicts: table.conflicts,
         violations: table.violations,
     })

@@ -1,3 +1,5 @@
+//! What the commit rule comes to.
+
 use tuple_codec::BranchRecord;
 
 /// What becomes of a branch: a record, or the number of the first refusal.

@@ -1,4 +1,4 @@
-//! What a merge has left left in databases and branch records: conflicts and violations that tables have recorded.
+//! What a merge has left in databases and branch records: conflicts and violations that tables have recorded.
 
 ghost use Rattle.std.specs.Prelude.{◌≡◌, ◌==◌, ℕ, not, List, length, IfOk};
 ghost use Rattle.tuple_codec.specs.Nodes.{Item};
@@ -215,17 +215,17 @@ pub(crate) fn left_in_database<D: Digester>(
 pub(crate) fn left_in_record<D: Digester>(
     alloc: Global,
     draft: &Draft<D>,
-    record: &BranchRecord,
+    branch: &BranchRecord,
     settled: &mut Settled,
 ) -> Result<Left, AllocError>
-    requires record { HasState D.address (chunks_of draft.now.chunks) record.now }
+    requires state { HasState D.address (chunks_of draft.now.chunks) branch.now }
     requires settled { IsSettled D.address (chunks_of draft.now.chunks) settled.old }
-    ensures is { (state : BranchState) → StateStands D.address (chunks_of draft.now.chunks) record.now state
+    ensures is { (state : BranchState) → StateStands D.address (chunks_of draft.now.chunks) branch.now state
         → IfOk result (λ left. left ≡ state_left state) }
     ensures settled { IsSettled D.address (chunks_of draft.now.chunks) settled.new }
 {
-    let working = left_in_database(alloc, draft, &record.working, settled)?;
-    let staged = left_in_database(alloc, draft, &record.staged, settled)?;
+    let working = left_in_database(alloc, draft, &branch.working, settled)?;
+    let staged = left_in_database(alloc, draft, &branch.staged, settled)?;
     Ok(either(working, staged))
 }
 
@@ -233,18 +233,18 @@ pub(crate) fn left_in_record<D: Digester>(
 pub(crate) fn is_unsettled<D: Digester>(
     alloc: Global,
     draft: &Draft<D>,
-    record: &BranchRecord,
+    branch: &BranchRecord,
     settled: &mut Settled,
 ) -> Result<bool, AllocError>
-    requires record { HasState D.address (chunks_of draft.now.chunks) record.now }
+    requires state { HasState D.address (chunks_of draft.now.chunks) branch.now }
     requires settled { IsSettled D.address (chunks_of draft.now.chunks) settled.old }
-    ensures is { (state : BranchState) → StateStands D.address (chunks_of draft.now.chunks) record.now state
+    ensures is { (state : BranchState) → StateStands D.address (chunks_of draft.now.chunks) branch.now state
         → IfOk result (λ found. found ≡ is_unsettled state) }
     ensures settled { IsSettled D.address (chunks_of draft.now.chunks) settled.new }
 {
-    if record.merging.is_some() {
+    if branch.merging.is_some() {
         return Ok(true);
     }
-    let left = left_in_record(alloc, draft, record, settled)?;
+    let left = left_in_record(alloc, draft, branch, settled)?;
     Ok(is_any(left))
 }

@@ -9,6 +9,6 @@ mod laws;
 mod reading;
 mod types;
 
-pub use items::{row_item, row_of};
+pub use items::{row_item, row_items, row_of};
 pub use laws::law_of_row_items;
 pub use reading::read_rows;

@@ -40,14 +40,14 @@ edit_indexes-requires-after_bounds g c κs within =
     let contents = c.requires.0 in
     let rows = c.requires.1 in
     let can = c.requires.2 in
-    let are : c.as_slice-2.result.now ≡ changes_at table.schema contents.rows rows (keys_of edits) =
-    c.as_slice-2.ensures.value ∙ c.in_ok-changes.ensures contents.rows rows (rows_edit address old table edits contents rows can) in
+    let are : c.as_slice-3.result.now ≡ changes_at table.schema contents.rows rows (keys_of edits) =
+    c.as_slice-3.ensures.value ∙ c.in_ok-changes.ensures contents.rows rows (rows_edit address old table edits contents rows can) in
     let more = grown c.args.draft.now c.apply.new.draft c.apply.ensures.grows in (
       contents.rows,
       rows,
       keys_of edits,
-      subst (λ (l : List Address). CanEditIndexes address later table.schema table.schema.indexes l c.as_slice-2.result.now contents.rows rows (keys_of edits)) (sym c.as_slice.ensures)
-          (indexes_can address old table edits contents rows can c.law_of_row_items.ensures later more c.as_slice-2.result.now are),
+      subst (λ (l : List Address). CanEditIndexes address later table.schema table.schema.indexes l c.as_slice-3.result.now contents.rows rows (keys_of edits)) (sym c.as_slice-2.ensures)
+          (indexes_can address old table edits contents rows can c.law_of_row_items.ensures later more c.as_slice-3.result.now are),
     )
 
 pub returns-clause-ok : goal.returns-clause-ok
@@ -58,12 +58,12 @@ returns-clause-ok g c contents rows can =
     let last = chunks_of c.edit_indexes.new.draft.chunks in
     let table = c.args.table.now in
     let edits = c.args.edits.now in
-    let are : c.as_slice-2.result.now ≡ changes_at table.schema contents.rows rows (keys_of edits) =
-    c.as_slice-2.ensures.value ∙ c.in_ok-changes.ensures contents.rows rows (rows_edit address old table edits contents rows can) in
+    let are : c.as_slice-3.result.now ≡ changes_at table.schema contents.rows rows (keys_of edits) =
+    c.as_slice-3.ensures.value ∙ c.in_ok-changes.ensures contents.rows rows (rows_edit address old table edits contents rows can) in
     let more = grown c.args.draft.now c.apply.new.draft c.apply.ensures.grows in
     let again = grown c.apply.new.draft c.edit_indexes.new.draft c.edit_indexes.ensures.grows in
-    let all = subst (λ (l : List Address). CanEditIndexes address later table.schema table.schema.indexes l c.as_slice-2.result.now contents.rows rows (keys_of edits)) (sym c.as_slice.ensures)
-    (indexes_can address old table edits contents rows can c.law_of_row_items.ensures later more c.as_slice-2.result.now are) in
+    let all = subst (λ (l : List Address). CanEditIndexes address later table.schema table.schema.indexes l c.as_slice-3.result.now contents.rows rows (keys_of edits)) (sym c.as_slice-2.ensures)
+    (indexes_can address old table edits contents rows can c.law_of_row_items.ensures later more c.as_slice-3.result.now are) in
     let stand = c.in_ok-indexes.ensures.ok contents.rows rows (keys_of edits) all in
     let tree = c.in_ok-rows.ensures.ok (row_items contents) (rows_can address old table edits contents rows can).tree in
     let now = tree_later address later last again c.in_ok-rows.rows.0 (edited (row_items contents) edits) tree in
