@@ -9,3 +9,4 @@ pub mod CalmLemmas
 pub mod MissedLemmas
 pub mod LinkLemmas
 mod LookupLemmas
+mod LevelLemmas

@@ -1,8 +1,8 @@
 -- Rows whose cell isn't equal to an earlier one are passed over by the test that compares the two.
-use Rattle.std.proofs.Common.{◌≡◌, ◌<◌, ◌≤◌, ◌∙◌, ◌⊎◌, inl, inr, sym, ap, refl, subst, ℕ, zero, suc, ◌+◌, ◌*◌, ◌^◌, ℤ, pos, negsuc, neg_ℤ, unsigned_abs, ◌*ℤ◌, Bool, true, false, true≢false, cond, List, [], ◌∷◌, ◌++◌, Ok, Option, None, Some, length, map, take, drop, get_or, ◌-◌, nat_lt, arith}
+use Rattle.std.proofs.Common.{◌≡◌, ◌<◌, ◌≤◌, ◌∙◌, ◌⊎◌, inl, inr, sym, ap, refl, subst, ℕ, zero, suc, ◌+◌, ◌*◌, ◌^◌, ℤ, pos, negsuc, neg_ℤ, unsigned_abs, ◌*ℤ◌, Bool, true, false, true≢false, cond, List, [], ◌∷◌, ◌++◌, Ok, Option, None, Some, length, map, drop, get_or, nat_lt, arith}
 use Rattle.std.proofs.lemmas.Bool.Decides.{nat_tests}
 use Rattle.std.specs.List.{All, Contains}
-use Rattle.std.proofs.lemmas.List.{length-append}
+use Rattle.std.proofs.lemmas.List.{drop_more, length-append}
 use Rattle.std.specs.Option.{IfSome, option_map}
 use native.Mathlib.Nat.{eq_of_mul-eq-mul_right, mul-pos, one-le-pow}
 use Rattle.std.specs.Ordering.{int_cmp, is_eq}
@@ -30,7 +30,6 @@ use Rattle.plain_sql.specs.Passing.{IsCalm, IsMissed, IsPassedOver, is_so}
 use Rattle.plain_sql.specs.Plans.{meaning}
 use Rattle.plain_sql.specs.declared.linking.Link.{Link}
 use Rattle.plain_sql.proofs.InsertionLemmas.{clash, either_way, right_so}
-use Rattle.plain_sql.proofs.NestedLemmas.{rest_is}
 use Rattle.plain_sql.proofs.MissedLemmas.{holds_not, missed_at, missed_first, passed_over, times_one}
 
 pub some_weaker : {A : Type 0} (o : Option A) (P Q : A → Type 0) → ((x : A) → P x → Q x) → IfSome o P → IfSome o Q
@@ -275,6 +274,7 @@ skips_behind width link test tests calm skips = λ row more behind miss.
     let known = calm (row ++ more ++ behind) in
     row_known test tests (row ++ more ++ behind) known.0 known.1 (skips row more behind miss)
 
-pub opened : (tests : List BoundExpr) (first : BoundExpr) → 1 ≤ length tests → first ≡ get_or tests 0 first → first ∷ take (length tests - 1) (drop 1 tests) ≡ tests
-opened [] first some is = absurd (omega (arith, some))
-opened (test ∷ tests) first some is = ap (λ l. first ∷ l) (rest_is 1 (test ∷ tests)) ∙ ap (λ x. x ∷ tests) is
+pub skips_from : (width : ℕ) (link : Link) (tests : List BoundExpr) (i : ℕ) (test : BoundExpr) → i < length tests → test ≡ get_or tests i test
+    → Skips (meaning test ∷ map meaning (drop (i + 1) tests)) width link → Skips (map meaning (drop i tests)) width link
+skips_from width link tests i test below is =
+    subst (λ (l : List BoundExpr). Skips (map meaning l) width link) (sym (drop_more tests i test below ∙ ap (λ x. x ∷ drop (i + 1) tests) (sym is)))

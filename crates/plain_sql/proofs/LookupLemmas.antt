@@ -19,13 +19,13 @@ use Rattle.tuple_codec.proofs.Orders.{value_cmp_total}
 use Rattle.expr_eval.specs.Binding.{Outcome, and_then}
 use Rattle.plain_sql.specs.Answers.{Meaning, combinations, is_null, kept_row}
 use Rattle.plain_sql.specs.Links.{AreServed, Serves, Skips, Sorts, cell_cmp, has_cell, meets, suits, suits_at, tried, tried_by, tried_with}
-use Rattle.plain_sql.specs.Lists.{all_of, in_order}
+use Rattle.plain_sql.specs.Lists.{all_of, behind, in_order}
 use Rattle.plain_sql.specs.Nesting.{kept_from}
 use Rattle.plain_sql.specs.declared.linking.Link.{Link}
 use Rattle.plain_sql.specs.declared.lookups.Lookup.{Lookup}
 use Rattle.plain_sql.specs.declared.sources.Read.{Read}
 use Rattle.plain_sql.proofs.InsertionLemmas.{clash, right_so}
-use Rattle.plain_sql.proofs.NestedLemmas.{behind, behind_nothing, nested, rest_is}
+use Rattle.plain_sql.proofs.NestedLemmas.{behind_nothing, nested, rest_is}
 use Rattle.plain_sql.proofs.RunLemmas.{level_test}
 use Rattle.plain_sql.proofs.SortedLemmas.{before, falls_tail, fold_ties, in_order_falls, never_falls, tie_itself, tie_left, tie_of, tie_right, tied, tied_test, up_right, weak}
 

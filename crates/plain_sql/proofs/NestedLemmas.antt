@@ -5,16 +5,12 @@ use Rattle.std.specs.List.{flat_map}
 use Rattle.basic_laws.proofs.Lists.{take_whole}
 use Rattle.tuple_codec.specs.Rows.{Cells}
 use Rattle.expr_eval.specs.Binding.{Outcome, and_then}
-use Rattle.plain_sql.specs.Lists.{all_of, each}
+use Rattle.plain_sql.specs.Lists.{all_of, behind, each}
 use Rattle.plain_sql.specs.Answers.{Meaning, combinations, kept, kept_row}
 use Rattle.plain_sql.specs.Nesting.{kept_from}
 use Rattle.plain_sql.specs.declared.sources.Read.{Read}
 
--- one list behind another
-abbrev pub behind : {A : Type 0} → Outcome (List A) → Outcome (List A) → Outcome (List A)
-behind a b = and_then a (λ xs. and_then b (λ ys. Ok (xs ++ ys)))
-
-behind_assoc : {A : Type 0} (a b c : Outcome (List A)) → behind (behind a b) c ≡ behind a (behind b c)
+pub behind_assoc : {A : Type 0} (a b c : Outcome (List A)) → behind (behind a b) c ≡ behind a (behind b c)
 behind_assoc (Err n) b c = refl
 behind_assoc (Ok xs) (Err n) c = refl
 behind_assoc (Ok xs) (Ok ys) (Err n) = refl
@@ -24,7 +20,7 @@ pub behind_nothing : {A : Type 0} (a : Outcome (List A)) → behind (Ok []) a �
 behind_nothing (Err n) = refl
 behind_nothing (Ok xs) = refl
 
-nothing_behind : {A : Type 0} (a : Outcome (List A)) → behind a (Ok []) ≡ a
+pub nothing_behind : {A : Type 0} (a : Outcome (List A)) → behind a (Ok []) ≡ a
 nothing_behind (Err n) = refl
 nothing_behind (Ok xs) = ap Ok (append-nil xs)
 

@@ -4,6 +4,7 @@ pub mod Plans
 pub mod Gives
 pub mod Seen
 pub mod Nesting
+pub mod Levels
 pub mod Temporary
 pub mod Runs
 pub mod Distinct

@@ -1,3 +1,5 @@
+//! A SELECT's answer over tables that are known.
+
 ghost use Rattle.std.specs.Prelude.{◌≡◌, ◌∷◌, [], IfOk, map};
 ghost use Rattle.sql_values.specs.Kinds.{column_type};
 ghost use Rattle.plain_sql.specs.Answers.{answered, answered_of, are_too_many, arranged, cells_shown, groups, headed, keys_shown, once_if, ranked};

@@ -1,3 +1,5 @@
+//! An expression's value on a row, and whether tests are true there.
+
 ghost use Rattle.std.specs.Prelude.{◌≡◌, map};
 ghost use Rattle.plain_sql.specs.Answers.{given, is_true, passes};
 ghost use Rattle.plain_sql.specs.Gives.{Gives};

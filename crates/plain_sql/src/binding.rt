@@ -1,3 +1,5 @@
+//! Expressions and tests with names and kinds found.
+
 ghost use Rattle.expr_eval.specs.Binding.{bound, column_at};
 ghost use Rattle.plain_sql.specs.Gives.{Gives, GivesBy};
 ghost use Rattle.plain_sql.specs.Plans.{condition, meaning};

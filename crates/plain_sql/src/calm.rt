@@ -1,3 +1,5 @@
+//! Expressions that are out of range on no row.
+
 ghost use Rattle.std.specs.Prelude.{◌≡◌, true};
 ghost use Rattle.std.specs.List.{All};
 ghost use Rattle.plain_sql.specs.Passing.{IsCalm};

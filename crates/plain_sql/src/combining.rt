@@ -1,30 +1,21 @@
-ghost use Rattle.std.specs.Prelude.{◌≡◌, ◌++◌, IfOk, length, map};
+//! Combinations of the sources' rows.
+
+ghost use Rattle.std.specs.Prelude.{◌≡◌, ◌++◌, length, map};
 ghost use Rattle.plain_sql.specs.Answers.{combinations, kept, kept_row};
 ghost use Rattle.plain_sql.specs.Gives.{Adds, Gives};
 ghost use Rattle.plain_sql.specs.Links.{AreServed};
+ghost use Rattle.plain_sql.specs.Lists.{all_of};
 ghost use Rattle.plain_sql.specs.Nesting.{kept_from};
 ghost use Rattle.plain_sql.specs.Plans.{meaning};
 
 use crate::asking::passes;
 use crate::faults::Refused;
-use crate::lookups::{Lookup, lookups_of, tried};
+use crate::levels::{joined, level_of, opened};
+use crate::lookups::{Lookup, lookups_of};
 use crate::sources::Read;
 use expr_eval::BoundExpr;
-use std::alloc::{AllocError, Global};
-use tuple_codec::{Row, Sequence, Value, copy_value};
-
-fn joined(alloc: Global, row: &[Value], more: &[Value]) -> Result<Row, AllocError>
-    ensures { IfOk result (λ whole. whole ≡ row.now ++ more.now) }
-{
-    let mut whole = Vec::with_capacity(alloc, row.len().saturating_add(more.len()))?;
-    for value in row {
-        whole.push(copy_value(alloc, value)?)?;
-    }
-    for value in more {
-        whole.push(copy_value(alloc, value)?)?;
-    }
-    Ok(Sequence::from_vec(whole))
-}
+use std::alloc::Global;
+use tuple_codec::{Row, Sequence, Value};
 
 /// Puts a row behind those that are kept, where it passes all tests.
 fn keep(
@@ -52,7 +43,25 @@ fn passing(alloc: Global, tests: &[BoundExpr], rows: Vec<Row>) -> Result<Sequenc
     Ok(kept)
 }
 
+/// Puts behind those that are kept each of these rows joined behind a row, where that passes all tests.
+fn keep_joined(
+    alloc: Global,
+    tests: &[BoundExpr],
+    row: &[Value],
+    rows: &[Row],
+    kept: &mut Sequence<Row>,
+) -> Result<(), Refused>
+    ensures { Adds result kept.old kept.new (all_of (λ more. kept_row (map meaning tests.now) (row.now ++ more)) rows.now) }
+{
+    for more in rows {
+        let whole = joined(alloc, row, more.as_slice())?;
+        keep(alloc, tests, whole, kept)?;
+    }
+    Ok(())
+}
+
 /// Puts behind those that are kept the rows that pass all tests, of those that begin with these cells; the first source is outermost.
+/// What is left to be tried of each source stands on a stack of its own, so that many sources take no more of the thread's.
 fn kept_from(
     alloc: Global,
     tests: &[BoundExpr],
@@ -64,20 +73,20 @@ fn kept_from(
     requires { AreServed (map meaning tests.now) sources.now lookups.now }
     ensures { Adds result kept.old kept.new (kept_from (map meaning tests.now) (map (λ source. source.rows) sources.now) row) }
 {
-    match sources {
-        [] => keep(alloc, tests, row, kept),
-        [first, rest @ ..] => match lookups {
-            [] => unreachable!(),
-            [lookup, others @ ..] => {
-                let rows = tried(first.rows.as_slice(), lookup, row.as_slice());
-                for more in rows {
-                    let whole = joined(alloc, row.as_slice(), more.as_slice())?;
-                    kept_from(alloc, tests, rest, others, whole, kept)?;
-                }
-                Ok(())
-            }
-        },
+    if sources.is_empty() {
+        return keep(alloc, tests, row, kept);
     }
+    let mut levels = Vec::new(alloc);
+    levels.push(level_of(sources, lookups, row))?;
+    'levels: while let Some(level) = levels.pop() {
+        if level.sources.is_empty() {
+            keep_joined(alloc, tests, level.row.as_slice(), level.rows, kept)?;
+        } else if let Some(both) = opened(alloc, level)? {
+            levels.push(both.1)?;
+            levels.push(both.0)?;
+        }
+    }
+    Ok(())
 }
 
 /// All combinations of the sources' rows that pass all tests. Where a test compares a column of a source with one before, only rows with

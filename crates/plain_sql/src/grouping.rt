@@ -1,3 +1,5 @@
+//! Groups of rows, and which rows one has.
+
 ghost use Rattle.std.specs.Prelude.{◌≡◌, ◌∷◌, [], IfOk, OnOk, filter, map};
 ghost use Rattle.tuple_codec.specs.Rows.{key_of};
 ghost use Rattle.plain_sql.specs.Answers.{groups, has_key, keys_in};

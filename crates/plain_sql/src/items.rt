@@ -1,3 +1,5 @@
+//! The items of a SELECT, as headings.
+
 ghost use Rattle.std.specs.Prelude.{◌≡◌, IfOk, map};
 ghost use Rattle.sql_ast.specs.declared.expressions.Expr.{out-Expr};
 ghost use Rattle.plain_sql.specs.Gives.{Gives, GivesBy};

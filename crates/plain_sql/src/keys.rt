@@ -1,3 +1,5 @@
+//! What an ORDER BY orders by.
+
 ghost use Rattle.std.specs.Prelude.{◌≡◌, map};
 ghost use Rattle.sql_ast.specs.declared.expressions.Expr.{out-Expr};
 ghost use Rattle.plain_sql.specs.Temporary.{is_column_named, is_item_named, is_named_by};

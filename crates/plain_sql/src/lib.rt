@@ -12,6 +12,7 @@ mod faults;
 mod grouping;
 mod items;
 mod keys;
+mod levels;
 mod linking;
 mod lists;
 mod lookups;

@@ -1,3 +1,5 @@
+//! The column of a source that a test compares with an earlier one.
+
 ghost use Rattle.std.specs.Prelude.{◌≡◌, IfSome, true, map};
 ghost use Rattle.std.specs.List.{Contains};
 ghost use Rattle.sql_values.specs.Worths.{scale_of};
@@ -146,12 +148,14 @@ fn link_of_test(width: usize, end: usize, test: &BoundExpr) -> Option<Link>
 pub fn link_of(width: usize, end: usize, tests: &[BoundExpr]) -> Option<Link>
     ensures { IfSome result (λ link. Skips (map meaning tests.now) width link) }
 {
-    match tests {
-        [] => None,
-        [first, rest @ ..] => match link_of_test(width, end, first) {
-            Some(link) => Some(link),
-            None if is_calm(&first.node) => link_of(width, end, rest),
-            None => None,
-        },
+    for test in tests {
+        match link_of_test(width, end, test) {
+            Some(link) => return Some(link),
+            None => {}
+        }
+        if !is_calm(&test.node) {
+            return None;
+        }
     }
+    None
 }

@@ -1,3 +1,5 @@
+//! Lists put behind lists.
+
 ghost use Rattle.std.specs.Prelude.{◌≡◌, ◌++◌, OnOk};
 
 use std::alloc::AllocError;

@@ -1,3 +1,5 @@
+//! A source's rows in the order of a cell, and those that have a given one.
+
 ghost use Rattle.std.specs.Prelude.{◌≡◌, IfOk, IfSome, List, filter, map};
 ghost use Rattle.std.specs.List.{list_all};
 ghost use Rattle.tuple_codec.specs.Rows.{Cells, cell_at, value_cmp};

@@ -1,3 +1,5 @@
+//! A SELECT whose names and kinds are found.
+
 ghost use Rattle.std.specs.Prelude.{◌≡◌, [], map};
 ghost use Rattle.std.specs.List.{list_any};
 ghost use Rattle.plain_sql.specs.Temporary.{is_call};

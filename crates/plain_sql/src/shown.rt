@@ -1,3 +1,5 @@
+//! What is shown of a group of rows: a cell, or an aggregate.
+
 ghost use Rattle.std.specs.Prelude.{◌≡◌, IfOk, length, pos};
 ghost use Rattle.sql_values.specs.Totals.{total};
 ghost use Rattle.plain_sql.specs.Answers.{best_by, cell_of, first_row, given, greater, is_null, lesser, present};

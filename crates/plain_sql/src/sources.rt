@@ -1,3 +1,5 @@
+//! The sources of a SELECT, with their columns as it names them.
+
 ghost use Rattle.std.specs.Prelude.{◌≡◌, IfOk, OnOk, OnErr, ◌++◌, map};
 ghost use Rattle.std.specs.List.{flat_map};
 ghost use Rattle.plain_sql.specs.Temporary.{source_name};

@@ -1,5 +1,5 @@
 use Rattle.std.proofs.Common.{◌≡◌, ◌++◌, drop}
-use Rattle.plain_sql.proofs.combining.joined.Given as goal
+use Rattle.plain_sql.proofs.levels.joined.Given as goal
 
 abbrev pub invariant-loop-value : goal.invariant-loop-value
 invariant-loop-value l = l.row ≡ l.whole.items ++ drop l.value-index l.row
