@@ -5,3 +5,4 @@ pub mod PlaceLemmas
 pub mod EffectLemmas
 pub mod InsertionLemmas
 pub mod SortLemmas
+pub mod SearchLemmas

@@ -1,3 +1,5 @@
+//! What a column keeps of a value.
+
 ghost use Rattle.std.specs.Prelude.{◌≡◌, true};
 ghost use Rattle.tuple_codec.specs.Limits.{is_type};
 ghost use Rattle.plain_sql.specs.Gives.{Gives};

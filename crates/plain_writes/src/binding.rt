@@ -1,3 +1,5 @@
+//! Names and kinds of a statement that writes.
+
 ghost use Rattle.std.specs.Prelude.{◌≡◌, IfOk, map, true};
 ghost use Rattle.std.specs.List.{list_all};
 ghost use Rattle.tuple_codec.specs.Limits.{is_type};

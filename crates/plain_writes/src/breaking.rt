@@ -1,13 +1,17 @@
+//! Whether a row breaks a constraint.
+
 ghost use Rattle.std.specs.Prelude.{◌≡◌, IfOk};
 ghost use Rattle.std.specs.List.{list_any};
-ghost use Rattle.tuple_codec.specs.Rows.{same_cells};
+ghost use Rattle.tuple_codec.specs.Rows.{key_cmp, same_cells};
+ghost use Rattle.plain_sql.specs.Lists.{in_order};
+ghost use Rattle.plain_sql.specs.Runs.{places_cmp};
 ghost use Rattle.plain_writes.specs.Violations.{breaks_foreign, breaks_not_null, breaks_unique, is_twin, violation};
 ghost use Rattle.plain_writes.specs.Seen.{broken_seen};
 
-use crate::places::{are_same_at, is_null_at, is_whole_at};
+use crate::places::{are_same_at, compare_at, is_null_at, is_whole_at};
 use schema_model::Schema;
 use std::alloc::{AllocError, Global};
-use tuple_codec::{Row, Text, Value, copy_row, key_of, same_cells};
+use tuple_codec::{Row, Text, Value, copy_row, key_cmp, key_of, same_cells};
 
 /// A row that breaks a constraint.
 #[derive(Drop)]
@@ -28,15 +32,27 @@ fn is_twin(schema: &Schema, places: &[u8], row: &[Value], other: &[Value]) -> bo
     !are_same_at(schema.key.as_slice(), row, other) && are_same_at(places, row, other)
 }
 
-fn has_twin(schema: &Schema, places: &[u8], row: &[Value], rows: &[Row]) -> bool
+fn any_twin(schema: &Schema, places: &[u8], row: &[Value], rows: &[Row]) -> bool
     ensures { result ≡ list_any (is_twin schema.now places.now row.now) rows.now }
 {
     rows.iter()
         .any(|other| is_twin(schema, places, row, other.as_slice()))
 }
 
-/// Whether another row has the same cells there, none of which is NULL.
+/// Only rows with the same cells there are looked at: they stand together.
+fn has_twin(schema: &Schema, places: &[u8], row: &[Value], rows: &[Row]) -> bool
+    requires { rows.now ≡ in_order (places_cmp places.now) rows.now }
+    ensures { result ≡ list_any (is_twin schema.now places.now row.now) rows.now }
+{
+    let from = rows.partition_point(|other| compare_at(places, other.as_slice(), row).is_lt());
+    let rest = &rows[from..];
+    let count = rest.partition_point(|other| !compare_at(places, row, other.as_slice()).is_lt());
+    any_twin(schema, places, row, &rest[..count])
+}
+
+/// Whether another row has the same cells there, none of which is NULL, of rows in the order of these cells.
 pub fn breaks_unique(schema: &Schema, rows: &[Row], places: &[u8], row: &[Value]) -> bool
+    requires { rows.now ≡ in_order (places_cmp places.now) rows.now }
     ensures { result ≡ breaks_unique schema.now rows.now places.now row.now }
 {
     is_whole_at(places, row) && has_twin(schema, places, row, rows)
@@ -48,19 +64,26 @@ pub fn breaks_not_null(place: usize, row: &[Value]) -> bool
     is_null_at(row, place)
 }
 
+/// Of keys in order the first that isn't below it tells.
 fn is_among(keys: &[Row], key: &[Value]) -> bool
+    requires { keys.now ≡ in_order key_cmp keys.now }
     ensures { result ≡ list_any (same_cells key.now) keys.now }
 {
-    keys.iter().any(|other| same_cells(key, other.as_slice()))
+    let from = keys.partition_point(|other| key_cmp(other.as_slice(), key).is_lt());
+    match keys.get(from) {
+        Some(other) => same_cells(key, other.as_slice()),
+        None => false,
+    }
 }
 
-/// Whether the cells there, none of which is NULL, are no key of the parent.
+/// Whether the cells there, none of which is NULL, are no key of the parent, whose keys stand in order.
 pub fn breaks_foreign(
     alloc: Global,
     keys: &[Row],
     places: &[u8],
     row: &[Value],
 ) -> Result<bool, AllocError>
+    requires { keys.now ≡ in_order key_cmp keys.now }
     ensures { IfOk result (λ breaks. breaks ≡ breaks_foreign keys.now places.now row.now) }
 {
     if !is_whole_at(places, row) {

@@ -1,3 +1,5 @@
+//! CHECKs as tests on rows.
+
 ghost use Rattle.std.specs.Prelude.{◌≡◌, IfOk, Ok};
 ghost use Rattle.std.specs.Option.{option_map};
 ghost use Rattle.plain_sql.specs.Plans.{condition, meaning};

@@ -1,3 +1,5 @@
+//! Columns by name, and the scope that a table's own columns make.
+
 ghost use Rattle.std.specs.Prelude.{◌≡◌, IfOk, map};
 ghost use Rattle.plain_writes.specs.Violations.{column_place, own_scope};
 

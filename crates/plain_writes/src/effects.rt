@@ -1,3 +1,5 @@
+//! INSERT, UPDATE and DELETE: the database that each makes.
+
 ghost use Rattle.std.specs.Prelude.{◌≡◌, IfOk, count_by, map, true};
 ghost use Rattle.std.specs.List.{list_all};
 ghost use Rattle.tuple_codec.specs.Limits.{is_type};

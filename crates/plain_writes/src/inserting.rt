@@ -1,3 +1,5 @@
+//! The rows that an INSERT brings.
+
 ghost use Rattle.std.specs.Prelude.{◌≡◌, ◌==◌, IfOk, Some, map, true};
 ghost use Rattle.std.specs.List.{enumerate_from, list_all, position, range_with_len};
 ghost use Rattle.tuple_codec.specs.Limits.{is_type};

@@ -12,6 +12,7 @@ mod inserting;
 mod keyed;
 mod limits;
 mod listing;
+mod ordered;
 mod parents;
 mod places;
 mod tables;

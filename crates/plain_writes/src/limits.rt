@@ -1,3 +1,5 @@
+//! Rows that pass a limit.
+
 ghost use Rattle.std.specs.Prelude.{◌≡◌, IfOk};
 ghost use Rattle.std.specs.List.{list_all};
 ghost use Rattle.schema_model.specs.Limits.{is_row_within_limits, is_short_in, is_short_key, is_short_row};

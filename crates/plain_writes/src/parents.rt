@@ -1,3 +1,5 @@
+//! The keys of a foreign key's parent.
+
 ghost use Rattle.std.specs.Prelude.{◌≡◌, IfOk, map, slice_get};
 ghost use Rattle.std.specs.Option.{option_to_list};
 ghost use Rattle.tuple_codec.specs.Rows.{key_of};

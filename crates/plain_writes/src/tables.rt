@@ -1,3 +1,5 @@
+//! A database as code keeps it.
+
 ghost use Rattle.std.specs.Prelude.{◌≡◌, map};
 ghost use Rattle.std.specs.Option.{option_map};
 ghost use Rattle.plain_writes.specs.Seen.{named_seen, table_seen};

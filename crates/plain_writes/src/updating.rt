@@ -1,3 +1,5 @@
+//! A row behind an UPDATE or a DELETE.
+
 ghost use Rattle.std.specs.Prelude.{◌≡◌, Ok, map, set, true};
 ghost use Rattle.std.specs.List.{list_all};
 ghost use Rattle.tuple_codec.specs.Limits.{is_type};

@@ -1,13 +1,20 @@
+//! The violations of a table, constraint by constraint.
+
 ghost use Rattle.std.specs.Prelude.{◌≡◌, IfOk, map};
 ghost use Rattle.std.specs.List.{enumerate_from, flat_map};
 ghost use Rattle.std.specs.Option.{option_map};
+ghost use Rattle.tuple_codec.specs.Rows.{key_cmp};
 ghost use Rattle.plain_writes.specs.Seen.{broken_seen, named_seen};
+ghost use Rattle.plain_sql.specs.Lists.{in_order};
 ghost use Rattle.plain_sql.specs.Plans.{meaning};
-ghost use Rattle.plain_writes.specs.Violations.{breaks_check, breaks_foreign, broken, checks_by, of_check, of_column, of_foreign, of_index};
+ghost use Rattle.plain_sql.specs.Runs.{places_cmp};
+ghost use Rattle.plain_writes.specs.Violations.{breaks_check, breaks_foreign, breaks_unique, broken, checks_by, of_check, of_column, of_foreign, of_index};
 
 use crate::breaking::{Broken, breaks_foreign, breaks_not_null, breaks_unique, entry_of};
 use crate::checking::{Reads, breaks_check, check_of};
 use crate::columns::own_scope;
+use crate::copies::copy_rows;
+use crate::ordered::{sorted_at, sorted_keys};
 use crate::parents::parent_keys;
 use crate::tables::NamedTable;
 use expr_eval::BoundExpr;
@@ -16,7 +23,7 @@ use schema_model::{CheckDef, Column, ForeignKey, IndexDef, Schema};
 use std::alloc::{AllocError, Global};
 use tuple_codec::{Row, Sequence};
 
-/// The rows that break a foreign key, whose parent has these keys.
+/// The rows that break a foreign key, whose parent has these keys, in order.
 fn of_foreign(
     alloc: Global,
     keys: &[Row],
@@ -24,12 +31,33 @@ fn of_foreign(
     rows: &[Row],
     foreign: &ForeignKey,
 ) -> Result<Sequence<Broken>, AllocError>
+    requires { keys.now ≡ in_order key_cmp keys.now }
     ensures { IfOk result (λ found. map broken_seen found ≡ broken schema.now rows.now 1 foreign.now.name (breaks_foreign keys.now foreign.now.columns)) }
 {
     let mut found = Sequence::new(alloc);
     for row in rows {
         if breaks_foreign(alloc, keys, foreign.columns.as_slice(), row.as_slice())? {
             found.push(entry_of(alloc, schema, 1, foreign.name.as_slice(), row.as_slice())?)?;
+        }
+    }
+    Ok(found)
+}
+
+/// The rows that break a unique index, where the same rows stand in the order of its cells.
+fn of_unique(
+    alloc: Global,
+    schema: &Schema,
+    rows: &[Row],
+    sorted: &[Row],
+    index: &IndexDef,
+) -> Result<Sequence<Broken>, AllocError>
+    requires { sorted.now ≡ in_order (places_cmp index.now.columns) sorted.now }
+    ensures { IfOk result (λ found. map broken_seen found ≡ broken schema.now rows.now 2 index.now.name (breaks_unique schema.now sorted.now index.now.columns)) }
+{
+    let mut found = Sequence::new(alloc);
+    for row in rows {
+        if breaks_unique(schema, sorted, index.columns.as_slice(), row.as_slice()) {
+            found.push(entry_of(alloc, schema, 2, index.name.as_slice(), row.as_slice())?)?;
         }
     }
     Ok(found)
@@ -44,15 +72,12 @@ fn of_index(
 ) -> Result<Sequence<Broken>, AllocError>
     ensures { IfOk result (λ found. map broken_seen found ≡ of_index schema.now rows.now index.now) }
 {
-    let mut found = Sequence::new(alloc);
-    if index.unique {
-        for row in rows {
-            if breaks_unique(schema, rows, index.columns.as_slice(), row.as_slice()) {
-                found.push(entry_of(alloc, schema, 2, index.name.as_slice(), row.as_slice())?)?;
-            }
-        }
+    if !index.unique {
+        return Ok(Sequence::new(alloc));
     }
-    Ok(found)
+    let copy = copy_rows(alloc, rows)?;
+    let sorted = sorted_at(alloc, index.columns.as_slice(), copy.into_vec())?;
+    of_unique(alloc, schema, rows, sorted.as_slice(), index)
 }
 
 pub fn of_indexes(
@@ -169,7 +194,8 @@ fn of_foreign_in(
     ensures { IfOk result (λ found. map broken_seen found ≡ of_foreign (map named_seen database.now) schema.now rows.now foreign.now) }
 {
     let keys = parent_keys(alloc, database, schema, foreign)?;
-    of_foreign(alloc, keys.as_slice(), schema, rows, foreign)
+    let sorted = sorted_keys(alloc, keys.into_vec())?;
+    of_foreign(alloc, sorted.as_slice(), schema, rows, foreign)
 }
 
 pub fn of_foreigns(

@@ -1,9 +1,0 @@
-use Rattle.std.proofs.Common.{◌≡◌, ◌++◌, drop, filter, map}
-use Rattle.plain_writes.specs.Seen.{broken_seen}
-use Rattle.plain_writes.specs.Violations.{breaks_unique, of_index, violation}
-use Rattle.plain_writes.proofs.violating.of_index.Given as goal
-
-abbrev pub invariant-loop-row : goal.invariant-loop-row
-invariant-loop-row l =
-    of_index l.schema l.rows l.index
-    ≡ map broken_seen l.found ++ map (violation l.schema 2 l.index.name) (filter (breaks_unique l.schema l.rows l.index.columns) (drop l.row-index l.rows))
