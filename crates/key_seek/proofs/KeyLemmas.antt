@@ -24,10 +24,11 @@ use Rattle.expr_eval.proofs.WorthNodes.{worth_and}
 use Rattle.plain_sql.specs.Passing.{IsCalm, IsMissed, IsPassedOver}
 use Rattle.plain_sql.proofs.MissedLemmas.{holds_not, missed_at, missed_first, passed_over}
 use Rattle.plain_writes.specs.Violations.{types_at}
-use Rattle.key_seek.specs.Entries.{AreEntriesOf, SeeksEntries, has_cells_in, is_entered}
+use Rattle.key_seek.specs.Entries.{AreEntriesOf, has_cells_in, is_entered}
 use Rattle.key_seek.specs.Parts.{AreEntriesIn, AreTold, IsFixed, IsHigh, IsLow, IsSaid, IsSpanIn, Tells}
-use Rattle.key_seek.specs.Seeking.{IsSpanOf, Seeks}
+use Rattle.key_seek.specs.Seeking.{IsSpanOf, Seeks, is_sought}
 use Rattle.key_seek.specs.Spans.{is_before, is_beyond, place_of, side_of, value_at}
+use Rattle.key_seek.specs.declared.choosing.Seek.{Seek}
 use Rattle.key_seek.specs.declared.entries.Entries.{Entries}
 use Rattle.key_seek.specs.declared.spans.End.{End}
 use Rattle.key_seek.specs.declared.spans.End.TheVariants as end
@@ -145,11 +146,11 @@ over_parts test row first rest e first_calm rest_calm said =
 read_and : (test : BoundExpr) (first a : Node) (rest xs : List Node) → test.node ≡ n.And first rest → a ≡ first → xs ≡ rest → test.node ≡ n.And a xs
 read_and test first a rest xs e same others = e ∙ ap (λ x. n.And x rest) (sym same) ∙ ap (λ l. n.And a l) (sym others)
 
-pub seeks_one : (schema : Schema) (test : BoundExpr) (span : Span) → IsSpanIn schema test.node [] span → Seeks schema test span
+pub seeks_one : (schema : Schema) (test : BoundExpr) (span : Span) → IsSpanIn schema test.node [] span → Seeks schema test (is_sought schema span)
 seeks_one schema test span is = λ row fit h.
     over_one test row is.first_calm is.rest_calm (span_missed schema row test.node [] is.first_calm is.rest_calm fit schema.key span.fixed span.low span.high is.told h)
 
-pub seeks_and : (schema : Schema) (test : BoundExpr) (first a : Node) (rest xs : List Node) (span : Span) → test.node ≡ n.And first rest → a ≡ first → xs ≡ rest → IsSpanIn schema a xs span → Seeks schema test span
+pub seeks_and : (schema : Schema) (test : BoundExpr) (first a : Node) (rest xs : List Node) (span : Span) → test.node ≡ n.And first rest → a ≡ first → xs ≡ rest → IsSpanIn schema a xs span → Seeks schema test (is_sought schema span)
 seeks_and schema test first a rest xs span e same others is = λ row fit h.
     over_parts test row a xs (read_and test first a rest xs e same others) is.first_calm is.rest_calm
     (span_missed schema row a xs is.first_calm is.rest_calm fit schema.key span.fixed span.low span.high is.told h)
@@ -167,10 +168,10 @@ others_missed schema row first rest entries is fit h =
     cells_missed schema row first rest is.first_calm is.rest_calm fit is.index.columns entries.cells is.fixed
     (same_false entries.cells (key_of is.index.columns row) (ap (λ o. has_cells_in o entries.cells row) (sym is.there) ∙ h))
 
-pub entries_one : (schema : Schema) (test : BoundExpr) (entries : Entries) → AreEntriesIn schema test.node [] entries → SeeksEntries schema test entries
+pub entries_one : (schema : Schema) (test : BoundExpr) (entries : Entries) → AreEntriesIn schema test.node [] entries → Seeks schema test (is_entered schema entries)
 entries_one schema test entries is = λ row fit h. over_one test row is.first_calm is.rest_calm (others_missed schema row test.node [] entries is fit h)
 
-pub entries_and : (schema : Schema) (test : BoundExpr) (first a : Node) (rest xs : List Node) (entries : Entries) → test.node ≡ n.And first rest → a ≡ first → xs ≡ rest → AreEntriesIn schema a xs entries → SeeksEntries schema test entries
+pub entries_and : (schema : Schema) (test : BoundExpr) (first a : Node) (rest xs : List Node) (entries : Entries) → test.node ≡ n.And first rest → a ≡ first → xs ≡ rest → AreEntriesIn schema a xs entries → Seeks schema test (is_entered schema entries)
 entries_and schema test first a rest xs entries e same others is = λ row fit h.
     over_parts test row a xs (read_and test first a rest xs e same others) is.first_calm is.rest_calm (others_missed schema row a xs entries is fit h)
 
@@ -250,6 +251,9 @@ same_entries a b e = cc
 
 pub same_span : (a b : Span) → Some a ≡ Some b → a ≡ b
 same_span a b e = cc
+
+pub same_seek : (a b : Seek) → Some a ≡ Some b → a ≡ b
+same_seek a b e = cc
 
 -- ---- going over a key
 

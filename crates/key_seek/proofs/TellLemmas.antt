@@ -17,7 +17,7 @@ use Rattle.sql_values.specs.Worths.{Worth, of_truth, worth_of}
 use Rattle.expr_eval.specs.declared.bound.Node.{Node}
 use Rattle.expr_eval.specs.declared.bound.Node.TheVariants as n
 use Rattle.expr_eval.specs.Valuing.{Worthy, between, compared, comparison, holds, two, worth}
-use Rattle.expr_eval.proofs.WorthNodes.{worth_between, worth_column, worth_compare, worth_constant}
+use Rattle.expr_eval.proofs.WorthNodes.{worth_between, worth_column, worth_compare}
 use Rattle.plain_sql.specs.Passing.{is_so}
 use Rattle.plain_sql.proofs.MissedLemmas.{times_one}
 use Rattle.key_seek.specs.Parts.{IsColumn, IsLiteral, Tells, is_exact, turned}
@@ -139,7 +139,7 @@ column_worth : (row : Cells) (place : ℕ) (part : Node) (column : IsColumn plac
 column_worth row place part column = ap (worth row) column.1 ∙ worth_column row column.0 place
 
 literal_worth : (row : Cells) (t : SqlType) (value : Value) (part : Node) (literal : IsLiteral t value part) → worth row part ≡ Some (worth_of literal.0 value)
-literal_worth row t value part literal = ap (worth row) literal.1 ∙ worth_constant row literal.0 value
+literal_worth row t value part literal = literal.1 row
 
 two_are : (f : Worth → Worth → Worthy) (a b : Worthy) (v w : Worth) → a ≡ Some v → b ≡ Some w → two f a b ≡ f v w
 two_are f a b v w p q = ap (λ x. two f x b) p ∙ ap (two f (Some v)) q

@@ -1,12 +1,10 @@
 -- Rows that have some cells in the columns of an index.
-use Rattle.std.specs.Prelude.{◌≡◌, ℕ, Bool, true, false, if◌then◌else◌, List, length, drop, Option, None, Some, slice_get}
+use Rattle.std.specs.Prelude.{◌≡◌, ℕ, Bool, true, if◌then◌else◌, List, length, drop, Option, None, Some, slice_get}
 use Rattle.tuple_codec.specs.KeyBytes.{key_bytes}
 use Rattle.tuple_codec.specs.Rows.{Cells, fits_all, key_of, same_cells}
 use Rattle.schema_model.specs.PlainTables.{is_row, primary_key}
 use Rattle.schema_model.specs.declared.schemas.IndexDef.{IndexDef}
 use Rattle.schema_model.specs.declared.schemas.Schema.{Schema}
-use Rattle.expr_eval.specs.declared.bound.BoundExpr.{BoundExpr}
-use Rattle.plain_sql.specs.Passing.{IsPassedOver}
 use Rattle.plain_writes.specs.Violations.{types_at}
 use Rattle.constraint_scan.specs.Seeking.{begins}
 use Rattle.key_seek.specs.Seeking.{row_with}
@@ -23,10 +21,6 @@ has_cells_in (Some index) cells row = has_cells index.columns cells row
 -- it has them in the columns of the schema's index at the place; every row does where there is no such index
 abbrev pub is_entered : Schema → Entries → Cells → Bool
 is_entered schema entries row = has_cells_in (slice_get schema.indexes entries.place) entries.cells row
-
--- each other row of the schema is passed over, without a refusal
-abbrev pub SeeksEntries : Schema → BoundExpr → Entries → Type 0
-SeeksEntries schema test entries = (row : Cells) → is_row schema row ≡ true → is_entered schema entries row ≡ false → IsPassedOver test row
 
 -- the index is there, and the cells fit its columns
 abbrev pub AreEntriesOf : Schema → Entries → Type 0

@@ -1,3 +1,4 @@
+pub mod Choosing
 pub mod Entries
 pub mod Parts
 pub mod Seeking

@@ -10,7 +10,7 @@ use Rattle.tuple_codec.specs.declared.values.Value.TheVariants as cell
 use Rattle.schema_model.specs.declared.schemas.Column.{Column}
 use Rattle.schema_model.specs.declared.schemas.IndexDef.{IndexDef}
 use Rattle.schema_model.specs.declared.schemas.Schema.{Schema}
-use Rattle.sql_values.specs.Worths.{Worth}
+use Rattle.sql_values.specs.Worths.{Worth, worth_of}
 use Rattle.sql_values.specs.declared.kinds.Kind.{Kind}
 use Rattle.expr_eval.specs.Valuing.{holds, worth}
 use Rattle.expr_eval.specs.declared.bound.Node.{Node}
@@ -30,8 +30,9 @@ is_exact value = true
 abbrev pub IsColumn : ℕ → Node → Type 0
 IsColumn place part = (kind : Kind) × (part ≡ node.Column kind place)
 
+-- it is worth the same on each row: a literal is, and one behind a minus
 abbrev pub IsLiteral : SqlType → Value → Node → Type 0
-IsLiteral type value part = (kind : Kind) × (part ≡ node.Constant kind value) × (fits type value ≡ true) × (is_exact value ≡ true)
+IsLiteral type value part = (kind : Kind) × ((row : Cells) → worth row part ≡ Some (worth_of kind value)) × (fits type value ≡ true) × (is_exact value ≡ true)
 
 -- the comparison with its sides changed
 abbrev pub turned : Comparison → Comparison

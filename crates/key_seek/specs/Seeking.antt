@@ -13,9 +13,9 @@ use Rattle.key_seek.specs.declared.spans.Span.{Span}
 abbrev pub is_sought : Schema → Span → Cells → Bool
 is_sought schema span row = is_in span (primary_key schema row)
 
--- each other row of the schema is passed over, without a refusal
-abbrev pub Seeks : Schema → BoundExpr → Span → Type 0
-Seeks schema test span = (row : Cells) → is_row schema row ≡ true → is_sought schema span row ≡ false → IsPassedOver test row
+-- each row of the schema that isn't wanted is passed over, without a refusal
+abbrev pub Seeks : Schema → BoundExpr → (Cells → Bool) → Type 0
+Seeks schema test wanted = (row : Cells) → is_row schema row ≡ true → wanted row ≡ false → IsPassedOver test row
 
 -- the cells that it begins with fit the first columns of the key
 abbrev pub IsSpanOf : Schema → Span → Type 0

@@ -12,15 +12,16 @@ ghost use Rattle.schema_model.specs.declared.schemas.IndexDef as defs;
 ghost use Rattle.plain_writes.specs.Violations.{types_at};
 ghost use Rattle.table_root.specs.Standing.{IsTableOf};
 ghost use Rattle.constraint_scan.specs.Roots.{IsIndexedAt};
-ghost use Rattle.key_seek.specs.Entries.{AreEntriesOf, IsUnder, SeeksEntries, behind, has_cells, is_entered};
+ghost use Rattle.key_seek.specs.Entries.{AreEntriesOf, IsUnder, behind, has_cells, is_entered};
 ghost use Rattle.key_seek.specs.Parts.{AreEntriesIn, IsFixed};
+ghost use Rattle.key_seek.specs.Seeking.{Seeks};
 ghost use Rattle.key_seek.specs.declared.entries.Entries as sets;
 
 use crate::naming::fixed_value;
 use crate::reading::types_at;
+use crate::steady::{are_steady, is_steady};
 use chunk_store::Draft;
 use expr_eval::{BoundExpr, Node};
-use plain_sql::{are_calm, is_calm};
 use prolly_tree::{get, scan_from};
 use schema_model::{IndexDef, Schema};
 use sql_ast::Comparison;
@@ -38,12 +39,12 @@ pub struct Entries {
 
 /// The entries among which a row's has to be for the row to pass the test, where literals fix all columns of an index. The test is
 /// bound over the schema's own columns, each at its position.
-pub fn sought_entries(
+pub(crate) fn sought_entries(
     alloc: Global,
     schema: &Schema,
     test: &BoundExpr,
 ) -> Result<Option<Entries>, AllocError>
-    ensures seeks { (entries : sets.Entries) → IfOk result (λ found. found ≡ Some entries → SeeksEntries schema.now test.now entries) }
+    ensures seeks { (entries : sets.Entries) → IfOk result (λ found. found ≡ Some entries → Seeks schema.now test.now (is_entered schema.now entries)) }
     ensures fits { (entries : sets.Entries) → IfOk result (λ found. found ≡ Some entries → AreEntriesOf schema.now entries) }
 {
     match &test.node {
@@ -52,7 +53,7 @@ pub fn sought_entries(
     }
 }
 
-/// The entries that these parts tell, where all of them are calm.
+/// The entries that these parts tell, where all of them are steady.
 fn entries_in(
     alloc: Global,
     schema: &Schema,
@@ -61,10 +62,10 @@ fn entries_in(
 ) -> Result<Option<Entries>, AllocError>
     ensures { (entries : sets.Entries) → IfOk result (λ found. found ≡ Some entries → AreEntriesIn schema.now first.now rest.now entries) }
 {
-    if !is_calm(first) {
+    if !is_steady(first) {
         return Ok(None);
     }
-    if !are_calm(rest) {
+    if !are_steady(rest) {
         return Ok(None);
     }
     told_entries(alloc, schema, first, rest)
@@ -117,7 +118,7 @@ fn fixed_cells(
 
 /// The rows of a table that have entries among these, in the table's order. The index's tree is read from the first of them on, and
 /// each row by its primary key.
-pub fn rows_entered<D: Digester>(
+pub(crate) fn rows_entered<D: Digester>(
     alloc: Global,
     draft: &Draft<D>,
     table: &Table,

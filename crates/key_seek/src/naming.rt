@@ -5,11 +5,13 @@ ghost use Rattle.std.specs.List.{Contains};
 ghost use Rattle.expr_eval.specs.declared.bound.Node.TheVariants as node;
 ghost use Rattle.tuple_codec.specs.Rows.{fits};
 ghost use Rattle.tuple_codec.specs.declared.values.Value.{Value};
+ghost use Rattle.tuple_codec.specs.declared.values.Value.TheVariants as cell;
 ghost use Rattle.key_seek.specs.Parts.{IsColumn, IsFixed, IsLiteral, IsSaid, Tells, is_exact, turned};
 
 use expr_eval::Node;
 use schema_model::Schema;
 use sql_ast::Comparison;
+use sql_values::{Worth, negate};
 use std::alloc::{AllocError, Global};
 use tuple_codec::{SqlType, Value, copy_value, value_fits};
 
@@ -157,12 +159,33 @@ fn is_column(place: usize, part: &Node) -> bool
     }
 }
 
-/// A literal's value, where it is of the type's own kind.
+/// The value of a literal, or of one behind a minus, where it is of the type's own kind.
 fn literal_value(alloc: Global, kind: &SqlType, part: &Node) -> Result<Option<Value>, AllocError>
     ensures { (value : Value) → IfOk result (λ found. found ≡ Some value → IsLiteral kind.now value part.now) }
 {
     match part {
         Node::Constant(_, value) => exact_value(alloc, kind, value),
+        Node::Negate(a) => turned_literal(alloc, kind, a.get()),
+        _ => Ok(None),
+    }
+}
+
+/// The value of a whole literal behind a minus.
+fn turned_literal(
+    alloc: Global,
+    kind: &SqlType,
+    operand: &Node,
+) -> Result<Option<Value>, AllocError>
+    ensures { (value : Value) → IfOk result (λ found. found ≡ Some value → IsLiteral kind.now value (node.Negate operand.now)) }
+{
+    match operand {
+        Node::Constant(own, value) => match negate(&Worth::of(own, value)) {
+            Some(turned) => match turned {
+                Worth::Int(number) => exact_value(alloc, kind, &Value::Int(number)),
+                _ => Ok(None),
+            },
+            None => Ok(None),
+        },
         _ => Ok(None),
     }
 }

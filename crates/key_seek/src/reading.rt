@@ -24,7 +24,7 @@ use tuple_codec::{
 
 /// The rows of a table whose primary keys lie in a span, in the table's order. Its tree is read from the first of them on, until
 /// the first behind them.
-pub fn rows_sought<D: Digester>(
+pub(crate) fn rows_in_span<D: Digester>(
     alloc: Global,
     draft: &Draft<D>,
     table: &Table,

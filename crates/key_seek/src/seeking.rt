@@ -2,13 +2,13 @@
 
 ghost use Rattle.std.specs.Prelude.{◌≡◌, Some, IfOk};
 ghost use Rattle.key_seek.specs.Parts.{AreTold, IsHigh, IsLow, IsSpanIn};
-ghost use Rattle.key_seek.specs.Seeking.{IsSpanOf, Seeks};
+ghost use Rattle.key_seek.specs.Seeking.{IsSpanOf, Seeks, is_sought};
 ghost use Rattle.key_seek.specs.declared.spans.Span as spans;
 
 use crate::naming::fixed_value;
 use crate::spans::{End, Span};
+use crate::steady::{are_steady, is_steady};
 use expr_eval::{BoundExpr, Node};
-use plain_sql::{are_calm, is_calm};
 use schema_model::Schema;
 use sql_ast::Comparison;
 use std::alloc::{AllocError, Global};
@@ -16,8 +16,12 @@ use tuple_codec::Row;
 
 /// The span in which a row's primary key has to lie for the row to pass the test, where literals bound it. The test is bound over
 /// the schema's own columns, each at its position.
-pub fn sought(alloc: Global, schema: &Schema, test: &BoundExpr) -> Result<Option<Span>, AllocError>
-    ensures seeks { (span : spans.Span) → IfOk result (λ found. found ≡ Some span → Seeks schema.now test.now span) }
+pub(crate) fn sought_keys(
+    alloc: Global,
+    schema: &Schema,
+    test: &BoundExpr,
+) -> Result<Option<Span>, AllocError>
+    ensures seeks { (span : spans.Span) → IfOk result (λ found. found ≡ Some span → Seeks schema.now test.now (is_sought schema.now span)) }
     ensures fits { (span : spans.Span) → IfOk result (λ found. found ≡ Some span → IsSpanOf schema.now span) }
 {
     match &test.node {
@@ -26,7 +30,7 @@ pub fn sought(alloc: Global, schema: &Schema, test: &BoundExpr) -> Result<Option
     }
 }
 
-/// The span that these parts tell, where all of them are calm and it isn't that of all keys.
+/// The span that these parts tell, where all of them are steady and it isn't that of all keys.
 fn span_in(
     alloc: Global,
     schema: &Schema,
@@ -35,10 +39,10 @@ fn span_in(
 ) -> Result<Option<Span>, AllocError>
     ensures { (span : spans.Span) → IfOk result (λ found. found ≡ Some span → IsSpanIn schema.now first.now rest.now span) }
 {
-    if !is_calm(first) {
+    if !is_steady(first) {
         return Ok(None);
     }
-    if !are_calm(rest) {
+    if !are_steady(rest) {
         return Ok(None);
     }
     let span = told_span(alloc, schema, first, rest)?;

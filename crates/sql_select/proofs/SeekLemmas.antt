@@ -22,9 +22,9 @@ use Rattle.plain_sql.specs.Temporary.{source_name}
 use Rattle.plain_sql.specs.declared.sources.Known.{Known}
 use Rattle.plain_sql.specs.declared.sources.Read.{Read}
 use Rattle.plain_sql.specs.Passing.{IsPassedOver}
+use Rattle.key_seek.specs.Seeking.{Seeks}
 use Rattle.sql_select.specs.Seeks.{AddsServing, AreNeeded, Serves, scope_in}
 use Rattle.sql_select.specs.Sources.{known_table}
-use Rattle.sql_select.specs.declared.seeking.Seek.{Seek}
 
 -- ---- rows that are passed over
 
@@ -54,7 +54,7 @@ behind tests row rows others e = ap (λ o. and_then (kept_row tests (row ++ []))
 
 -- ---- the rows that are kept
 
-kept_alike : (schema : Schema) (test : BoundExpr) (wanted : Cells → Bool) → ((row : Cells) → is_row schema row ≡ true → wanted row ≡ false → IsPassedOver test row) → (rows : List Cells) → list_all (is_row schema) rows ≡ true
+kept_alike : (schema : Schema) (test : BoundExpr) (wanted : Cells → Bool) → Seeks schema test wanted → (rows : List Cells) → list_all (is_row schema) rows ≡ true
     → kept (meaning test ∷ []) (combinations (rows ∷ [])) ≡ kept (meaning test ∷ []) (combinations (filter wanted rows ∷ []))
 kept_alike schema test wanted passes [] fit = refl
 kept_alike schema test wanted passes (row ∷ rows) fit =
@@ -228,6 +228,3 @@ no_items (x ∷ xs) ys same none = let none_long : suc (length xs) ≡ 0 = eqb-t
 pub both_ok : {A E : Type 0} (r : Result A E) (P Q R : A → Type 0) → ((x : A) → P x → Q x → R x) → IfOk r P → IfOk r Q → IfOk r R
 both_ok (Ok x) P Q R f p q = f x p q
 both_ok (Err e) P Q R f p q = p
-
-pub same_seek : (a b : Seek) → Some a ≡ Some b → a ≡ b
-same_seek a b e = cc

@@ -1,8 +1,7 @@
 -- What a SELECT of one source may read of a table in place of all its rows.
-use Rattle.std.specs.Prelude.{◌≡◌, ◌⊎◌, Bool, true, false, List, [], ◌∷◌, ◌++◌, filter, map, Some, Ok}
+use Rattle.std.specs.Prelude.{◌≡◌, ◌⊎◌, Bool, List, [], ◌∷◌, ◌++◌, filter, map, Some, Ok}
 use Rattle.std.specs.List.{AllZip}
 use Rattle.tuple_codec.specs.Rows.{Cells}
-use Rattle.schema_model.specs.PlainTables.{is_row}
 use Rattle.schema_model.specs.declared.schemas.Schema.{Schema}
 use Rattle.sql_ast.specs.declared.expressions.Expr.{Expr}
 use Rattle.sql_ast.specs.declared.selects.Query.{Query}
@@ -12,26 +11,18 @@ use Rattle.expr_eval.specs.declared.scopes.ScopeColumn.{ScopeColumn}
 use Rattle.plain_sql.specs.Plans.{condition, meaning, query_on, read_as, scope_column}
 use Rattle.plain_sql.specs.Temporary.{source_name}
 use Rattle.plain_sql.specs.declared.sources.Known.{Known}
-use Rattle.plain_sql.specs.Passing.{IsPassedOver}
-use Rattle.key_seek.specs.Entries.{AreEntriesOf, is_entered}
-use Rattle.key_seek.specs.Seeking.{IsSpanOf, is_sought}
-use Rattle.sql_select.specs.declared.seeking.Seek.{Seek}
-use Rattle.sql_select.specs.declared.seeking.Seek.TheVariants as seek
+use Rattle.key_seek.specs.Seeking as seeking
 use Rattle.sql_select.specs.Sources.{typed_column}
 
 -- the columns that an expression of the source may name
 abbrev pub scope_in : Source → Schema → List ScopeColumn
 scope_in source schema = map (scope_column (source_name source)) (map typed_column schema.columns)
 
--- the test passes over each other row of the schema
-abbrev pub IsPassing : Schema → BoundExpr → (Cells → Bool) → Type 0
-IsPassing schema test wanted = (row : Cells) → is_row schema row ≡ true → wanted row ≡ false → IsPassedOver test row
-
 -- the filter passes over each row of the schema that isn't one of these
 pub record SeeksBy (source : Source) (filter : Expr) (schema : Schema) (wanted : Cells → Bool) : Type 0 where
   pub test : BoundExpr
   pub bound : condition (scope_in source schema) filter ≡ Ok (meaning test)
-  pub passes : IsPassing schema test wanted
+  pub passes : seeking.Seeks schema test wanted
 
 -- the WHERE over the only source does
 abbrev pub Seeks : Query → Schema → (Cells → Bool) → Type 0
@@ -40,15 +31,6 @@ Seeks query schema wanted = (query.from.joins ≡ []) × (filter : Expr) × (que
 -- all rows, or those alone that the WHERE doesn't pass over
 abbrev pub AreNeeded : Query → Schema → List Cells → List Cells → Type 0
 AreNeeded query schema rows read = (read ≡ rows) ⊎ ((wanted : Cells → Bool) × Seeks query schema wanted × (read ≡ filter wanted rows))
-
--- the rows of a span of primary keys, or those that have entries in an index
-abbrev pub is_wanted : Schema → Seek → Cells → Bool
-is_wanted schema (seek.Keys span) = is_sought schema span
-is_wanted schema (seek.Entries entries) = is_entered schema entries
-
-abbrev pub IsSeekOf : Schema → Seek → Type 0
-IsSeekOf schema (seek.Keys span) = IsSpanOf schema span
-IsSeekOf schema (seek.Entries entries) = AreEntriesOf schema entries
 
 -- of a table by the same name the query shows the same
 abbrev pub Serves : Query → Known → Known → Type 0

@@ -1,3 +1,5 @@
+//! A SELECT on a database in chunks.
+
 ghost use Rattle.schema_model.specs.PlainTables.{PlainDatabase};
 ghost use Rattle.chunk_store.specs.Drafts.{chunks_of};
 ghost use Rattle.plain_sql.specs.Plans.{answer};

@@ -1,3 +1,5 @@
+//! Why a SELECT has no answer.
+
 ghost use Rattle.std.specs.Prelude.{◌≡◌};
 
 use plain_sql::Refused;

@@ -1,18 +1,19 @@
 //! The rows of a table that a SELECT needs: where the WHERE of its only source bounds the primary key, or fixes an index, the rows within.
 
-ghost use Rattle.std.specs.Prelude.{◌≡◌, Some, IfOk, filter, map};
+ghost use Rattle.std.specs.Prelude.{◌≡◌, Some, IfOk, map};
 ghost use Rattle.chunk_store.specs.Drafts.{chunks_of};
 ghost use Rattle.schema_model.specs.PlainTables.{PlainTable};
 ghost use Rattle.table_root.specs.Standing.{IsTableOf};
 ghost use Rattle.plain_sql.specs.Plans.{scope_column};
 ghost use Rattle.plain_sql.specs.Temporary.{source_name};
-ghost use Rattle.sql_select.specs.Seeks.{AreNeeded, IsPassing, IsSeekOf, Seeks, SeeksBy, is_wanted};
+ghost use Rattle.key_seek.specs.Choosing.{IsSeekOf, is_wanted};
+ghost use Rattle.key_seek.specs.declared.choosing.Seek as seeks;
+ghost use Rattle.sql_select.specs.Seeks.{AreNeeded, Seeks, SeeksBy};
 ghost use Rattle.sql_select.specs.Sources.{typed_column};
-ghost use Rattle.sql_select.specs.declared.seeking.Seek as seeks;
 
 use chunk_store::Draft;
-use expr_eval::{BoundExpr, ScopeColumn};
-use key_seek::{Entries, Span, rows_entered, rows_sought, sought_entries};
+use expr_eval::ScopeColumn;
+use key_seek::{Seek, rows_sought, sought};
 use plain_sql::{Refused, condition};
 use schema_model::{Column, Schema};
 use sql_ast::{Expr, Query, Source};
@@ -20,13 +21,6 @@ use std::alloc::{AllocError, Global};
 use table_root::Table;
 use table_rows::read_rows;
 use tuple_codec::{Digester, Row, Sequence, Text};
-
-/// What is sought in place of all rows.
-#[derive(Debug, Drop)]
-pub enum Seek {
-    Keys(Span),
-    Entries(Entries),
-}
 
 /// The rows of a table that the query needs.
 pub(crate) fn rows_needed<D: Digester>(
@@ -39,43 +33,26 @@ pub(crate) fn rows_needed<D: Digester>(
     ensures { (contents : PlainTable) → IsTableOf D.address (chunks_of draft.now.chunks) table.now contents
         → IfOk result (λ read. AreNeeded query.now table.now.schema contents.rows read) }
 {
-    match sought(alloc, query, &table.schema)? {
-        Some(seek) => rows_of_seek(alloc, draft, table, &seek),
+    match seek_of(alloc, query, &table.schema)? {
+        Some(seek) => rows_sought(alloc, draft, table, &seek),
         None => read_rows(alloc, draft, &table.schema, &table.rows),
     }
 }
 
-fn rows_of_seek<D: Digester>(
-    alloc: Global,
-    draft: &Draft<D>,
-    table: &Table,
-    seek: &Seek,
-) -> Result<Sequence<Row>, AllocError>
-    requires table { (contents : PlainTable) × IsTableOf D.address (chunks_of draft.now.chunks) table.now contents }
-    requires seek { IsSeekOf table.now.schema seek.now }
-    ensures { (contents : PlainTable) → IsTableOf D.address (chunks_of draft.now.chunks) table.now contents
-        → IfOk result (λ rows. rows ≡ filter (is_wanted table.now.schema seek.now) contents.rows) }
-{
-    match seek {
-        Seek::Keys(span) => rows_sought(alloc, draft, table, span),
-        Seek::Entries(entries) => rows_entered(alloc, draft, table, entries),
-    }
-}
-
 /// What the WHERE of the only source seeks. A WHERE that is refused is judged later, in its place.
-fn sought(alloc: Global, query: &Query, schema: &Schema) -> Result<Option<Seek>, AllocError>
+fn seek_of(alloc: Global, query: &Query, schema: &Schema) -> Result<Option<Seek>, AllocError>
     ensures { (seek : seeks.Seek) → IfOk result (λ found. found ≡ Some seek → Seeks query.now schema.now (is_wanted schema.now seek) × IsSeekOf schema.now seek) }
 {
     if !query.from.joins.as_slice().is_empty() {
         return Ok(None);
     }
     match &query.clauses.filter {
-        Some(filter) => sought_by(alloc, &query.from.first, filter, schema),
+        Some(filter) => seek_by(alloc, &query.from.first, filter, schema),
         None => Ok(None),
     }
 }
 
-fn sought_by(
+fn seek_by(
     alloc: Global,
     source: &Source,
     filter: &Expr,
@@ -86,30 +63,9 @@ fn sought_by(
     let name = name_of(source).as_slice();
     let scope = scope_columns(alloc, name, schema.columns.as_slice())?;
     match condition(alloc, scope.as_slice(), filter) {
-        Ok(test) => sought_in(alloc, schema, &test),
+        Ok(test) => sought(alloc, schema, &test),
         Err(Refused::By(_)) => Ok(None),
         Err(Refused::Memory) => Err(AllocError),
-    }
-}
-
-/// The span of primary keys that a test names, or else the entries of an index.
-fn sought_in(alloc: Global, schema: &Schema, test: &BoundExpr) -> Result<Option<Seek>, AllocError>
-    ensures passes { (seek : seeks.Seek) → IfOk result (λ found. found ≡ Some seek → IsPassing schema.now test.now (is_wanted schema.now seek)) }
-    ensures fits { (seek : seeks.Seek) → IfOk result (λ found. found ≡ Some seek → IsSeekOf schema.now seek) }
-{
-    match key_seek::sought(alloc, schema, test)? {
-        Some(span) => Ok(Some(Seek::Keys(span))),
-        None => entries_in(alloc, schema, test),
-    }
-}
-
-fn entries_in(alloc: Global, schema: &Schema, test: &BoundExpr) -> Result<Option<Seek>, AllocError>
-    ensures passes { (seek : seeks.Seek) → IfOk result (λ found. found ≡ Some seek → IsPassing schema.now test.now (is_wanted schema.now seek)) }
-    ensures fits { (seek : seeks.Seek) → IfOk result (λ found. found ≡ Some seek → IsSeekOf schema.now seek) }
-{
-    match sought_entries(alloc, schema, test)? {
-        Some(entries) => Ok(Some(Seek::Entries(entries))),
-        None => Ok(None),
     }
 }
 

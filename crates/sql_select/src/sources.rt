@@ -1,3 +1,5 @@
+//! What a SELECT reads from: a database's address, and answers under names.
+
 use tuple_codec::{Address, Answer, Sequence, Text};
 
 /// What a system table shows, by the system table's name.

@@ -1,12 +1,12 @@
 -- A walk over two lists of rows, step by step.
-use Rattle.std.proofs.Common.{◌≡◌, ℕ, zero, suc, ◌+◌, ◌-◌, ◌<◌, take, arith, length-drop, Bool, true, false, List, [], ◌∷◌, ◌++◌, map, length, drop, get_or, Option, None, Some, append-nil, refl, sym, ap, ◌∙◌, subst}
+use Rattle.std.proofs.Common.{◌≡◌, ℕ, zero, suc, ◌+◌, ◌-◌, ◌<◌, take, arith, length-drop, Bool, true, false, List, [], ◌∷◌, ◌++◌, map, length, drop, get_or, Option, None, Some, append_assoc, refl, sym, ap, ◌∙◌, subst}
 use Rattle.std.specs.Prelude.{if◌then◌else◌, bytes_eq}
 use Rattle.std.specs.Ordering.{match_ordering}
 use Rattle.std.specs.declared.cmp.Ordering.{Ordering}
 use Rattle.std.specs.declared.cmp.Ordering.TheVariants.{Less, Equal, Greater}
-use Rattle.std.specs.List.{list_all}
+use Rattle.std.specs.List.{AllByRecursion, list_all}
 use Rattle.std.proofs.lemmas.Bool.{and_parts}
-use Rattle.std.proofs.lemmas.List.{drop_more, map-append, take_all}
+use Rattle.std.proofs.lemmas.List.{drop_more, take_all}
 use Rattle.basic_laws.proofs.Bytes.{bytes_itself as itself}
 use Rattle.basic_laws.proofs.Orderings.{less_is}
 use Rattle.tuple_codec.specs.Rows.{Cells}
@@ -14,10 +14,12 @@ use Rattle.schema_model.specs.PlainTables.{row_item}
 use Rattle.schema_model.specs.declared.schemas.Schema.{Schema}
 use Rattle.tuple_codec.specs.Edits.{added, against, changed, order, removed, replaced}
 use Rattle.tuple_codec.specs.Nodes.{Item, Rise, RiseAfter}
+use Rattle.tuple_codec.specs.declared.edits.Change.{Change}
 use Rattle.tuple_codec.specs.declared.edits.Edit.{Edit}
 use Rattle.edit_laws.specs.ByKey.{as_edit, as_edits}
 use Rattle.edit_laws.proofs.Orders.{greater, less_trans}
 use Rattle.sql_write.specs.Differences.{meeting, row_edits}
+use Rattle.sql_write.specs.Weaving.{Fate, Stays, Leaves, Comes, after, before, come, gone}
 use Rattle.sql_write.specs.declared.differences.Meeting.{Meeting}
 use Rattle.sql_write.specs.declared.differences.Meeting.TheVariants as meet
 use Rattle.index_keep.proofs.SortLemmas.{order_itself}
@@ -30,17 +32,17 @@ met_itself item other e = let same = sym e in rw same (sym (by (order item.key i
   by o b is_same is_one = rw is_same (rw is_one refl)
 
 -- what is left of both lists, behind the edit of a step
-abbrev pub after : Meeting → Item → List Item → Item → List Item → List Edit
-after meet.Same item items other others = as_edits (changed items others)
-after (meet.Put edit) item items other others = edit ∷ as_edits (changed (item ∷ items) others)
-after (meet.Replaced edit) item items other others = edit ∷ as_edits (changed items others)
-after (meet.Removed edit) item items other others = edit ∷ as_edits (changed items (other ∷ others))
+abbrev pub stepped : Meeting → Item → List Item → Item → List Item → List Edit
+stepped meet.Same item items other others = as_edits (changed items others)
+stepped (meet.Put edit) item items other others = edit ∷ as_edits (changed (item ∷ items) others)
+stepped (meet.Replaced edit) item items other others = edit ∷ as_edits (changed items others)
+stepped (meet.Removed edit) item items other others = edit ∷ as_edits (changed items (other ∷ others))
 
-step : (item other : Item) (items others : List Item) → as_edits (changed (item ∷ items) (other ∷ others)) ≡ after (meeting item other) item items other others
+step : (item other : Item) (items others : List Item) → as_edits (changed (item ∷ items) (other ∷ others)) ≡ stepped (meeting item other) item items other others
 step item other items others = by (order other.key item.key) (bytes_eq other.body item.body) where
   by : (o : Ordering) (b : Bool)
       → as_edits (match_ordering o (added other ∷ against item (changed items) others) (if b then changed items others else replaced item other ∷ changed items others) (removed item ∷ changed items (other ∷ others)))
-      ≡ after (match_ordering o (meet.Put (as_edit (added other))) (if b then meet.Same else meet.Replaced (as_edit (replaced item other))) (meet.Removed (as_edit (removed item)))) item items other others
+      ≡ stepped (match_ordering o (meet.Put (as_edit (added other))) (if b then meet.Same else meet.Replaced (as_edit (replaced item other))) (meet.Removed (as_edit (removed item)))) item items other others
   by Less b = refl
   by Equal true = refl
   by Equal false = refl
@@ -54,12 +56,12 @@ here xs i x within is = drop_more xs i x within ∙ ap (λ y. y ∷ drop (i + 1)
 pub left_step : (schema : Schema) (rows others : List Cells) (i j : ℕ) (row other : Cells) (m : Meeting)
     → i < length rows → j < length others → row ≡ get_or rows i row → other ≡ get_or others j other → m ≡ meeting (row_item schema row) (row_item schema other)
     → row_edits schema (drop i rows) (drop j others)
-    ≡ after m (row_item schema row) (map (row_item schema) (drop (i + 1) rows)) (row_item schema other) (map (row_item schema) (drop (j + 1) others))
+    ≡ stepped m (row_item schema row) (map (row_item schema) (drop (i + 1) rows)) (row_item schema other) (map (row_item schema) (drop (j + 1) others))
 left_step schema rows others i j row other m i_within j_within row_is other_is m_is =
     ap (λ xs. row_edits schema xs (drop j others)) (here rows i row i_within row_is)
     ∙ ap (λ ys. row_edits schema (row ∷ drop (i + 1) rows) ys) (here others j other j_within other_is)
     ∙ step (row_item schema row) (row_item schema other) (map (row_item schema) (drop (i + 1) rows)) (map (row_item schema) (drop (j + 1) others))
-    ∙ ap (λ m. after m (row_item schema row) (map (row_item schema) (drop (i + 1) rows)) (row_item schema other) (map (row_item schema) (drop (j + 1) others))) (sym m_is)
+    ∙ ap (λ m. stepped m (row_item schema row) (map (row_item schema) (drop (i + 1) rows)) (row_item schema other) (map (row_item schema) (drop (j + 1) others))) (sym m_is)
 
 rest_is : {A : Type 0} → (xs : List A) (i : ℕ) → take (length xs - i) (drop i xs) ≡ drop i xs
 rest_is xs i = take_all (length xs - i) (drop i xs) (omega (arith, length-drop i xs))
@@ -77,69 +79,143 @@ all_of_rest test xs i e = ap (list_all test) (rest_is xs i) ∙ all_left test xs
 -- a list and itself differ nowhere
 pub no_changes : (items : List Item) → as_edits (changed items items) ≡ []
 no_changes [] = refl
-no_changes (item ∷ items) = step item item items items ∙ ap (λ m. after m item items item items) (sym (met_itself item item refl)) ∙ no_changes items
+no_changes (item ∷ items) = step item item items items ∙ ap (λ m. stepped m item items item items) (sym (met_itself item item refl)) ∙ no_changes items
 
--- ---- lists that have a beginning and an end in common
+-- ---- rows that stand in both lists
 
-front_same : (front items others : List Item) → as_edits (changed (front ++ items) (front ++ others)) ≡ as_edits (changed items others)
-front_same [] items others = refl
-front_same (item ∷ front) items others =
-    step item item (front ++ items) (front ++ others)
-    ∙ ap (λ m. after m item (front ++ items) item (front ++ others)) (sym (met_itself item item refl))
-    ∙ front_same front items others
+-- each of the one list comes before each of the other
+abbrev Apart : List Item → List Item → Type 0
+Apart items others = AllByRecursion (λ item. AllByRecursion (λ other. order item.key other.key ≡ Less) others) items
 
--- each item comes before the first of those behind
-before_last : (key : List ℕ) (items : List Item) (last : Item) (back : List Item) → RiseAfter (Some key) (items ++ (last ∷ back)) → order key last.key ≡ Less
-before_last key [] last back rise = less_is (order key last.key) rise.0
-before_last key (item ∷ items) last back rise = less_trans key item.key last.key (less_is (order key item.key) rise.0) (before_last item.key items last back rise.1)
+-- what two lists differ in, and two that stand behind them
+abbrev Joins : List Item → List Item → List Item → List Item → Type 0
+Joins items more others rest = changed (items ++ more) (others ++ rest) ≡ changed items others ++ changed more rest
 
-abbrev EndsSame : List Item → List Item → Item → List Item → Type 0
-EndsSame items others last back = as_edits (changed (items ++ (last ∷ back)) (others ++ (last ∷ back))) ≡ as_edits (changed items others)
+join_step : (item other : Item) (items more others rest : List Item) → Joins items more others rest → Joins (item ∷ items) more others rest → Joins items more (other ∷ others) rest
+    → Joins (item ∷ items) more (other ∷ others) rest
+join_step item other items more others rest both put removed_ = by (order other.key item.key) (bytes_eq other.body item.body) where
+  by : (o : Ordering) (b : Bool)
+      → match_ordering o (added other ∷ changed (item ∷ (items ++ more)) (others ++ rest))
+      (if b then changed (items ++ more) (others ++ rest) else replaced item other ∷ changed (items ++ more) (others ++ rest)) (removed item ∷ changed (items ++ more) (other ∷ (others ++ rest)))
+      ≡ match_ordering o (added other ∷ changed (item ∷ items) others)
+      (if b then changed items others else replaced item other ∷ changed items others) (removed item ∷ changed items (other ∷ others)) ++ changed more rest
+  by Less b = ap (λ (l : List Change). added other ∷ l) put
+  by Equal true = both
+  by Equal false = ap (λ (l : List Change). replaced item other ∷ l) both
+  by Greater b = ap (λ (l : List Change). removed item ∷ l) removed_
 
-both_step : (m : Meeting) (item other last : Item) (items others back : List Item) → EndsSame items others last back → EndsSame (item ∷ items) others last back → EndsSame items (other ∷ others) last back
-    → after m item (items ++ (last ∷ back)) other (others ++ (last ∷ back)) ≡ after m item items other others
-both_step meet.Same item other last items others back both put removed_ = both
-both_step (meet.Put edit) item other last items others back both put removed_ = ap (λ (l : List Edit). edit ∷ l) put
-both_step (meet.Replaced edit) item other last items others back both put removed_ = ap (λ (l : List Edit). edit ∷ l) both
-both_step (meet.Removed edit) item other last items others back both put removed_ = ap (λ (l : List Edit). edit ∷ l) removed_
+joined : (items more others rest : List Item) → Apart items rest → Apart others more → Joins items more others rest
+joined [] more [] rest first second = refl
+joined [] [] (other ∷ others) rest first second = ap (λ (l : List Change). added other ∷ l) (joined [] [] others rest tt second.1)
+joined [] (next ∷ more) (other ∷ others) rest first second =
+    ap (λ o. match_ordering o (added other ∷ changed (next ∷ more) (others ++ rest))
+    (if bytes_eq other.body next.body then changed more (others ++ rest) else replaced next other ∷ changed more (others ++ rest)) (removed next ∷ changed more (other ∷ (others ++ rest)))) second.0.0
+    ∙ ap (λ (l : List Change). added other ∷ l) (joined [] (next ∷ more) others rest tt second.1)
+joined (item ∷ items) more [] [] first second = ap (λ (l : List Change). removed item ∷ l) (joined items more [] [] first.1 tt)
+joined (item ∷ items) more [] (next ∷ rest) first second =
+    ap (λ o. match_ordering o (added next ∷ changed (item ∷ (items ++ more)) rest)
+    (if bytes_eq next.body item.body then changed (items ++ more) rest else replaced item next ∷ changed (items ++ more) rest) (removed item ∷ changed (items ++ more) (next ∷ rest)))
+    (greater item.key next.key first.0.0)
+    ∙ ap (λ (l : List Change). removed item ∷ l) (joined items more [] (next ∷ rest) first.1 tt)
+joined (item ∷ items) more (other ∷ others) rest first second =
+    join_step item other items more others rest (joined items more others rest first.1 second.1) (joined (item ∷ items) more others rest first second.1) (joined items more (other ∷ others) rest first.1 second)
 
-ends_same : (items others : List Item) (last : Item) (back : List Item) (low other_low : Option (List ℕ))
-    → RiseAfter low (items ++ (last ∷ back)) → RiseAfter other_low (others ++ (last ∷ back)) → EndsSame items others last back
-ends_same [] [] last back low other_low rise other_rise = no_changes (last ∷ back)
-ends_same [] (other ∷ others) last back low other_low rise other_rise =
-    step last other back (others ++ (last ∷ back))
-    ∙ ap (λ o. after (match_ordering o (meet.Put (as_edit (added other))) (if bytes_eq other.body last.body then meet.Same else meet.Replaced (as_edit (replaced last other))) (meet.Removed (as_edit (removed last))))
-    last back other (others ++ (last ∷ back))) (before_last other.key others last back other_rise.1)
-    ∙ ap (λ (l : List Edit). as_edit (added other) ∷ l) (ends_same [] others last back low (Some other.key) rise other_rise.1)
-ends_same (item ∷ items) [] last back low other_low rise other_rise =
-    step item last (items ++ (last ∷ back)) back
-    ∙ ap (λ o. after (match_ordering o (meet.Put (as_edit (added last))) (if bytes_eq last.body item.body then meet.Same else meet.Replaced (as_edit (replaced item last))) (meet.Removed (as_edit (removed item))))
-    item (items ++ (last ∷ back)) last back) (greater item.key last.key (before_last item.key items last back rise.1))
-    ∙ ap (λ (l : List Edit). as_edit (removed item) ∷ l) (ends_same items [] last back (Some item.key) other_low rise.1 other_rise)
-ends_same (item ∷ items) (other ∷ others) last back low other_low rise other_rise =
-    step item other (items ++ (last ∷ back)) (others ++ (last ∷ back))
-    ∙ both_step (meeting item other) item other last items others back (ends_same items others last back (Some item.key) (Some other.key) rise.1 other_rise.1)
-    (ends_same (item ∷ items) others last back low (Some other.key) rise other_rise.1) (ends_same items (other ∷ others) last back (Some item.key) other_low rise.1 other_rise)
-    ∙ sym (step item other items others)
+-- one that stands in both
+same_first : (item : Item) (items others : List Item) → changed (item ∷ items) (item ∷ others) ≡ changed items others
+same_first item items others =
+    ap (λ o. match_ordering o (added item ∷ changed (item ∷ items) others)
+    (if bytes_eq item.body item.body then changed items others else replaced item item ∷ changed items others) (removed item ∷ changed items (item ∷ others))) (order_itself item.key)
+    ∙ ap (λ b. if b then changed items others else replaced item item ∷ changed items others) (itself item.body)
 
-back_same : (items others back : List Item) (low other_low : Option (List ℕ)) → RiseAfter low (items ++ back) → RiseAfter other_low (others ++ back)
-    → as_edits (changed (items ++ back) (others ++ back)) ≡ as_edits (changed items others)
-back_same items others [] low other_low rise other_rise = λ i. as_edits (changed (append-nil items i) (append-nil others i))
-back_same items others (last ∷ back) low other_low rise other_rise = ends_same items others last back low other_low rise other_rise
+-- ---- what stands before an item, and behind it
 
-front_off : (front items : List Item) (low : Option (List ℕ)) → RiseAfter low (front ++ items) → (found : Option (List ℕ)) × RiseAfter found items
-front_off [] items low rise = (low, rise)
-front_off (item ∷ front) items low rise = front_off front items (Some item.key) rise.1
+abbrev Before : List ℕ → List Item → Type 0
+Before key items = AllByRecursion (λ item. order item.key key ≡ Less) items
 
--- the edits between two lists are those between what the lists don't have in common
-pub edits_among : (schema : Schema) (front rows others back : List Cells) → Rise (map (row_item schema) (front ++ (rows ++ back))) → Rise (map (row_item schema) (front ++ (others ++ back)))
-    → row_edits schema (front ++ (rows ++ back)) (front ++ (others ++ back)) ≡ row_edits schema rows others
-edits_among schema front rows others back rise other_rise =
-    let items : List Cells → List Item = map (row_item schema) in
-    let split : (l : List Cells) → items (front ++ (l ++ back)) ≡ items front ++ (items l ++ items back) =
-    λ l. map-append (row_item schema) front (l ++ back) ∙ ap (λ (m : List Item). items front ++ m) (map-append (row_item schema) l back) in
-    let one = front_off (items front) (items rows ++ items back) None (subst Rise (split rows) rise) in
-    let two_ = front_off (items front) (items others ++ items back) None (subst Rise (split others) other_rise) in
-    (λ i. as_edits (changed (split rows i) (split others i)))
-    ∙ front_same (items front) (items rows ++ items back) (items others ++ items back)
-    ∙ back_same (items rows) (items others) (items back) one.0 two_.0 one.1 two_.1
+abbrev Behind : List ℕ → List Item → Type 0
+Behind key items = AllByRecursion (λ item. order key item.key ≡ Less) items
+
+before_it : (low : Option (List ℕ)) (items : List Item) (it : Item) (others : List Item) → RiseAfter low (items ++ (it ∷ others)) → Before it.key items
+before_it low [] it others rise = tt
+before_it low (item ∷ items) it others rise = (at item.key items rise.1, before_it (Some item.key) items it others rise.1) where
+  at : (key : List ℕ) (items : List Item) → RiseAfter (Some key) (items ++ (it ∷ others)) → order key it.key ≡ Less
+  at key [] rise = less_is (order key it.key) rise.0
+  at key (item ∷ items) rise = less_trans key item.key it.key (less_is (order key item.key) rise.0) (at item.key items rise.1)
+
+rest_rise : (low : Option (List ℕ)) (items : List Item) (it : Item) (others : List Item) → RiseAfter low (items ++ (it ∷ others)) → RiseAfter (Some it.key) others
+rest_rise low [] it others rise = rise.1
+rest_rise low (item ∷ items) it others rise = rest_rise (Some item.key) items it others rise.1
+
+behind_later : (key at : List ℕ) (items : List Item) → order key at ≡ Less → Behind at items → Behind key items
+behind_later key at [] less behind = tt
+behind_later key at (item ∷ items) less behind = (less_trans key at item.key less behind.0, behind_later key at items less behind.1)
+
+behind_it : (key : List ℕ) (items : List Item) → RiseAfter (Some key) items → Behind key items
+behind_it key [] rise = tt
+behind_it key (item ∷ items) rise =
+    let less = less_is (order key item.key) rise.0 in (less, behind_later key item.key items less (behind_it item.key items rise.1))
+
+apart_by : (it : Item) (items others : List Item) → Before it.key items → Behind it.key others → Apart items others
+apart_by it [] others before_ behind = tt
+apart_by it (item ∷ items) others before_ behind = (behind_later item.key it.key others before_.0 behind, apart_by it items others before_.1 behind)
+
+-- both at once: what stands before the item, and the item and what stands behind it
+apart_from : (it : Item) (items others : List Item) → Before it.key items → Behind it.key others → Apart items (it ∷ others)
+apart_from it [] others before_ behind = tt
+apart_from it (item ∷ items) others before_ behind = ((before_.0, behind_later item.key it.key others before_.0 behind), apart_from it items others before_.1 behind)
+
+free_rise : (low : Option (List ℕ)) (items : List Item) → RiseAfter low items → Rise items
+free_rise low [] rise = tt
+free_rise low (item ∷ items) rise = (refl, rise.1)
+
+-- ---- the edits of the rows that were read are those of all rows
+
+module _ (schema : Schema) where
+  abbrev items_of : List Cells → List Item
+  items_of rows = map (row_item schema) rows
+
+  gone_have : (P : Item → Type 0) (fates : List Fate) → AllByRecursion P (items_of (before fates)) → AllByRecursion P (items_of (gone fates))
+  gone_have P [] have = tt
+  gone_have P (Stays row ∷ fates) have = gone_have P fates have.1
+  gone_have P (Leaves row ∷ fates) have = (have.0, gone_have P fates have.1)
+  gone_have P (Comes row ∷ fates) have = gone_have P fates have
+
+  come_have : (P : Item → Type 0) (fates : List Fate) → AllByRecursion P (items_of (after fates)) → AllByRecursion P (items_of (come fates))
+  come_have P [] have = tt
+  come_have P (Stays row ∷ fates) have = come_have P fates have.1
+  come_have P (Leaves row ∷ fates) have = come_have P fates have
+  come_have P (Comes row ∷ fates) have = (have.0, come_have P fates have.1)
+
+  -- behind rows that were read and rows that came of such
+  woven_behind : (fates : List Fate) (old new : List Item) → Rise (old ++ items_of (before fates)) → Rise (new ++ items_of (after fates))
+      → changed (old ++ items_of (before fates)) (new ++ items_of (after fates)) ≡ changed (old ++ items_of (gone fates)) (new ++ items_of (come fates))
+  woven_behind [] old new rise new_rise = refl
+  woven_behind (Stays row ∷ fates) old new rise new_rise =
+      let it = row_item schema row in
+      let old_before = before_it None old it (items_of (before fates)) rise in
+      let new_before = before_it None new it (items_of (after fates)) new_rise in
+      let old_rest = rest_rise None old it (items_of (before fates)) rise in
+      let new_rest = rest_rise None new it (items_of (after fates)) new_rise in
+      let old_behind = behind_it it.key (items_of (before fates)) old_rest in
+      let new_behind = behind_it it.key (items_of (after fates)) new_rest in
+      joined old (it ∷ items_of (before fates)) new (it ∷ items_of (after fates)) (apart_from it old (items_of (after fates)) old_before new_behind) (apart_from it new (items_of (before fates)) new_before old_behind)
+      ∙ ap (λ (l : List Change). changed old new ++ l)
+      (same_first it (items_of (before fates)) (items_of (after fates))
+      ∙ woven_behind fates [] [] (free_rise (Some it.key) (items_of (before fates)) old_rest) (free_rise (Some it.key) (items_of (after fates)) new_rest))
+      ∙ sym (joined old (items_of (gone fates)) new (items_of (come fates)) (apart_by it old (items_of (come fates)) old_before (come_have (λ item. order it.key item.key ≡ Less) fates new_behind))
+      (apart_by it new (items_of (gone fates)) new_before (gone_have (λ item. order it.key item.key ≡ Less) fates old_behind)))
+  woven_behind (Leaves row ∷ fates) old new rise new_rise =
+      let it = row_item schema row in
+      let shift : (items : List Item) → old ++ (it ∷ items) ≡ (old ++ (it ∷ [])) ++ items = λ items. sym (append_assoc old (it ∷ []) items) in
+      ap (λ (l : List Item). changed l (new ++ items_of (after fates))) (shift (items_of (before fates)))
+      ∙ woven_behind fates (old ++ (it ∷ [])) new (subst Rise (shift (items_of (before fates))) rise) new_rise
+      ∙ ap (λ (l : List Item). changed l (new ++ items_of (come fates))) (sym (shift (items_of (gone fates))))
+  woven_behind (Comes row ∷ fates) old new rise new_rise =
+      let it = row_item schema row in
+      let shift : (items : List Item) → new ++ (it ∷ items) ≡ (new ++ (it ∷ [])) ++ items = λ items. sym (append_assoc new (it ∷ []) items) in
+      ap (λ (l : List Item). changed (old ++ items_of (before fates)) l) (shift (items_of (after fates)))
+      ∙ woven_behind fates old (new ++ (it ∷ [])) rise (subst Rise (shift (items_of (after fates))) new_rise)
+      ∙ ap (λ (l : List Item). changed (old ++ items_of (gone fates)) l) (sym (shift (items_of (come fates))))
+
+  pub edits_woven : (fates : List Fate) → Rise (items_of (before fates)) → Rise (items_of (after fates)) → row_edits schema (gone fates) (come fates) ≡ row_edits schema (before fates) (after fates)
+  edits_woven fates rise new_rise = ap as_edits (sym (woven_behind fates [] [] rise new_rise))

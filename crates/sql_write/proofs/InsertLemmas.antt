@@ -80,7 +80,7 @@ rise_from edit (next ∷ edits) h = (
   rise_from next edits (right_so (is_lt (order edit.key next.key)) (rises edit_order (next ∷ edits)) h),
 )
 
-rise_so : (edits : List Edit) → rises edit_order edits ≡ true → EditsRiseAfter None edits
+pub rise_so : (edits : List Edit) → rises edit_order edits ≡ true → EditsRiseAfter None edits
 rise_so [] h = tt
 rise_so (edit ∷ edits) h = (refl, rise_from edit edits h)
 

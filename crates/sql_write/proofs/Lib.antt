@@ -1,4 +1,3 @@
-pub mod EditLemmas
 pub mod RiseLemmas
 pub mod InsertLemmas
 pub mod TableLemmas
@@ -6,6 +5,7 @@ pub mod PlaceLemmas
 pub mod SaidLemmas
 pub mod DifferenceLemmas
 pub mod TurningLemmas
+pub mod WeavingLemmas
 pub mod PassingLemmas
 pub mod ReadingLemmas
 pub mod TurnLemmas
@@ -16,3 +16,4 @@ pub mod ListingLemmas
 pub mod SchemaLemmas
 pub mod MakingLemmas
 pub mod AlteringLemmas
+pub mod PutLemmas

@@ -1,12 +1,12 @@
 -- What an UPDATE or a DELETE does to a table's rows is what it does to those that its tests don't leave out, among the others.
-use Rattle.std.proofs.Common.{◌≡◌, refl, sym, ap, ◌∙◌, subst, ℕ, ◌+◌, Bool, true, false, cond, ◌&&◌, not, ◌==◌, List, [], ◌∷◌, ◌++◌, map, filter, set, Ok, Err, arith}
+use Rattle.std.proofs.Common.{◌≡◌, refl, sym, ap, ◌∙◌, subst, ℕ, ◌+◌, Bool, true, false, cond, ◌&&◌, not, ◌==◌, List, [], ◌∷◌, map, filter, set, Ok, Err, arith}
 use Rattle.std.specs.Cmp.{IsTotalOrder}
-use Rattle.std.specs.List.{AllByRecursion, count_by, list_any}
+use Rattle.std.specs.List.{AllByRecursion, AllZip, count_by, list_any}
 use Rattle.std.specs.Ordering.{is_lt}
 use Rattle.std.specs.declared.cmp.Ordering.{Ordering}
 use Rattle.std.proofs.lemmas.Bool.{eqb-false}
-use Rattle.std.proofs.lemmas.List.{get_or-set_other, map-append}
-use Rattle.std.proofs.lemmas.List.Sums.{sum_by-append, sum_by-cons}
+use Rattle.std.proofs.lemmas.List.{get_or-set_other}
+use Rattle.std.proofs.lemmas.List.Sums.{sum_by-cons}
 use Rattle.basic_laws.proofs.Orderings.{less_is}
 use Rattle.tuple_codec.specs.Rows.{Cells, key_cmp, key_of, same_cells}
 use Rattle.tuple_codec.specs.declared.values.Value.{Value}
@@ -22,77 +22,56 @@ use Rattle.plain_writes.proofs.SortLemmas.{risen_rows}
 use Rattle.write_laws.proofs.DatabaseLemmas.{keyed_total}
 use Rattle.write_laws.proofs.OrderLemmas.{both_so, left_not, left_so, neither_so, right_not, right_so, two}
 use Rattle.write_laws.proofs.OutcomeLemmas.{ok_same, then_so, unless_so}
-use Rattle.sql_write.specs.Passing.{ArePassed, AreRead, among, sets_key}
+use Rattle.sql_write.specs.Passing.{ArePassed, AreRead, sets_key}
 use Rattle.sql_write.specs.Turning.{rows_deleted_by, rows_turned_by, turned_rows}
 use Rattle.sql_write.specs.declared.turning.Turned.{Turned}
+use Rattle.sql_write.specs.Weaving.{Fate, Stays, Leaves, Comes, IsWoven, after, before, come, gone}
 use Rattle.sql_write.proofs.PlaceLemmas.{then_assoc}
+use Rattle.sql_write.proofs.WeavingLemmas.{all_woven, none_woven, one_comes, one_leaves, one_stays}
 
 -- ---- each row of a list, of which some are left as they are
 
-then_given : {A B : Type 0} (o : Outcome A) (f g : A → Outcome B) → ((x : A) → o ≡ Ok x → f x ≡ g x) → and_then o f ≡ and_then o g
-then_given (Ok x) f g same = same x refl
-then_given (Err number) f g same = refl
+-- of each row that isn't kept nothing comes but the row itself
+abbrev AreLeft : (Cells → Outcome Later) → (Cells → Bool) → List Cells → Type 0
+AreLeft f keep rows = AllByRecursion (λ row. keep row ≡ false → f row ≡ Ok (untouched row)) rows
 
-then_ok : {A : Type 0} (o : Outcome A) → o ≡ and_then o (λ x. Ok x)
-then_ok (Ok x) = refl
-then_ok (Err number) = refl
+abbrev spread_first : List Later → (List Later → List Later) → List Later
+spread_first [] rest = []
+spread_first (one ∷ more) rest = one ∷ rest more
 
--- rows of whom nothing comes but the rows themselves
-abbrev AreLeft : (Cells → Outcome Later) → List Cells → Type 0
-AreLeft f rows = AllByRecursion (λ row. f row ≡ Ok (untouched row)) rows
+-- what comes of all rows, by what comes of those that are kept
+abbrev spread : (Cells → Bool) → List Cells → List Later → List Later
+spread keep [] later = []
+spread keep (row ∷ rows) later = cond (keep row) (spread_first later (spread keep rows)) (untouched row ∷ spread keep rows later)
 
-abbrev all_untouched : List Cells → List Later
-all_untouched rows = map untouched rows
-
-each_left : (f : Cells → Outcome Later) (rows : List Cells) → AreLeft f rows → each f rows ≡ Ok (all_untouched rows)
-each_left f [] left = refl
-each_left f (row ∷ rows) left =
-    ap (λ (o : Outcome Later). and_then o (λ one. and_then (each f rows) (λ more. Ok (one ∷ more)))) left.0
-    ∙ ap (λ (o : Outcome (List Later)). and_then o (λ more. Ok (untouched row ∷ more))) (each_left f rows left.1)
-
-front_left : (f : Cells → Outcome Later) (front rows : List Cells) → AreLeft f front → each f (front ++ rows) ≡ and_then (each f rows) (λ later. Ok (all_untouched front ++ later))
-front_left f [] rows left = then_ok (each f rows)
-front_left f (row ∷ front) rows left =
-    ap (λ (o : Outcome Later). and_then o (λ one. and_then (each f (front ++ rows)) (λ more. Ok (one ∷ more)))) left.0
-    ∙ ap (λ (o : Outcome (List Later)). and_then o (λ more. Ok (untouched row ∷ more))) (front_left f front rows left.1)
-    ∙ then_assoc (each f rows) (λ later. Ok (all_untouched front ++ later)) (λ more. Ok (untouched row ∷ more))
-
-one_more : (f : Cells → Outcome Later) (rows back : List Cells) → each f (rows ++ back) ≡ and_then (each f rows) (λ later. Ok (later ++ all_untouched back)) → (o : Outcome Later)
-    → and_then o (λ one. and_then (each f (rows ++ back)) (λ more. Ok (one ∷ more)))
-    ≡ and_then (and_then o (λ one. and_then (each f rows) (λ more. Ok (one ∷ more)))) (λ later. Ok (later ++ all_untouched back))
-one_more f rows back rest (Err number) = refl
-one_more f rows back rest (Ok one) =
+kept_step : (f : Cells → Outcome Later) (keep : Cells → Bool) (row : Cells) (rows : List Cells) (o : Outcome Later) → each f rows ≡ and_then (each f (filter keep rows)) (λ later. Ok (spread keep rows later))
+    → and_then o (λ one. and_then (each f rows) (λ more. Ok (one ∷ more)))
+    ≡ and_then (and_then o (λ one. and_then (each f (filter keep rows)) (λ more. Ok (one ∷ more)))) (λ later. Ok (spread_first later (spread keep rows)))
+kept_step f keep row rows (Err number) rest = refl
+kept_step f keep row rows (Ok one) rest =
     ap (λ (o : Outcome (List Later)). and_then o (λ more. Ok (one ∷ more))) rest
-    ∙ then_assoc (each f rows) (λ later. Ok (later ++ all_untouched back)) (λ more. Ok (one ∷ more))
-    ∙ sym (then_assoc (each f rows) (λ more. Ok (one ∷ more)) (λ later. Ok (later ++ all_untouched back)))
+    ∙ then_assoc (each f (filter keep rows)) (λ later. Ok (spread keep rows later)) (λ more. Ok (one ∷ more))
+    ∙ sym (then_assoc (each f (filter keep rows)) (λ more. Ok (one ∷ more)) (λ later. Ok (spread_first later (spread keep rows))))
 
-back_left : (f : Cells → Outcome Later) (rows back : List Cells) → AreLeft f back → each f (rows ++ back) ≡ and_then (each f rows) (λ later. Ok (later ++ all_untouched back))
-back_left f [] back left = each_left f back left
-back_left f (row ∷ rows) back left = one_more f rows back (back_left f rows back left) (f row)
+spread_step : (f : Cells → Outcome Later) (keep : Cells → Bool) (row : Cells) (rows : List Cells) → each f rows ≡ and_then (each f (filter keep rows)) (λ later. Ok (spread keep rows later)) → (b : Bool)
+    → (b ≡ false → f row ≡ Ok (untouched row))
+    → each f (row ∷ rows) ≡ and_then (each f (cond b (row ∷ filter keep rows) (filter keep rows))) (λ later. Ok (cond b (spread_first later (spread keep rows)) (untouched row ∷ spread keep rows later)))
+spread_step f keep row rows rest true left = kept_step f keep row rows (f row) rest
+spread_step f keep row rows rest false left =
+    ap (λ (o : Outcome Later). and_then o (λ one. and_then (each f rows) (λ more. Ok (one ∷ more)))) (left refl)
+    ∙ ap (λ (o : Outcome (List Later)). and_then o (λ more. Ok (untouched row ∷ more))) rest
+    ∙ then_assoc (each f (filter keep rows)) (λ later. Ok (spread keep rows later)) (λ more. Ok (untouched row ∷ more))
 
-abbrev wrapped : List Cells → List Cells → List Later → List Later
-wrapped front back later = all_untouched front ++ (later ++ all_untouched back)
+each_spread : (f : Cells → Outcome Later) (keep : Cells → Bool) (rows : List Cells) → AreLeft f keep rows → each f rows ≡ and_then (each f (filter keep rows)) (λ later. Ok (spread keep rows later))
+each_spread f keep [] left = refl
+each_spread f keep (row ∷ rows) left = spread_step f keep row rows (each_spread f keep rows left.1) (keep row) left.0
 
-each_wrapped : (f : Cells → Outcome Later) (front rows back : List Cells) → AreLeft f front → AreLeft f back
-    → each f (front ++ (rows ++ back)) ≡ and_then (each f rows) (λ later. Ok (wrapped front back later))
-each_wrapped f front rows back front_is back_is =
-    front_left f front (rows ++ back) front_is
-    ∙ ap (λ (o : Outcome (List Later)). and_then o (λ later. Ok (all_untouched front ++ later))) (back_left f rows back back_is)
-    ∙ then_assoc (each f rows) (λ later. Ok (later ++ all_untouched back)) (λ later. Ok (all_untouched front ++ later))
-
-all_left : (f : Cells → Outcome Later) (tests : List Meaning) → ((row : Cells) → passes tests row ≡ Ok false → f row ≡ Ok (untouched row)) → (rows : List Cells) → ArePassed tests rows → AreLeft f rows
-all_left f tests one [] passed = tt
-all_left f tests one (row ∷ rows) passed = (one row passed.0, all_left f tests one rows passed.1)
+all_left : (f : Cells → Outcome Later) (tests : List Meaning) (keep : Cells → Bool) → ((row : Cells) → passes tests row ≡ Ok false → f row ≡ Ok (untouched row)) → (rows : List Cells)
+    → ArePassed tests keep rows → AreLeft f keep rows
+all_left f tests keep one [] passed = tt
+all_left f tests keep one (row ∷ rows) passed = (λ out. one row (passed.0 out), all_left f tests keep one rows passed.1)
 
 -- ---- what is seen of such a list
-
-rows_untouched : (rows : List Cells) → map (λ (one : Later). one.row) (all_untouched rows) ≡ rows
-rows_untouched [] = refl
-rows_untouched (row ∷ rows) = ap (λ (l : List Cells). row ∷ l) (rows_untouched rows)
-
-rest_untouched : (rows : List Cells) → rest_of (all_untouched rows) ≡ rows
-rest_untouched [] = refl
-rest_untouched (row ∷ rows) = ap (λ (l : List Cells). row ∷ l) (rest_untouched rows)
 
 rest_step : (one : Later) (later : List Later) → rest_of (one ∷ later) ≡ cond (not one.is_new) (one.row ∷ rest_of later) (rest_of later)
 rest_step one later = by (not one.is_new) where
@@ -100,110 +79,162 @@ rest_step one later = by (not one.is_new) where
   by true = refl
   by false = refl
 
-rest_more : (row : Cells) (rest others : List Cells) (b : Bool) → cond b (row ∷ (rest ++ others)) (rest ++ others) ≡ cond b (row ∷ rest) rest ++ others
-rest_more row rest others true = refl
-rest_more row rest others false = refl
-
-rest_both : (later more : List Later) → rest_of (later ++ more) ≡ rest_of later ++ rest_of more
-rest_both [] more = refl
-rest_both (one ∷ later) more =
-    rest_step one (later ++ more)
-    ∙ ap (λ (l : List Cells). cond (not one.is_new) (one.row ∷ l) l) (rest_both later more)
-    ∙ rest_more one.row (rest_of later) (rest_of more) (not one.is_new)
-    ∙ ap (λ (l : List Cells). l ++ rest_of more) (sym (rest_step one later))
-
 abbrev news : List Later → ℕ
 news later = count_by (λ (one : Later). one.is_new) later
 
-none_new : (rows : List Cells) → news (all_untouched rows) ≡ 0
-none_new [] = refl
-none_new (row ∷ rows) =
-    let first : news (all_untouched (row ∷ rows)) ≡ 0 + news (all_untouched rows) = sum_by-cons (λ (one : Later). cond one.is_new 1 0) (untouched row) (all_untouched rows) in
-    first ∙ ap (λ n. 0 + n) (none_new rows)
+none_more : (n : ℕ) → 0 + n ≡ n
+none_more n = omega arith
 
-zeros : (n : ℕ) → 0 + (n + 0) ≡ n
-zeros n = omega arith
+news_step : (one : Later) (later : List Later) → news (one ∷ later) ≡ cond one.is_new 1 0 + news later
+news_step one later = sum_by-cons (λ (one : Later). cond one.is_new 1 0) one later
 
-module _ (front back : List Cells) (later : List Later) where
-  wrapped_rows : map (λ (one : Later). one.row) (wrapped front back later) ≡ front ++ (map (λ (one : Later). one.row) later ++ back)
-  wrapped_rows =
-      map-append (λ (one : Later). one.row) (all_untouched front) (later ++ all_untouched back)
-      ∙ (λ i. rows_untouched front i ++ (map-append (λ (one : Later). one.row) later (all_untouched back) ∙ ap (λ (l : List Cells). map (λ (one : Later). one.row) later ++ l) (rows_untouched back)) i)
+abbrev rows_of : List Later → List Cells
+rows_of later = map (λ (one : Later). one.row) later
 
-  wrapped_rest : rest_of (wrapped front back later) ≡ front ++ (rest_of later ++ back)
-  wrapped_rest =
-      rest_both (all_untouched front) (later ++ all_untouched back)
-      ∙ (λ i. rest_untouched front i ++ (rest_both later (all_untouched back) ∙ ap (λ (l : List Cells). rest_of later ++ l) (rest_untouched back)) i)
+abbrev OneEach : List Cells → List Later → Type 0
+OneEach rows later = AllZip (λ (row : Cells) (one : Later). Unit {0}) rows later
 
-  wrapped_count : news (wrapped front back later) ≡ news later
-  wrapped_count =
-      let one_ : news (wrapped front back later) ≡ news (all_untouched front) + news (later ++ all_untouched back) =
-      sum_by-append (λ (one : Later). cond one.is_new 1 0) (all_untouched front) (later ++ all_untouched back) in
-      let two_ : news (later ++ all_untouched back) ≡ news later + news (all_untouched back) = sum_by-append (λ (one : Later). cond one.is_new 1 0) later (all_untouched back) in
-      one_ ∙ (λ i. none_new front i + (two_ ∙ ap (λ n. news later + n) (none_new back)) i) ∙ zeros (news later)
+-- one for each row that is kept
+abbrev AreOf : (Cells → Bool) → List Cells → List Later → Type 0
+AreOf keep rows later = OneEach (filter keep rows) later
+
+each_of : (f : Cells → Outcome Later) (rows : List Cells) (later : List Later) → each f rows ≡ Ok later → OneEach rows later
+each_of f [] later e = subst (OneEach []) (ok_same (each f []) [] later refl e) tt
+each_of f (row ∷ rows) later e =
+    let first = then_so (f row) (λ one. and_then (each f rows) (λ more. Ok (one ∷ more))) later e in
+    let rest = then_so (each f rows) (λ more. Ok (first.0 ∷ more)) later first.2 in
+    subst (OneEach (row ∷ rows)) (ok_same (Ok (first.0 ∷ rest.0)) (first.0 ∷ rest.0) later refl rest.2) (tt, each_of f rows rest.0 rest.1)
+
+news_spread : (keep : Cells → Bool) (rows : List Cells) (later : List Later) → AreOf keep rows later → news (spread keep rows later) ≡ news later
+news_spread keep [] [] of = refl
+news_spread keep [] (one ∷ later) of = absurd (of)
+news_spread keep (row ∷ rows) later of = by (keep row) later of (news_spread keep rows) where
+  by : (b : Bool) (later : List Later) → OneEach (cond b (row ∷ filter keep rows) (filter keep rows)) later
+      → ((later : List Later) → AreOf keep rows later → news (spread keep rows later) ≡ news later)
+      → news (cond b (spread_first later (spread keep rows)) (untouched row ∷ spread keep rows later)) ≡ news later
+  by true [] of more = absurd (of)
+  by true (one ∷ later) of more = news_step one (spread keep rows later) ∙ ap (λ n. cond one.is_new 1 0 + n) (more later of.1) ∙ sym (news_step one later)
+  by false later of more =
+      let step : news (untouched row ∷ spread keep rows later) ≡ 0 + news (spread keep rows later) = news_step (untouched row) (spread keep rows later) in
+      step ∙ none_more (news (spread keep rows later)) ∙ more later of
+
+-- all rows of an UPDATE
+rows_woven : (keep : Cells → Bool) (rows : List Cells) (later : List Later) → AreOf keep rows later → IsWoven rows (rows_of (spread keep rows later)) (filter keep rows) (rows_of later)
+rows_woven keep [] [] of = none_woven
+rows_woven keep [] (one ∷ later) of = absurd (of)
+rows_woven keep (row ∷ rows) later of = by (keep row) later of (rows_woven keep rows) where
+  by : (b : Bool) (later : List Later) → OneEach (cond b (row ∷ filter keep rows) (filter keep rows)) later
+      → ((later : List Later) → AreOf keep rows later → IsWoven rows (rows_of (spread keep rows later)) (filter keep rows) (rows_of later))
+      → IsWoven (row ∷ rows) (rows_of (cond b (spread_first later (spread keep rows)) (untouched row ∷ spread keep rows later))) (cond b (row ∷ filter keep rows) (filter keep rows)) (rows_of later)
+  by true [] of more = absurd (of)
+  by true (one ∷ later) of more = one_leaves row (one_comes one.row (more later of.1))
+  by false later of more = one_stays row (more later of)
+
+-- all rows of a DELETE
+rest_woven : (keep : Cells → Bool) (rows : List Cells) (later : List Later) → AreOf keep rows later → IsWoven rows (rest_of (spread keep rows later)) (filter keep rows) (rest_of later)
+rest_woven keep [] [] of = none_woven
+rest_woven keep [] (one ∷ later) of = absurd (of)
+rest_woven keep (row ∷ rows) later of = by (keep row) later of (rest_woven keep rows) where
+  chosen : (one : Later) (later rest : List Later) (b : Bool) → IsWoven rows (rest_of rest) (filter keep rows) (rest_of later)
+      → IsWoven (row ∷ rows) (cond b (one.row ∷ rest_of rest) (rest_of rest)) (row ∷ filter keep rows) (cond b (one.row ∷ rest_of later) (rest_of later))
+  chosen one later rest true woven = one_leaves row (one_comes one.row woven)
+  chosen one later rest false woven = one_leaves row woven
+
+  by : (b : Bool) (later : List Later) → OneEach (cond b (row ∷ filter keep rows) (filter keep rows)) later
+      → ((later : List Later) → AreOf keep rows later → IsWoven rows (rest_of (spread keep rows later)) (filter keep rows) (rest_of later))
+      → IsWoven (row ∷ rows) (rest_of (cond b (spread_first later (spread keep rows)) (untouched row ∷ spread keep rows later))) (cond b (row ∷ filter keep rows) (filter keep rows)) (rest_of later)
+  by true [] of more = absurd (of)
+  by true (one ∷ later) of more =
+      subst (λ (l : List Cells). IsWoven (row ∷ rows) l (row ∷ filter keep rows) (rest_of (one ∷ later))) (sym (rest_step one (spread keep rows later)))
+      (subst (λ (l : List Cells). IsWoven (row ∷ rows) (cond (not one.is_new) (one.row ∷ rest_of (spread keep rows later)) (rest_of (spread keep rows later))) (row ∷ filter keep rows) l)
+      (sym (rest_step one later)) (chosen one later (spread keep rows later) (not one.is_new) (more later of.1)))
+  by false later of more = one_stays row (more later of)
 
 -- ---- lists that rise
 
 module _ {A : Type 0} (compare : A → A → Ordering) (total : IsTotalOrder compare) where
-  abbrev before : A → A → Bool
-  before x y = is_lt (compare x y)
+  abbrev precedes : A → A → Bool
+  precedes x y = is_lt (compare x y)
 
   abbrev Below : A → List A → Type 0
-  Below x ys = AllByRecursion (λ y. before x y ≡ true) ys
+  Below x ys = AllByRecursion (λ y. precedes x y ≡ true) ys
 
-  before_again : (x y z : A) → before x y ≡ true → before y z ≡ true → before x z ≡ true
+  before_again : (x y z : A) → precedes x y ≡ true → precedes y z ≡ true → precedes x z ≡ true
   before_again x y z first second = ap is_lt (total.trans x y z (less_is (compare x y) first) (less_is (compare y z) second))
 
-  below_by : (x y : A) (ys : List A) → before x y ≡ true → Below y ys → Below x ys
+  below_by : (x y : A) (ys : List A) → precedes x y ≡ true → Below y ys → Below x ys
   below_by x y [] less below = tt
   below_by x y (z ∷ ys) less below = (before_again x y z less below.0, below_by x y ys less below.1)
 
   below_all : (x : A) (ys : List A) → rises compare (x ∷ ys) ≡ true → Below x ys
   below_all x [] rise = tt
   below_all x (y ∷ ys) rise =
-      let less = left_so (before x y) (rises compare (y ∷ ys)) rise in
-      (less, below_by x y ys less (below_all y ys (right_so (before x y) (rises compare (y ∷ ys)) rise)))
+      let less = left_so (precedes x y) (rises compare (y ∷ ys)) rise in
+      (less, below_by x y ys less (below_all y ys (right_so (precedes x y) (rises compare (y ∷ ys)) rise)))
 
   rest_rises : (x : A) (ys : List A) → rises compare (x ∷ ys) ≡ true → rises compare ys ≡ true
   rest_rises x [] rise = refl
-  rest_rises x (y ∷ ys) rise = right_so (before x y) (rises compare (y ∷ ys)) rise
+  rest_rises x (y ∷ ys) rise = right_so (precedes x y) (rises compare (y ∷ ys)) rise
 
   rises_on : (x : A) (ys : List A) → Below x ys → rises compare ys ≡ true → rises compare (x ∷ ys) ≡ true
   rises_on x [] below rise = refl
   rises_on x (y ∷ ys) below rise = both_so below.0 rise
 
-  below_front : (x : A) (ys zs : List A) → Below x (ys ++ zs) → Below x ys
-  below_front x [] zs below = tt
-  below_front x (y ∷ ys) zs below = (below.0, below_front x ys zs below.1)
+-- rows of a list that rises rise
+module _ (compare : Cells → Cells → Ordering) (total : IsTotalOrder compare) where
+  below_gone : (row : Cells) (fates : List Fate) → Below compare total row (before fates) → Below compare total row (gone fates)
+  below_gone row [] below = tt
+  below_gone row (Stays one ∷ fates) below = below_gone row fates below.1
+  below_gone row (Leaves one ∷ fates) below = (below.0, below_gone row fates below.1)
+  below_gone row (Comes one ∷ fates) below = below_gone row fates below
 
-  -- parts of a list that rises rise
-  pub front_rises : (ys zs : List A) → rises compare (ys ++ zs) ≡ true → rises compare ys ≡ true
-  front_rises [] zs rise = refl
-  front_rises (y ∷ ys) zs rise = rises_on y ys (below_front y ys zs (below_all y (ys ++ zs) rise)) (front_rises ys zs (rest_rises y (ys ++ zs) rise))
+  below_come : (row : Cells) (fates : List Fate) → Below compare total row (after fates) → Below compare total row (come fates)
+  below_come row [] below = tt
+  below_come row (Stays one ∷ fates) below = below_come row fates below.1
+  below_come row (Leaves one ∷ fates) below = below_come row fates below
+  below_come row (Comes one ∷ fates) below = (below.0, below_come row fates below.1)
 
-  pub back_rises : (ys zs : List A) → rises compare (ys ++ zs) ≡ true → rises compare zs ≡ true
-  back_rises [] zs rise = rise
-  back_rises (y ∷ ys) zs rise = back_rises ys zs (rest_rises y (ys ++ zs) rise)
+  pub gone_rises : (fates : List Fate) → rises compare (before fates) ≡ true → rises compare (gone fates) ≡ true
+  gone_rises [] rise = refl
+  gone_rises (Stays row ∷ fates) rise = gone_rises fates (rest_rises compare total row (before fates) rise)
+  gone_rises (Leaves row ∷ fates) rise =
+      rises_on compare total row (gone fates) (below_gone row fates (below_all compare total row (before fates) rise)) (gone_rises fates (rest_rises compare total row (before fates) rise))
+  gone_rises (Comes row ∷ fates) rise = gone_rises fates rise
 
-  pub middle_rises : (xs ys zs : List A) → rises compare (xs ++ (ys ++ zs)) ≡ true → rises compare ys ≡ true
-  middle_rises xs ys zs rise = front_rises ys zs (back_rises xs (ys ++ zs) rise)
+  pub come_rises : (fates : List Fate) → rises compare (after fates) ≡ true → rises compare (come fates) ≡ true
+  come_rises [] rise = refl
+  come_rises (Stays row ∷ fates) rise = come_rises fates (rest_rises compare total row (after fates) rise)
+  come_rises (Leaves row ∷ fates) rise = come_rises fates rise
+  come_rises (Comes row ∷ fates) rise =
+      rises_on compare total row (come fates) (below_come row fates (below_all compare total row (after fates) rise)) (come_rises fates (rest_rises compare total row (after fates) rise))
 
--- ---- DELETE
+-- ---- what was read, among what wasn't
 
 abbrev pub turned_of : ℕ → List Cells → Outcome Turned
 turned_of count rows = Ok (record { rows = rows; count = count })
 
+-- what a statement does to all rows is what it does to those that were read, among the others
+pub record Splits (all read : List Cells) (whole part : Outcome Turned) : Type 0 where
+  pub rows : List Cells
+  pub same : whole ≡ and_then part (λ turned. turned_of turned.count rows)
+  pub woven : (turned : Turned) → part ≡ Ok turned → IsWoven all rows read turned.rows
+
+refused_splits : (all read : List Cells) (number : ℕ) → Splits all read (Err number) (Err number)
+refused_splits all read number = record { rows = []; same = refl; woven = λ turned e. absurd (cc) }
+
+-- where all were read
+pub whole_splits : (all : List Cells) (o : Outcome Turned) → Splits all all o o
+whole_splits all (Ok turned) = record { rows = turned.rows; same = refl; woven = λ other e. subst (λ (t : Turned). IsWoven all turned.rows all t.rows) (ok_same (Ok turned) turned other refl e) (all_woven all turned.rows) }
+whole_splits all (Err number) = refused_splits all all number
+
+-- ---- DELETE
+
 abbrev chosen_row : Cells → Bool → Outcome Later
 chosen_row row chosen = Ok (record { row = row; is_new = chosen })
 
-abbrev turned_rest : Schema → List Later → Outcome Turned
-turned_rest schema later = turned_rows schema (rest_of later) (news later)
-
-abbrev turned_all : Schema → List Later → Outcome Turned
-turned_all schema later = turned_rows schema (map (λ (one : Later). one.row) later) (news later)
-
-abbrev has_key : Schema → Cells → Cells → Bool
-has_key schema key row = same_cells (primary_key schema row) key
+-- what a statement does to rows, by what is seen of what came of them
+abbrev turned_by : Schema → (List Later → List Cells) → List Later → Outcome Turned
+turned_by schema see later = turned_rows schema (see later) (news later)
 
 module _ (schema : Schema) where
   abbrev cmp : Cells → Cells → Ordering
@@ -211,9 +242,6 @@ module _ (schema : Schema) where
 
   abbrev total : IsTotalOrder cmp
   total = keyed_total schema
-
-  abbrev rows_of : List Later → List Cells
-  rows_of later = map (λ (one : Later). one.row) later
 
   below_rest : (x : Cells) (later : List Later) → Below cmp total x (rows_of later) → Below cmp total x (rest_of later)
   below_rest x [] below = tt
@@ -235,14 +263,28 @@ module _ (schema : Schema) where
   risen_turned : (rows : List Cells) (count : ℕ) → rises cmp rows ≡ true → turned_rows schema rows count ≡ turned_of count rows
   risen_turned rows count rise = ap (λ (o : Outcome (List Cells)). and_then o (turned_of count)) (risen_rows schema rows rise)
 
-  -- rows that rise are turned as they stand, among others
-  turned_among : (front back rows all : List Cells) (count number : ℕ) → number ≡ count → all ≡ front ++ (rows ++ back) → rises cmp all ≡ true
-      → turned_rows schema all number ≡ and_then (turned_rows schema rows count) (λ turned. Ok (among front back turned))
-  turned_among front back rows all count number same is rise =
-      let whole : rises cmp (front ++ (rows ++ back)) ≡ true = subst (λ (l : List Cells). rises cmp l ≡ true) is rise in
-      (λ i. turned_rows schema (is i) (same i))
-      ∙ risen_turned (front ++ (rows ++ back)) count whole
-      ∙ sym (ap (λ (o : Outcome Turned). and_then o (λ turned. Ok (among front back turned))) (risen_turned rows count (middle_rises cmp total front rows back whole)))
+  -- what a statement that sees rows that rise does to all rows is what it does to those that were read, among the others
+  splits_at : (see : List Later → List Cells) (all read : List Cells) (more later : List Later) → news more ≡ news later → rises cmp (see more) ≡ true → IsWoven all (see more) read (see later)
+      → Splits all read (turned_by schema see more) (turned_by schema see later)
+  splits_at see all read more later same rise woven =
+      let part : turned_by schema see later ≡ turned_of (news later) (see later) = risen_turned (see later) (news later)
+      (subst (λ (l : List Cells). rises cmp l ≡ true) (sym woven.new_are) (come_rises cmp total woven.fates (subst (λ (l : List Cells). rises cmp l ≡ true) woven.rows_are rise))) in
+      let whole : turned_by schema see more ≡ turned_of (news later) (see more) = risen_turned (see more) (news more) rise ∙ ap (λ n. turned_of n (see more)) same in record {
+        rows = see more;
+        same = whole ∙ ap (λ (o : Outcome Turned). and_then o (λ turned. turned_of turned.count (see more))) (sym part);
+        woven = λ turned e. subst (λ (t : Turned). IsWoven all (see more) read t.rows) (ok_same (turned_by schema see later) (record { rows = see later; count = news later }) turned part e) woven;
+      }
+
+  splits_by : (f : Cells → Outcome Later) (see : List Later → List Cells) (keep : Cells → Bool) (all : List Cells) (o : Outcome (List Later))
+      → each f all ≡ and_then o (λ later. Ok (spread keep all later)) → ((later : List Later) → o ≡ Ok later → news (spread keep all later) ≡ news later)
+      → ((later : List Later) → o ≡ Ok later → rises cmp (see (spread keep all later)) ≡ true)
+      → ((later : List Later) → o ≡ Ok later → IsWoven all (see (spread keep all later)) (filter keep all) (see later))
+      → Splits all (filter keep all) (and_then (each f all) (turned_by schema see)) (and_then o (turned_by schema see))
+  splits_by f see keep all (Ok later) whole same rise woven =
+      subst (λ (o : Outcome (List Later)). Splits all (filter keep all) (and_then o (turned_by schema see)) (turned_by schema see later)) (sym whole)
+      (splits_at see all (filter keep all) (spread keep all later) later (same later refl) (rise later refl) (woven later refl))
+  splits_by f see keep all (Err number) whole same rise woven =
+      subst (λ (o : Outcome (List Later)). Splits all (filter keep all) (and_then o (turned_by schema see)) (Err number)) (sym whole) (refused_splits all (filter keep all) number)
 
   stays_rows : (tests : List Meaning) (rows : List Cells) (later : List Later) → each (stays tests) rows ≡ Ok later → rows_of later ≡ rows
   stays_rows tests [] later e = ap (λ (l : List Later). rows_of l) (sym (ok_same (each (stays tests) []) [] later refl e))
@@ -254,24 +296,22 @@ module _ (schema : Schema) where
       ap (λ (l : List Later). rows_of l) (sym (ok_same (Ok (first.0 ∷ rest.0)) (first.0 ∷ rest.0) later refl rest.2))
       ∙ (λ i. ap (λ (o : Later). o.row) (sym same) i ∷ stays_rows tests rows rest.0 rest.1 i)
 
-  pub deleted_among : (tests : List Meaning) (all read : List Cells) (are : AreRead tests all read) → rises cmp all ≡ true
-      → rows_deleted_by schema all tests ≡ and_then (rows_deleted_by schema read tests) (λ turned. Ok (among are.front are.back turned))
+  pub deleted_among : (tests : List Meaning) (all read : List Cells) → AreRead tests all read → rises cmp all ≡ true → Splits all read (rows_deleted_by schema all tests) (rows_deleted_by schema read tests)
   deleted_among tests all read are rise =
-      ap (λ (l : List Cells). rows_deleted_by schema l tests) are.split
-      ∙ ap (λ (o : Outcome (List Later)). and_then o (turned_rest schema))
-      (each_wrapped (stays tests) are.front read are.back (all_left (stays tests) tests left are.front are.front_passed) (all_left (stays tests) tests left are.back are.back_passed))
-      ∙ then_assoc (each (stays tests) read) (λ later. Ok (wrapped are.front are.back later)) (turned_rest schema)
-      ∙ then_given (each (stays tests) read) (λ later. turned_rest schema (wrapped are.front are.back later)) (λ later. and_then (turned_rest schema later) (λ turned. Ok (among are.front are.back turned))) step
-      ∙ sym (then_assoc (each (stays tests) read) (turned_rest schema) (λ turned. Ok (among are.front are.back turned)))
+      subst (λ (l : List Cells). Splits all l (rows_deleted_by schema all tests) (rows_deleted_by schema l tests)) (sym are.kept)
+      (splits_by (stays tests) rest_of are.keep all (each (stays tests) (filter are.keep all)) whole
+      (λ later e. news_spread are.keep all later (each_of (stays tests) (filter are.keep all) later e))
+      (λ later e. rest_rise (spread are.keep all later) (ap (λ (l : List Cells). rises cmp l) (stays_rows tests all (spread are.keep all later) (all_come later e)) ∙ rise))
+      (λ later e. rest_woven are.keep all later (each_of (stays tests) (filter are.keep all) later e)))
     where
       left : (row : Cells) → passes tests row ≡ Ok false → stays tests row ≡ Ok (untouched row)
       left row e = ap (λ (o : Outcome Bool). and_then o (chosen_row row)) e
 
-      step : (later : List Later) → each (stays tests) read ≡ Ok later → turned_rest schema (wrapped are.front are.back later) ≡ and_then (turned_rest schema later) (λ turned. Ok (among are.front are.back turned))
-      step later e =
-          let whole = wrapped_rows are.front are.back later ∙ ap (λ (l : List Cells). are.front ++ (l ++ are.back)) (stays_rows tests read later e) ∙ sym are.split in
-          turned_among are.front are.back (rest_of later) (rest_of (wrapped are.front are.back later)) (news later) (news (wrapped are.front are.back later)) (wrapped_count are.front are.back later)
-          (wrapped_rest are.front are.back later) (rest_rise (wrapped are.front are.back later) (ap (λ (l : List Cells). rises cmp l) whole ∙ rise))
+      whole : each (stays tests) all ≡ and_then (each (stays tests) (filter are.keep all)) (λ later. Ok (spread are.keep all later))
+      whole = each_spread (stays tests) are.keep all (all_left (stays tests) tests are.keep left all are.passed)
+
+      all_come : (later : List Later) → each (stays tests) (filter are.keep all) ≡ Ok later → each (stays tests) all ≡ Ok (spread are.keep all later)
+      all_come later e = whole ∙ ap (λ (o : Outcome (List Later)). and_then o (λ later. Ok (spread are.keep all later))) e
 
   -- ---- UPDATE
 
@@ -335,33 +375,21 @@ module _ (schema : Schema) where
   rises_by_keys (row ∷ []) = refl
   rises_by_keys (row ∷ next ∷ rows) = ap (λ b. is_lt (cmp row next) && b) (rises_by_keys (next ∷ rows))
 
-  keys_among : (front back rows others : List Cells) → map (primary_key schema) rows ≡ map (primary_key schema) others
-      → map (primary_key schema) (front ++ (rows ++ back)) ≡ map (primary_key schema) (front ++ (others ++ back))
-  keys_among front back rows others same =
-      map-append (primary_key schema) front (rows ++ back)
-      ∙ ap (λ (l : List Cells). map (primary_key schema) front ++ l)
-      (map-append (primary_key schema) rows back ∙ ap (λ (l : List Cells). l ++ map (primary_key schema) back) same ∙ sym (map-append (primary_key schema) others back))
-      ∙ sym (map-append (primary_key schema) front (others ++ back))
-
-  pub updated_among : (sets : List Assign) (tests : List Meaning) (all read : List Cells) (are : AreRead tests all read) → rises cmp all ≡ true → sets_key schema sets ≡ false
-      → rows_turned_by schema all sets tests ≡ and_then (rows_turned_by schema read sets tests) (λ turned. Ok (among are.front are.back turned))
+  pub updated_among : (sets : List Assign) (tests : List Meaning) (all read : List Cells) → AreRead tests all read → rises cmp all ≡ true → sets_key schema sets ≡ false
+      → Splits all read (rows_turned_by schema all sets tests) (rows_turned_by schema read sets tests)
   updated_among sets tests all read are rise free =
-      ap (λ (l : List Cells). rows_turned_by schema l sets tests) are.split
-      ∙ ap (λ (o : Outcome (List Later)). and_then o (turned_all schema))
-      (each_wrapped (turned_small schema tests sets) are.front read are.back (all_left (turned_small schema tests sets) tests left are.front are.front_passed)
-      (all_left (turned_small schema tests sets) tests left are.back are.back_passed))
-      ∙ then_assoc (each (turned_small schema tests sets) read) (λ later. Ok (wrapped are.front are.back later)) (turned_all schema)
-      ∙ then_given (each (turned_small schema tests sets) read) (λ later. turned_all schema (wrapped are.front are.back later)) (λ later. and_then (turned_all schema later) (λ turned. Ok (among are.front are.back turned))) step
-      ∙ sym (then_assoc (each (turned_small schema tests sets) read) (turned_all schema) (λ turned. Ok (among are.front are.back turned)))
+      subst (λ (l : List Cells). Splits all l (rows_turned_by schema all sets tests) (rows_turned_by schema l sets tests)) (sym are.kept)
+      (splits_by (turned_small schema tests sets) rows_of are.keep all (each (turned_small schema tests sets) (filter are.keep all)) whole
+      (λ later e. news_spread are.keep all later (each_of (turned_small schema tests sets) (filter are.keep all) later e))
+      (λ later e. rises_by_keys (rows_of (spread are.keep all later))
+      ∙ ap (λ (l : List Cells). rises key_cmp l) (turned_keys tests sets all (spread are.keep all later) free (all_come later e)) ∙ sym (rises_by_keys all) ∙ rise)
+      (λ later e. rows_woven are.keep all later (each_of (turned_small schema tests sets) (filter are.keep all) later e)))
     where
       left : (row : Cells) → passes tests row ≡ Ok false → turned_small schema tests sets row ≡ Ok (untouched row)
       left row e = ap (λ (o : Outcome Bool). and_then (and_then o (turned_if schema sets row)) (if_small_turned schema)) e
 
-      step : (later : List Later) → each (turned_small schema tests sets) read ≡ Ok later
-          → turned_all schema (wrapped are.front are.back later) ≡ and_then (turned_all schema later) (λ turned. Ok (among are.front are.back turned))
-      step later e =
-          let keys = ap (λ (l : List Cells). map (primary_key schema) l) (wrapped_rows are.front are.back later)
-          ∙ keys_among are.front are.back (rows_of later) read (turned_keys tests sets read later free e)
-          ∙ ap (λ (l : List Cells). map (primary_key schema) l) (sym are.split) in
-          turned_among are.front are.back (rows_of later) (rows_of (wrapped are.front are.back later)) (news later) (news (wrapped are.front are.back later)) (wrapped_count are.front are.back later)
-          (wrapped_rows are.front are.back later) (rises_by_keys (rows_of (wrapped are.front are.back later)) ∙ ap (λ (l : List Cells). rises key_cmp l) keys ∙ sym (rises_by_keys all) ∙ rise)
+      whole : each (turned_small schema tests sets) all ≡ and_then (each (turned_small schema tests sets) (filter are.keep all)) (λ later. Ok (spread are.keep all later))
+      whole = each_spread (turned_small schema tests sets) are.keep all (all_left (turned_small schema tests sets) tests are.keep left all are.passed)
+
+      all_come : (later : List Later) → each (turned_small schema tests sets) (filter are.keep all) ≡ Ok later → each (turned_small schema tests sets) all ≡ Ok (spread are.keep all later)
+      all_come later e = whole ∙ ap (λ (o : Outcome (List Later)). and_then o (λ later. Ok (spread are.keep all later))) e

@@ -1,5 +1,5 @@
 -- The rows of a table after an UPDATE or a DELETE: rows of the table, within the limits, by rising key.
-use Rattle.std.proofs.Common.{◌≡◌, refl, sym, ap, ◌∙◌, subst, ℕ, ◌+◌, ◌<◌, ◌≤◌, ◌^◌, Bool, true, ◌&&◌, nat_le, List, [], ◌∷◌, ◌++◌, length, map, None, Ok, Err, append-nil, length-append, arith}
+use Rattle.std.proofs.Common.{◌≡◌, refl, sym, ap, ◌∙◌, subst, ℕ, ◌+◌, ◌<◌, ◌≤◌, ◌^◌, true, ◌&&◌, nat_le, List, length, map, None, Ok, Err, arith}
 use Rattle.std.specs.List.{AllByRecursion, count_by, list_all}
 use Rattle.std.proofs.lemmas.Bool.{leb-true}
 use Rattle.tuple_codec.specs.Edits.{EditsRiseAfter, edited}
@@ -27,24 +27,26 @@ use Rattle.table_root.specs.Standing.{IsTableOf}
 use Rattle.table_rows.specs.Rows.{AreRowsAt, RowItemsFollow}
 use Rattle.table_root.specs.declared.records.Table.{Table}
 use Rattle.write_laws.proofs.DatabaseLemmas.{IsKeptTable, by_key_so, keyed_total, limits_so, rows_good}
-use Rattle.write_laws.proofs.OrderLemmas.{both_so, left_so, right_so, two}
+use Rattle.write_laws.proofs.OrderLemmas.{left_so, right_so, two}
 use Rattle.write_laws.proofs.OutcomeLemmas.{each_have, ok_same, then_so}
 use Rattle.write_laws.proofs.RowLemmas.{IsPlaced, all_left, all_rest, all_right, all_rows, assignment_placed, stay_all_good, turned_all_good}
 use Rattle.sql_write.specs.Changes.{AreToTurn, Turning, change_of, change_with}
 use Rattle.sql_write.specs.Differences.{row_edits}
 use Rattle.sql_write.specs.Finding.{IsFound}
 use Rattle.sql_write.specs.Inserting.{is_good}
-use Rattle.sql_write.specs.Passing.{AreRead, among, sets_key}
+use Rattle.sql_write.specs.Passing.{AreRead, sets_key}
 use Rattle.sql_write.specs.Putting.{CanFill}
 use Rattle.sql_write.specs.Turning.{RowsComeFirst, filling, rows_deleted, rows_deleted_by, rows_turned_by, rows_updated, rows_updated_by, turned_rows}
 use Rattle.sql_write.specs.Updating.{HasSome, MayTurn}
+use Rattle.sql_write.specs.Weaving.{Fate, after, before, come, gone}
 use Rattle.sql_write.specs.declared.finding.Found.{Found}
 use Rattle.sql_write.specs.declared.turning.Turned.{Turned}
-use Rattle.sql_write.proofs.DifferenceLemmas.{edits_among}
-use Rattle.sql_write.proofs.PassingLemmas.{deleted_among, middle_rises, turned_of, updated_among}
+use Rattle.sql_write.proofs.DifferenceLemmas.{edits_woven}
+use Rattle.sql_write.proofs.PassingLemmas.{Splits, come_rises, deleted_among, gone_rises, turned_of, updated_among, whole_splits}
 use Rattle.sql_write.proofs.PlaceLemmas.{found_table, rows_tree, schema_same, then_assoc, then_same}
 use Rattle.sql_write.proofs.RiseLemmas.{are_leaves, items_rise}
 use Rattle.sql_write.proofs.TableLemmas.{kept_listed, kept_read}
+use Rattle.sql_write.proofs.WeavingLemmas.{as_many, come_all, gone_all, gone_few}
 
 -- rows of the table, within the limits, by rising key
 pub record AreGood (schema : Schema) (rows : List Cells) : Type 0 where
@@ -93,17 +95,6 @@ valid_schema address chunks table contents of = ap is_schema (schema_same addres
 
 -- ---- what was read, among what wasn't
 
--- what a statement does to all rows is what it does to those that were read, among others before and behind them
-pub record Splits (all read : List Cells) (whole part : Outcome Turned) : Type 0 where
-  pub front : List Cells
-  pub back : List Cells
-  pub split : all ≡ front ++ (read ++ back)
-  pub same : whole ≡ and_then part (λ turned. Ok (among front back turned))
-
-among_none : (part : Outcome Turned) → part ≡ and_then part (λ turned. Ok (among [] [] turned))
-among_none (Ok turned) = ap (λ (l : List Cells). turned_of turned.count l) (sym (append-nil turned.rows))
-among_none (Err number) = refl
-
 -- an UPDATE, once it is known what it asks and sets
 abbrev changed_rows : Schema → List Cells → Turning → Outcome Turned
 changed_rows schema rows turning = rows_turned_by schema rows turning.sets turning.tests
@@ -122,50 +113,21 @@ updated_steps schema rows update =
 module _ (schema : Schema) (all read : List Cells) (rise : rises (keyed_cmp schema) all ≡ true) where
   delete_parts : (delete : Delete) (tests : List Meaning) → tests_of (own_scope delete.table schema) delete.filter ≡ Ok tests → AreRead tests all read
       → Splits all read (rows_deleted schema all delete) (rows_deleted_by schema read tests)
-  delete_parts delete tests tests_are are = record {
-    front = are.front;
-    back = are.back;
-    split = are.split;
-    same = ap (λ (o : Outcome (List Meaning)). and_then o (rows_deleted_by schema all)) tests_are ∙ deleted_among schema tests all read are rise;
-  }
+  delete_parts delete tests tests_are are =
+      subst (λ (o : Outcome (List Meaning)). Splits all read (and_then o (rows_deleted_by schema all)) (rows_deleted_by schema read tests)) (sym tests_are) (deleted_among schema tests all read are rise)
 
   turned_parts : (turning : Turning) → AreToTurn schema turning all read → Splits all read (changed_rows schema all turning) (changed_rows schema read turning)
   turned_parts turning are = two (sets_key schema turning.sets)
-      (λ t. let is = are.whole t in record {
-        front = [];
-        back = [];
-        split = is ∙ sym (append-nil read);
-        same = ap (λ (l : List Cells). changed_rows schema l turning) is ∙ among_none (changed_rows schema read turning);
-      })
-      (λ t. let read_are = are.passed in record {
-        front = read_are.front;
-        back = read_are.back;
-        split = read_are.split;
-        same = updated_among schema turning.sets turning.tests all read read_are rise t;
-      })
+      (λ t. subst (λ (l : List Cells). Splits all l (changed_rows schema all turning) (changed_rows schema l turning)) (are.whole t) (whole_splits all (changed_rows schema all turning)))
+      (λ t. updated_among schema turning.sets turning.tests all read are.passed rise t)
 
   update_parts : (update : Update) (turning : Turning) → change_of schema update ≡ Ok turning → AreToTurn schema turning all read
       → Splits all read (rows_updated schema all update) (changed_rows schema read turning)
   update_parts update turning turning_is are =
-      let parts = turned_parts turning are in record {
-        front = parts.front;
-        back = parts.back;
-        split = parts.split;
-        same = updated_steps schema all update ∙ ap (λ (o : Outcome Turning). and_then o (changed_rows schema all)) turning_is ∙ parts.same;
-      }
+      subst (λ (o : Outcome Turned). Splits all read o (changed_rows schema read turning))
+      (sym (updated_steps schema all update ∙ ap (λ (o : Outcome Turning). and_then o (changed_rows schema all)) turning_is)) (turned_parts turning are)
 
 -- ---- rows put
-
-front_all : (p : Cells → Bool) (rows more : List Cells) → list_all p (rows ++ more) ≡ true → list_all p rows ≡ true
-front_all p [] more e = refl
-front_all p (row ∷ rows) more e = both_so (left_so (p row) (list_all p (rows ++ more)) e) (front_all p rows more (right_so (p row) (list_all p (rows ++ more)) e))
-
-back_all : (p : Cells → Bool) (rows more : List Cells) → list_all p (rows ++ more) ≡ true → list_all p more ≡ true
-back_all p [] more e = e
-back_all p (row ∷ rows) more e = back_all p rows more (right_so (p row) (list_all p (rows ++ more)) e)
-
-middle_all : (p : Cells → Bool) (front rows back : List Cells) → list_all p (front ++ (rows ++ back)) ≡ true → list_all p rows ≡ true
-middle_all p front rows back e = front_all p rows back (back_all p front (rows ++ back) e)
 
 few_rows : (table : PlainTable) → is_table_within_limits table ≡ true → length table.rows ≤ most_rows
 few_rows table within =
@@ -177,9 +139,6 @@ few_rows table within =
     let three = left_so (is_within_limits table.schema && few && rows) conflicts four in
     let two_ = left_so (is_within_limits table.schema && few) rows three in
     leb-true (length table.rows) most_rows (right_so (is_within_limits table.schema) few two_)
-
-parts_length : (front rows back all : List Cells) → all ≡ front ++ (rows ++ back) → length all ≡ length front + (length rows + length back)
-parts_length front rows back all is = ap (λ (l : List Cells). length l) is ∙ length-append front (rows ++ back) ∙ ap (λ n. length front + n) (length-append rows back)
 
 module _ (address : List ℕ → List ℕ) (chunks : Chunks) (k name : List ℕ) (found : Found) (old : List Cells) (turned : Turned) (database : PlainDatabase) (contents : PlainTable) (rows : List Cells)
     (may : MayTurn address chunks k name found old turned database contents rows) where
@@ -195,57 +154,73 @@ module _ (address : List ℕ → List ℕ) (chunks : Chunks) (k name : List ℕ)
   valid : is_schema schema ≡ true
   valid = valid_schema address chunks found.table contents may.found_is.stands
 
-  olds_fit : list_all (is_row schema) (may.front ++ (old ++ may.back)) ≡ true
+  abbrev fates : List Fate
+  fates = may.woven.fates
+
+  olds_fit : list_all (is_row schema) (before fates) ≡ true
   olds_fit =
       let of = may.found_is.stands in
-      sym (ap (λ (l : List Cells). list_all (is_row schema) l) may.old_is) ∙ ap (λ (s : Schema). list_all (is_row s) contents.rows) same ∙ of.is_table.rows
+      sym (ap (λ (l : List Cells). list_all (is_row schema) l) may.woven.all_are) ∙ ap (λ (s : Schema). list_all (is_row s) contents.rows) same ∙ of.is_table.rows
 
-  olds_rise : rises (keyed_cmp schema) (may.front ++ (old ++ may.back)) ≡ true
+  olds_rise : rises (keyed_cmp schema) (before fates) ≡ true
   olds_rise =
       let of = may.found_is.stands in
-      sym (ap (λ (l : List Cells). rises (keyed_cmp schema) l) may.old_is) ∙ ap (λ (s : Schema). rises (keyed_cmp s) contents.rows) same ∙ of.is_table.keys
+      sym (ap (λ (l : List Cells). rises (keyed_cmp schema) l) may.woven.all_are) ∙ ap (λ (s : Schema). rises (keyed_cmp s) contents.rows) same ∙ of.is_table.keys
 
-  news_fit : list_all (is_row schema) (may.front ++ (turned.rows ++ may.back)) ≡ true
+  news_fit : list_all (is_row schema) (after fates) ≡ true
   news_fit =
-      sym (ap (λ (l : List Cells). list_all (is_row schema) l) may.new_is)
+      sym (ap (λ (l : List Cells). list_all (is_row schema) l) may.woven.rows_are)
       ∙ ap (λ (s : Schema). list_all (is_row s) rows) same ∙ all_left (is_row contents.schema) (is_row_within_limits contents.schema) rows may.good
 
-  news_rise : rises (keyed_cmp schema) (may.front ++ (turned.rows ++ may.back)) ≡ true
-  news_rise = sym (ap (λ (l : List Cells). rises (keyed_cmp schema) l) may.new_is) ∙ ap (λ (s : Schema). rises (keyed_cmp s) rows) same ∙ may.rise
+  news_rise : rises (keyed_cmp schema) (after fates) ≡ true
+  news_rise = sym (ap (λ (l : List Cells). rises (keyed_cmp schema) l) may.woven.rows_are) ∙ ap (λ (s : Schema). rises (keyed_cmp s) rows) same ∙ may.rise
 
   pub old_fit : list_all (is_row schema) old ≡ true
-  old_fit = middle_all (is_row schema) may.front old may.back olds_fit
+  old_fit = ap (λ (l : List Cells). list_all (is_row schema) l) may.woven.old_are ∙ gone_all (is_row schema) fates olds_fit
 
   pub old_rise : rises (keyed_cmp schema) old ≡ true
-  old_rise = middle_rises (keyed_cmp schema) (keyed_total schema) may.front old may.back olds_rise
+  old_rise = ap (λ (l : List Cells). rises (keyed_cmp schema) l) may.woven.old_are ∙ gone_rises (keyed_cmp schema) (keyed_total schema) fates olds_rise
 
   pub new_fit : list_all (is_row schema) turned.rows ≡ true
-  new_fit = middle_all (is_row schema) may.front turned.rows may.back news_fit
+  new_fit = ap (λ (l : List Cells). list_all (is_row schema) l) may.woven.new_are ∙ come_all (is_row schema) fates news_fit
 
   pub new_rise : rises (keyed_cmp schema) turned.rows ≡ true
-  new_rise = middle_rises (keyed_cmp schema) (keyed_total schema) may.front turned.rows may.back news_rise
+  new_rise = ap (λ (l : List Cells). rises (keyed_cmp schema) l) may.woven.new_are ∙ come_rises (keyed_cmp schema) (keyed_total schema) fates news_rise
+
+  -- how many all rows are, before and after, and those that were read, and those that came of them
+  all_many : length contents.rows ≡ length (before fates)
+  all_many = ap (λ (l : List Cells). length l) may.woven.all_are
+
+  rows_many : length rows ≡ length (after fates)
+  rows_many = ap (λ (l : List Cells). length l) may.woven.rows_are
+
+  old_many : length old ≡ length (gone fates)
+  old_many = ap (λ (l : List Cells). length l) may.woven.old_are
+
+  new_many : length turned.rows ≡ length (come fates)
+  new_many = ap (λ (l : List Cells). length l) may.woven.new_are
 
   pub has_some : HasSome address chunks found.table old contents
   has_some =
       let table = kept_table in
-      let split = parts_length may.front old may.back contents.rows may.old_is in record {
+      let few = gone_few fates in record {
         stands = may.found_is.stands;
-        some = omega (arith, split);
+        some = omega (arith, all_many, old_many, few);
         few = few_rows contents table.within;
       }
 
   -- the edits of the rows that were read are those of all rows
   edits_all : RowItemsFollow → row_edits schema old turned.rows ≡ row_edits schema contents.rows rows
   edits_all follow =
-      sym (edits_among schema may.front old turned.rows may.back (items_rise follow schema (may.front ++ (old ++ may.back)) valid olds_fit olds_rise)
-      (items_rise follow schema (may.front ++ (turned.rows ++ may.back)) valid news_fit news_rise))
-      ∙ (λ i. row_edits schema (sym may.old_is i) (sym may.new_is i))
+      (λ i. row_edits schema (may.woven.old_are i) (may.woven.new_are i))
+      ∙ edits_woven schema fates (items_rise follow schema (before fates) valid olds_fit olds_rise) (items_rise follow schema (after fates) valid news_fit news_rise)
+      ∙ (λ i. row_edits schema (sym may.woven.all_are i) (sym may.woven.rows_are i))
 
   edited_all : RowItemsFollow → ChangesFollow → edited (map (row_item schema) contents.rows) (row_edits schema contents.rows rows) ≡ map (row_item schema) rows
   edited_all follow changes =
       changes.back (map (row_item schema) contents.rows) (map (row_item schema) rows)
-      (subst (λ (l : List Cells). Rise (map (row_item schema) l)) (sym may.old_is) (items_rise follow schema (may.front ++ (old ++ may.back)) valid olds_fit olds_rise))
-      (subst (λ (l : List Cells). Rise (map (row_item schema) l)) (sym may.new_is) (items_rise follow schema (may.front ++ (turned.rows ++ may.back)) valid news_fit news_rise))
+      (subst (λ (l : List Cells). Rise (map (row_item schema) l)) (sym may.woven.all_are) (items_rise follow schema (before fates) valid olds_fit olds_rise))
+      (subst (λ (l : List Cells). Rise (map (row_item schema) l)) (sym may.woven.rows_are) (items_rise follow schema (after fates) valid news_fit news_rise))
       (are_leaves schema contents.rows) (are_leaves schema rows)
 
   pub can_turn : RowItemsFollow → ChangesFollow → (edits : List Edit) (count : ℕ) → count + length old ≡ length contents.rows + length turned.rows → length turned.rows + 10000000 < 2 ^ 63
@@ -255,8 +230,8 @@ module _ (address : List ℕ → List ℕ) (chunks : Chunks) (k name : List ℕ)
       let table = kept_table in
       let all_is = is ∙ edits_all follow in
       let whole = ap (λ (l : List Edit). edited (map (row_item schema) contents.rows) l) all_is ∙ edited_all follow changes in
-      let old_length = parts_length may.front old may.back contents.rows may.old_is in
-      let new_length = parts_length may.front turned.rows may.back rows may.new_is in
+      let many = as_many fates in
+      let few_old = gone_few fates in
       let most : length contents.rows ≤ 10000000 = few_rows contents table.within in record {
         at = kept_read address chunks k database may.found_is.kept;
         put = record {
@@ -269,12 +244,12 @@ module _ (address : List ℕ → List ℕ) (chunks : Chunks) (k name : List ℕ)
               valid = table.is_table.schema;
               fit = all_left (is_row contents.schema) (is_row_within_limits contents.schema) rows may.good;
               limits = all_right (is_row contents.schema) (is_row_within_limits contents.schema) rows may.good;
-              few = omega (arith, old_length, new_length, most, few);
+              few = omega (arith, all_many, rows_many, old_many, new_many, many, few_old, most, few);
             };
           };
           limits = (limits_so contents table.within).0;
         };
-        counted = omega (arith, old_length, new_length, counted);
+        counted = omega (arith, all_many, rows_many, old_many, new_many, many, counted);
       }
 
 -- ---- what a statement comes to
@@ -288,14 +263,11 @@ module _ (address : List ℕ → List ℕ) (chunks : Chunks) (k name : List ℕ)
   all_rise = let of = is.stands in of.is_table.keys
 
   may_turn : (turned : Turned) (whole part : Outcome Turned) (splits : Splits contents.rows old whole part) → part ≡ Ok turned → ((t : Turned) → whole ≡ Ok t → AreGood contents.schema t.rows)
-      → MayTurn address chunks k name found old turned database contents (splits.front ++ (turned.rows ++ splits.back))
+      → MayTurn address chunks k name found old turned database contents splits.rows
   may_turn turned whole part splits e good =
-      let are = good (among splits.front splits.back turned) (splits.same ∙ ap (λ (o : Outcome Turned). and_then o (λ t. Ok (among splits.front splits.back t))) e) in record {
+      let are = good (record { rows = splits.rows; count = turned.count }) (splits.same ∙ ap (λ (o : Outcome Turned). and_then o (λ t. turned_of t.count splits.rows)) e) in record {
         found_is = is;
-        front = splits.front;
-        back = splits.back;
-        old_is = splits.split;
-        new_is = refl;
+        woven = splits.woven turned e;
         good = are.good;
         rise = are.rise;
       }
@@ -309,7 +281,7 @@ module _ (address : List ℕ → List ℕ) (chunks : Chunks) (k name : List ℕ)
       (delete_parts contents.schema contents.rows old all_rise delete tests own are)
 
   pub may_delete : (turned : Turned) (delete : Delete) (part : Outcome Turned) (splits : Splits contents.rows old (rows_deleted contents.schema contents.rows delete) part) → part ≡ Ok turned
-      → MayTurn address chunks k name found old turned database contents (splits.front ++ (turned.rows ++ splits.back))
+      → MayTurn address chunks k name found old turned database contents splits.rows
   may_delete turned delete part splits e = may_turn turned (rows_deleted contents.schema contents.rows delete) part splits e (λ t said. deleted_good contents.schema contents.rows delete t all_good said)
 
   pub update_said : (update : Update) (turning : Turning) → change_of found.table.schema update ≡ Ok turning → AreToTurn found.table.schema turning contents.rows old
@@ -321,26 +293,26 @@ module _ (address : List ℕ → List ℕ) (chunks : Chunks) (k name : List ℕ)
       (subst (λ (s : Schema). AreToTurn s turning contents.rows old) same are))
 
   pub may_update : (turned : Turned) (update : Update) (part : Outcome Turned) (splits : Splits contents.rows old (rows_updated contents.schema contents.rows update) part) → part ≡ Ok turned
-      → MayTurn address chunks k name found old turned database contents (splits.front ++ (turned.rows ++ splits.back))
+      → MayTurn address chunks k name found old turned database contents splits.rows
   may_update turned update part splits e = may_turn turned (rows_updated contents.schema contents.rows update) part splits e (λ t said. updated_good contents.schema contents.rows update t all_good said)
 
 -- what comes of all rows, by what came of those that were read
-abbrev pub filled_among : (checks : Checks) (database : PlainDatabase) (name : List ℕ) (table : PlainTable) → List Cells → List Cells → Turned → Outcome Effect
-filled_among checks database name table front back turned = filled checks database name table turned.count (front ++ (turned.rows ++ back))
+abbrev pub filled_as : (checks : Checks) (database : PlainDatabase) (name : List ℕ) (table : PlainTable) → List Cells → Turned → Outcome Effect
+filled_as checks database name table rows turned = filled checks database name table turned.count rows
 
 splits_then : (all read : List Cells) (whole part : Outcome Turned) (splits : Splits all read whole part) (f : Turned → Outcome Effect)
-    → and_then whole f ≡ and_then part (λ turned. f (among splits.front splits.back turned))
+    → and_then whole f ≡ and_then part (λ turned. f (record { rows = splits.rows; count = turned.count }))
 splits_then all read whole part splits f =
-    ap (λ (o : Outcome Turned). and_then o f) splits.same ∙ then_assoc part (λ turned. Ok (among splits.front splits.back turned)) f
+    ap (λ (o : Outcome Turned). and_then o f) splits.same ∙ then_assoc part (λ turned. turned_of turned.count splits.rows) f
 
 module _ (first : RowsComeFirst) (checks : Checks) (database : PlainDatabase) (table : PlainTable) (read : List Cells) where
   pub deleted_is : (delete : Delete) (part : Outcome Turned) (splits : Splits table.rows read (rows_deleted table.schema table.rows delete) part)
-      → deleted checks database delete table ≡ and_then part (filled_among checks database delete.table table splits.front splits.back)
+      → deleted checks database delete table ≡ and_then part (filled_as checks database delete.table table splits.rows)
   deleted_is delete part splits =
       first.delete checks database delete table ∙ splits_then table.rows read (rows_deleted table.schema table.rows delete) part splits (filling checks database delete.table table)
 
   pub updated_is : (update : Update) (part : Outcome Turned) (splits : Splits table.rows read (rows_updated table.schema table.rows update) part)
-      → updated checks database update table ≡ and_then part (filled_among checks database update.table table splits.front splits.back)
+      → updated checks database update table ≡ and_then part (filled_as checks database update.table table splits.rows)
   updated_is update part splits =
       first.update checks database update table ∙ splits_then table.rows read (rows_updated table.schema table.rows update) part splits (filling checks database update.table table)
 

@@ -7,6 +7,7 @@ pub mod Differences
 pub mod Turning
 pub mod Passing
 pub mod Changes
+pub mod Weaving
 pub mod Updating
 pub mod Skeletons
 pub mod Building

@@ -9,17 +9,31 @@ ghost use Rattle.schema_model.specs.Schemas.{is_schema};
 ghost use Rattle.chunk_store.specs.Drafts.{chunks_of};
 ghost use Rattle.chunk_store.specs.Standing.{IsTree};
 ghost use Rattle.prolly_tree.specs.Lists.{StandsForRows};
-ghost use Rattle.sql_write.specs.Inserting.{edit_of, edit_order, meet_rows, repeats_key};
+ghost use Rattle.sql_write.specs.Inserting.{edit_of, edit_order, put_of, repeats_key};
 
 use chunk_store::Draft;
-use prolly_tree::get;
+use node_format::LeafItem;
+use prolly_tree::has_any;
 use schema_model::Schema;
 use std::alloc::{AllocError, Global};
-use table_rows::row_item;
+use table_rows::row_items;
 use tuple_codec::{Address, Digester, Edit, Row};
 
+/// The edits that put items, in their order.
+fn puts(alloc: Global, items: Vec<LeafItem>) -> Result<Vec<Edit>, AllocError>
+    ensures { IfOk result (λ edits. edits.items ≡ map put_of items.items) }
+{
+    let mut edits = Vec::with_capacity(alloc, items.len())?;
+    for item in items {
+        edits.push(Edit {
+            key: item.key,
+            value: Some(item.value),
+        })?;
+    }
+    Ok(edits)
+}
+
 /// The edits that put rows, in the rows' order.
-#[tactic(auto, using(crate::proofs::EditLemmas::all_index))]
 pub(crate) fn edits_of(
     alloc: Global,
     schema: &Schema,
@@ -29,23 +43,16 @@ pub(crate) fn edits_of(
     requires rows { list_all (is_row schema.now) rows.now ≡ true }
     ensures { IfOk result (λ edits. edits.items ≡ map (edit_of schema.now) rows.now) }
 {
-    let mut edits = Vec::with_capacity(alloc, rows.len())?;
-    for row in rows {
-        let item = row_item(alloc, schema, row.as_slice())?;
-        edits.push(Edit {
-            key: item.key,
-            value: Some(item.value),
-        })?;
-    }
-    Ok(edits)
+    let items = row_items(alloc, schema, rows)?;
+    puts(alloc, items)
 }
 
-/// Whether a key would stand twice where edits in order are put among the rows of a tree. Each is looked up by itself.
+/// Whether a key would stand twice where edits in order are put among the rows of a tree.
 pub(crate) fn repeats_key<D: Digester>(draft: &Draft<D>, root: &Address, edits: &[Edit]) -> bool
     requires { StandsForRows D.address (chunks_of draft.now.chunks) root.now.0 }
     ensures { (items : List Item) → IsTree D.address (chunks_of draft.now.chunks) root.now.0 items → result ≡ repeats_key items edits.now }
 {
-    !keys_rise(edits) || meet_rows(draft, root, edits)
+    !keys_rise(edits) || has_any(draft, root, edits)
 }
 
 /// Whether each key comes after the one before it.
@@ -68,17 +75,4 @@ fn comes_before(some: &Edit, other: &Edit) -> bool
     ensures { result ≡ is_lt (edit_order some.now other.now) }
 {
     some.key.as_slice().cmp(other.key.as_slice()).is_lt()
-}
-
-/// Whether a row of the tree has the key of an edit.
-fn meet_rows<D: Digester>(draft: &Draft<D>, root: &Address, edits: &[Edit]) -> bool
-    requires { StandsForRows D.address (chunks_of draft.now.chunks) root.now.0 }
-    ensures { (items : List Item) → IsTree D.address (chunks_of draft.now.chunks) root.now.0 items → result ≡ meet_rows items edits.now }
-{
-    for edit in edits {
-        if get(draft, root, edit.key.as_slice()).is_some() {
-            return true;
-        }
-    }
-    false
 }

@@ -1,3 +1,5 @@
+//! Why a statement wrote nothing.
+
 ghost use Rattle.std.specs.Prelude.{◌≡◌};
 ghost use Rattle.sql_write.specs.declared.faults.SqlFault.TheVariants.{Memory};
 ghost use Rattle.sql_write.specs.Making.{of_put, of_refused};

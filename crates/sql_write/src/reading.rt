@@ -5,8 +5,8 @@ ghost use Rattle.schema_model.specs.PlainTables.{PlainTable};
 ghost use Rattle.chunk_store.specs.Drafts.{chunks_of};
 ghost use Rattle.table_root.specs.Standing.{IsTableOf};
 ghost use Rattle.plain_sql.specs.Plans.{meaning};
-ghost use Rattle.key_seek.specs.Seeking.{IsSpanOf};
-ghost use Rattle.key_seek.specs.declared.spans.Span as spans;
+ghost use Rattle.key_seek.specs.Choosing.{IsSeekOf, is_wanted};
+ghost use Rattle.key_seek.specs.declared.choosing.Seek as seeks;
 ghost use Rattle.sql_write.specs.Changes.{AreToTurn, change_seen};
 ghost use Rattle.sql_write.specs.Passing.{AreRead, LeavesOthers};
 
@@ -14,20 +14,20 @@ use crate::finding::Found;
 use crate::turning::{Change, sets_key};
 use chunk_store::Draft;
 use expr_eval::BoundExpr;
-use key_seek::{Span, rows_sought, sought};
+use key_seek::{Seek, rows_sought, sought};
 use schema_model::Schema;
 use std::alloc::{AllocError, Global};
 use table_rows::read_rows;
 use tuple_codec::{Digester, Row, Sequence};
 
-/// The span of primary keys that the tests name, where they leave out every row of another.
-fn span_named(
+/// What the tests seek, where they leave out every other row.
+fn seek_named(
     alloc: Global,
     schema: &Schema,
     tests: &[BoundExpr],
-) -> Result<Option<Span>, AllocError>
-    ensures leaves { (span : spans.Span) → IfOk result (λ found. found ≡ Some span → LeavesOthers schema.now (map meaning tests.now) span) }
-    ensures fits { (span : spans.Span) → IfOk result (λ found. found ≡ Some span → IsSpanOf schema.now span) }
+) -> Result<Option<Seek>, AllocError>
+    ensures leaves { (seek : seeks.Seek) → IfOk result (λ found. found ≡ Some seek → LeavesOthers schema.now (map meaning tests.now) (is_wanted schema.now seek)) }
+    ensures fits { (seek : seeks.Seek) → IfOk result (λ found. found ≡ Some seek → IsSeekOf schema.now seek) }
 {
     match tests {
         [test] => sought(alloc, schema, test),
@@ -47,7 +47,7 @@ pub(crate) fn rows_of<D: Digester>(
     read_rows(alloc, draft, &found.table.schema, &found.table.rows)
 }
 
-/// The rows of the table that was found which these tests may choose: those of the primary keys which they name, or else all.
+/// The rows of the table that was found which these tests may choose: those which they seek by the primary key or an index, or else all.
 pub(crate) fn rows_to_test<D: Digester>(
     alloc: Global,
     draft: &Draft<D>,
@@ -58,8 +58,8 @@ pub(crate) fn rows_to_test<D: Digester>(
     ensures { (contents : PlainTable) → IsTableOf D.address (chunks_of draft.now.chunks) found.now.table contents
         → IfOk result (λ rows. AreRead (map meaning tests.now) contents.rows rows) }
 {
-    match span_named(alloc, &found.table.schema, tests)? {
-        Some(span) => rows_sought(alloc, draft, &found.table, &span),
+    match seek_named(alloc, &found.table.schema, tests)? {
+        Some(seek) => rows_sought(alloc, draft, &found.table, &seek),
         None => rows_of(alloc, draft, found),
     }
 }

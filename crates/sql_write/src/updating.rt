@@ -111,8 +111,8 @@ fn delete_found<D: Digester>(
     put_turned(alloc, draft, database, found, name, old.as_slice(), &turned)
 }
 
-/// Changes rows of a table. Where the statement names the primary key, and sets no column of it, the row of that key alone is read, else all
-/// rows; those that differ are written.
+/// Changes rows of a table. Where the statement names primary keys or entries of an index, and sets no column of the primary key, the rows of
+/// these alone are read, else all rows; those that differ are written.
 pub(crate) fn update<D: Digester>(
     alloc: Global,
     draft: &mut Draft<D>,
@@ -128,7 +128,7 @@ pub(crate) fn update<D: Digester>(
     update_found(alloc, draft, database, found, update)
 }
 
-/// Takes rows out of a table. Where the statement names the primary key, the row of that key alone is read, else all rows.
+/// Takes rows out of a table. Where the statement names primary keys or entries of an index, the rows of these alone are read, else all rows.
 pub(crate) fn delete<D: Digester>(
     alloc: Global,
     draft: &mut Draft<D>,

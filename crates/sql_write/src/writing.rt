@@ -1,3 +1,5 @@
+//! A statement that writes, by its kind.
+
 ghost use Rattle.schema_model.specs.PlainTables.{PlainDatabase};
 ghost use Rattle.chunk_store.specs.Drafts.{Grows, Longer, chunks_of};
 ghost use Rattle.constraint_scan.specs.Scanning.{HasKeptAt, IsKeptAt};

@@ -1,4 +1,4 @@
-use Rattle.std.proofs.Common.{◌≡◌, ℕ, List, ◌++◌, Ok, map, sym, ap, ◌∙◌, subst}
+use Rattle.std.proofs.Common.{◌≡◌, ℕ, List, Ok, map, sym, ap, ◌∙◌, subst}
 use Rattle.tuple_codec.specs.Rows.{Cells}
 use Rattle.schema_model.specs.declared.schemas.Schema.{Schema}
 use Rattle.chunk_store.specs.Drafts.{chunks_of}
@@ -17,7 +17,7 @@ use Rattle.sql_write.specs.Updating.{MayTurn}
 use Rattle.sql_write.specs.declared.turning.Turned.{Turned}
 use Rattle.sql_write.proofs.MakingLemmas.{refused_makes}
 use Rattle.sql_write.proofs.PlaceLemmas.{schema_same}
-use Rattle.sql_write.proofs.TurnLemmas.{delete_refused, delete_said, deleted_is, filled_among, gives_err, may_delete}
+use Rattle.sql_write.proofs.TurnLemmas.{delete_refused, delete_said, deleted_is, filled_as, gives_err, may_delete}
 use Rattle.sql_write.proofs.updating.delete_found.Goals as goal
 
 pub put_turned-requires-after_bounds : goal.put_turned-requires-after_bounds
@@ -36,7 +36,7 @@ put_turned-requires-after_bounds g c κs within =
     let part = rows_deleted_by schema old tests in
     let are = subst (λ (l : List BoundExpr). AreRead (map meaning l) contents.rows old) c.as_slice.ensures (c.in_ok-old.ensures contents is.stands) in
     let splits = delete_said address chunks k name c.args.found old before contents is c.args.delete.now tests c.in_ok-tests.ensures are in
-    let rows = splits.front ++ (turned.rows ++ splits.back) in
+    let rows = splits.rows in
     let e : part ≡ Ok turned = (λ i. rows_deleted_by schema (sym c.as_slice-3.ensures i) (map meaning (sym c.as_slice-2.ensures i))) ∙ c.in_ok-turned.ensures in
     let may = may_delete address chunks k name c.args.found old before contents is turned c.args.delete.now part splits e in
     (before, contents, rows, subst (λ (l : List Cells). MayTurn address chunks k name c.args.found l turned before contents rows) (sym c.as_slice-4.ensures) may)
@@ -57,12 +57,12 @@ returns-clause-done g c = λ before contents found.
     let part = rows_deleted_by schema old tests in
     let are = subst (λ (l : List BoundExpr). AreRead (map meaning l) contents.rows old) c.as_slice.ensures (c.in_ok-old.ensures contents is.stands) in
     let splits = delete_said address chunks k name c.args.found old before contents is statement tests c.in_ok-tests.ensures are in
-    let rows = splits.front ++ (turned.rows ++ splits.back) in
+    let rows = splits.rows in
     let e : part ≡ Ok turned = (λ i. rows_deleted_by schema (sym c.as_slice-3.ensures i) (map meaning (sym c.as_slice-2.ensures i))) ∙ c.in_ok-turned.ensures in
     let may = may_delete address chunks k name c.args.found old before contents is turned statement part splits e in
     let put = c.put_turned.ensures.done before contents rows (subst (λ (l : List Cells). MayTurn address chunks k name c.args.found l turned before contents rows) (sym c.as_slice-4.ensures) may) in
     subst (λ (o : Outcome Effect). Makes address new c.put_turned.result o)
-    (sym (deleted_is c.rows_come_first.ensures checks before contents old statement part splits ∙ ap (λ (o : Outcome Turned). and_then o (filled_among checks before statement.table contents splits.front splits.back)) e))
+    (sym (deleted_is c.rows_come_first.ensures checks before contents old statement part splits ∙ ap (λ (o : Outcome Turned). and_then o (filled_as checks before statement.table contents splits.rows)) e))
     (subst (λ (n : List ℕ). Makes address new c.put_turned.result (filled checks before n contents turned.count rows)) c.as_slice-name.ensures put)
 
 pub returns-in_err-tests-clause-done : goal.returns-in_err-tests-clause-done
@@ -93,5 +93,5 @@ returns-in_err-turned-clause-done g c = λ before contents found.
     let same : part ≡ seen = λ i. rows_deleted_by schema (sym c.as_slice-3.ensures i) (map meaning (sym c.as_slice-2.ensures i)) in
     refused_makes address chunks c.from_residual-in_err-turned.result c.in_err-turned.field-0.0 seen (deleted checks before statement contents) c.in_err-turned.ensures
     (λ number e. deleted_is c.rows_come_first.ensures checks before contents old statement part splits
-    ∙ ap (λ (o : Outcome Turned). and_then o (filled_among checks before statement.table contents splits.front splits.back)) (same ∙ e))
+    ∙ ap (λ (o : Outcome Turned). and_then o (filled_as checks before statement.table contents splits.rows)) (same ∙ e))
     c.from_residual-in_err-turned.ensures

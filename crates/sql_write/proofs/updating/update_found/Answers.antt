@@ -1,4 +1,4 @@
-use Rattle.std.proofs.Common.{◌≡◌, ℕ, List, ◌++◌, Ok, sym, ap, ◌∙◌, subst}
+use Rattle.std.proofs.Common.{◌≡◌, ℕ, List, Ok, sym, ap, ◌∙◌, subst}
 use Rattle.tuple_codec.specs.Rows.{Cells}
 use Rattle.schema_model.specs.declared.schemas.Schema.{Schema}
 use Rattle.chunk_store.specs.Drafts.{chunks_of}
@@ -13,7 +13,7 @@ use Rattle.sql_write.specs.Updating.{MayTurn}
 use Rattle.sql_write.specs.declared.turning.Turned.{Turned}
 use Rattle.sql_write.proofs.MakingLemmas.{refused_makes}
 use Rattle.sql_write.proofs.PlaceLemmas.{schema_same}
-use Rattle.sql_write.proofs.TurnLemmas.{filled_among, gives_err, may_update, update_refused, update_said, updated_is}
+use Rattle.sql_write.proofs.TurnLemmas.{filled_as, gives_err, may_update, update_refused, update_said, updated_is}
 use Rattle.sql_write.proofs.updating.update_found.Goals as goal
 
 pub put_turned-requires-after_bounds : goal.put_turned-requires-after_bounds
@@ -31,7 +31,7 @@ put_turned-requires-after_bounds g c κs within =
     let turned = c.in_ok-turned.turned in
     let part = rows_turned_by schema old turning.sets turning.tests in
     let splits = update_said address chunks k name c.args.found old before contents is c.args.update.now turning c.in_ok-change.ensures.is (c.in_ok-old.ensures contents is.stands) in
-    let rows = splits.front ++ (turned.rows ++ splits.back) in
+    let rows = splits.rows in
     let e : part ≡ Ok turned = ap (λ (l : List Cells). rows_turned_by schema l turning.sets turning.tests) (sym c.as_slice.ensures) ∙ c.in_ok-turned.ensures in
     let may = may_update address chunks k name c.args.found old before contents is turned c.args.update.now part splits e in
     (before, contents, rows, subst (λ (l : List Cells). MayTurn address chunks k name c.args.found l turned before contents rows) (sym c.as_slice-2.ensures) may)
@@ -51,12 +51,12 @@ returns-clause-done g c = λ before contents found.
     let turned = c.in_ok-turned.turned in
     let part = rows_turned_by schema old turning.sets turning.tests in
     let splits = update_said address chunks k name c.args.found old before contents is statement turning c.in_ok-change.ensures.is (c.in_ok-old.ensures contents is.stands) in
-    let rows = splits.front ++ (turned.rows ++ splits.back) in
+    let rows = splits.rows in
     let e : part ≡ Ok turned = ap (λ (l : List Cells). rows_turned_by schema l turning.sets turning.tests) (sym c.as_slice.ensures) ∙ c.in_ok-turned.ensures in
     let may = may_update address chunks k name c.args.found old before contents is turned statement part splits e in
     let put = c.put_turned.ensures.done before contents rows (subst (λ (l : List Cells). MayTurn address chunks k name c.args.found l turned before contents rows) (sym c.as_slice-2.ensures) may) in
     subst (λ (o : Outcome Effect). Makes address new c.put_turned.result o)
-    (sym (updated_is c.rows_come_first.ensures checks before contents old statement part splits ∙ ap (λ (o : Outcome Turned). and_then o (filled_among checks before statement.table contents splits.front splits.back)) e))
+    (sym (updated_is c.rows_come_first.ensures checks before contents old statement part splits ∙ ap (λ (o : Outcome Turned). and_then o (filled_as checks before statement.table contents splits.rows)) e))
     (subst (λ (n : List ℕ). Makes address new c.put_turned.result (filled checks before n contents turned.count rows)) c.as_slice-name.ensures put)
 
 pub returns-in_err-change-clause-done : goal.returns-in_err-change-clause-done
@@ -85,5 +85,5 @@ returns-in_err-turned-clause-done g c = λ before contents found.
     let same : part ≡ seen = ap (λ (l : List Cells). rows_turned_by schema l turning.sets turning.tests) (sym c.as_slice.ensures) in
     refused_makes address chunks c.from_residual-in_err-turned.result c.in_err-turned.field-0.0 seen (updated checks before statement contents) c.in_err-turned.ensures
     (λ number e. updated_is c.rows_come_first.ensures checks before contents old statement part splits
-    ∙ ap (λ (o : Outcome Turned). and_then o (filled_among checks before statement.table contents splits.front splits.back)) (same ∙ e))
+    ∙ ap (λ (o : Outcome Turned). and_then o (filled_as checks before statement.table contents splits.rows)) (same ∙ e))
     c.from_residual-in_err-turned.ensures
