@@ -1,9 +1,9 @@
 -- A gate is opened, seats are given out and taken in, and the gate is closed.
-use Rattle.std.proofs.Common.{◌≡◌, ℕ, zero, suc, ◌+◌, ◌%◌, ◌<◌, ◌≤◌, ◌≢◌, Bool, true, false, not, ◌&&◌, List, [], ◌∷◌, ◌++◌, length, set, Option, Some, refl, sym, ap, ◌∙◌, subst, arith, length-set, length-append, ◌⊎◌, ⊎_elim}
+use Rattle.std.proofs.Common.{◌≡◌, ℕ, zero, suc, ◌+◌, ◌%◌, ◌<◌, ◌≤◌, ◌≢◌, Bool, true, false, not, ◌&&◌, List, [], ◌∷◌, ◌++◌, length, get_or, set, replicate, Option, Some, refl, sym, ap, ◌∙◌, subst, arith, length-set, length-append, ◌⊎◌, ⊎_elim}
 use native.Mathlib.Decide.{ℕ_discrete}
 use mathlib.Core.Logic.{dite}
 use mathlib.Core.Option.{some, some-ne-none, some-injective}
-use lib.ListN.{get_elem?}
+use lib.ListN.{get_elem?, get_or-replicate, length-replicate}
 use Rattle.std.specs.List.{AllByRecursion}
 use Rattle.atomic_table.specs.Table.{State, opening, Splits, Joins, Final, Seen}
 use Rattle.atomic_table.proofs.Lists.{set_else, set_here, at_longer}
@@ -40,21 +40,25 @@ three_off a b c e f g = ap (λ (x : Bool × Bool × Bool). not x.0 && (not x.1 &
 pub rests_again : (ps : List Place) (p : Place) → ps ≡ p ∷ [] → p.waits ≡ false → p.serves ≡ false → p.spent ≡ false → is_at_rest ps ≡ true
 rests_again ps p is e f g = ap is_at_rest is ∙ three_off p.waits p.serves p.spent e f g
 
+-- the words of a new gate
+zero_at : (k : ℕ) → k < 67 → get_or {A = ℕ} (replicate 67 0) k 0 ≡ 0
+zero_at k within = get_or-replicate {A = ℕ} 67 k 0 0 within
+
 module _ {T : Type 0} (fits : T → Spelling → List Entry → Type 0) (opened : Spelling) where
   only_first : (P : Place → Type 0) → P (first_place opened) → (i : ℕ) (p : Place) → get_elem? (first_place opened ∷ []) i ≡ some p → (i ≡ 0) × P p
   only_first P h zero p e = (refl, subst P (some-injective _ _ e) h)
   only_first P h (suc i) p e = absurd (some-ne-none p (sym e))
 
-  pub opens : (value : T) → fits value opened [] → Ordered fits opened (opening (0 ∷ 0 ∷ 0 ∷ []) (Some value ∷ []) (first_place opened))
+  pub opens : (value : T) → fits value opened [] → Ordered fits opened (opening (replicate 67 0) (Some value ∷ []) (first_place opened))
   opens value fit = (
     0,
     0,
     [],
     record {
-      words = refl;
-      ticket_word = refl;
-      serving_word = refl;
-      count_word = refl;
+      words = length-replicate {A = ℕ} 67 0;
+      ticket_word = zero_at 0 (omega arith);
+      serving_word = zero_at 1 (omega arith);
+      count_word = zero_at 2 (omega arith);
       few = omega arith;
       seats = λ i p e. let t = only_first (SeatFits opened (first_place opened ∷ []) 0 0 [] 0) first_fits i p e in
           subst (λ k. SeatFits opened (first_place opened ∷ []) 0 0 [] k p) (sym t.0) t.1;

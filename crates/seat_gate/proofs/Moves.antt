@@ -212,6 +212,28 @@ module _ {T : Type 0} (fits : T → Spelling → List Entry → Type 0) (opened 
       ))
       (λ ne. (m.0, keeps, tt, subst (Ordered fits opened) (sym (same 1 s at)) o, ((λ found. absurd (ne found)), (λ _. refl))))
 
+  -- a bed's word may be whatever it is
+  lain : (s : State (Option T) Place) (serving keeper : ℕ) (log : List Entry) (i x : ℕ) → 3 ≤ i → Rule fits opened s serving keeper log
+      → Rule fits opened (record { words = set s.words i x; homes = s.homes; views = s.views }) serving keeper log
+  lain s serving keeper log i x behind r = record {
+    words = length-set s.words i x ∙ r.words;
+    ticket_word = get_or-set_other s.words i 0 x 0 (λ e. omega arith) ∙ r.ticket_word;
+    serving_word = get_or-set_other s.words i 1 x 0 (λ e. omega arith) ∙ r.serving_word;
+    count_word = get_or-set_other s.words i 2 x 0 (λ e. omega arith) ∙ r.count_word;
+    few = r.few;
+    seats = r.seats;
+    apart = r.apart;
+    known = r.known;
+    value = r.value;
+  }
+
+  pub lies : (i : ℕ) (f : ℕ → ℕ) → 3 ≤ i → Allows (Ordered fits opened) slots id m i f (λ _ w. w ≡ m)
+  lies i f behind s o _ at _ =
+      let x : ℕ = f (get_or s.words i 0) in
+      let as_it_was : stepped s i x id m.1 m.0 keeps ≡ record { words = set s.words i x; homes = s.homes; views = s.views }
+      = λ k. record { words = set s.words i x; homes = s.homes; views = set_again s.views id m.0 at k } in
+      (m.0, keeps, tt, subst (Ordered fits opened) (sym as_it_was) (o.0, o.1, o.2, lain s o.0 o.1 o.2 i x behind o.3), refl)
+
   pub recalls : m.0.spent ≡ false → Allows (Ordered fits opened) slots id m 0 (λ n. n) (λ _ w. Recalled m w)
   recalls live s o _ at _ =
       let serving : ℕ = o.0 in

@@ -62,6 +62,13 @@ impl<T> Play<Option<T>, Place> for Rise {
     ghost then = { λ _ m _ w. Rose m w };
 }
 
+/// Writes a bed's word, which tells nothing.
+pub(crate) struct Bed;
+
+impl<T> Play<Option<T>, Place> for Bed {
+    ghost then = { λ _ m _ w. w ≡ m };
+}
+
 /// Reads a word, to learn of the two beginnings that the seat had seen.
 pub(crate) struct Recall;
 

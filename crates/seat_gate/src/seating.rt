@@ -7,6 +7,7 @@ use crate::gate::Gate;
 use crate::kept::Kept;
 use crate::plays::{Cut, Glue};
 use crate::seat::Seat;
+use crate::steps::WORDS;
 use atomic_table::{Badge, Refused, Table};
 use std::alloc::{AllocError, Global};
 use std::mem::replace;
@@ -22,7 +23,7 @@ impl<T: Kept> Gate<T> {
         let opening = Snapshot::of(&value);
         let mut slots = Vec::with_capacity(alloc, 1)?;
         slots.push_reserved(Some(value));
-        match Table::new(alloc, &[0, 0, 0], slots, &opening) {
+        match Table::new(alloc, &[0; WORDS], slots, &opening) {
             Ok((table, seat)) => Ok((
                 Gate { table },
                 Seat {

@@ -24,7 +24,9 @@ impl<T: Kept> Gate<T> {
         let mut seat = seat.badge.into_seat();
         let ticket = self.draw_ticket(&mut seat);
         let mut looks = 0u64;
+        let mut last = ticket;
         for _ in rt.forever() {
+            let bed = self.tire(&mut seat, ticket, last, looks);
             let found = self.read_serving(&mut seat);
             if found == ticket {
                 let value = self.table.shared.exchange(&mut seat, 0, None).unwrap();
@@ -34,7 +36,8 @@ impl<T: Kept> Gate<T> {
                     value,
                 };
             }
-            self.wait(rt, looks, found);
+            self.wait(rt, ticket, bed);
+            last = found;
             looks = looks.saturating_add(1);
         }
         unreachable!()

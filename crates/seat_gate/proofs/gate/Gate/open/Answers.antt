@@ -1,4 +1,4 @@
-use Rattle.std.proofs.Common.{◌≡◌, ◌∷◌, ◌++◌, [], ap, sym, ◌∙◌, subst, List, Option, Some}
+use Rattle.std.proofs.Common.{◌≡◌, ◌∷◌, ◌++◌, [], replicate, ap, sym, ◌∙◌, subst, List, Option, Some}
 use Rattle.atomic_table.specs.Table.{opening}
 use Rattle.seat_gate.specs.Places.{first_place}
 use Rattle.seat_gate.specs.Rule.{Ordered}
@@ -11,5 +11,5 @@ new-requires g c =
     let value = c.args.value in
     let opened = kept.spelled c.of-opening.result.value in
     let items : c.push_reserved.new.self.items ≡ Some value ∷ [] = c.push_reserved.ensures.items ∙ ap (λ l. l ++ Some value ∷ []) c.in_ok-slots.ensures.items in
-    subst (λ (l : List (Option g.row.T.Denot)). Ordered kept.fits opened (opening (0 ∷ 0 ∷ 0 ∷ []) l (first_place opened))) (sym items)
+    subst (λ (l : List (Option g.row.T.Denot)). Ordered kept.fits opened (opening (replicate 67 0) l (first_place opened))) (sym items)
     (opens kept.fits opened value (subst (λ v. kept.fits value (kept.spelled v) []) (sym c.of-opening.ensures) c.requires))
