@@ -8,12 +8,14 @@ use Rattle.table_root.specs.declared.heads.Look.{Look}
 use Rattle.plain_sessions.specs.Records.{Shared}
 use Rattle.plain_sessions.specs.Runs.{Runner}
 use Rattle.plain_sessions.specs.Sessions as plain
+use Rattle.plain_sessions.specs.Sessions.{within}
 use Rattle.plain_sessions.specs.declared.commands.Command.{Command}
 use Rattle.run_laws.specs.Histories.{ToldTurn, Way}
 use Rattle.session_laws.specs.Changes.{Parts, StateStands}
+use Rattle.session_state.specs.declared.sessions.Session.{Session}
 use Rattle.serving.specs.Planning.{HasLooked}
 use Rattle.serving.specs.declared.planned.Planned.{Planned}
-use Rattle.serving.specs.Serving.{Passes}
+use Rattle.serving.specs.Serving.{IsHere, Passes}
 use Rattle.serving.specs.Steps.{HasRoomStill}
 use Rattle.shared_db.specs.Shared.{Db, KeepsRoom}
 use Rattle.seat_gate.specs.History.{Entry, HasMade, Spelling, StartsWith, View, entries_of, entry, having_seen, with_entry}
@@ -24,11 +26,13 @@ use Rattle.shared_history.specs.Spelling.{SpellsState, spelling_of}
 use Rattle.shared_history.proofs.FittingLemmas.{fits_left, fits_on, fits_still, has_come, has_room}
 use Rattle.shared_history.proofs.SpellingLemmas.{spelled_one}
 use Rattle.seat_gate.specs.Working.{KeepsPlace}
-use Rattle.script_run.specs.Following.{IsFurther, IsLed, IsPlayer, is_free, is_settled, is_through, moments_left}
+use Rattle.script_run.specs.Following.{IsFurther, IsLed, IsLedInto, IsPlayer, StandsAt, is_free, is_settled, is_through, moments_left}
 use Rattle.script_run.specs.Planning.{PlansNext}
 use Rattle.script_run.specs.declared.players.Player.{Player}
+use Rattle.script_run.specs.declared.players.Stage.{Stage}
+use Rattle.script_run.specs.declared.players.Stage.TheVariants as stage
 use Rattle.script_run.proofs.FollowLemmas.{player_stays}
-use Rattle.script_run.proofs.GoingLemmas.{may_number, more_left, number_is_at, said_of, state_of}
+use Rattle.script_run.proofs.GoingLemmas.{into_stands, may_number, more_left, number_is_at, said_of, state_of}
 use Rattle.thread_run.specs.Going.{HasLookedAt, HasSeen, IsGoing, IsMeeting, IsPlannedAt, told_turn, turns_of}
 use Rattle.thread_run.proofs.WayLemmas.{way_on, way_turns}
 
@@ -43,6 +47,11 @@ turns_on_leaving v note left =
     ap (λ turns. map told_turn turns) (told_on_leaving v.number v.opened v.seen (entry v.number note left) refl)
     ∙ map-append told_turn (told_by v.number v.opened v.seen) (record { note = note; found = left_last v.opened v.seen; left = left } ∷ [])
 
+-- what a marked turn leaves is what its seat saw last
+pub left_behind : (view : View) (note : ℕ) (parts : Parts)
+    → spelling_of parts ≡ left_last view.opened (with_entry (entry view.number note (spelling_of parts)) view).seen
+left_behind view note parts = sym (left_append view.opened view.seen (entry view.number note (spelling_of parts) ∷ []))
+
 -- it has gone on, and needs no moment
 pub through_of : {D : Type 0} (player : Player D) → is_settled player ≡ true → is_free player.stage ≡ true → is_through player ≡ true
 through_of player settled free = sym (ap (λ b. cond b (length player.replies.items == length player.texts) true) free) ∙ settled
@@ -52,11 +61,15 @@ keeps_none v = record { opened = refl; number = refl; joined = refl; given = ref
 
 -- ---- looks and plans
 
--- the parts that are held have what is seen there
-pub seen_held : (address : List ℕ → List ℕ) (view : View) (db : Db) (look : Look) → Fits address db view.opened view.seen → all_chunks look.store ≡ db.parts.chunks → HasSeen view look
-seen_held address view db look fits there parts spelled =
-    let same : db.parts ≡ parts = spelled_one db.parts parts (fits_left address db view.opened view.seen fits ∙ sym spelled) in
+-- these parts, which its seat saw last, have what is seen there
+seen_at : (view : View) (parts : Parts) (look : Look) → spelling_of parts ≡ left_last view.opened view.seen → all_chunks look.store ≡ parts.chunks → HasSeen view look
+seen_at view parts look last there others spelled =
+    let same : parts ≡ others = spelled_one parts others (last ∙ sym spelled) in
     λ k bytes listed. subst (λ (p : Parts). Listed p.chunks k bytes) same (subst (λ (chunks : List Chunk). Listed chunks k bytes) there listed)
+
+-- and so have those that are held
+pub seen_held : (address : List ℕ → List ℕ) (view : View) (db : Db) (look : Look) → Fits address db view.opened view.seen → all_chunks look.store ≡ db.parts.chunks → HasSeen view look
+seen_held address view db look fits there = seen_at view db.parts look (fits_left address db view.opened view.seen fits) there
 
 module _ {D : Type 0} (address : List ℕ → List ℕ) (view : View) (player : Player D) where
   pub looked_at : (db : Db) (look : Option Look) → Fits address db view.opened view.seen → IfSome look (HasLooked address player.session)
@@ -68,6 +81,42 @@ module _ {D : Type 0} (address : List ℕ → List ℕ) (view : View) (player : 
       → IfSome planned (IsPlannedAt address epoch view player)
   planned_at epoch look None seen plans same = plans
   planned_at epoch look (Some planned) seen plans same = record { plans = plans; seen = subst (λ (l : Look). HasSeen view l) (sym same) seen }
+
+-- ---- a look in the turn of a start
+
+-- behind a start that was made the session is in the parts that it left
+pub started_here : {D : Type 0} (address : List ℕ → List ℕ) (place : ℕ) (runner : Runner) (shared : Shared) (old new : Parts) (asked : Command) (player : Player D)
+    → (into : IsLedInto address place runner shared old new asked player) → IsHere address player.session new (within runner.session into.started.transaction) shared
+started_here address place runner shared old new asked player into = record {
+  session_stands = into.started.started.stands;
+  state_stands = into_stands into;
+  placed = into.started.started.before.placed;
+  later = subst (λ (p : Parts). Lists player.session.draft.chunks.base p.chunks) (sym into.started.started.now_is) into.started.started.later;
+}
+
+module _ {D : Type 0} (address : List ℕ → List ℕ) (view : View) (parts : Parts) (runner : Runner) (shared : Shared) (player : Player D) where
+  later_at : (stage : Stage) → StandsAt address player parts runner shared stage → Lists player.session.draft.chunks.base parts.chunks
+  later_at stage.Free stands = stands.later
+  later_at (stage.Waits asked) stands = stands.0.later
+  later_at (stage.Between asked wanted) stands = stands.0.here.later
+
+  -- the look that was had before the statement's work serves the session behind it, on the branch that was looked at
+  pub looked_before : (place : ℕ) (was : Session D) (look found : Option Look) → spelling_of parts ≡ left_last view.opened view.seen → IsPlayer address parts shared place runner player
+      → IfSome look (HasLooked address was) → IfSome look (λ look. all_chunks look.store ≡ parts.chunks)
+      → IfSome found (λ found. look ≡ Some found) → IfSome found (λ found. found.branch ≡ player.session.branch) → IfSome found (HasLookedAt address view player)
+  looked_before place was look None last is looked there same branch = same
+  looked_before place was look (Some found) last is looked there same branch =
+      let had : HasLooked address was found = subst (λ (l : Option Look). IfSome l (HasLooked address was)) same looked in
+      let has : all_chunks found.store ≡ parts.chunks = subst (λ (l : Option Look). IfSome l (λ look. all_chunks look.store ≡ parts.chunks)) same there in
+      record {
+        looked = record {
+          seen = had.seen;
+          is = had.is;
+          branch = branch;
+          later = subst (λ (chunks : List Chunk). Lists player.session.draft.chunks.base chunks) (sym has) (later_at player.stage is.stands);
+        };
+        seen = seen_at view parts found last has;
+      }
 
 module _ {D : Type 0} (address : List ℕ → List ℕ) (epoch : ℤ) (place : ℕ) (first : plain.Session) (all : List Command) where
   -- statements without a moment

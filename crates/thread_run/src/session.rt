@@ -1,6 +1,6 @@
 //! One session in its thread: its statements without a moment, and a turn at the gate for each moment.
 
-ghost use Rattle.std.specs.Prelude.{◌≡◌, ◌+◌, ◌<◌, ◌≤◌, ◌≤ℤ◌, ℕ, ℤ, List, pos, true, false, IfSome};
+ghost use Rattle.std.specs.Prelude.{◌≡◌, ◌+◌, ◌<◌, ◌≤◌, ◌≤ℤ◌, ℕ, ℤ, List, pos, true, false, Some, IfSome};
 ghost use Rattle.chunk_store.specs.Chunks.{Lists};
 ghost use Rattle.chunk_store.specs.Stores.{all_chunks};
 ghost use Rattle.plain_sessions.specs.Records.{Shared};
@@ -13,6 +13,7 @@ ghost use Rattle.seat_gate.specs.Words.{IsTaken, gate_id, gate_of, held_at, held
 ghost use Rattle.seat_gate.specs.Working.{KeepsPlace};
 ghost use Rattle.shared_db.specs.Shared.{KeepsRoom};
 ghost use Rattle.serving.specs.Planning.{HasLooked};
+ghost use Rattle.serving.specs.Serving.{IsHere};
 ghost use Rattle.serving.specs.Steps.{HasRoomStill};
 ghost use Rattle.script_run.specs.Following.{IsPlayer, LedAs, is_free, is_settled, is_through, moments_left, steps_made};
 ghost use Rattle.script_run.specs.Planning.{PlansNext};
@@ -24,7 +25,7 @@ use script_run::{
     plan_ahead, work_out,
 };
 use seat_gate::{Gate, Held, Seat, Worker};
-use serving::Planned;
+use serving::{Planned, look_for};
 use shared_history::GatedDb;
 use std::alloc::Global;
 use std::sync::Wait;
@@ -111,8 +112,8 @@ fn pass_turn<R: Wait, D: Digester, P: Pacer>(
     seat
 }
 
-/// The session's next moment. Where it can be planned ahead it is planned between a turn at the gate that looks and one that makes it, while others have
-/// theirs.
+/// The session's next moment, and where that is a start, the decision behind it. Where the decision can be planned ahead it is planned between a turn at
+/// the gate that looks, which may be that of the start, and one that makes it, while others have theirs.
 fn take_turn<R: Wait, D: Digester>(
     rt: &R,
     alloc: Global,
@@ -133,12 +134,15 @@ fn take_turn<R: Wait, D: Digester>(
         → IsGoing D.address epoch place first all (seat_view result) player.new }
     ensures left { moments_left player.new + 1 ≤ moments_left player.old }
 {
-    if !can_plan(player) {
-        return settle_turn(rt, alloc, gate, seat, player, None, MORE_TRIES, epoch);
+    if can_plan(player) {
+        let (seat, look) = look_turn(rt, alloc, gate, seat, player);
+        return decide_turn(rt, alloc, gate, seat, player, look, epoch);
     }
-    let (seat, look) = look_turn(rt, alloc, gate, seat, player);
-    let planned = plan_looked(alloc, player, look, epoch);
-    settle_turn(rt, alloc, gate, seat, player, planned, MORE_TRIES, epoch)
+    let (seat, look) = start_turn(rt, alloc, gate, seat, player, epoch);
+    match look {
+        Some(look) => decide_turn(rt, alloc, gate, seat, player, Some(look), epoch),
+        None => seat,
+    }
 }
 
 /// A turn that looks at the session's branch. It is left unmarked.
@@ -162,6 +166,60 @@ fn look_turn<R: Wait, D: Digester>(
     let mut held = gate.enter(rt, seat);
     let look = look_held(alloc, &mut held, player);
     (held.leave(), look)
+}
+
+/// A turn that makes the session's next moment, of which nothing was planned. Where it is a start it looks at the session's branch, too.
+fn start_turn<R: Wait, D: Digester>(
+    rt: &R,
+    alloc: Global,
+    gate: &Gate<GatedDb<D>>,
+    seat: Seat,
+    player: &mut Player<D>,
+    epoch: i64,
+) -> (Seat, Option<Look>)
+    requires epoch { pos 0 ≤ℤ epoch }
+    requires gate { gate_of seat ≡ gate_id gate.now }
+    requires own { HasMade (seat_view seat) }
+    requires going { (place : ℕ) × (first : plain.Session) × (all : List Command) × IsGoing D.address epoch place first all (seat_view seat) player.old }
+    requires waits { is_free player.old.stage ≡ false }
+    ensures gate { gate_of result.0 ≡ gate_id gate.now }
+    ensures own { HasMade (seat_view result.0) }
+    ensures keeps { KeepsPlace (seat_view seat) (seat_view result.0) }
+    ensures going { (place : ℕ) (first : plain.Session) (all : List Command) → IsGoing D.address epoch place first all (seat_view seat) player.old
+        → IsGoing D.address epoch place first all (seat_view result.0) player.new }
+    ensures left { moments_left player.new + 1 ≤ moments_left player.old }
+    ensures waits { IfSome result.1 (λ look. is_free player.new.stage ≡ false) }
+    ensures looked { IfSome result.1 (HasLookedAt D.address (seat_view result.0) player.new) }
+{
+    let held = gate.enter(rt, seat);
+    end_turn(alloc, held, player, None, epoch)
+}
+
+/// The session's next decision, planned on the look where there is one.
+fn decide_turn<R: Wait, D: Digester>(
+    rt: &R,
+    alloc: Global,
+    gate: &Gate<GatedDb<D>>,
+    seat: Seat,
+    player: &mut Player<D>,
+    look: Option<Look>,
+    epoch: i64,
+) -> Seat
+    requires epoch { pos 0 ≤ℤ epoch }
+    requires gate { gate_of seat ≡ gate_id gate.now }
+    requires own { HasMade (seat_view seat) }
+    requires going { (place : ℕ) × (first : plain.Session) × (all : List Command) × IsGoing D.address epoch place first all (seat_view seat) player.old }
+    requires waits { is_free player.old.stage ≡ false }
+    requires looked { IfSome look (HasLookedAt D.address (seat_view seat) player.old) }
+    ensures gate { gate_of result ≡ gate_id gate.now }
+    ensures own { HasMade (seat_view result) }
+    ensures keeps { KeepsPlace (seat_view seat) (seat_view result) }
+    ensures going { (place : ℕ) (first : plain.Session) (all : List Command) → IsGoing D.address epoch place first all (seat_view seat) player.old
+        → IsGoing D.address epoch place first all (seat_view result) player.new }
+    ensures left { moments_left player.new + 1 ≤ moments_left player.old }
+{
+    let planned = plan_looked(alloc, player, look, epoch);
+    settle_turn(rt, alloc, gate, seat, player, planned, MORE_TRIES, epoch)
 }
 
 /// Plans the session's next decision by the look, where there is one.
@@ -214,42 +272,77 @@ fn settle_turn<R: Wait, D: Digester>(
             let planned = plan_ahead(alloc, player, look, epoch);
             settle_turn(rt, alloc, gate, seat, player, planned, tries - 1, epoch)
         }
-        None => end_turn(alloc, held, player, planned, epoch),
+        None => {
+            let (seat, _) = end_turn(alloc, held, player, planned, epoch);
+            seat
+        }
     }
 }
 
 /// The session's next moment on the database that is held, which is left marked with the statement's number exactly where the moment was made. Behind
-/// a start the statement's work is done once it was left.
+/// a start the statement's work is done once it was left, and a look that was had before serves the decision that is to come.
 fn end_turn<D: Digester>(
     alloc: Global,
     held: Held<'_, GatedDb<D>>,
     player: &mut Player<D>,
     planned: Option<Planned>,
     epoch: i64,
-) -> Seat
+) -> (Seat, Option<Look>)
     requires epoch { pos 0 ≤ℤ epoch }
     requires taken { IsTaken held }
     requires meeting { (place : ℕ) × (first : plain.Session) × (all : List Command) × IsMeeting D.address epoch place first all (held_view held) (held_value held).db player.old }
     requires waits { is_free player.old.stage ≡ false }
     requires planned { IfSome planned (PlansNext D.address epoch player.old) }
     requires grown { IfSome planned (λ planned. Lists (all_chunks planned.look.store) (held_value held).db.parts.chunks) }
-    ensures gate { gate_of result ≡ held_at held.entry }
-    ensures own { HasMade (seat_view result) }
-    ensures keeps { KeepsPlace (held_view held.entry) (seat_view result) }
+    ensures gate { gate_of result.0 ≡ held_at held.entry }
+    ensures own { HasMade (seat_view result.0) }
+    ensures keeps { KeepsPlace (held_view held.entry) (seat_view result.0) }
     ensures going { (place : ℕ) (first : plain.Session) (all : List Command) → IsMeeting D.address epoch place first all (held_view held.entry) (held_value held.entry).db player.old
-        → IsGoing D.address epoch place first all (seat_view result) player.new }
+        → IsGoing D.address epoch place first all (seat_view result.0) player.new }
     ensures left { moments_left player.new + 1 ≤ moments_left player.old }
+    ensures waits { IfSome result.1 (λ look. is_free player.new.stage ≡ false) }
+    ensures looked { IfSome result.1 (HasLookedAt D.address (seat_view result.0) player.new) }
 {
     let mut held = held;
     let statement = number_of(player.session.position);
     match lead_held(alloc, &mut held, player, planned, epoch) {
-        Led::Missed => held.leave(),
-        Led::Made => held.leave_marked(u64::from(statement)),
+        Led::Missed => (held.leave(), None),
+        Led::Made => (held.leave_marked(u64::from(statement)), None),
         Led::Started(asked) => {
+            let look = look_started(alloc, &mut held, player);
             let seat = held.leave_marked(u64::from(statement));
             work_out(alloc, player, asked);
-            seat
+            (seat, next_look(player, look))
         }
+    }
+}
+
+/// A look at the session's branch in the database that is held, where the session's start was just made.
+fn look_started<D: Digester>(
+    alloc: Global,
+    held: &mut Held<'_, GatedDb<D>>,
+    player: &Player<D>,
+) -> Option<Look>
+    requires { (q : plain.Session) × (shared : Shared) × IsHere D.address player.now.session (held_value held.old).db.parts q shared }
+    ensures same_gate { held_at held.new ≡ held_at held.old }
+    ensures same_view { held_view held.new ≡ held_view held.old }
+    ensures same_value { held_value held.new ≡ held_value held.old }
+    ensures taken { IsTaken held.old → IsTaken held.new }
+    ensures looked { IfSome result (HasLooked D.address player.now.session) }
+    ensures there { IfSome result (λ look. all_chunks look.store ≡ (held_value held.old).db.parts.chunks) }
+{
+    look_for(alloc, &held.value().db, &player.session).ok()
+}
+
+/// The look, where it serves the session's next decision: where one is to come behind a start, on the branch that was looked at.
+fn next_look<D: Digester>(player: &Player<D>, look: Option<Look>) -> Option<Look>
+    ensures is { IfSome result (λ found. look ≡ Some found) }
+    ensures waits { IfSome result (λ found. is_free player.now.stage ≡ false) }
+    ensures branch { IfSome result (λ found. found.branch ≡ player.now.session.branch) }
+{
+    match look {
+        Some(look) if can_plan(player) && look.branch == player.session.branch => Some(look),
+        _ => None,
     }
 }
 

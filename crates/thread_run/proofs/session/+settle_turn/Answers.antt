@@ -39,8 +39,8 @@ settle_turn-requires-clause-planned g t c κs within =
     planned_at g.D.Digester.address (seat_view c.leave-seat.result) c.args.player.now _ c.in-Some.look c.plan_ahead-planned.result seen c.plan_ahead-planned.ensures.planned
     c.plan_ahead-planned.ensures.look
 
-pub end_turn-requires-clause-meeting : goal.end_turn-requires-clause-meeting
-end_turn-requires-clause-meeting g t c κs within =
+pub end_turn-seat-requires-clause-meeting : goal.end_turn-seat-requires-clause-meeting
+end_turn-seat-requires-clause-meeting g t c κs within =
     let p = c.requires.going in
     let m = meets_as g.D.Digester.address c.args.epoch p.0 p.1 p.2 (seat_view c.args.seat) (held_view c.enter-held.result) (held_value c.enter-held.result).db c.args.player.now c.requires.own
     c.enter-held.ensures.view c.enter-held.ensures.fits c.enter-held.ensures.prefix c.enter-held.ensures.own p.3 in (
@@ -54,8 +54,8 @@ end_turn-requires-clause-meeting g t c κs within =
           (sym c.look_lost.ensures.same_value) m)),
     )
 
-pub end_turn-requires-clause-grown : goal.end_turn-requires-clause-grown
-end_turn-requires-clause-grown g t c κs within =
+pub end_turn-seat-requires-clause-grown : goal.end_turn-seat-requires-clause-grown
+end_turn-seat-requires-clause-grown g t c κs within =
     let p = c.requires.going in
     subst (λ (value : GatedDb g.row.D.Denot). IfSome c.args.planned (λ planned. Lists (all_chunks planned.look.store) value.db.parts.chunks)) (sym c.look_lost.ensures.same_value)
     (planned_come g.D.Digester.address c.args.epoch p.0 p.1 p.2 (seat_view c.args.seat) (held_view c.enter-held.result) (held_value c.enter-held.result).db c.args.player.now c.args.planned
@@ -75,8 +75,8 @@ pub returns-in-None-clause-going : goal.returns-in-None-clause-going
 returns-in-None-clause-going g t c = λ place first all going.
     let m = meets_as g.D.Digester.address c.args.epoch place first all (seat_view c.args.seat) (held_view c.enter-held.result) (held_value c.enter-held.result).db c.args.player.now c.requires.own
     c.enter-held.ensures.view c.enter-held.ensures.fits c.enter-held.ensures.prefix c.enter-held.ensures.own going in
-    subst (λ (e : ℤ). IsGoing g.D.Digester.address e place first all (seat_view c.end_turn.result) c.end_turn.new.player) (to_z-of_z w64 c.args.epoch c.ranges.epoch)
-    (c.end_turn.ensures.going place first all
+    subst (λ (e : ℤ). IsGoing g.D.Digester.address e place first all (seat_view c.end_turn-seat.result.0) c.end_turn-seat.new.player) (to_z-of_z w64 c.args.epoch c.ranges.epoch)
+    (c.end_turn-seat.ensures.going place first all
     (subst (λ (e : ℤ). IsMeeting g.D.Digester.address e place first all (held_view c.look_lost.new.held) (held_value c.look_lost.new.held).db c.args.player.now)
     (sym (to_z-of_z w64 c.args.epoch c.ranges.epoch))
     (subst (λ (v : View). IsMeeting g.D.Digester.address c.args.epoch place first all v (held_value c.look_lost.new.held).db c.args.player.now) (sym c.look_lost.ensures.same_view)
