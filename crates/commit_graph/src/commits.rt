@@ -1,3 +1,5 @@
+//! A commit as its chunk keeps it.
+
 use tuple_codec::{Address, Sequence, Text};
 
 /// A commit: a database with the commits that it came from.

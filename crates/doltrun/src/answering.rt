@@ -1,3 +1,5 @@
+//! From the bytes of a script to the text that answers it, or to the lines of what stopped it.
+
 ghost use Rattle.std.specs.Prelude.{◌≡◌, ◌≢◌, ◌≤ℤ◌, IfOk, None, pos, true, string_bytes};
 ghost use Rattle.plain_sessions.specs.StateLimits.{is_date};
 ghost use Rattle.doltrun.specs.Headline.{collision_line, fault_line};

@@ -1,3 +1,5 @@
+//! From a seed to the lines that tell the run of its workload.
+
 ghost use Rattle.std.specs.Prelude.{◌≡◌, ◌⊎◌, ◌<◌, ◌≤◌, length, true};
 ghost use Rattle.plain_sessions.specs.StateLimits.{is_date};
 ghost use Rattle.std.specs.Io.KnownBytes.{Appends};

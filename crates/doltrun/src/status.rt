@@ -1,3 +1,5 @@
+//! How a run of the program ended.
+
 ghost use Rattle.std.specs.Prelude.{◌≡◌};
 ghost use Rattle.doltrun.specs.Statuses.{number_of};
 

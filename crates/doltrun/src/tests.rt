@@ -1,3 +1,5 @@
+//! The whole program over sources and sinks in memory.
+
 use crate::{Status, run, run_with};
 use std::alloc::{AllocError, Global};
 use std::sync::atomic::{AtomicU64, Ordering};

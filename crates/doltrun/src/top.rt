@@ -1,3 +1,5 @@
+//! The top call: words, reading, answering, writing.
+
 ghost use Rattle.chunk_store.specs.Digests.{cut_address};
 ghost use Rattle.std.specs.Prelude.{◌≡◌, Some, true};
 ghost use Rattle.plain_sessions.specs.StateLimits.{is_date};

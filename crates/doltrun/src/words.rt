@@ -1,3 +1,5 @@
+//! The words of the command line.
+
 ghost use Rattle.std.specs.Prelude.{◌≡◌, IfOk, codes, option_map};
 ghost use Rattle.clap.specs.Words.{app_of, first_value, found_of};
 ghost use Rattle.doltrun.specs.Words.{epoch_named, epoch_of, form, form_named, form_of, is_given, line, mode_named, seed_of, spelled, task_asked, task_of};

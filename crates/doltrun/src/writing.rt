@@ -1,3 +1,5 @@
+//! A text written to a sink, with its status.
+
 ghost use Rattle.std.specs.Prelude.{◌≡◌, ◌≢◌, ◌<◌, ◌≤◌, Err, Some, length, true};
 ghost use Rattle.plain_sessions.specs.StateLimits.{is_date};
 ghost use Rattle.std.specs.Io.KnownBytes.{Appends};

@@ -1,3 +1,5 @@
+//! What a call makes of the session's own record.
+
 use script_text::Reply;
 use tuple_codec::BranchRecord;
 

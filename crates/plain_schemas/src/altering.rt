@@ -1,3 +1,5 @@
+//! ALTER TABLE: which column may be changed, and into what.
+
 ghost use Rattle.std.specs.Prelude.{◌≡◌, ◌&&◌, ◌||◌, IfOk, bytes_eq, map, true};
 ghost use Rattle.std.specs.List.{list_any};
 ghost use Rattle.tuple_codec.specs.Limits.{is_type};

@@ -1,3 +1,5 @@
+//! CREATE TABLE: the database that it makes, or its first refusal.
+
 ghost use Rattle.std.specs.Prelude.{◌≡◌, map};
 ghost use Rattle.expr_eval.specs.Binding.{and_then};
 ghost use Rattle.plain_sql.specs.Gives.{Gives, GivesBy};

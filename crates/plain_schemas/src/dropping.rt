@@ -1,3 +1,5 @@
+//! DROP TABLE.
+
 ghost use Rattle.std.specs.Prelude.{◌≡◌, bytes_eq, map};
 ghost use Rattle.std.specs.List.{list_any};
 ghost use Rattle.plain_sql.specs.Gives.{GivesBy};

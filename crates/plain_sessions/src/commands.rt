@@ -1,3 +1,5 @@
+//! What a text asks.
+
 use sql_ast::{Refusal, Select, Setting, Write};
 use sql_procedures::{
     BranchRequest, CheckoutRequest, CommitRequest, MergeRequest, Reset, Resolution, Tables,

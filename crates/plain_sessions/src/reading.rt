@@ -1,3 +1,5 @@
+//! A text read as what it asks.
+
 ghost use Rattle.std.specs.Prelude.{◌≡◌, ◌<◌, ◌^◌, length, IfOk};
 ghost use Rattle.sql_procedures.specs.Arguments.{request_of};
 ghost use Rattle.plain_sessions.specs.Commands.{call_command, command, misused, request_command, requested, select_command, statement_command};

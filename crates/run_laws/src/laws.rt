@@ -1,3 +1,5 @@
+//! The laws of runs, each on a function that does nothing.
+
 ghost use Rattle.run_laws.specs.Laws.{LinesAreRun, OrdersAreFollowed, StatementsAreServed};
 
 /// A statement takes at most two moments, and its session then stands before the next one.

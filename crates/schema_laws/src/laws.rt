@@ -1,3 +1,5 @@
+//! The laws of schemas, each on a function that does nothing.
+
 ghost use Rattle.schema_laws.specs.Laws.{AllKeep, SchemasKeep};
 
 /// A database that keeps the limits on data is one after each CREATE, DROP and ALTER that isn't refused.

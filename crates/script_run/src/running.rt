@@ -1,3 +1,5 @@
+//! A run under way: what the sessions share, and each session with its replies.
+
 use script_text::Reply;
 use session_state::Session;
 use shared_db::SharedDb;

@@ -1,3 +1,5 @@
+//! Spaces and tabs between the parts of a line.
+
 ghost use Rattle.std.specs.Prelude.{◌≡◌};
 ghost use Rattle.script_text.specs.Input.{is_blank, trimmed, without_leading, without_trailing};
 

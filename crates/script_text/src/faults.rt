@@ -1,3 +1,5 @@
+//! Why bytes are no script.
+
 ghost use Rattle.std.specs.Prelude.{◌≡◌};
 ghost use Rattle.script_text.specs.declared.faults.ScriptFault.TheVariants.{Memory};
 

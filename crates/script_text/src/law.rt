@@ -1,3 +1,5 @@
+//! That a text shows one run alone, and the text of a stop one stop.
+
 ghost use Rattle.script_text.specs.Shown.{HasOneReading, HasOneStop};
 
 /// A text shows one run alone: two runs that print the same bytes have the same sessions, the same replies as they are

@@ -1,3 +1,5 @@
+//! What a run shows.
+
 use crate::replies::Reply;
 use crate::scripts::Moment;
 use tuple_codec::{BranchRecord, Sequence, Text};

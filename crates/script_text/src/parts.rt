@@ -1,3 +1,5 @@
+//! The parts of a line that begins with a session's name.
+
 ghost use Rattle.std.specs.Prelude.{◌≡◌, ◌≤◌, drop, length, nat_eq, take_while};
 ghost use Rattle.std.specs.List.{list_all, starts_with};
 ghost use Rattle.std.specs.Option.{option_map};

@@ -1,3 +1,5 @@
+//! The text of a run.
+
 // Each function writes behind what `out` holds. Where memory was wanting, nothing is said of `out`.
 
 ghost use Rattle.std.specs.Prelude.{◌≡◌, ◌++◌, ◌∷◌, IfOk, OnOk};

@@ -1,3 +1,5 @@
+//! Bytes read as a script.
+
 ghost use Rattle.std.specs.Prelude.{◌≡◌, ◌≤◌, ◌<◌, ◌+◌, ◌∷◌, ◌==◌, false, length, position, unwrap_or, IfErr, IfOk, IfSome, OnOk};
 ghost use Rattle.std.specs.Option.{option_map_or};
 ghost use Rattle.script_text.specs.Input.{add_line, add_statement, bad, is_one_too_many, items_of, lines_of, most_bytes, most_sessions, no_script, ordered_by, ordered_from, place_of, script, script_from, with_name, with_statement, without_return};

@@ -1,3 +1,5 @@
+//! The text of each refusal.
+
 ghost use Rattle.std.specs.Prelude.{◌≡◌};
 ghost use Rattle.std.specs.Option.{option_map};
 ghost use Rattle.script_text.specs.Output.{refusal_text};

@@ -1,3 +1,5 @@
+//! What a statement is answered.
+
 ghost use Rattle.std.specs.Prelude.{◌≡◌, true};
 ghost use Rattle.script_text.specs.Shown.{are_bytes, is_whole_address};
 

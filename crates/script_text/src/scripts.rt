@@ -1,3 +1,5 @@
+//! A script: its sessions, their lines, and the order that it may give.
+
 use tuple_codec::{Sequence, Text};
 
 /// A statement, and the session whose it is, by its place among the script's names.

@@ -1,3 +1,5 @@
+//! What a session holds.
+
 ghost use Rattle.std.specs.Prelude.{◌≡◌, ◌≤◌, [], length, max, true, IfOk, OnOk, OnErr};
 ghost use Rattle.plain_sessions.specs.Sessions.{is_changed, new_session};
 ghost use Rattle.plain_sessions.specs.Sessions as plain;

@@ -1,3 +1,5 @@
+//! What decisions and steps on the list of branches are, and how they ended.
+
 use chunk_store::{Clash, Segment};
 use script_text::Reply;
 use std::sync::Arc;

@@ -1,3 +1,5 @@
+//! The laws of states, each on a function that does nothing.
+
 ghost use Rattle.state_laws.specs.Laws.{ChangesKeep, DecisionsKeep, SharedKeep, WorkKeeps};
 
 use schema_laws::all_keep;

@@ -1,3 +1,5 @@
+//! What a session sees of the shared state at one moment.
+
 ghost use Rattle.std.specs.Prelude.{◌≡◌, true};
 ghost use Rattle.table_root.specs.Heads.{heads_rise};
 

@@ -1,3 +1,5 @@
+//! A branch's name, held in place.
+
 ghost use Rattle.std.specs.Prelude.{◌≡◌, ◌≤◌, true, length};
 ghost use Rattle.std.specs.List.{list_all};
 ghost use Rattle.table_root.specs.Names.{begins_well, is_branch_name, is_name_byte, name_of};

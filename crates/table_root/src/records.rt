@@ -1,3 +1,5 @@
+//! A table: its schema, and the roots of its trees.
+
 use schema_model::Schema;
 use tuple_codec::{Address, Sequence, Text};
 

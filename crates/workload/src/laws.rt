@@ -1,3 +1,5 @@
+//! What the script of every seed has.
+
 ghost use Rattle.std.specs.Prelude.{◌≡◌, ℕ, length, nat_lt, true};
 ghost use Rattle.std.specs.List.{IsDistinct, list_all};
 ghost use Rattle.std.specs.Str.{bytes_eq};

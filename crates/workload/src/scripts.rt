@@ -1,3 +1,5 @@
+//! The script of a seed.
+
 ghost use Rattle.std.specs.Prelude.{◌≡◌, ◌<◌, ◌++◌, OnOk, IfOk, map};
 ghost use Rattle.workload.specs.Workload.{all_lines, line, names, with_session, workload};
 

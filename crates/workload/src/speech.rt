@@ -1,3 +1,5 @@
+//! What a session of the workload says, drawn from its numbers.
+
 ghost use Rattle.std.specs.Prelude.{◌≡◌, ◌<◌, OnOk, IfOk, string_bytes};
 ghost use Rattle.workload.specs.Workload.{next, drawn, insert_text, update_text, with_text, with_insert, with_update, with_begin, with_batch, with_inserts, with_updates, silence, speech_of};
 

@@ -1,3 +1,5 @@
+//! Lines of one seed, from an independent program.
+
 use super::*;
 use script_text::Script;
 use std::alloc::{AllocError, Global};
