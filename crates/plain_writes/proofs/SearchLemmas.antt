@@ -1,11 +1,10 @@
 -- Lists in order: what two searches by halves leave out is apart from the item that is looked for.
-use Rattle.std.proofs.Common.{◌≡◌, ◌<◌, ◌≤◌, ◌∙◌, refl, sym, ap, subst, ℕ, zero, suc, Bool, true, false, true≢false, not, ◌&&◌, ◌||◌, List, [], ◌∷◌, ◌+◌, length, take, drop, fold, get_or, arith}
+use Rattle.std.proofs.Common.{◌≡◌, ◌<◌, ◌≤◌, ◌∙◌, refl, sym, ap, subst, ℕ, zero, suc, Bool, true, false, not, ◌&&◌, ◌||◌, List, [], ◌∷◌, ◌+◌, length, take, drop, fold, get_or, arith}
 use Rattle.std.specs.Cmp.{IsTotalOrder, IsStrictWeakOrder}
 use Rattle.std.specs.List.{list_any}
 use Rattle.std.specs.List.Sorted.{IsPartitionPoint, IsPartitionedBy}
 use Rattle.std.specs.Ordering.{is_eq, is_lt}
 use Rattle.std.specs.declared.cmp.Ordering.{Ordering}
-use Rattle.std.specs.declared.cmp.Ordering.TheVariants.{Less, Equal, Greater}
 use Rattle.std.proofs.lemmas.Cmp.{on_total}
 use Rattle.std.proofs.lemmas.List.{drop_all}
 use Rattle.std.proofs.lemmas.List.Sorted.{ranks_by}
@@ -18,7 +17,7 @@ use Rattle.schema_model.specs.PlainTables.{primary_key}
 use Rattle.plain_sql.specs.Lists.{in_order, placed}
 use Rattle.plain_sql.specs.Runs.{places_cmp}
 use Rattle.plain_sql.proofs.InsertionLemmas.{either_way, placed_any, turned}
-use Rattle.plain_sql.proofs.SortedLemmas.{before, falls_tail, in_order_falls, in_place, never_falls, none_same, tie_itself, tie_left, up_right, weak}
+use Rattle.plain_sql.proofs.SortedLemmas.{apart, before, falls_tail, in_order_falls, in_place, never_falls, none_same, tie_itself, tie_left, up_right, weak}
 use Rattle.plain_writes.specs.Violations.{breaks_foreign, breaks_unique, broken, is_twin, is_whole}
 
 -- ---- items left out of a search for one
@@ -41,11 +40,6 @@ any_take p (x ∷ xs) (suc n) h = ap (λ b. p x || b) (any_take p xs n (λ k d a
 shifted : (a b c : Bool) → (a || (b || c)) ≡ ((b || a) || c)
 shifted a true c = or_late a refl
 shifted a false c = refl
-
-apart : (o : Ordering) → is_lt o ≡ true → is_eq o ≡ false
-apart Less e = refl
-apart Equal e = absurd (true≢false (sym e))
-apart Greater e = refl
 
 -- ---- lists in order
 

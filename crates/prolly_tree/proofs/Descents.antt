@@ -14,10 +14,10 @@ use Rattle.tuple_codec.specs.Edits.{value_at}
 use Rattle.prolly_tree.specs.Lists.{first_of, from_key, place_of}
 use Rattle.prolly_tree.proofs.Lookups.{drop_place, first_before, reach, skip_items, value_front}
 
-none_some : (item : Item) → None ≡ Some item → ⊥
+pub none_some : (item : Item) → None ≡ Some item → ⊥
 none_some item e = cc
 
-item_same : (a b : Item) → Some a ≡ Some b → a ≡ b
+pub item_same : (a b : Item) → Some a ≡ Some b → a ≡ b
 item_same a b e = cc
 
 -- a list from a place on

@@ -12,17 +12,12 @@ use Rattle.tuple_codec.specs.Edits.{EditsRiseAfter, value_at}
 use Rattle.tuple_codec.specs.Nodes.{Item, Node}
 use Rattle.tuple_codec.specs.declared.edits.Edit.{Edit}
 use Rattle.tree_laws.specs.Standing.{Chunks, IsFound, IsStored, Leads, rows_below}
-use Rattle.tree_laws.proofs.StandingOrder.{le_itself, le_lt, lt_le, order}
+use Rattle.tree_laws.proofs.StandingOrder.{le_itself, le_lt, lt_is_le, lt_le, order}
 use Rattle.prolly_tree.specs.Lists.{has_any, place_of}
 use Rattle.prolly_tree.specs.Meets.{IsNamed, count_up_to, leaf_has_any}
-use Rattle.prolly_tree.proofs.Descents.{from_place, head_above, leaf_value, next, nothing_at_end}
+use Rattle.prolly_tree.proofs.Descents.{from_place, head_above, item_same, leaf_value, next, none_some, nothing_at_end}
 
 -- ---- keys
-
-lt_is_le : (o : Ordering) → is_lt o ≡ true → is_le o ≡ true
-lt_is_le Less e = refl
-lt_is_le Equal e = refl
-lt_is_le Greater e = absurd (cc)
 
 turned : (o : Ordering) → is_lt o ≡ false → is_le (ordering_reverse o) ≡ true
 turned Less e = absurd (cc)
@@ -118,15 +113,9 @@ none_behind chunks node key leads place (edit ∷ edits) from =
     ap (λ (o : Option (List ℕ)). is_some o || has_any (rows_below chunks node) edits) (nothing_at_end chunks node edit.key leads (end_for key edit.key node.items from.0 place))
     ∙ none_behind chunks node key leads place edits from.1
 
-nothing : (item : Item) → None ≡ Some item → ⊥
-nothing item e = cc
-
-item_same : (a b : Item) → Some a ≡ Some b → a ≡ b
-item_same a b e = cc
-
 place_same : (key k : List ℕ) (items : List Item) (item : Item) → slice_get items (place_of key items) ≡ Some item → is_le (order key k) ≡ true → is_le (order k item.key) ≡ true
     → place_of key items ≡ place_of k items
-place_same key k [] item is low high = absurd (nothing item is)
+place_same key k [] item is low high = absurd (none_some item is)
 place_same key k (first ∷ items) item is low high =
     (elim (is_lt (order first.key key)) as (λ b. is_lt (order first.key key) ≡ b → slice_get (first ∷ items) (cond b (suc (place_of key items)) 0) ≡ Some item
     → cond b (suc (place_of key items)) 0 ≡ cond (is_lt (order first.key k)) (suc (place_of k items)) 0) [

@@ -33,7 +33,7 @@ lt_le_by a b c Greater e p h = absurd (cc)
 pub lt_le : (a b c : List ℕ) → is_lt (order a b) ≡ true → is_le (order b c) ≡ true → is_lt (order a c) ≡ true
 lt_le a b c = lt_le_by a b c (order b c) refl
 
-lt_is_le : (o : Ordering) → is_lt o ≡ true → is_le o ≡ true
+pub lt_is_le : (o : Ordering) → is_lt o ≡ true → is_le o ≡ true
 lt_is_le Less e = refl
 lt_is_le Equal e = refl
 lt_is_le Greater e = absurd (cc)
