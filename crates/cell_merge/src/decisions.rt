@@ -1,3 +1,5 @@
+//! What becomes of a row that two sides may have changed, by whole rows first and then cell by cell.
+
 ghost use Rattle.std.specs.Prelude.{◌≡◌, is_some};
 ghost use Rattle.std.specs.Option.{option_copied};
 ghost use Rattle.tuple_codec.specs.Rows.{same_cells, same_value};

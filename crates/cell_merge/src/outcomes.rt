@@ -1,3 +1,5 @@
+//! What two sides of a row come to: a row, no row, or a conflict.
+
 ghost use Rattle.std.specs.Prelude.{◌≡◌, IfOk};
 ghost use Rattle.std.specs.Option.{option_copied};
 ghost use Rattle.tuple_codec.specs.RowRule.{by_cells, cells3, row3};

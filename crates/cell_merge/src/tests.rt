@@ -1,3 +1,5 @@
+//! Small rows merged by the row rule: who decides, and what the sides come to.
+
 use super::*;
 use std::alloc::{AllocError, Global};
 use std::test::Fail;

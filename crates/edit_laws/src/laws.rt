@@ -1,3 +1,5 @@
+//! Laws about lists of rows, edits and changes, key by key, on a function that does nothing.
+
 ghost use Rattle.edit_laws.specs.ByKey.{ChangesFollow, EditsFollow, IsOneList};
 
 /// Lists of rows, edits and changes are what stands at each key: edits put their values over the rows' own; changes name the keys whose

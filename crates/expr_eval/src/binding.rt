@@ -1,3 +1,5 @@
+//! Names turned into places in a scope, and the kinds of operations, or the first refusal.
+
 ghost use Rattle.std.specs.Prelude.{◌≡◌, map, fold, Ok, IfOk};
 ghost use Rattle.expr_eval.specs.declared.bound.Node.{out-Node};
 ghost use Rattle.expr_eval.specs.Binding.{

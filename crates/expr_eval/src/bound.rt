@@ -1,3 +1,5 @@
+//! Expressions whose names are places in a scope, with their kinds.
+
 use sql_ast::{Comparison, Term};
 use sql_values::Kind;
 use tuple_codec::{Boxed, Sequence, Value};

@@ -1,3 +1,5 @@
+//! Why an expression has no kind, or no value on a row.
+
 use std::alloc::{AllocError, AllocFailed};
 
 /// Why an expression has no kind.

@@ -1,3 +1,5 @@
+//! The columns that an expression may name, and the place of the only one that a name fits.
+
 ghost use Rattle.std.specs.Prelude.{◌≡◌, count_by};
 ghost use Rattle.std.specs.List.{position};
 ghost use Rattle.expr_eval.specs.Scopes.{is_named, is_qualified, place_named, place_qualified};

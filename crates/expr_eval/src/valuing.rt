@@ -1,3 +1,5 @@
+//! The value of a bound expression on a row, or that it is out of range.
+
 ghost use Rattle.std.specs.Prelude.{◌≡◌, map, false, not, Some, Option};
 ghost use Rattle.std.specs.Option.{option_map};
 ghost use Rattle.sql_values.specs.Views.{seen};

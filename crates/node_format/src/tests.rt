@@ -1,3 +1,5 @@
+//! Small nodes written, read in place and found malformed, and where nodes end.
+
 ghost use Rattle.std.specs.Prelude.{◌<◌, ◌^◌, ◌≡◌, length, replicate};
 
 use super::*;

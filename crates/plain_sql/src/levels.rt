@@ -1,3 +1,5 @@
+//! What is still to be combined behind a row: the rows of the next source, and the sources behind it.
+
 ghost use Rattle.std.specs.Prelude.{◌≡◌, ◌<◌, ◌≤◌, ◌+◌, ◌++◌, [], IfOk, IfSome, List, MatchOption, length};
 ghost use Rattle.plain_sql.specs.Answers.{Meaning};
 ghost use Rattle.plain_sql.specs.Levels.{IsServed, Opens, left_of, rows_of, weight, work_of};

@@ -1,3 +1,5 @@
+//! Whether a column's type is at least as wide as in each of the schemas that are merged.
+
 ghost use Rattle.std.specs.Prelude.{◌≡◌};
 ghost use Rattle.std.specs.Option.{option_copied};
 ghost use Rattle.schema_merge.specs.Parts.{covers_all, covers_in, sides};

@@ -1,3 +1,5 @@
+//! Why schemas don't merge.
+
 use std::alloc::AllocError;
 use tuple_codec::Text;
 

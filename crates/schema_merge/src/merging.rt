@@ -1,3 +1,5 @@
+//! The schema that two sides come to, part by part, or the first part in conflict.
+
 ghost use Rattle.std.specs.Prelude.{◌≡◌, ◌<◌, true, length, IfOk};
 ghost use Rattle.std.specs.Cmp.Lexicographic.{pointwise};
 ghost use Rattle.std.specs.Option.{option_copied};

@@ -1,3 +1,5 @@
+//! A row of one schema as a row of another, cell by cell through the columns' names.
+
 ghost use Rattle.std.specs.Prelude.{◌≡◌, IfOk};
 ghost use Rattle.std.specs.Option.{option_copied};
 ghost use Rattle.schema_merge.specs.Projecting.{default_cell, projected, projected_cell};

@@ -1,3 +1,5 @@
+//! What a schema is made of: columns, indexes, checks, foreign keys and the primary key.
+
 use tuple_codec::{Sequence, SqlType, Text, Value};
 
 /// A column of a table.

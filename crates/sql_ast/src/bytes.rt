@@ -1,3 +1,5 @@
+//! The bytes of a text: blanks, digits and letters, lower case, escapes and hex digits.
+
 ghost use Rattle.std.specs.Prelude.{◌≡◌, ◌++◌, OnOk};
 ghost use Rattle.sql_ast.specs.Bytes as spec;
 ghost use Rattle.sql_ast.specs.Bytes.{escape, is_blank, is_digit, is_upper, is_word_byte, is_word_start, lower};

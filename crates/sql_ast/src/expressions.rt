@@ -1,3 +1,5 @@
+//! The trees of expressions: literals, names, operations and calls.
+
 use tuple_codec::{Blob, Boxed, Sequence, Text};
 
 /// A literal.

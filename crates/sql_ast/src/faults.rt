@@ -1,3 +1,5 @@
+//! Why a text is refused by itself, and why no statement was read.
+
 ghost use Rattle.std.specs.Prelude.{◌≡◌};
 ghost use Rattle.sql_ast.specs.declared.faults.ReadFault.TheVariants.{Memory};
 

@@ -1,3 +1,5 @@
+//! The reserved word that a word in lower case is, if it is one.
+
 ghost use Rattle.std.specs.Prelude.{◌≡◌, bytes_eq};
 ghost use Rattle.sql_ast.specs.Words as spec;
 ghost use Rattle.sql_ast.specs.Words.{alter_word, constraint_word, expression_word, order_word, statement_word, table_word};

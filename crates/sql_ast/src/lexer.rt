@@ -1,3 +1,5 @@
+//! A text read byte by byte into tokens, up to its first bad one.
+
 ghost use Rattle.std.specs.Prelude.{◌≡◌, ◌^◌, ◌<◌, length, IfOk, OnOk};
 ghost use Rattle.sql_ast.specs.Lexing.{Goes, ReadsAll};
 ghost use Rattle.sql_ast.specs.Slices.{AreSlices};

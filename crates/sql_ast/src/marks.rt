@@ -1,3 +1,5 @@
+//! How the reader of tokens moves on from byte to byte, and how great a whole literal may be.
+
 ghost use Rattle.std.specs.Prelude.{◌≡◌, is_some};
 ghost use Rattle.sql_ast.specs.Bytes as bytes;
 ghost use Rattle.sql_ast.specs.Tokens.{after_first, after_keyword, after_minus, after_sign, first_byte, first_of_sign, first_place, in_string, most_whole, next_place, on};

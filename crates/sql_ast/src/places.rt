@@ -1,3 +1,5 @@
+//! Where the reader of tokens stands, and what it still knows of the last token.
+
 use crate::signs::Sign;
 
 /// Where the reader of tokens stands: in or behind which part of the token that it reads.

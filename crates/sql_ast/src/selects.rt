@@ -1,3 +1,5 @@
+//! The trees of SELECTs: items, sources, conditions, groups, order and limit.
+
 use crate::expressions::Expr;
 use tuple_codec::{Sequence, Text};
 

@@ -1,3 +1,5 @@
+//! The sign that one or two bytes spell.
+
 ghost use Rattle.std.specs.Prelude.{◌≡◌};
 ghost use Rattle.sql_ast.specs.Words as spec;
 ghost use Rattle.sql_ast.specs.Words.{double_sign, single_sign};

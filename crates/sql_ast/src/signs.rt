@@ -1,3 +1,5 @@
+//! The signs of the language, of one or two bytes.
+
 /// The signs.
 #[derive(Clone, Copy, Debug, PartialEq, Eq)]
 pub enum Sign {

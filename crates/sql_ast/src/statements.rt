@@ -1,3 +1,5 @@
+//! The trees of statements: writes, settings and calls, beside SELECTs and the definitions of tables.
+
 use crate::expressions::Expr;
 use crate::selects::Select;
 use crate::tables::{ColumnElement, CreateTable, DropTable};

@@ -1,3 +1,5 @@
+//! The trees of CREATE TABLE and DROP TABLE, with columns, types and constraints as written.
+
 use crate::expressions::{Expr, Literal};
 use tuple_codec::{Sequence, Text};
 

@@ -1,3 +1,5 @@
+//! Tokens: their kinds, and where they stand in the text.
+
 /// The kinds of token.
 #[derive(Clone, Copy, Debug, PartialEq, Eq)]
 pub enum TokenKind {

@@ -1,3 +1,5 @@
+//! The reserved words of the language.
+
 /// The reserved words: a name can be none of them, except in backquotes.
 #[derive(Clone, Copy, Debug, PartialEq, Eq)]
 pub enum Keyword {

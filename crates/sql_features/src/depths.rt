@@ -1,3 +1,5 @@
+//! How many parentheses an expression's canonical text has open at once, counted on its tree.
+
 ghost use Rattle.std.specs.Prelude.{◌≡◌, map, List, ℕ};
 ghost use Rattle.sql_features.specs.Depths.{chained, depth, enclosed, is_deep, paired, ranged};
 ghost use Rattle.sql_features.specs.Nesting.{greatest};

@@ -1,3 +1,5 @@
+//! What the parts of an expression show: aggregates, words of the session, long names, unknown variables.
+
 ghost use Rattle.std.specs.Prelude.{◌≡◌};
 ghost use Rattle.std.specs.List.{list_any};
 ghost use Rattle.sql_features.specs.Features.{has, shows, is_long, is_variable, is_aggregate, is_session_word, has_long_name, is_other_variable};

@@ -1,3 +1,5 @@
+//! Whether an aggregate stands inside another.
+
 ghost use Rattle.std.specs.Prelude.{◌≡◌, map};
 ghost use Rattle.sql_features.specs.Nesting.{greatest, nesting, nests, one_more};
 

@@ -1,3 +1,5 @@
+//! A place in a list of pieces, from which pieces are looked at and taken one by one.
+
 ghost use Rattle.std.specs.Prelude.{◌≡◌, Ok, IfOk, length, drop};
 ghost use Rattle.sql_grammar.specs.Reading as spec;
 ghost use Rattle.sql_grammar.specs.Reading.{Reads};

@@ -1,3 +1,5 @@
+//! What the grammar reads: tokens with their values.
+
 use sql_ast::{Keyword, Sign};
 use tuple_codec::{Blob, Text};
 

@@ -1,3 +1,5 @@
+//! Why a reader of pieces stopped: memory was wanting, or no rule goes on there.
+
 ghost use Rattle.std.specs.Prelude.{◌≡◌};
 ghost use Rattle.sql_grammar.specs.declared.stops.Stop.TheVariants.{Memory};
 

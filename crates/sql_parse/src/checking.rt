@@ -1,3 +1,5 @@
+//! The expression of a text in the canonical form in which a CHECK is stored, if it is one.
+
 ghost use Rattle.std.specs.Prelude.{◌≡◌, ◌<◌, ◌^◌, length, is_some, true, Some, IfOk};
 ghost use Rattle.sql_grammar.specs.Expressions.{any};
 ghost use Rattle.sql_pieces.specs.Checking as spec;

@@ -1,3 +1,5 @@
+//! Refusals of a text, with a place and without.
+
 ghost use Rattle.std.specs.Prelude.{◌≡◌};
 ghost use Rattle.sql_ast.specs.declared.faults.ReadFault.TheVariants.{Refused};
 

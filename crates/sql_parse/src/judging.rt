@@ -1,3 +1,5 @@
+//! A statement's tree refused where it is outside the language or misuses a procedure.
+
 ghost use Rattle.std.specs.Prelude.{◌≡◌, IfOk};
 ghost use Rattle.sql_ast.specs.Lexing.{Reads};
 ghost use Rattle.sql_parse.specs.Parsing.{judged};

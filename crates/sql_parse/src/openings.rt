@@ -1,3 +1,5 @@
+//! What is refused before the grammar: a first word of no statement, and too many open parentheses.
+
 ghost use Rattle.std.specs.Prelude.{◌≡◌, ◌+◌, ◌-◌, ◌≤◌, ℕ, nat_lt};
 ghost use Rattle.sql_ast.specs.Limits.{most_open};
 ghost use Rattle.sql_parse.specs.Openings.{begins_nothing, counted, is_hopeless, is_other_word, opens_too_many};

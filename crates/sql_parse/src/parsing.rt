@@ -1,3 +1,5 @@
+//! A text read as a statement: its tokens, their values, the grammar and the rules on the tree.
+
 ghost use Rattle.std.specs.Prelude.{◌≡◌, ◌<◌, ◌^◌, length};
 ghost use Rattle.sql_ast.specs.Lexing.{Reads};
 ghost use Rattle.sql_parse.specs.Parsing.{parsed, placed, statement_by, statement_in};

@@ -1,3 +1,5 @@
+//! The place in the text of the token at which the grammar stopped.
+
 ghost use Rattle.std.specs.Prelude.{◌≡◌, ◌<◌, ◌^◌, length};
 ghost use Rattle.sql_parse.specs.Parsing.{place_of};
 

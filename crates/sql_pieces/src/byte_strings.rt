@@ -1,3 +1,5 @@
+//! The bytes that a byte string's hex digits stand for.
+
 ghost use Rattle.std.specs.Prelude.{◌≡◌, ◌≤◌, IfOk};
 ghost use Rattle.sql_pieces.specs.Values as spec;
 ghost use Rattle.sql_pieces.specs.Values.{hex_digit};

@@ -1,3 +1,5 @@
+//! The values of whole and decimal literals.
+
 ghost use Rattle.std.specs.Prelude.{◌≡◌, position};
 ghost use Rattle.sql_pieces.specs.Values as spec;
 ghost use Rattle.sql_pieces.specs.Values.{is_point, number_from, with_digit};

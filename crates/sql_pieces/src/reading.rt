@@ -1,3 +1,5 @@
+//! Tokens with their values, those of a statement and those of a canonical text.
+
 ghost use Rattle.std.specs.Prelude.{◌≡◌, IfOk};
 ghost use Rattle.sql_pieces.specs.Values as spec;
 ghost use Rattle.sql_pieces.specs.Values.{canonical_piece_of, canonical_value, piece_of, value};

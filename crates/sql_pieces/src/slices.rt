@@ -1,3 +1,5 @@
+//! Parts of bytes: the front, what is behind it or between the ends, and a token's own.
+
 ghost use Rattle.std.specs.Prelude.{◌≡◌, take, drop, length, ◌-◌};
 ghost use Rattle.sql_pieces.specs.Values as spec;
 ghost use Rattle.sql_pieces.specs.Values.{slice};

@@ -1,3 +1,5 @@
+//! What a string in quotes stands for, its escapes and doubled quotes read.
+
 ghost use Rattle.std.specs.Prelude.{◌≡◌, IfOk};
 ghost use Rattle.sql_pieces.specs.Values as spec;
 ghost use Rattle.sql_pieces.specs.Values.{string_from};

@@ -1,3 +1,5 @@
+//! Words as reserved words and names, in a statement and in a canonical text.
+
 ghost use Rattle.std.specs.Prelude.{◌≡◌, IfOk};
 ghost use Rattle.sql_ast.specs.Words.{keyword_of};
 ghost use Rattle.sql_pieces.specs.Values as spec;

@@ -1,3 +1,5 @@
+//! What arguments ask for, for each procedure but DOLT_COMMIT and DOLT_MERGE.
+
 ghost use Rattle.std.specs.Prelude.{◌≡◌, map, IfOk, Some};
 ghost use Rattle.std.specs.List.{list_all, list_any};
 ghost use Rattle.std.specs.Str.{bytes_eq, str_eq_ignore_ascii_case, str_to_ascii_lowercase};

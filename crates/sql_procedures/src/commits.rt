@@ -1,3 +1,5 @@
+//! What the arguments of DOLT_COMMIT ask for, taken one after another.
+
 ghost use Rattle.std.specs.Prelude.{◌≡◌, IfOk};
 ghost use Rattle.sql_procedures.specs.Arguments.{no_commit, commit_argument, commit_from, commit_message, commit_of, commit_option, committed, staging_of, with_all, with_empty, with_message, with_named};
 

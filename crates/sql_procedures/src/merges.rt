@@ -1,3 +1,5 @@
+//! What the arguments of DOLT_MERGE ask for, taken one after another.
+
 ghost use Rattle.std.specs.Prelude.{◌≡◌, IfOk};
 ghost use Rattle.sql_procedures.specs.Arguments.{is_abort, merge_argument, merge_from, merge_message, merge_name, merge_of, merge_option, merged, no_merge, with_merge_message, with_no_ff};
 

@@ -1,3 +1,5 @@
+//! The procedures by their names, and what a call of each asks for.
+
 ghost use Rattle.std.specs.Prelude.{◌≡◌, IfOk};
 ghost use Rattle.sql_procedures.specs.Arguments.{procedure_of, request_of};
 

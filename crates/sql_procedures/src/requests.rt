@@ -1,3 +1,5 @@
+//! What calls of procedures ask for, once their arguments are read.
+
 use tuple_codec::{Sequence, Text};
 
 /// What a call of a procedure asks for.

@@ -1,3 +1,5 @@
+//! The names that are made for constraints without one, and whether they are too long.
+
 ghost use Rattle.std.specs.Prelude.{◌≡◌, IfOk};
 ghost use Rattle.std.specs.List.{count_by};
 ghost use Rattle.sql_rules.specs.Constraints as spec;

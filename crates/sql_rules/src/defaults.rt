@@ -1,3 +1,5 @@
+//! What a column's definition comes to, and whether the column keeps its default.
+
 ghost use Rattle.std.specs.Prelude.{◌≡◌, IfOk, None, true, false};
 ghost use Rattle.std.specs.List.{list_any};
 ghost use Rattle.tuple_codec.specs.Limits.{is_type};

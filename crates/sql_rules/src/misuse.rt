@@ -1,3 +1,5 @@
+//! Calls of the language's procedures with arguments that they don't take.
+
 ghost use Rattle.std.specs.Prelude.{◌≡◌, IfOk};
 ghost use Rattle.sql_rules.specs.Arguments.{misused};
 

@@ -1,3 +1,5 @@
+//! Names that are too long anywhere in a statement, that stand twice, or that the system keeps.
+
 ghost use Rattle.std.specs.Prelude.{◌≡◌};
 ghost use Rattle.std.specs.List.{list_any};
 ghost use Rattle.sql_rules.specs.Names.{action_long, are_long, assignment_long, clauses_long, column_long, contains, create_long, element_long, entry_long, foreign_key_long, from_long, in_given, insert_long, is_long_if, is_long_worded, is_system_name, item_long, items_long, join_long, key_long, named_long, names_long, names_long_if, query_long, repeats, select_long, source_long, update_long, write_long};

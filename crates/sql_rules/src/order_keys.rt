@@ -1,3 +1,5 @@
+//! What a key of ORDER BY orders by: an item by its number or name, or an expression.
+
 ghost use Rattle.std.specs.Prelude.{◌≡◌, slice_get};
 ghost use Rattle.std.specs.List.{position};
 ghost use Rattle.sql_ast.specs.declared.expressions.Expr.{out-Expr};

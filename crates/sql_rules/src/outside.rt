@@ -1,3 +1,5 @@
+//! Whether a statement of the grammar is outside the language, whatever the database holds.
+
 ghost use Rattle.std.specs.Prelude.{◌≡◌, is_some, not, IfOk};
 ghost use Rattle.sql_rules.specs.Outside.{action_outside, alter_outside, create_outside, makes_some_long, outside, statement_outside, write_outside};
 ghost use Rattle.sql_procedures.specs.Arguments.{procedure_of};

@@ -1,3 +1,5 @@
+//! SELECTs outside the language, and what the items of a grouped one show.
+
 ghost use Rattle.std.specs.Prelude.{◌≡◌};
 ghost use Rattle.std.specs.List.{list_all, list_any, position};
 ghost use Rattle.std.specs.Str.{bytes_eq};

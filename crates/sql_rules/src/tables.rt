@@ -1,3 +1,5 @@
+//! What a table's definition keeps to: one primary key, names given once, and types in range.
+
 ghost use Rattle.std.specs.Prelude.{◌≡◌, ◌&&◌, nat_le, not, IfOk, IfSome, true};
 ghost use Rattle.std.specs.List.{count_by, list_any, sum_by};
 ghost use Rattle.std.specs.Option.{option_copied};

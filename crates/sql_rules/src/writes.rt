@@ -1,3 +1,5 @@
+//! INSERT, UPDATE and DELETE outside the language, and expressions out of their place.
+
 ghost use Rattle.std.specs.Prelude.{◌≡◌};
 ghost use Rattle.std.specs.List.{list_any};
 ghost use Rattle.std.specs.Str.{bytes_eq};

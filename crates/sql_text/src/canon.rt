@@ -1,3 +1,5 @@
+//! An expression written as its canonical text, whose size is asked first.
+
 ghost use Rattle.std.specs.Prelude.{◌≡◌, ◌++◌, [], IfOk, OnOk, map};
 ghost use Rattle.sql_text.specs.Canon.{addends, listed, operands, text};
 

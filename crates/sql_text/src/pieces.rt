@@ -1,3 +1,5 @@
+//! The words, signs and literals of which canonical texts are put together.
+
 ghost use Rattle.std.specs.Prelude.{◌≡◌, ◌++◌, OnOk, codes};
 ghost use Rattle.sql_ast.specs.declared.expressions.Expr.{out-Expr};
 ghost use Rattle.sql_text.specs.Canon.{back, comparison_word, front, literal_text, opened, operator, term_word, truth_word};

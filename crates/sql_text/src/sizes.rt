@@ -1,3 +1,5 @@
+//! How many bytes a canonical text has, counted without writing it.
+
 ghost use Rattle.std.specs.Prelude.{◌≡◌, ◌+◌, [], IfOk, length, map};
 ghost use Rattle.sql_text.specs.Canon.{addends, listed, literal_text, operands, text};
 ghost use Rattle.sql_text.specs.Sizes as spec;

@@ -1,3 +1,5 @@
+//! What a column keeps of a value, or why it keeps none.
+
 ghost use Rattle.std.specs.Prelude.{◌≡◌, ◌≤◌, ◌^◌, true, unsigned_abs, nat_lt};
 ghost use Rattle.tuple_codec.specs.Limits.{is_type};
 ghost use Rattle.tuple_codec.specs.Rows.{fits_bits};

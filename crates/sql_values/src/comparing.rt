@@ -1,3 +1,5 @@
+//! Values compared exactly, where neither is NULL.
+
 ghost use Rattle.std.specs.Prelude.{◌≡◌};
 ghost use Rattle.sql_values.specs.Order.{number_cmp, worth_cmp};
 ghost use Rattle.sql_values.specs.Views.{seen};

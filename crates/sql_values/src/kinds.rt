@@ -1,3 +1,5 @@
+//! The kinds of expressions, which of them compare, and the kinds that arithmetic gives.
+
 ghost use Rattle.std.specs.Prelude.{◌≡◌, ◌≤◌, ◌+◌, max};
 ghost use Rattle.sql_values.specs.Kinds.{are_comparable, column_type, decimal, is_bool, is_counted, is_int, is_number, kind_of, negative_kind, product_kind, sum_kind};
 ghost use Rattle.sql_values.specs.Worths.{scale_of};

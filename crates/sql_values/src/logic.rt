@@ -1,3 +1,5 @@
+//! AND, OR and NOT of truth values that may be NULL.
+
 ghost use Rattle.std.specs.Prelude.{◌≡◌};
 ghost use Rattle.sql_values.specs.Logic.{and3, not3, or3};
 

@@ -1,3 +1,5 @@
+//! Exact sums, differences, products and negatives, or that they are out of range.
+
 ghost use Rattle.std.specs.Prelude.{◌≡◌, ◌≤◌, ◌^◌, ◌*◌, ◌-◌, pos, negsuc, ◌+ℤ◌, ◌-ℤ◌, ◌*ℤ◌, ◌≤ℤ◌};
 ghost use Rattle.std.specs.Option.{option_map};
 ghost use Rattle.sql_values.specs.Numbers.{minus, moved, at_scale, difference_of, greater_scale, negated, number, on_numbers, plus, product_of, scaled, sum_of, times, whole};

@@ -1,3 +1,5 @@
+//! The number of digits behind a decimal's point, which is never above 18.
+
 ghost use Rattle.std.specs.Prelude.{◌≡◌, ◌≤◌, IfSome, OnSome, IsSome, ◌↔◌, SomeIff};
 
 use std::marker::Model;

@@ -1,3 +1,5 @@
+//! What an expression is worth on a row, to and from cells and truth values.
+
 ghost use Rattle.std.specs.Prelude.{◌≡◌, IfOk};
 ghost use Rattle.sql_values.specs.Worths.{cell_of, is_unknown, of_truth, truth, worth_of};
 ghost use Rattle.sql_values.specs.Views.{seen};

@@ -1,3 +1,5 @@
+//! Addresses as texts of 32 characters, written and read.
+
 ghost use Rattle.std.specs.Prelude.{◌≡◌, ◌+◌, ◌*◌, ◌<◌, ◌^◌, length};
 ghost use Rattle.tuple_codec.specs.AddressTexts.{
   ReadsAddress,

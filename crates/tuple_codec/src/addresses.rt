@@ -1,3 +1,5 @@
+//! Addresses of chunks, and the ways to name byte strings by them.
+
 ghost use Rattle.std.specs.Prelude.{◌≡◌, ℕ, List, length};
 
 /// A chunk's name: the first 20 bytes of its digest.

@@ -1,3 +1,5 @@
+//! Answers of queries, as columns with types and rows.
+
 use crate::bytes::Text;
 use crate::sequences::Sequence;
 use crate::values::{Row, SqlType};

@@ -1,3 +1,5 @@
+//! A box that contracts see as its value.
+
 ghost use Rattle.std.specs.Prelude.{◌≡◌, IfOk};
 
 use std::alloc::{AllocError, Global};

@@ -1,3 +1,5 @@
+//! A text, held as bytes, which are UTF-8 wherever a column holds them.
+
 ghost use Rattle.std.specs.Prelude.{◌≡◌, ◌++◌, [], ◌∷◌, IfOk, OnOk, OnErr, bytes_eq};
 
 use std::alloc::{AllocError, Global};

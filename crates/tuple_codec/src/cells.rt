@@ -1,3 +1,5 @@
+//! Rows as bytes, cell by cell, in the form of keys and in that of rows.
+
 ghost use Rattle.std.specs.Prelude.{◌≡◌, ◌≤◌, ◌<◌, ◌++◌, ◌∷◌, length, true, OnOk, IfOk};
 ghost use Rattle.std.specs.List.{list_all};
 ghost use Rattle.tuple_codec.specs.Cells.{cell_bytes, spelling, text_bytes, is_short, is_spelled};

@@ -1,3 +1,5 @@
+//! Copies of cells and rows, of which contracts know that they equal what was copied.
+
 ghost use Rattle.std.specs.Prelude.{◌≡◌, IfOk};
 
 use crate::bytes::Text;

@@ -1,3 +1,5 @@
+//! Edits of a list by key, and the changes between two lists.
+
 use crate::values::Blob;
 
 /// What is done to one key of a list: a value is put there, or the key is removed.

@@ -1,3 +1,5 @@
+//! Keys as bytes, and the laws that these keep the order of keys and are one key's alone.
+
 ghost use Rattle.std.specs.Prelude.{◌≡◌, true, IfOk};
 ghost use Rattle.tuple_codec.specs.Rows.{fits_all};
 ghost use Rattle.tuple_codec.specs.Limits.{are_types};

@@ -1,3 +1,5 @@
+//! Numbers as bytes in both forms, and truth values read from bytes.
+
 ghost use Rattle.std.specs.Prelude.{◌≡◌, ◌++◌, ◌∷◌, OnOk};
 ghost use Rattle.std.specs.Int.{w64, to_be_bytes};
 ghost use Rattle.tuple_codec.specs.Fronts.{Gives, bool_front, number_front, number_of};

@@ -1,3 +1,5 @@
+//! What a branch holds, as the addresses of its commits and databases.
+
 use crate::addresses::Address;
 
 /// What a branch holds: its newest commit, its working and its staged database, and the commit of a merge in progress.

@@ -1,3 +1,5 @@
+//! The cells of a row that aren't in its key as bytes, and the law that these are one row's alone.
+
 ghost use Rattle.std.specs.Prelude.{◌≡◌, true, IfOk};
 ghost use Rattle.tuple_codec.specs.Rows.{fits_all};
 ghost use Rattle.tuple_codec.specs.Limits.{are_types};

@@ -1,3 +1,5 @@
+//! Lists that contracts see as their items alone.
+
 ghost use Rattle.std.specs.Prelude.{◌≡◌, ◌++◌, [], ◌∷◌, OnOk, OnErr};
 
 use std::alloc::{AllocError, Global};

@@ -1,3 +1,5 @@
+//! Keys, rows and an address to bytes and back, the bounds of values, and the order of cells.
+
 ghost use Rattle.std.specs.Prelude.{◌≡◌, ◌∷◌, [], true, IfOk};
 ghost use Rattle.tuple_codec.specs.Limits.{are_types};
 

@@ -1,3 +1,5 @@
+//! Texts as bytes: behind their length in rows, and with zero bytes escaped in keys.
+
 ghost use Rattle.std.specs.Prelude.{◌≡◌, ◌≤◌, ◌++◌, length, OnOk, false};
 ghost use Rattle.tuple_codec.specs.KeyBytes.{escaped};
 ghost use Rattle.tuple_codec.specs.Fronts.{Gives, text_front, uncounted, unescaped};

@@ -1,3 +1,5 @@
+//! Why a written form wasn't read.
+
 ghost use Rattle.std.specs.Prelude.{◌≡◌};
 ghost use Rattle.tuple_codec.specs.declared.unread.Unread.TheVariants.{Memory};
 

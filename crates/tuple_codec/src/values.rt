@@ -1,3 +1,5 @@
+//! Types of columns and the cells of rows, which cells fit a type, and their order.
+
 ghost use Rattle.std.specs.Prelude.{◌≡◌, ◌&&◌, ◌^◌, nat_le, nat_lt, unsigned_abs};
 ghost use Rattle.tuple_codec.specs.Rows.{fits, fits_bits, rank, value_cmp};
 ghost use Rattle.tuple_codec.specs.Texts.{char_count, is_utf8};

@@ -1,3 +1,5 @@
+//! The text of numbers, texts, byte strings, decimals and rows, written behind what a buffer holds.
+
 // Each function writes behind what `out` holds. Where memory was wanting, nothing is said of `out`.
 
 ghost use Rattle.std.specs.Prelude.{◌≡◌, ◌++◌, ◌/◌, ◌%◌, ◌^◌, ◌∷◌, OnOk, codes, replicate};

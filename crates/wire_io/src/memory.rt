@@ -1,3 +1,5 @@
+//! Sources and sinks in memory, with limits on a call and failures at listed calls.
+
 ghost use Rattle.std.specs.Prelude.{ℕ, ◌<◌, ◌≤◌, ◌≡◌, ◌==◌, true, [], ◌++◌, length, take, drop, min, not, is_ok, IfOk, Some};
 ghost use Rattle.std.specs.Io.KnownBytes.{ReadConsumes, WriteAppends};
 ghost use Rattle.std.specs.Io.{ReadsAtMost, WritesAtMost};

@@ -1,3 +1,5 @@
+//! A source read up to a limit, and a text written whole, by as many calls as that takes.
+
 ghost use Rattle.std.specs.Prelude.{ℕ, ◌≡◌, ◌<◌, ◌≤◌, ◌+◌, ◌++◌, ◌^◌, true, List, length, vec_len, vec_capacity, Option, Result, IfOk, OnOk, OnErr, IsErrOf, IsOk};
 ghost use Rattle.std.specs.Io.KnownBytes.{Appends, Consumes, IsAtEnd};
 ghost use Rattle.wire_io.specs.Causes.{HasCause, IsCalm, Rose};

@@ -1,3 +1,5 @@
+//! Sources and sinks over readers and writers of std, each error of which is counted as a fault.
+
 ghost use Rattle.std.specs.Prelude.{◌≡◌, ◌≤◌};
 ghost use Rattle.wire_io.specs.Causes.{counted};
 

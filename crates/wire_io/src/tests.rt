@@ -1,3 +1,5 @@
+//! Reading and writing in memory and over devices that fail, call by call.
+
 ghost use Rattle.std.specs.Prelude.{◌≤◌, IfOk};
 
 use crate::{
