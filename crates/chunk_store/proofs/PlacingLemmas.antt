@@ -104,6 +104,11 @@ apart_get (d ∷ ds) (suc n) c apart is =
     (other_way c.address.0 d.address.0 (absent_get ds n c d.address.0 apart.0 is)) (apart_get ds n c apart.1 is)
 
 -- the table after one more chunk
+-- a table that was changed at a key, by the address that the key is
+pub changed_at : (key k : List ℕ) (put : Option Span) (old new : List ℕ → Option Span) → key ≡ k
+    → ((q : List ℕ) → new q ≡ cond (bytes_eq key q) put (old q)) → (q : List ℕ) → new q ≡ cond (bytes_eq k q) put (old q)
+changed_at key k put old new same changed = subst (λ (x : List ℕ). (q : List ℕ) → new q ≡ cond (bytes_eq x q) put (old q)) same changed
+
 pub index_push : (cs : List Placed) (c : Placed) (old new : List ℕ → Option Span) → IsIndex cs old → span_at cs c.address.0 ≡ None
     → ((k : List ℕ) → new k ≡ cond (bytes_eq c.address.0 k) (Some c.span) (old k)) → IsIndex (cs ++ c ∷ []) new
 index_push cs c old new index absent puts = record {

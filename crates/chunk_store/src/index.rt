@@ -4,6 +4,7 @@ ghost use Rattle.std.specs.Prelude.{◌≡◌, ◌+◌, ◌<◌, ◌≤◌, ◌^
 ghost use Rattle.std.specs.List.{AllByRecursion};
 ghost use Rattle.chunk_store.specs.Placing.{AreApart, gather_placed, placed_behind, span_at};
 
+use crate::keys::Key;
 use chunk_region::{Mark, Span};
 use std::alloc::{AllocError, Global};
 use std::collections::HashMap;
@@ -37,7 +38,7 @@ impl Placed {
 #[derive(Debug, Drop)]
 pub(crate) struct Index {
     placed: Vec<Placed>,
-    spans: HashMap<[u8; 20], Span>,
+    spans: HashMap<Key, Span>,
 }
 
 impl Model for Index {
@@ -87,7 +88,7 @@ impl Index {
     pub(crate) fn find(&self, address: &Address) -> Option<Span>
         ensures { result ≡ span_at self.now.placed address.now.0 }
     {
-        self.spans.get(&address.0).copied()
+        self.spans.get(&Key::of(address)).copied()
     }
 
     /// Takes the memory for so many chunks more.
@@ -106,7 +107,7 @@ impl Index {
         ensures { self.new.placed ≡ self.old.placed ++ chunk ∷ [] }
     {
         self.placed.push_reserved(chunk);
-        match self.spans.insert(chunk.address.0, chunk.span) {
+        match self.spans.insert(Key::of(&chunk.address), chunk.span) {
             Ok(_) => {}
             Err(_) => unreachable!(),
         }
@@ -120,12 +121,12 @@ impl Index {
         ensures there { result ≡ false → is_some (span_at self.old.placed chunk.address.0) ≡ true }
         ensures same { result ≡ false → self.new.placed ≡ self.old.placed }
     {
-        match self.spans.insert(chunk.address.0, chunk.span) {
+        match self.spans.insert(Key::of(&chunk.address), chunk.span) {
             Ok(None) => {
                 self.placed.push_reserved(chunk);
                 true
             }
-            Ok(Some(span)) => match self.spans.insert(chunk.address.0, span) {
+            Ok(Some(span)) => match self.spans.insert(Key::of(&chunk.address), span) {
                 Ok(_) => false,
                 Err(_) => unreachable!(),
             },
@@ -165,7 +166,7 @@ impl Index {
     {
         'chunks: while self.placed.len() > count {
             if let Some(last) = self.placed.pop() {
-                self.spans.remove(&last.address.0);
+                self.spans.remove(&Key::of(&last.address));
             }
         }
     }

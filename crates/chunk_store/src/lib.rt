@@ -9,6 +9,7 @@ mod digests;
 mod drafts;
 mod faults;
 mod index;
+mod keys;
 mod laws;
 mod segments;
 mod stores;

@@ -1,9 +1,9 @@
-use Rattle.std.proofs.Common.{◌≤◌, [], ◌∷◌, length, take, subst, sym, ap, ◌∙◌, bytes_eq, List, arith}
+use Rattle.std.proofs.Common.{◌≤◌, [], ◌∷◌, None, length, take, subst, sym, ap, ◌∙◌, bytes_eq, List, arith}
 use Rattle.std.proofs.lemmas.List.{take-append-le, length-append}
 use Rattle.std.specs.HashMap.{get}
 use Rattle.chunk_store.specs.declared.index.Placed.{Placed}
 use Rattle.chunk_store.specs.Placing.{IsIndex}
-use Rattle.chunk_store.proofs.PlacingLemmas.{index_pop}
+use Rattle.chunk_store.proofs.PlacingLemmas.{changed_at, index_pop}
 use Rattle.chunk_store.proofs.index.Index.cut.Goals as goal
 
 pub chunks-preserved-in-Some : goal.chunks-preserved-in-Some
@@ -18,6 +18,7 @@ chunks-preserved-in-Some c =
     let more = c.chunks-test.true in
     let within : c.args.count ≤ length rest = omega arith in
     record {
-      index = index_pop rest last (get bytes_eq before.spans) (get bytes_eq c.remove.new.self) (subst P items c.chunks.invariant.index) c.remove.ensures.updates.0;
+      index = index_pop rest last (get bytes_eq before.spans) (get bytes_eq c.remove.new.self) (subst P items c.chunks.invariant.index)
+          (changed_at c.of.result last.address.0 None (get bytes_eq before.spans) (get bytes_eq c.remove.new.self) c.of.ensures c.remove.ensures.updates.0);
       front = sym (take-append-le c.args.count rest (last ∷ []) within) ∙ ap (take c.args.count) (sym items) ∙ c.chunks.invariant.front;
     }
