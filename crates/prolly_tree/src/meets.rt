@@ -10,7 +10,7 @@ ghost use Rattle.tree_laws.specs.Standing.{IsStored, Leads, rows_below};
 ghost use Rattle.prolly_tree.specs.Lists.{StandsForRows, has_any};
 ghost use Rattle.prolly_tree.specs.Meets.{IsNamed, count_up_to, leaf_has_any};
 
-use crate::nodes::{node_at, place_of, value_in};
+use crate::nodes::{get, node_at, place_of, value_in};
 use chunk_store::Draft;
 use node_format::NodeRef;
 use tuple_codec::{Address, Digester, Edit};
@@ -18,13 +18,16 @@ use tuple_codec::{Address, Digester, Edit};
 /// Whether a row of the tree has the key of one of these edits, whose keys rise.
 ///
 /// The tree is gone down once: at each node the edits are split among the nodes below, and of these only those are read that have
-/// some. So each node is read at most once, and none after a row was found.
+/// some. So each node is read at most once, and none after a row was found. One edit alone is looked up, which reads no node whole.
 pub fn has_any<D: Digester>(draft: &Draft<D>, root: &Address, edits: &[Edit]) -> bool
     requires tree { StandsForRows D.address (chunks_of draft.now.chunks) root.now.0 }
     requires rise { EditsRiseAfter None edits.now }
     ensures { (rows : List Item) → IsTree D.address (chunks_of draft.now.chunks) root.now.0 rows → result ≡ has_any rows edits.now }
 {
-    node_has_any(draft, &node_at(draft, root), edits)
+    match edits {
+        [only] => get(draft, root, only.key.as_slice()).is_some(),
+        _ => node_has_any(draft, &node_at(draft, root), edits),
+    }
 }
 
 /// The same of the rows below a node.

@@ -17,8 +17,8 @@ node_has_any-requires-clause-leads g c κs within =
     let t = trees_lead g.D.Digester.address chunks c.args.root.now.0 c.requires.tree.0 c.requires.tree.1 in
     subst (λ (n : Node). Leads chunks n) (sym (c.node_at.ensures t.0 t.1.opens.stored)) t.1.opens.leads
 
-pub returns : goal.returns
-returns g c = λ rows tree.
+pub returns-in_default : goal.returns-in_default
+returns-in_default g c = λ rows tree.
     let chunks = chunks_of c.args.draft.now.chunks in
     let t = trees_lead g.D.Digester.address chunks c.args.root.now.0 rows tree in
     c.node_has_any.ensures
