@@ -183,9 +183,13 @@ headed plan rows = record {
   rows = map (λ row. row.cells) (arranged plan rows);
 }
 
+-- so many joined rows may be kept
+abbrev pub most_joined_rows : ℕ
+most_joined_rows = 10000000
+
 -- more joined rows than may be kept
 abbrev pub are_too_many : List Cells → Bool
-are_too_many rows = nat_lt 10000000 (length rows)
+are_too_many rows = nat_lt most_joined_rows (length rows)
 
 abbrev pub answered_of : Plan → List Cells → Outcome Answer
 answered_of plan rows =

@@ -22,6 +22,9 @@ use std::alloc::{AllocError, Global};
 use std::slice;
 use tuple_codec::{Answer, Row, Sequence, SqlType, Text};
 
+/// So many rows of a SELECT's sources joined may be kept, as far as its conditions keep them.
+const MOST_JOINED_ROWS: usize = 10_000_000;
+
 #[tactic(auto, unfolding(crate::specs::Answers::cells_shown))]
 fn cells_of(alloc: Global, headings: &[Heading], rows: &[Row]) -> Result<Row, Refused>
     ensures { Gives result (cells_shown (map heading_seen headings.now) rows.now) }
@@ -94,7 +97,7 @@ fn ranks_of(alloc: Global, plan: &Plan, rows: Sequence<Row>) -> Result<Sequence<
 fn are_too_many(rows: &[Row]) -> bool
     ensures { result ≡ are_too_many rows.now }
 {
-    rows.len() > 10_000_000
+    rows.len() > MOST_JOINED_ROWS
 }
 
 fn once_if(alloc: Global, distinct: bool, ranks: Vec<Rank>) -> Result<Vec<Rank>, AllocError>

@@ -45,10 +45,6 @@ most_row_bytes = 8192
 abbrev pub most_rows : ℕ
 most_rows = 10000000
 
--- of a SELECT's sources joined, where its conditions keep them
-abbrev pub most_joined_rows : ℕ
-most_joined_rows = 10000000
-
 -- of a database
 abbrev pub most_tables : ℕ
 most_tables = 256

@@ -26,9 +26,6 @@ pub const MOST_ROW_BYTES: usize = 8192;
 /// Of a table; the rows in its conflicts and violations aren't counted.
 pub const MOST_ROWS: u64 = 10_000_000;
 
-/// Of a SELECT's sources joined, as far as its conditions keep them.
-pub const MOST_JOINED_ROWS: u64 = 10_000_000;
-
 /// Of a database.
 pub const MOST_TABLES: usize = 256;
 
