@@ -16,6 +16,7 @@ pub mod CauseLemmas
 pub mod ChangedLemmas
 pub mod LostLemmas
 pub mod ThinLemmas
+pub mod NullLemmas
 pub mod ComeLemmas
 pub mod PairLemmas
 pub mod LoopLemmas

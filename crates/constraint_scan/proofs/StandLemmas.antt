@@ -9,7 +9,7 @@ use Rattle.schema_model.specs.WrittenForms.{table_address}
 use Rattle.chunk_store.specs.Chunks.{Chunks}
 use Rattle.plain_writes.specs.Seen.{named_seen}
 use Rattle.plain_writes.specs.declared.tables.NamedTable.{NamedTable}
-use Rattle.table_root.specs.Standing.{IsTableAt, TablesStand, named_tables, table_of_lists}
+use Rattle.table_root.specs.Standing.{IsTableAt, IsTableOf, TablesStand, named_tables, table_of_lists}
 use Rattle.table_root.specs.Tables.{IsTableFound}
 use Rattle.table_root.specs.declared.records.NamedTable as entries
 use Rattle.table_root.specs.declared.records.Table.{Table}
@@ -28,6 +28,9 @@ module _ (address : List ℕ → List ℕ) (chunks : Chunks) (k : List ℕ) wher
       let is = at.is_table in
       let trees = at.trees in
       subst (λ (t : Table). AreRowsAt address chunks t.rows.0 t.schema table.rows) (sym (table_same stand table at read found)) (record { fit = is.rows; tree = trees.rows })
+
+  pub table_of : TablesStand → (table : PlainTable) → IsTableAt address chunks k table → (read : Table) → IsTableFound chunks k read → IsTableOf address chunks read table
+  table_of stand table at read found = record { is_table = at.is_table; trees = at.trees; value = table_same stand table at read found }
 
 -- ---- the first table, and the others
 

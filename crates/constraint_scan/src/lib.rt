@@ -14,6 +14,7 @@ mod judging;
 mod laws;
 mod listing;
 mod pairing;
+mod quiet;
 mod reading;
 mod recording;
 mod seeking;

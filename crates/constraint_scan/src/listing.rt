@@ -2,20 +2,22 @@
 
 ghost use Rattle.std.specs.Prelude.{◌≡◌, ◌++◌, IfOk, OnOk, map, true};
 ghost use Rattle.std.specs.List.{flat_map, list_all};
-ghost use Rattle.schema_model.specs.PlainTables.{PlainDatabase};
+ghost use Rattle.schema_model.specs.PlainTables.{IsDatabase, PlainDatabase};
 ghost use Rattle.chunk_store.specs.Drafts.{chunks_of};
 ghost use Rattle.plain_writes.specs.Seen.{broken_seen, found_seen, named_seen};
 ghost use Rattle.plain_writes.specs.Violations.{violations};
 ghost use Rattle.plain_schemas.specs.Statements.{checks};
-ghost use Rattle.constraint_scan.specs.Scanning.{CanRead, IsReadAt};
+ghost use Rattle.constraint_scan.specs.Scanning.{AreThere, CanRead, IsReadAt};
 ghost use Rattle.constraint_scan.specs.Written.{fits, fits_in, written, written_in};
 
 use crate::canonical::CanonicalChecks;
+use crate::quiet::are_quiet;
 use crate::thinning::read_thinned;
 use chunk_store::Draft;
 use plain_writes::{Found, NamedTable, table_in, violations as violations_of_tables};
 use schema_model::Schema;
 use std::alloc::{AllocError, Global};
+use table_root::{NamedTable as Entry, law_of_databases, read_database};
 use table_rows::row_item;
 use tuple_codec::{Address, Blob, Digester, Text};
 
@@ -78,10 +80,26 @@ fn written_all(
     Ok(list)
 }
 
+/// The violations of the database of these tables, some of which may have any.
+fn violations_among<D: Digester>(
+    alloc: Global,
+    draft: &Draft<D>,
+    entries: &[Entry],
+) -> Result<Vec<Violation>, AllocError>
+    requires { (contents : PlainDatabase) × AreThere D.address (chunks_of draft.now.chunks) contents entries.now × IsDatabase contents }
+    ensures { (contents : PlainDatabase) → AreThere D.address (chunks_of draft.now.chunks) contents entries.now → IsDatabase contents
+        → IfOk result (λ list. list.items ≡ flat_map (written_in contents) (violations checks contents)) }
+{
+    let tables = read_thinned(alloc, draft, entries)?;
+    let found = violations_of_tables::<CanonicalChecks>(alloc, tables.as_slice())?;
+    written_all(alloc, tables.as_slice(), found.as_slice())
+}
+
 /// The violations of the database at an address, by table, kind, constraint and key. Those that merges recorded take no part.
 ///
 /// Rows are read of tables with a unique index, a CHECK, a foreign key, or a NOT NULL column that isn't the whole primary key, and of those that a
-/// foreign key names; of others the first row alone.
+/// foreign key names; of others that of key NULL alone, if there is one. Where there is no such table and no such row, each table is read once, and
+/// nothing else.
 pub fn violations<D: Digester>(
     alloc: Global,
     draft: &Draft<D>,
@@ -91,7 +109,11 @@ pub fn violations<D: Digester>(
     ensures { (contents : PlainDatabase) → IsReadAt D.address (chunks_of draft.now.chunks) database.now.0 contents
         → IfOk result (λ list. list.items ≡ flat_map (written_in contents) (violations checks contents)) }
 {
-    let tables = read_thinned(alloc, draft, database)?;
-    let found = violations_of_tables::<CanonicalChecks>(alloc, tables.as_slice())?;
-    written_all(alloc, tables.as_slice(), found.as_slice())
+    law_of_databases();
+    let entries = read_database(alloc, draft, database)?;
+    let quiet = are_quiet(alloc, draft, entries.as_slice())?;
+    if quiet {
+        return Ok(Vec::new(alloc));
+    }
+    violations_among(alloc, draft, entries.as_slice())
 }

@@ -111,7 +111,7 @@ fn push_tables<D: Digester>(
 }
 
 /// Reads the schema of each of these tables.
-fn push_schemas<D: Digester>(
+pub(crate) fn push_schemas<D: Digester>(
     alloc: Global,
     draft: &Draft<D>,
     entries: &[Entry],

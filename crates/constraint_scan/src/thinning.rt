@@ -1,6 +1,6 @@
 //! The tables of a database with those rows alone that may break a constraint, or that a foreign key looks for.
 
-ghost use Rattle.std.specs.Prelude.{◌≡◌, ◌∷◌, ◌++◌, ◌||◌, true, [], IfOk, List, OnOk, if◌then◌else◌, map, take};
+ghost use Rattle.std.specs.Prelude.{◌≡◌, ◌∷◌, ◌++◌, ◌||◌, true, [], IfOk, List, OnOk, filter, if◌then◌else◌, map};
 ghost use Rattle.std.specs.List.{enumerate_from, list_any};
 ghost use Rattle.tuple_codec.specs.Rows.{Cells};
 ghost use Rattle.schema_model.specs.PlainTables.{PlainDatabase, PlainTable};
@@ -9,17 +9,17 @@ ghost use Rattle.chunk_store.specs.Drafts.{chunks_of};
 ghost use Rattle.plain_writes.specs.Seen.{named_seen};
 ghost use Rattle.table_root.specs.Standing.{IsTableAt};
 ghost use Rattle.table_rows.specs.Rows.{AreRowsAt, HasRowsAt};
-ghost use Rattle.constraint_scan.specs.Scanning.{AreThere, CanRead, IsReadAt, skeleton};
-ghost use Rattle.constraint_scan.specs.Thinned.{is_guarded, is_judged, is_parent, is_sole, looks_for, thin_named, thinned};
+ghost use Rattle.constraint_scan.specs.Scanning.{AreThere};
+ghost use Rattle.constraint_scan.specs.Thinned.{has_null_key, is_guarded, is_judged, is_parent, is_sole, looks_for, thin_named, thinned};
 
 use crate::judging::is_constrained;
-use crate::reading::{bare_table, read_schemas};
+use crate::reading::{bare_table, push_schemas};
 use chunk_store::Draft;
 use plain_writes::NamedTable;
-use prolly_tree::scan_from;
+use prolly_tree::get;
 use schema_model::{Column, Schema};
 use std::alloc::{AllocError, Global};
-use table_root::{NamedTable as Entry, law_of_databases, law_of_tables, read_database, read_table};
+use table_root::{NamedTable as Entry, law_of_tables, read_table};
 use table_rows::{read_rows, row_of};
 use tuple_codec::{Address, Digester, Row, Sequence, Text};
 
@@ -50,8 +50,8 @@ fn has_guarded(key: &[u8], columns: &[Column]) -> bool
     false
 }
 
-/// Whether a row other than the first may break a constraint.
-fn is_judged(schema: &Schema) -> bool
+/// Whether a row may break a constraint whose primary key isn't NULL.
+pub(crate) fn is_judged(schema: &Schema) -> bool
     ensures { result ≡ is_judged schema.now }
 {
     is_constrained(schema) || has_guarded(schema.key.as_slice(), schema.columns.as_slice())
@@ -92,8 +92,8 @@ fn one_row(alloc: Global, row: Row) -> Result<Sequence<Row>, AllocError>
     Ok(rows)
 }
 
-/// The first row of the tree at an address, if it has one.
-fn first_row<D: Digester>(
+/// The row of the tree at an address whose primary key is NULL, if it has one. NULL is spelled as a zero byte.
+fn null_row<D: Digester>(
     alloc: Global,
     draft: &Draft<D>,
     schema: &Schema,
@@ -102,16 +102,15 @@ fn first_row<D: Digester>(
     requires schema { is_schema schema.now ≡ true }
     requires tree { HasRowsAt D.address (chunks_of draft.now.chunks) root.now.0 schema.now }
     ensures { (rows : List Cells) → AreRowsAt D.address (chunks_of draft.now.chunks) root.now.0 schema.now rows
-        → IfOk result (λ read. read ≡ take 1 rows) }
+        → IfOk result (λ read. read ≡ filter (has_null_key schema.now) rows) }
 {
-    let mut scan = scan_from(alloc, draft, root, &[])?;
-    match scan.next() {
+    match get(draft, root, &[0]) {
         None => Ok(Sequence::new(alloc)),
-        Some((key, value)) => one_row(alloc, row_of(alloc, schema, key, value)?),
+        Some(value) => one_row(alloc, row_of(alloc, schema, &[0], value)?),
     }
 }
 
-/// All rows of the tree at an address, or the first alone.
+/// All rows of the tree at an address, or that of key NULL alone.
 fn thin_rows<D: Digester>(
     alloc: Global,
     draft: &Draft<D>,
@@ -122,12 +121,12 @@ fn thin_rows<D: Digester>(
     requires schema { is_schema schema.now ≡ true }
     requires tree { HasRowsAt D.address (chunks_of draft.now.chunks) root.now.0 schema.now }
     ensures { (rows : List Cells) → AreRowsAt D.address (chunks_of draft.now.chunks) root.now.0 schema.now rows
-        → IfOk result (λ read. read ≡ (if whole then rows else take 1 rows)) }
+        → IfOk result (λ read. read ≡ (if whole then rows else filter (has_null_key schema.now) rows)) }
 {
     if whole {
         read_rows(alloc, draft, schema, root)
     } else {
-        first_row(alloc, draft, schema, root)
+        null_row(alloc, draft, schema, root)
     }
 }
 
@@ -172,27 +171,19 @@ fn push_thin<D: Digester>(
     Ok(())
 }
 
-/// The tables of the database at an address, each with all of its rows or with the first alone: what may break a constraint, and what foreign keys
-/// look for.
+/// These tables, each with all of its rows or with that of key NULL alone: what may break a constraint, and what foreign keys look for.
 pub(crate) fn read_thinned<D: Digester>(
     alloc: Global,
     draft: &Draft<D>,
-    database: &Address,
+    entries: &[Entry],
 ) -> Result<Sequence<NamedTable>, AllocError>
-    requires { CanRead D.address (chunks_of draft.now.chunks) database.now.0 }
-    ensures { (contents : PlainDatabase) → IsReadAt D.address (chunks_of draft.now.chunks) database.now.0 contents
-        → IfOk result (λ tables. map named_seen tables ≡ thinned contents) }
+    requires { (database : PlainDatabase) × AreThere D.address (chunks_of draft.now.chunks) database entries.now }
+    ensures { (database : PlainDatabase) → AreThere D.address (chunks_of draft.now.chunks) database entries.now
+        → IfOk result (λ tables. map named_seen tables ≡ thinned database) }
 {
-    law_of_databases();
-    let schemas = read_schemas(alloc, draft, database)?;
-    let entries = read_database(alloc, draft, database)?;
+    let mut schemas = Sequence::new(alloc);
+    push_schemas(alloc, draft, entries, &mut schemas)?;
     let mut tables = Sequence::new(alloc);
-    push_thin(
-        alloc,
-        draft,
-        schemas.as_slice(),
-        entries.as_slice(),
-        &mut tables,
-    )?;
+    push_thin(alloc, draft, schemas.as_slice(), entries, &mut tables)?;
     Ok(tables)
 }

@@ -1,26 +1,49 @@
-use Rattle.std.proofs.Common.{◌≡◌, ◌∙◌, IfOk, ap, map, subst}
-use Rattle.std.specs.List.{flat_map, list_all}
-use Rattle.plain_writes.specs.Seen.{found_seen, named_seen}
-use Rattle.plain_writes.specs.Violations.{violations}
+use Rattle.std.proofs.Common.{◌≡◌, ◌∙◌, sym}
+use Rattle.chunk_store.specs.Drafts.{chunks_of}
 use Rattle.plain_schemas.specs.Statements.{checks}
-use Rattle.constraint_scan.specs.Written.{fits_in, written_in}
-use Rattle.constraint_scan.proofs.ThinLemmas.{thin_fits, written_thin}
+use Rattle.constraint_scan.specs.Scanning.{AreThere}
+use Rattle.constraint_scan.proofs.ThinLemmas.{quiet_written}
 use Rattle.constraint_scan.proofs.listing.violations.Goals as goal
 
-pub written_all-requires : goal.written_all-requires
-written_all-requires g c =
+pub are_quiet-requires-after_bounds : goal.are_quiet-requires-after_bounds
+are_quiet-requires-after_bounds g c κs within =
     let contents = c.requires.0 in
-    let at = c.requires.1 in
-    let stands = at.stands in
-    let read = c.in_ok-tables.ensures contents at in
-    let tables = ap (map named_seen) c.as_slice-2.ensures ∙ read in
-    let found = ap (map found_seen) c.as_slice-3.ensures ∙ c.in_ok-found.ensures ∙ ap (violations checks) (ap (map named_seen) c.as_slice.ensures ∙ read) in
-    (λ i. list_all (fits_in (tables i)) (found i)) ∙ thin_fits checks contents stands.is_database
+    let at = c.requires.1 in (
+      contents,
+      record {
+        stand = at.stands.tables;
+        listed = c.as_slice.ensures.value
+            ∙ c.law_of_databases.ensures.same g.D.Digester.address (chunks_of c.args.draft.now.chunks) c.args.database.now.0 contents c.in_ok-entries.entries.items at.stands at.few c.in_ok-entries.ensures;
+      },
+    )
+
+pub violations_among-requires-after_bounds : goal.violations_among-requires-after_bounds
+violations_among-requires-after_bounds g c κs within =
+    let contents = c.requires.0 in
+    let at = c.requires.1 in (
+      contents,
+      record {
+        stand = at.stands.tables;
+        listed = c.as_slice-2.ensures.value
+            ∙ c.law_of_databases.ensures.same g.D.Digester.address (chunks_of c.args.draft.now.chunks) c.args.database.now.0 contents c.in_ok-entries.entries.items at.stands at.few c.in_ok-entries.ensures;
+      },
+      at.stands.is_database,
+    )
+
+pub returns-then-quiet : goal.returns-then-quiet
+returns-then-quiet g c = λ contents at.
+    let there : AreThere g.D.Digester.address (chunks_of c.args.draft.now.chunks) contents c.as_slice.result.now = record {
+      stand = at.stands.tables;
+      listed = c.as_slice.ensures.value
+          ∙ c.law_of_databases.ensures.same g.D.Digester.address (chunks_of c.args.draft.now.chunks) c.args.database.now.0 contents c.in_ok-entries.entries.items at.stands at.few c.in_ok-entries.ensures;
+    } in
+    c.new.ensures.items ∙ sym (quiet_written checks contents (sym (c.in_ok-quiet.ensures contents there) ∙ c.if-quiet.true))
 
 pub returns : goal.returns
 returns g c = λ contents at.
-    let stands = at.stands in
-    let read = c.in_ok-tables.ensures contents at in
-    let tables = ap (map named_seen) c.as_slice-2.ensures ∙ read in
-    let found = ap (map found_seen) c.as_slice-3.ensures ∙ c.in_ok-found.ensures ∙ ap (violations checks) (ap (map named_seen) c.as_slice.ensures ∙ read) in
-    subst (λ listed. IfOk c.written_all.result (λ list. list.items ≡ listed)) ((λ i. flat_map (written_in (tables i)) (found i)) ∙ written_thin checks contents stands.is_database) c.written_all.ensures
+    let there : AreThere g.D.Digester.address (chunks_of c.args.draft.now.chunks) contents c.as_slice-2.result.now = record {
+      stand = at.stands.tables;
+      listed = c.as_slice-2.ensures.value
+          ∙ c.law_of_databases.ensures.same g.D.Digester.address (chunks_of c.args.draft.now.chunks) c.args.database.now.0 contents c.in_ok-entries.entries.items at.stands at.few c.in_ok-entries.ensures;
+    } in
+    c.violations_among.ensures contents there at.stands.is_database

@@ -1,10 +1,10 @@
-use Rattle.std.proofs.Common.{◌≡◌, ◌∙◌, ◌||◌, ℕ, List, ap, cond, map, take, []}
+use Rattle.std.proofs.Common.{◌≡◌, ◌∙◌, ◌||◌, ℕ, List, ap, cond, filter, map, []}
 use Rattle.chunk_store.specs.Drafts.{chunks_of}
 use Rattle.schema_model.specs.Schemas.{is_schema}
 use Rattle.schema_model.specs.declared.schemas.Schema.{Schema}
 use Rattle.plain_writes.specs.Seen.{named_seen, table_seen}
 use Rattle.table_root.specs.declared.records.Table.{Table}
-use Rattle.constraint_scan.specs.Thinned.{is_judged, is_parent, thin_named}
+use Rattle.constraint_scan.specs.Thinned.{has_null_key, is_judged, is_parent, thin_named}
 use Rattle.constraint_scan.proofs.StandLemmas.{rows_there, table_found, table_same}
 use Rattle.constraint_scan.proofs.thinning.thin_read.Goals as goal
 
@@ -34,7 +34,7 @@ returns g c = λ contents at.
     ∙ ap (λ (s : Schema). is_judged s || is_parent tables c.as_slice.result.now) schema
     ∙ ap (λ (n : List ℕ). is_judged contents.schema || is_parent tables n) c.as_slice.ensures in
     let rows = c.in_ok-rows.ensures contents.rows (rows_there address chunks c.args.entry.now.table.0 stand contents at c.in_ok-table.table c.in_ok-table.ensures)
-    ∙ ap (λ b. cond b contents.rows (take 1 contents.rows)) whole in
+    ∙ (λ i. cond (whole i) contents.rows (filter (has_null_key (schema i)) contents.rows)) in
     let name = c.in_ok-name.ensures ∙ c.as_slice-2.ensures in
     let table : table_seen c.bare_table.result ≡ (thin_named tables (record { name = c.args.entry.now.name; table = contents })).table =
     ap table_seen c.bare_table.ensures ∙ (λ i. record { schema = schema i; rows = rows i; conflicts = []; violations = [] }) in
