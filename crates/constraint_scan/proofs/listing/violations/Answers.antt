@@ -1,4 +1,4 @@
-use Rattle.std.proofs.Common.{◌≡◌, ◌∙◌, sym}
+use Rattle.std.proofs.Common.{◌∙◌, sym}
 use Rattle.chunk_store.specs.Drafts.{chunks_of}
 use Rattle.plain_schemas.specs.Statements.{checks}
 use Rattle.constraint_scan.specs.Scanning.{AreThere}

@@ -1,4 +1,3 @@
-use Rattle.std.proofs.Common.{◌≡◌, ◌∙◌}
 use Rattle.chunk_store.specs.Drafts.{chunks_of}
 use Rattle.constraint_scan.proofs.StandLemmas.{table_found, table_of}
 use Rattle.constraint_scan.proofs.quiet.is_quiet_at.Goals as goal
