@@ -3,15 +3,32 @@ use Rattle.std.proofs.Common.{◌≡◌, ◌⊎◌, inl, inr, ℕ, ◌+◌, ◌<
 use Rattle.std.specs.List.{AllByRecursion}
 use Rattle.std.proofs.lemmas.List.{length-append, map-append}
 use Rattle.chunk_region.specs.declared.span.Span.{Span}
-use Rattle.chunk_region.specs.Pages.{Pages, IsWritten}
-use Rattle.chunk_region.proofs.PageLemmas.{behind_is, front_keeps, written_within}
+use Rattle.chunk_region.specs.Pages.{Pages, Stands, IsWritten, Keeps}
+use Rattle.chunk_region.proofs.PageLemmas.{behind_is, front_keeps, is_written, written_within}
 use Rattle.chunk_store.specs.declared.index.Placed.{Placed}
 use Rattle.chunk_store.specs.Building.{gather, with_chunk}
 use Rattle.chunk_store.specs.Chunks.{Chunk, bytes_at, Listed, IsSingle}
-use Rattle.chunk_store.specs.Placing.{AllFit, AllWritten, ArePlaced, chunk_of, chunks_in, gather_placed, placed_behind, span_at, with_placed}
+use Rattle.chunk_store.specs.Placing.{AllFit, AllWritten, ArePlaced, chunk_of, chunks_in, gather_placed, placed_behind, span_at, with_placed, written}
 use Rattle.chunk_store.proofs.ChunkLemmas.{found_listed, listed_either, listed_left, listed_right, single_fewer, single_push}
-use Rattle.chunk_store.proofs.PlacingLemmas.{all_push, all_stay, kept_chunks, kept_written, same_found}
+use Rattle.chunk_store.proofs.PlacingLemmas.{all_push, all_stay, chunks_push, found_at, kept_chunks, kept_written, same_found}
+use Rattle.std.specs.Option.{option_map}
 use Rattle.basic_laws.proofs.Lists.{drop_at_get as drop_next}
+
+-- one more chunk was placed
+pub placed_push : (old new : Pages) (cs : List Placed) (c : Placed) (bytes : List ℕ) → ArePlaced old cs → Keeps old new → Stands new c.span bytes → length bytes ≤ 65536
+    → span_at cs c.address.0 ≡ None → ArePlaced new (cs ++ c ∷ [])
+placed_push old new cs c bytes placed keeps held fits absent =
+    let stay = all_stay old new cs keeps in
+    let pushed = chunks_push old new cs c bytes placed.all_written stay held in
+    let none : bytes_at (chunks_in old cs) c.address.0 ≡ None = found_at old cs c.address.0 ∙ ap (option_map (written old)) absent in
+    record {
+      all_written = all_push (λ x. IsWritten new x.span) cs c (kept_written old new cs placed.all_written stay) (is_written new c.span bytes held);
+      fit = subst AllFit (sym pushed) (all_push (λ x. length x.1 ≤ 65536) (chunks_in old cs) (c.address.0, bytes) placed.fit fits);
+      single = subst IsSingle (sym pushed) (single_push [] (chunks_in old cs) c.address.0 bytes placed.single (λ others held. absurd (nothing others held)) none);
+    }
+  where
+    nothing : (others : List ℕ) → ◌≡◌ {A = Option (List ℕ)} None (Some others) → ⊥
+    nothing others is = cc
 
 pub with_there : (cs : List Chunk) (c : Chunk) (x : List ℕ) → bytes_at cs c.0 ≡ Some x → with_chunk cs c ≡ cs
 with_there cs c x held = ap (λ (o : Option (List ℕ)). cond (is_some o) cs (cs ++ c ∷ [])) held

@@ -1,13 +1,13 @@
 //! A segment: chunks that were sealed together.
 
-ghost use Rattle.std.specs.Prelude.{◌≡◌, ◌<◌, ◌≤◌, ◌++◌, length, drop, option_map, slice_get, Some, is_some, IfOk, IfSome};
+ghost use Rattle.std.specs.Prelude.{◌≡◌, ◌<◌, ◌≤◌, ◌++◌, length, drop, take, option_map, slice_get, Some, None, is_some, IfOk, IfSome};
 ghost use Rattle.chunk_store.specs.Building.{gather};
 ghost use Rattle.chunk_store.specs.Placing.{ArePlaced, chunks_in};
 ghost use Rattle.chunk_store.specs.Chunks.{IsSingle, bytes_at};
 ghost use Rattle.chunk_store.specs.Stores.{is_within};
 
-use crate::index::Index;
-use chunk_region::{Region, Shared};
+use crate::index::{Index, Placed};
+use chunk_region::{PagePool, Region, Shared};
 use std::alloc::AllocError;
 use std::marker::Model;
 use tuple_codec::Address;
@@ -47,10 +47,51 @@ impl Segment {
     pub(crate) fn joined(self, other: &Segment) -> Result<Segment, AllocError>
         ensures { IfOk result (λ both. both ≡ gather self other.now) }
     {
+        let both = self.shared_with(other)?;
+        both.with_few_pages()
+    }
+
+    fn shared_with(self, other: &Segment) -> Result<Segment, AllocError>
+        ensures { IfOk result (λ both. both ≡ gather self other.now) }
+    {
         let Segment { mut index, sealed } = self;
         let pages = sealed.pages();
         let sealed = sealed.joined(&other.sealed)?;
         index.join(&other.index, pages)?;
+        Ok(Segment { index, sealed })
+    }
+
+    /// The same chunks, copied where there are more pages than chunks: segments that have chunks in common would list the
+    /// pages of these once more with each join.
+    fn with_few_pages(self) -> Result<Segment, AllocError>
+        ensures { IfOk result (λ same. same ≡ self) }
+    {
+        if self.sealed.pages() as usize <= self.index.len() {
+            Ok(self)
+        } else {
+            self.copied()
+        }
+    }
+
+    /// The same chunks, on pages of their own.
+    fn copied(&self) -> Result<Segment, AllocError>
+        ensures { IfOk result (λ copy. copy ≡ self.now) }
+    {
+        let alloc = self.index.allocator();
+        let mut index = Index::new(alloc);
+        let mut region = Region::new(PagePool::with_pages(alloc, 0)?);
+        for at in 0..self.len() {
+            let (address, bytes) = self.chunk(at);
+            let before = region.mark();
+            let span = region.place(bytes)?;
+            index.make_room(1)?;
+            index.push(Placed {
+                address,
+                span,
+                before,
+            });
+        }
+        let sealed = region.shared_copy()?;
         Ok(Segment { index, sealed })
     }
 
@@ -69,6 +110,7 @@ impl Segment {
         ensures chunk { slice_get self.now at ≡ Some (result.0.0, result.1.now) }
         ensures found { bytes_at self.now result.0.0 ≡ Some result.1.now }
         ensures size { length result.1.now ≤ 65536 }
+        ensures apart { bytes_at (take at self.now) result.0.0 ≡ None }
     {
         let placed = self.index.at(at);
         (placed.address, self.sealed.bytes(placed.span))

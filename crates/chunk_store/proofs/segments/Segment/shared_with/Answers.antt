@@ -6,7 +6,7 @@ use Rattle.chunk_store.specs.Building.{gather}
 use Rattle.chunk_store.specs.Chunks.{Chunk}
 use Rattle.chunk_store.specs.Placing.{ArePlaced, chunks_in, gather_placed, placed_behind}
 use Rattle.chunk_store.proofs.BuildLemmas.{joined_is, joined_placed, pages_within}
-use Rattle.chunk_store.proofs.segments.Segment.joined.Goals as goal
+use Rattle.chunk_store.proofs.segments.Segment.shared_with.Goals as goal
 
 pub join-requires : goal.join-requires
 join-requires c =
