@@ -1,6 +1,6 @@
 -- Segments that are dropped, joined and appended.
 use Rattle.std.proofs.Common.{◌≡◌, ◌⊎◌, inl, inr, ℕ, zero, suc, ◌+◌, ◌*◌, ◌<◌, nat_lt, Bool, true, false, ◌&&◌, cond, List, [], ◌∷◌, ◌++◌, length, map, get_or, take, drop, Option, Some, None, is_some, sym, refl, ap, ◌∙◌, subst, slice_get, arith}
-use Rattle.std.proofs.lemmas.List.{length-append}
+use Rattle.std.proofs.lemmas.List.{length-append, map-append, take-map}
 use Rattle.std.proofs.lemmas.Bool.{and_parts as and_both}
 use Rattle.basic_laws.proofs.Lists.{drop_at_get as drop_next, take_at_get as take_next}
 use Rattle.chunk_store.specs.Building.{gather}
@@ -245,3 +245,59 @@ gather_segment chunks segments at s is =
 pub take_segment : (segments : List (List Chunk)) (before at : ℕ) (s : List Chunk) → before + 1 ≡ at → slice_get segments before ≡ Some s
     → take at segments ≡ take before segments ++ s ∷ []
 take_segment segments before at s next is = ap (λ n. take n segments) (sym next) ∙ take_next segments before s is
+
+-- ---- the last segments as one
+
+-- the segments up to a place and a new one, seen as lists
+pub replaced : {X : Type 0} (items new : List X) (x : X) (view : X → List Chunk) (segments : List (List Chunk)) (n : ℕ) → new ≡ take n items ++ x ∷ []
+    → map view items ≡ segments → map view new ≡ take n segments ++ view x ∷ []
+replaced items new x view segments n is seen =
+    ap (map view) is ∙ map-append view (take n items) (x ∷ []) ∙ ap (λ (l : List (List Chunk)). l ++ view x ∷ []) (sym (take-map view n items) ∙ ap (take n) seen)
+
+single_rest : (s : List Chunk) (segments : List (List Chunk)) → IsSingle (s ++ joined segments) → IsSingle (joined segments)
+single_rest s segments single = single_fewer (joined segments) (s ++ joined segments) (λ k bytes listed. listed_right s (joined segments) k bytes listed) single
+
+-- what the segments have is kept where the last ones become one
+pub tidied_keeps : (n : ℕ) (segments : List (List Chunk)) → IsSingle (joined segments) → Lists (joined segments) (joined (take n segments ++ gather [] (joined (drop n segments)) ∷ []))
+tidied_keeps zero segments single k bytes listed =
+    listed_left (gather [] (joined segments)) [] k bytes (gather_has [] (joined segments) k bytes single listed)
+tidied_keeps (suc n) [] single k bytes listed = absurd listed
+tidied_keeps (suc n) (s ∷ segments) single k bytes listed =
+    elim (listed_either s (joined segments) k bytes listed) [
+      | inl here ↦ listed_left s (joined (take n segments ++ gather [] (joined (drop n segments)) ∷ [])) k bytes here
+      | inr later ↦ listed_right s (joined (take n segments ++ gather [] (joined (drop n segments)) ∷ [])) k bytes (tidied_keeps n segments (single_rest s segments single) k bytes later)
+    ]
+
+-- and nothing is added
+pub tidied_only : (n : ℕ) (segments : List (List Chunk)) → Lists (joined (take n segments ++ gather [] (joined (drop n segments)) ∷ [])) (joined segments)
+tidied_only zero segments k bytes listed =
+    elim (listed_either (gather [] (joined segments)) [] k bytes listed) [
+      | inl here ↦ elim (gather_only [] (joined segments) k bytes here) [ inl none ↦ absurd none | inr is ↦ is ]
+      | inr none ↦ absurd none
+    ]
+tidied_only (suc n) [] k bytes listed = listed
+tidied_only (suc n) (s ∷ segments) k bytes listed =
+    elim (listed_either s (joined (take n segments ++ gather [] (joined (drop n segments)) ∷ [])) k bytes listed) [
+      | inl here ↦ listed_left s (joined segments) k bytes here
+      | inr later ↦ listed_right s (joined segments) k bytes (tidied_only n segments k bytes later)
+    ]
+
+listed_some : (cs : List Chunk) (k bytes : List ℕ) → Listed cs k bytes → 0 < length cs
+listed_some [] k bytes none = absurd none
+listed_some (c ∷ cs) k bytes listed = omega arith
+
+gather_some : (s cs : List Chunk) → 0 < length s → 0 < length (gather [] (s ++ cs))
+gather_some [] cs some = absurd (none_below some) where
+  none_below : 0 < 0 → ⊥
+  none_below less = omega arith
+gather_some (c ∷ s) cs some = listed_some (gather (c ∷ []) (s ++ cs)) c.0 c.1 (gather_keeps (c ∷ []) (s ++ cs) c.0 c.1 (inl (refl, refl)))
+
+pub tidied_some : (n : ℕ) (segments : List (List Chunk)) → AreSome segments → n < length segments → AreSome (take n segments ++ gather [] (joined (drop n segments)) ∷ [])
+tidied_some zero [] some within = absurd (none_below within) where
+  none_below : 0 < 0 → ⊥
+  none_below less = omega arith
+tidied_some zero (s ∷ segments) some within = (gather_some s (joined segments) some.0, tt)
+tidied_some (suc n) [] some within = absurd (none_below within) where
+  none_below : suc n < 0 → ⊥
+  none_below less = omega arith
+tidied_some (suc n) (s ∷ segments) some within = (some.0, tidied_some n segments some.1 (omega arith))

@@ -63,6 +63,11 @@ pub record IsSealed (segments : List (List Chunk)) (own sealed : List Chunk) : T
   pub union : IsUnion own (joined (joins (length own) segments)) sealed
   pub size : length sealed ≤ length own + length (joined (joins (length own) segments))
 
+-- what is brought to a store of chunks over its segments: it has these chunks, and no other but what the segments have
+pub record IsBrought (segments : List (List Chunk)) (own sealed : List Chunk) : Type 0 where
+  pub all : Lists own sealed
+  pub only : Lists sealed (joined segments ++ own)
+
 -- where what was sealed over a store is appended to that store, k segments have 2 ^ (k - 1) chunks or more
 abbrev pub StaysFew : Type 0
 StaysFew = (segments : List (List Chunk)) (own sealed : List Chunk) → AreSome segments → IsSealed segments own sealed → 0 < length (with_segment sealed segments)

@@ -6,7 +6,7 @@ ghost use Rattle.chunk_region.specs.Pages.{Pages};
 ghost use Rattle.chunk_store.specs.Chunks.{Agree, AreNamed, IsHeld, IsSingle, bytes_at};
 ghost use Rattle.chunk_store.specs.Clashes.{IsCause};
 ghost use Rattle.chunk_store.specs.Drafts.{IsSound, Puts, TakesAtMostOnePage, chunks_of, cut_to, pages_in};
-ghost use Rattle.chunk_store.specs.Stores.{IsSealed, all_chunks};
+ghost use Rattle.chunk_store.specs.Stores.{IsBrought, IsSealed, all_chunks};
 
 use crate::faults::{PutFault, is_there};
 use crate::index::{Index, Placed};
@@ -289,6 +289,28 @@ impl<D: Digester> Draft<D> {
             Ok(segment) => Ok((segment, self.release())),
             Err(_) => Err(SealFault::Memory(self)),
         }
+    }
+
+    /// Seals the own chunks alone, and gives back the pool, with all pages free. It is for drafts over a look at a store that others append to meanwhile:
+    /// what each of them joined would stand there as often, and be joined again by each. Whoever appends it joins it there, by [`Store::tidy`].
+    pub fn seal_own(self) -> Result<(Arc<Segment>, PagePool), SealFault<D>>
+        ensures sealed { IfOk result (λ sealed. arc_value sealed.0 ≡ self.chunks.own) }
+        ensures brought { IfOk result (λ sealed. IsBrought self.segments self.chunks.own (arc_value sealed.0)) }
+        ensures pool { IfOk result (λ sealed. sealed.1.free ≡ pages_in self) }
+        ensures same { IfErr result (λ fault. fault ≡ SealFault.Memory self) }
+    {
+        match self.own_segment() {
+            Ok(segment) => Ok((segment, self.release())),
+            Err(_) => Err(SealFault::Memory(self)),
+        }
+    }
+
+    /// The own chunks.
+    fn own_segment(&self) -> Result<Arc<Segment>, AllocError>
+        ensures { IfOk result (λ sealed. arc_value sealed ≡ self.now.chunks.own) }
+    {
+        let own = Segment::of(&self.index, &self.region, 0)?;
+        Ok(Arc::new(self.index.allocator(), own)?)
     }
 
     /// The own chunks, and those of the segments that are joined to them.

@@ -135,4 +135,24 @@ mod tests {
         let found = store.get(&first).expect(&rt, "the first chunk");
         assert_eq!(rt; found, b"a".as_slice());
     }
+
+    #[test]
+    fn a_store_joins_what_was_sealed_alone(rt: HostRuntime) {
+        let mut store = Store::new(rt.alloc());
+        for text in ["a", "b", "c", "d", "e", "f"] {
+            let pool = PagePool::with_pages(rt.alloc(), 0).expect(&rt, "memory for a pool");
+            let shared = store.share().expect(&rt, "memory for a store");
+            let mut draft: Draft<Sha512Cut> = Draft::new(shared, pool);
+            let _address = draft.put(text.as_bytes()).expect(&rt, "memory for a chunk");
+            let Ok((segment, _pool)) = draft.seal_own() else {
+                panic!(rt; "no memory for a segment");
+            };
+            store.append(segment).expect(&rt, "no collision");
+            store.tidy();
+        }
+        assert_eq!(rt; store.segments(), 2);
+        let first = Sha512Cut::address_of(b"a");
+        let found = store.get(&first).expect(&rt, "the first chunk");
+        assert_eq!(rt; found, b"a".as_slice());
+    }
 }

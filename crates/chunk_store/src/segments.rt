@@ -1,6 +1,6 @@
 //! A segment: chunks that were sealed together.
 
-ghost use Rattle.std.specs.Prelude.{◌≡◌, ◌<◌, ◌≤◌, ◌++◌, length, drop, take, option_map, slice_get, Some, None, is_some, IfOk, IfSome};
+ghost use Rattle.std.specs.Prelude.{◌≡◌, ◌<◌, ◌≤◌, [], ◌++◌, length, drop, take, option_map, slice_get, Some, None, is_some, IfOk, IfSome};
 ghost use Rattle.chunk_store.specs.Building.{gather};
 ghost use Rattle.chunk_store.specs.Placing.{ArePlaced, chunks_in};
 ghost use Rattle.chunk_store.specs.Chunks.{IsSingle, bytes_at};
@@ -8,7 +8,7 @@ ghost use Rattle.chunk_store.specs.Stores.{is_within};
 
 use crate::index::{Index, Placed};
 use chunk_region::{PagePool, Region, Shared};
-use std::alloc::AllocError;
+use std::alloc::{AllocError, Global};
 use std::marker::Model;
 use tuple_codec::Address;
 
@@ -40,6 +40,14 @@ impl Segment {
         let index = index.copied(more)?;
         let sealed = region.shared_copy()?;
         Ok(Segment { index, sealed })
+    }
+
+    /// No chunks, with room to find so many.
+    pub(crate) fn empty(alloc: Global, more: usize) -> Result<Segment, AllocError>
+        ensures { IfOk result (λ segment. segment ≡ []) }
+    {
+        let region = Region::new(PagePool::with_pages(alloc, 0)?);
+        Segment::of(&Index::new(alloc), &region, more)
     }
 
     /// Its chunks, and behind them those of another segment whose addresses it hasn't. The other one's pages are shared,

@@ -3,7 +3,7 @@
 ghost use Rattle.std.specs.Prelude.{ℕ, ◌≡◌, ◌+◌, ◌*◌, ◌<◌, nat_lt, if◌then◌else◌, ◌≤◌, [], ◌∷◌, ◌++◌, length, min, take, drop, vec_len, option_map, IfOk, IfErr, OnOk, OnErr, IsErrOf};
 ghost use Rattle.std.specs.Arc.{arc_value};
 ghost use Rattle.std.specs.Vec.{vec_capacity};
-ghost use Rattle.chunk_store.specs.Chunks.{Agree, IsSingle, bytes_at};
+ghost use Rattle.chunk_store.specs.Chunks.{Agree, IsSingle, Lists, bytes_at};
 ghost use Rattle.chunk_store.specs.Clashes.{Differ, IsCause};
 ghost use Rattle.chunk_store.specs.Building.{gather};
 ghost use Rattle.chunk_store.specs.Stores.{AreSome, IsMatched, IsUnion, all_chunks, drop_held, joined, joins, with_segment};
@@ -131,6 +131,34 @@ impl Store {
         }
         replace_from(&mut self.segments, from, segment)?;
         Ok(())
+    }
+
+    /// Joins the last segments, from the first one on that has less than twice as many chunks as come after it, so that a store to which segments
+    /// without others' chunks are appended has few. What the store has stays, and all of it where memory is wanting. The pages of the joined segments
+    /// are shared.
+    pub fn tidy(&mut self)
+        ensures keeps { Lists (all_chunks self.old) (all_chunks self.new) }
+        ensures adds_none { Lists (all_chunks self.new) (all_chunks self.old) }
+        ensures room { self.old.room ≤ self.new.room }
+    {
+        let from = self.joined_from(0);
+        if from < self.segments.len() {
+            if let Ok(whole) = self.joined_last(from) {
+                self.segments.truncate(from);
+                self.segments.push_reserved(whole);
+            }
+        }
+    }
+
+    /// The segments from one on as one.
+    fn joined_last(&self, from: usize) -> Result<Arc<Segment>, AllocError>
+        requires { from ≤ length self.now.segments }
+        ensures { IfOk result (λ whole. arc_value whole ≡ gather [] (joined (drop from self.now.segments))) }
+    {
+        let alloc = self.allocator();
+        let empty = Segment::empty(alloc, self.count_from(from))?;
+        let whole = self.joined_by(from, empty)?;
+        Ok(Arc::new(alloc, whole)?)
     }
 
     /// How many segments stay where another one is appended, which must not have other bytes at some address.

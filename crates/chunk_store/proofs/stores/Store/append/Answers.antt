@@ -1,16 +1,9 @@
 use Rattle.std.proofs.Common.{◌≡◌, ℕ, ◌∷◌, [], ◌++◌, List, length, map, take, subst, sym, ap, ◌∙◌}
 use Rattle.std.specs.Arc.{arc_value}
-use Rattle.std.proofs.lemmas.List.{map-append, take-map}
 use Rattle.chunk_store.specs.Chunks.{Agree, Chunk, IsSingle, bytes_at}
 use Rattle.chunk_store.specs.Stores.{AreSome, IsUnion, Stored, all_chunks, drop_held, joined, with_segment}
-use Rattle.chunk_store.proofs.JoinLemmas.{with_are_some, with_single, with_some, with_union}
+use Rattle.chunk_store.proofs.JoinLemmas.{replaced, with_are_some, with_single, with_some, with_union}
 use Rattle.chunk_store.proofs.stores.Store.append.Goals as goal
-
--- the segments up to a place and a new one, seen as lists
-replaced : {X : Type 0} (items new : List X) (x : X) (view : X → List Chunk) (segments : List (List Chunk)) (n : ℕ) → new ≡ take n items ++ x ∷ []
-    → map view items ≡ segments → map view new ≡ take n segments ++ view x ∷ []
-replaced items new x view segments n is seen =
-    ap (map view) is ∙ map-append view (take n items) (x ∷ []) ∙ ap (λ (l : List (List Chunk)). l ++ view x ∷ []) (sym (take-map view n items) ∙ ap (take n) seen)
 
 pub returns-clause-segments : goal.returns-clause-segments
 returns-clause-segments c =
