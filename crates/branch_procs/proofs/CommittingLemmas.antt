@@ -10,7 +10,7 @@ use Rattle.chunk_store.specs.Chunks.{AreNamed, Chunk, Chunks, Extends, IsSingle,
 use Rattle.chunk_store.specs.Clashes.{IsReason}
 use Rattle.chunk_store.specs.Drafts.{Drafting, DraftParts, Grows, IsNamed, IsSound, Longer, chunks_of, put_in}
 use Rattle.chunk_store.specs.Kinds.{is_commit, is_database, is_node, is_table}
-use Rattle.chunk_store.specs.Laws.{ChunksFollow, DraftsFollow, SegmentsFollow}
+use Rattle.chunk_store.specs.Laws.{ChunksFollow, DraftsFollow}
 use Rattle.chunk_store.specs.Standing.{IsThere}
 use Rattle.chunk_store.specs.Stores.{all_chunks, joined}
 use Rattle.chunk_store.specs.declared.faults.PutFault.{PutFault}
@@ -249,7 +249,7 @@ module _ {D : Type 0} (address : List ℕ → List ℕ) (chunks : ChunksFollow) 
       pub can_commit : (state : BranchState) × (outcome ≡ Ok state) × Can state
       can_commit = can_by outcome refl (by_variables (made.Record rec) is)
 
-      module _ (drafts : DraftsFollow) (segments : SegmentsFollow) (databases : DatabasesStand) (epoch : ℤ) (message : List ℕ) (state : BranchState) (can : Can state) where
+      module _ (drafts : DraftsFollow) (databases : DatabasesStand) (epoch : ℤ) (message : List ℕ) (state : BranchState) (can : Can state) where
         abbrev commit : PlainCommit
         commit = commit_of epoch shared.commits p present message state
 
@@ -341,13 +341,11 @@ module _ {D : Type 0} (address : List ℕ → List ℕ) (chunks : ChunksFollow) 
           only : Lists sealed beside
           only =
               let planned = made_so.planned in
-              subst (λ (kept : List (List Chunk)). Lists sealed (joined kept ++ now.chunks.own)) (made_so.segments ∙ grown.segments ∙ w.segments)
-              (segments.sealed_lists now.segments now.chunks.own sealed planned.sealed)
+              subst (λ (kept : List (List Chunk)). Lists sealed (joined kept ++ now.chunks.own)) (made_so.segments ∙ grown.segments ∙ w.segments) planned.sealed.only
 
           same : bytes_at beside ≡ bytes_at (store ++ sealed)
           same =
-              let planned = made_so.planned in
-              let union = planned.sealed.union in decisions.sealed_found chunks store now.chunks.own sealed single union.left only
+              let planned = made_so.planned in decisions.sealed_found chunks store now.chunks.own sealed single planned.sealed.all only
 
           named : AreNamed address sealed
           named = chunks.named_fewer address sealed beside only

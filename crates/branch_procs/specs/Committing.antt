@@ -6,7 +6,7 @@ use Rattle.tuple_codec.specs.declared.addresses.Address.{Address}
 use Rattle.tuple_codec.specs.declared.records.BranchRecord.{BranchRecord}
 use Rattle.chunk_store.specs.Chunks.{bytes_at}
 use Rattle.chunk_store.specs.Drafts.{DraftParts, Drafting, IsSound, chunks_of, put_in}
-use Rattle.chunk_store.specs.Stores.{IsSealed}
+use Rattle.chunk_store.specs.Stores.{IsBrought}
 use Rattle.commit_graph.specs.Commits.{IsCommitFound}
 use Rattle.schema_model.specs.PlainCommits.{Commits, PlainCommit, commit_address, commit_parts, is_known, plain_commit_bytes}
 use Rattle.script_text.specs.declared.replies.Reply.{Reply}
@@ -56,7 +56,7 @@ hash_reply k = one_row (text_field (codes "hash") (address_text k) ∷ [])
 pub record IsPlannedOf (work : Drafting) (rec : BranchRecord) (reply : Reply) (plan : Plan) : Type 0 where
   pub change : plan.change ≡ Record rec
   pub reply_is : plan.reply ≡ reply
-  pub sealed : IsSealed work.segments work.chunks.own (brought plan)
+  pub sealed : IsBrought work.segments work.chunks.own (brought plan)
 
 -- the plan's record is at the commit, which was put into the work
 pub record IsCommitted (address : List ℕ → List ℕ) (work : Drafting) (commit : PlainCommit) (rec : BranchRecord) (plan : Plan) : Type 0 where

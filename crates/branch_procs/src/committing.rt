@@ -4,7 +4,7 @@ ghost use Rattle.std.specs.Prelude.{◌≡◌, ◌≤◌, ◌≤ℤ◌, Bool, If
 ghost use Rattle.chunk_store.specs.Clashes.{IsReason};
 ghost use Rattle.chunk_store.specs.Drafts.{Grows, IsNamed, chunks_of};
 ghost use Rattle.chunk_store.specs.Kinds.{is_commit};
-ghost use Rattle.chunk_store.specs.Laws.{ChunksFollow, DraftsFollow, DraftsGrow, SegmentsFollow};
+ghost use Rattle.chunk_store.specs.Laws.{ChunksFollow, DraftsFollow, DraftsGrow};
 ghost use Rattle.schema_model.specs.PlainCommits.{Commits};
 ghost use Rattle.script_text.specs.Collisions.{IsFault};
 ghost use Rattle.sql_procedures.specs.Arguments.{is_message};
@@ -28,7 +28,7 @@ ghost use Rattle.branch_procs.specs.Committing.{CanCommit, CanDecide, IsCommitte
 use crate::making::{new_commit, staged_for};
 use crate::replying::hash_reply;
 use chunk_store::{
-    Draft, PutFault, SealFault, law_of_chunks, law_of_drafts, law_of_growth, law_of_segments,
+    Draft, PutFault, SealFault, law_of_chunks, law_of_drafts, law_of_growth,
 };
 use commit_graph::write_commit;
 use root_merge::{Candidate, candidate};
@@ -203,7 +203,7 @@ pub fn sealed<D: Digester>(
     ensures sealed { IfOk result (λ plan. IsPlannedOf work rec reply plan) }
     ensures fault { IfErr result (IsFault D.address) }
 {
-    match work.seal() {
+    match work.seal_own() {
         Ok((segment, _)) => Ok(Plan {
             change: Change::Record(rec),
             reply,
@@ -229,7 +229,6 @@ fn laws()
     ensures chunks { ChunksFollow }
     ensures drafts { DraftsFollow }
     ensures growth { DraftsGrow }
-    ensures segments { SegmentsFollow }
     ensures databases { DatabasesStand }
     ensures records { RecordsFollow }
     ensures commits { CommitsFollow }
@@ -237,7 +236,6 @@ fn laws()
     law_of_chunks();
     law_of_drafts();
     law_of_growth();
-    law_of_segments();
     law_of_databases();
     law_of_records();
     law_of_standing_commits();

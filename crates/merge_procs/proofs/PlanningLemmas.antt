@@ -11,9 +11,9 @@ use Rattle.tuple_codec.specs.declared.records.BranchRecord.{BranchRecord}
 use Rattle.chunk_store.specs.Chunks.{AreNamed, Chunk, Chunks, Extends, IsSingle, Lists, bytes_at}
 use Rattle.chunk_store.specs.Drafts.{Drafting, DraftParts, Grows, IsSound, Longer, chunks_of}
 use Rattle.chunk_store.specs.Kinds.{is_commit}
-use Rattle.chunk_store.specs.Laws.{ChunksFollow, DraftsFollow, SegmentsFollow}
+use Rattle.chunk_store.specs.Laws.{ChunksFollow, DraftsFollow}
 use Rattle.chunk_store.specs.Standing.{IsThere}
-use Rattle.chunk_store.specs.Stores.{IsSealed, all_chunks, joined}
+use Rattle.chunk_store.specs.Stores.{IsBrought, all_chunks, joined}
 use Rattle.chunk_store.specs.declared.faults.PutFault.{PutFault}
 use Rattle.commit_graph.specs.Standing.{IsCommitThere}
 use Rattle.constraint_scan.specs.Scanning.{IsKeptAt}
@@ -143,9 +143,9 @@ module _ (address : List ℕ → List ℕ) (look : Look) (t : Transaction) (shar
 
 -- ---- what was sealed
 
-module _ (address : List ℕ → List ℕ) (chunks : ChunksFollow) (drafts : DraftsFollow) (segments : SegmentsFollow) (store : List Chunk) (store_named : AreNamed address store) (after : Drafting)
+module _ (address : List ℕ → List ℕ) (chunks : ChunksFollow) (drafts : DraftsFollow) (store : List Chunk) (store_named : AreNamed address store) (after : Drafting)
     (base : after.chunks.base ≡ store) (of : joined after.segments ≡ store) (sound : IsSound address after.chunks) (sealed : List Chunk)
-    (is : IsSealed after.segments after.chunks.own sealed) where
+    (is : IsBrought after.segments after.chunks.own sealed) where
   abbrev beside : List Chunk
   beside = store ++ after.chunks.own
 
@@ -156,11 +156,11 @@ module _ (address : List ℕ → List ℕ) (chunks : ChunksFollow) (drafts : Dra
   single = subst (λ (below : List Chunk). IsSingle (below ++ after.chunks.own)) base sound.single
 
   only : Lists sealed beside
-  only = subst (λ (below : List Chunk). Lists sealed (below ++ after.chunks.own)) of (segments.sealed_lists after.segments after.chunks.own sealed is)
+  only = subst (λ (below : List Chunk). Lists sealed (below ++ after.chunks.own)) of is.only
 
   -- the same is found of what was sealed as of the draft's own
   pub same_sealed : bytes_at beside ≡ bytes_at (store ++ sealed)
-  same_sealed = decisions.sealed_found chunks store after.chunks.own sealed single is.union.left only
+  same_sealed = decisions.sealed_found chunks store after.chunks.own sealed single is.all only
 
   pub named_sealed : AreNamed address sealed
   named_sealed = chunks.named_fewer address sealed beside only
@@ -235,7 +235,7 @@ module _ {D : Type 0} (address : List ℕ → List ℕ) (chunks : ChunksFollow) 
     other_known = known_now three.other.0 is.other_known;
   }
 
-  module _ (drafts : DraftsFollow) (segments : SegmentsFollow) where
+  module _ (drafts : DraftsFollow) where
     of_store : (after : Drafting) → after.segments ≡ look.store.segments → joined after.segments ≡ store_of
     of_store after same = ap joined same
 
@@ -243,12 +243,12 @@ module _ {D : Type 0} (address : List ℕ → List ℕ) (chunks : ChunksFollow) 
 
     module _ (sound : IsSound address work.chunks) (other : Address) (known : is_known shared.commits other.0 ≡ true) (plan : Plan)
         (made : IsForwarded address work other (root_of shared.commits other.0) plan) where
-      abbrev is_sealed : IsSealed work.segments work.chunks.own (brought plan)
+      abbrev is_sealed : IsBrought work.segments work.chunks.own (brought plan)
       is_sealed = let planned = made.planned in planned.sealed
 
       found : chunks_of work.chunks ≡ bytes_at (store_of ++ brought plan)
-      found = at_after address chunks drafts segments store_of d.look_is.named work w.base (of_store work w.segments) sound (brought plan) is_sealed
-          ∙ same_sealed address chunks drafts segments store_of d.look_is.named work w.base (of_store work w.segments) sound (brought plan) is_sealed
+      found = at_after address chunks drafts store_of d.look_is.named work w.base (of_store work w.segments) sound (brought plan) is_sealed
+          ∙ same_sealed address chunks drafts store_of d.look_is.named work w.base (of_store work w.segments) sound (brought plan) is_sealed
 
       no_commit : HasNoCommit work.chunks.own
       no_commit = let own = d.session_stands in subst HasNoCommit (sym w.own) own.plain_own
@@ -268,9 +268,9 @@ module _ {D : Type 0} (address : List ℕ → List ℕ) (chunks : ChunksFollow) 
               is = refl;
               stands = record { head = refl; working = kept; staged = kept; merging = refl; head_known = known; merging_known = refl };
               commits_after = subst (λ (c : Chunks). CommitsAreThere address c shared.commits)
-                  (same_sealed address chunks drafts segments store_of d.look_is.named work w.base (of_store work w.segments) sound (brought plan) is_sealed)
+                  (same_sealed address chunks drafts store_of d.look_is.named work w.base (of_store work w.segments) sound (brought plan) is_sealed)
                   (commits.beside address store_of work.chunks.own shared.commits no_commit d.look_is.commits);
-              named = named_sealed address chunks drafts segments store_of d.look_is.named work w.base (of_store work w.segments) sound (brought plan) is_sealed;
+              named = named_sealed address chunks drafts store_of d.look_is.named work w.base (of_store work w.segments) sound (brought plan) is_sealed;
             };
           }
 
@@ -369,11 +369,11 @@ module _ {D : Type 0} (address : List ℕ → List ℕ) (chunks : ChunksFollow) 
             commits.with_one address store_of now.chunks.own shared.commits commit d.look_is.commits is_there is_grown root_kept.within t.own.head
             (ap (λ (b : Bool). b || list_any (bytes_eq t.own.head) (three.other.0 ∷ [])) (bytes_same t.own.head t.own.head refl)) only_one
 
-        abbrev sealed_so : IsSealed now.segments now.chunks.own (brought plan)
+        abbrev sealed_so : IsBrought now.segments now.chunks.own (brought plan)
         sealed_so = let planned = joining.planned in planned.sealed
 
         same_now : at_now ≡ bytes_at (store_of ++ brought plan)
-        same_now = same_sealed address chunks drafts segments store_of d.look_is.named now now_base now_of joining.sound (brought plan) sealed_so
+        same_now = same_sealed address chunks drafts store_of d.look_is.named now now_base now_of joining.sound (brought plan) sealed_so
 
         root_sealed : IsKeptAt address (bytes_at (store_of ++ brought plan)) (let root = made.root in root.0) database
         root_sealed = subst (λ (c : Chunks). IsKeptAt address c (let root = made.root in root.0) database) same_now root_kept
@@ -399,7 +399,7 @@ module _ {D : Type 0} (address : List ℕ → List ℕ) (chunks : ChunksFollow) 
                   merging_known = refl;
                 };
                 commits_after = subst (λ (c : Chunks). CommitsAreThere address c left.0) same_now left.2;
-                named = named_sealed address chunks drafts segments store_of d.look_is.named now now_base now_of joining.sound (brought plan) sealed_so;
+                named = named_sealed address chunks drafts store_of d.look_is.named now now_base now_of joining.sound (brought plan) sealed_so;
               };
             }
 

@@ -4,7 +4,7 @@ ghost use Rattle.std.specs.Prelude.{◌≡◌, ◌≤◌, ◌≤ℤ◌, ◌∷�
 ghost use Rattle.std.specs.Option.{option_map_or};
 ghost use Rattle.chunk_store.specs.Chunks.{bytes_at};
 ghost use Rattle.chunk_store.specs.Drafts.{IsNamed, chunks_of};
-ghost use Rattle.chunk_store.specs.Laws.{ChunksFollow, DraftsFollow, DraftsGrow, SegmentsFollow};
+ghost use Rattle.chunk_store.specs.Laws.{ChunksFollow, DraftsFollow, DraftsGrow};
 ghost use Rattle.plain_merge.specs.RootMerge.{MergedDatabase};
 ghost use Rattle.plain_sessions.specs.Fitness.{is_fit_merge};
 ghost use Rattle.plain_sessions.specs.Merging.{Closes, Ending, Joining, merge_message, merged_with};
@@ -33,7 +33,7 @@ use crate::databases::{Met, meet};
 use crate::replying::merge_reply;
 use crate::ways::{Three, Way, find_way};
 use branch_procs::{head_root, refused, sealed, work_of, written};
-use chunk_store::{Draft, PutFault, law_of_chunks, law_of_drafts, law_of_growth, law_of_segments};
+use chunk_store::{Draft, PutFault, law_of_chunks, law_of_drafts, law_of_growth};
 use session_laws::{law_of_records, law_of_standing_commits};
 use session_state::Session;
 use shared_db::Plan;
@@ -264,7 +264,6 @@ fn laws()
     ensures chunks { ChunksFollow }
     ensures drafts { DraftsFollow }
     ensures growth { DraftsGrow }
-    ensures segments { SegmentsFollow }
     ensures databases { DatabasesStand }
     ensures records { RecordsFollow }
     ensures commits { CommitsFollow }
@@ -272,7 +271,6 @@ fn laws()
     law_of_chunks();
     law_of_drafts();
     law_of_growth();
-    law_of_segments();
     law_of_databases();
     law_of_records();
     law_of_standing_commits();

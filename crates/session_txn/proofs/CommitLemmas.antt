@@ -9,8 +9,8 @@ use Rattle.chunk_store.specs.Chunks.{Agree, AreNamed, Chunk, Chunks, Extends, Is
 use Rattle.chunk_store.specs.Clashes.{IsReason}
 use Rattle.chunk_store.specs.Drafts.{AreOfKind, Drafting, DraftParts, Grows, IsSound, chunks_of}
 use Rattle.chunk_store.specs.Kinds.{is_commit}
-use Rattle.chunk_store.specs.Laws.{ChunksFollow, DraftsFollow, SegmentsFollow}
-use Rattle.chunk_store.specs.Stores.{IsSealed, Stored, all_chunks, joined}
+use Rattle.chunk_store.specs.Laws.{ChunksFollow, DraftsFollow}
+use Rattle.chunk_store.specs.Stores.{IsBrought, Stored, all_chunks, joined}
 use Rattle.chunk_store.specs.declared.faults.PutFault.{PutFault}
 use Rattle.chunk_store.specs.declared.faults.PutFault.TheVariants.{Memory, Collision}
 use Rattle.chunk_store.proofs.ChunkLemmas.{at_join, either_some, listed_either, single_fewer}
@@ -265,7 +265,7 @@ module _ {D : Type 0} (address : List ℕ → List ℕ) (chunks : ChunksFollow) 
     fault_told (Ok value) fault reason told = absurd told.1
     fault_told (Err other) fault reason told = subst (IsFault address) (sym told.1) (fault_is fault reason)
 
-    module _ (segments : SegmentsFollow) (commits : CommitsFollow) where
+    module _ (commits : CommitsFollow) where
       among : AreAmong t.commits shared.commits
       among = commits.among address (bytes_at session.draft.chunks.base) (bytes_at store) t.commits shared.commits base_extends stands.commits d.look_is.commits
 
@@ -279,16 +279,15 @@ module _ {D : Type 0} (address : List ℕ → List ℕ) (chunks : ChunksFollow) 
       no_commit = subst HasNoCommit (sym (grown.own ∙ ap (λ (cs : List Chunk). cs ++ grown.more) w.own))
           (no_commit_more chunks own grown.more d.session_stands.plain_own grown.kinds)
 
-      module _ (sealed : List Chunk) (is_sealed : IsSealed after.segments after.chunks.own sealed) where
+      module _ (sealed : List Chunk) (is_sealed : IsBrought after.segments after.chunks.own sealed) where
         single : IsSingle (store ++ after.chunks.own)
         single = subst (λ (base : List Chunk). IsSingle (base ++ after.chunks.own)) after_base sound.single
 
         only : Lists sealed (store ++ after.chunks.own)
-        only = subst (λ (kept : List (List Chunk)). Lists sealed (joined kept ++ after.chunks.own)) (grown.segments ∙ w.segments)
-            (segments.sealed_lists after.segments after.chunks.own sealed is_sealed)
+        only = subst (λ (kept : List (List Chunk)). Lists sealed (joined kept ++ after.chunks.own)) (grown.segments ∙ w.segments) is_sealed.only
 
         same : bytes_at (store ++ after.chunks.own) ≡ bytes_at (store ++ sealed)
-        same = sealed_found chunks store after.chunks.own sealed single is_sealed.union.left only
+        same = sealed_found chunks store after.chunks.own sealed single is_sealed.all only
 
         named : AreNamed address sealed
         named = chunks.named_fewer address sealed (store ++ after.chunks.own) only (subst (λ (base : List Chunk). AreNamed address (base ++ after.chunks.own)) after_base all_named)

@@ -3,7 +3,7 @@ use Rattle.std.specs.Prelude.{◌≡◌}
 use Rattle.tuple_codec.specs.declared.records.BranchRecord.{BranchRecord}
 use Rattle.chunk_store.specs.Chunks.{Agree, IsSingle, bytes_at}
 use Rattle.chunk_store.specs.Drafts.{Drafting}
-use Rattle.chunk_store.specs.Stores.{IsSealed, all_chunks}
+use Rattle.chunk_store.specs.Stores.{IsBrought, all_chunks}
 use Rattle.script_text.specs.declared.replies.Reply.TheVariants.{Done}
 use Rattle.table_root.specs.declared.heads.Look.{Look}
 use Rattle.shared_db.specs.Plans.{brought}
@@ -23,4 +23,4 @@ pub record IsWorkOf {D : Type 0} (session : Session D) (look : Look) (work : Dra
 pub record IsSealedAs (work : Drafting) (rec : BranchRecord) (plan : Plan) : Type 0 where
   pub change : plan.change ≡ Record rec
   pub reply : plan.reply ≡ Done
-  pub sealed : IsSealed work.segments work.chunks.own (brought plan)
+  pub sealed : IsBrought work.segments work.chunks.own (brought plan)

@@ -1,7 +1,7 @@
 //! Decisions by the commit rule, planned on a look.
 
 ghost use Rattle.std.specs.Prelude.{◌≡◌, IfErr, IfOk};
-ghost use Rattle.chunk_store.specs.Laws.{ChunksFollow, DraftsFollow, SegmentsFollow};
+ghost use Rattle.chunk_store.specs.Laws.{ChunksFollow, DraftsFollow};
 ghost use Rattle.script_text.specs.Collisions.{IsFault};
 ghost use Rattle.plain_sessions.specs.Moments.{ruled};
 ghost use Rattle.plain_sessions.specs.Records.{BranchState, Shared};
@@ -12,7 +12,7 @@ ghost use Rattle.session_txn.specs.Answering.{Decides};
 ghost use Rattle.session_txn.specs.Committing.{IsSealedAs, IsWorkOf};
 ghost use Rattle.shared_db.specs.Plans.{IsRefusedBy, PlanIs};
 
-use chunk_store::{Draft, PutFault, SealFault, law_of_chunks, law_of_drafts, law_of_segments};
+use chunk_store::{Draft, PutFault, SealFault, law_of_chunks, law_of_drafts};
 use root_merge::{Candidate, candidate};
 use script_text::Reply;
 use session_laws::{law_of_records, law_of_standing_commits};
@@ -73,7 +73,7 @@ fn sealed<D: Digester>(work: Draft<D>, rec: BranchRecord) -> Result<Plan, PutFau
     ensures sealed { IfOk result (λ plan. IsSealedAs work rec plan) }
     ensures fault { IfErr result (IsFault D.address) }
 {
-    match work.seal() {
+    match work.seal_own() {
         Ok((segment, _)) => Ok(Plan {
             change: Change::Record(rec),
             reply: Reply::Done,
@@ -98,13 +98,11 @@ fn refused(number: u16) -> Plan
 fn laws()
     ensures chunks { ChunksFollow }
     ensures drafts { DraftsFollow }
-    ensures segments { SegmentsFollow }
     ensures records { RecordsFollow }
     ensures commits { CommitsFollow }
 {
     law_of_chunks();
     law_of_drafts();
-    law_of_segments();
     law_of_records();
     law_of_standing_commits();
 }

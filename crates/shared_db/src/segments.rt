@@ -12,7 +12,7 @@ ghost use Rattle.shared_db.specs.Shared.{AreWith};
 use chunk_store::{PutFault, Segment, Store};
 use std::sync::Arc;
 
-/// Appends the segment, where there is one.
+/// Appends the segment, where there is one, and joins the last segments: what is planned beside others' plans brings its own chunks alone.
 pub fn append_sealed(store: &mut Store, sealed: Option<Arc<Segment>>) -> Result<(), PutFault>
     requires { 0 < store.old.room }
     ensures with { OnOk result (AreWith (all_chunks store.old) (option_map arc_value sealed) (all_chunks store.new)) }
@@ -23,7 +23,11 @@ pub fn append_sealed(store: &mut Store, sealed: Option<Arc<Segment>>) -> Result<
     ensures room { store.old.room ≤ store.new.room + 1 }
 {
     match sealed {
-        Some(segment) => store.append(segment),
+        Some(segment) => {
+            store.append(segment)?;
+            store.tidy();
+            Ok(())
+        }
         None => Ok(()),
     }
 }

@@ -71,5 +71,5 @@ returns-in-Record-clause-planned g c = λ p t shared present own d closes.
     c.in_ok-work.work c.in_ok-work.ensures.work p t shared present d c.args.request.now own closes)
     (plans_told address c.laws.ensures.chunks c.laws.ensures.records c.laws.ensures.commits c.args.session.now c.args.look.now c.in-Some.start c.in-Some.is
     c.in_ok-work.work c.in_ok-work.ensures.work p t shared present d c.args.request.now.staging c.decided-made.new.work c.decided-made.ensures.grows c.in_ok-number.field-0
-    told c.in-Record.rec c.in-Record.is c.laws.ensures.drafts c.laws.ensures.segments c.laws.ensures.databases c.args.epoch c.args.request.now.message state found.2 found.1
+    told c.in-Record.rec c.in-Record.is c.laws.ensures.drafts c.laws.ensures.databases c.args.epoch c.args.request.now.message state found.2 found.1
     c.committed.result made)

@@ -27,5 +27,5 @@ returns-clause-planned g c = λ p t shared present d known.
     let now = known_now address laws.chunks laws.records laws.commits c.args.session.now c.args.look.now start started c.in_ok-work.work c.in_ok-work.ensures.work p t shared present d
     c.args.other.0 known in
     plans_forward address laws.chunks laws.records laws.commits c.args.session.now c.args.look.now start started c.in_ok-work.work c.in_ok-work.ensures.work p t shared present d
-    laws.drafts laws.segments c.tell.ensures c.args.other known c.is_moved.result (c.is_moved.ensures p t shared present d) c.if-is_moved.false c.forwarded.result
+    laws.drafts c.tell.ensures c.args.other known c.is_moved.result (c.is_moved.ensures p t shared present d) c.if-is_moved.false c.forwarded.result
     (c.forwarded.ensures.planned shared.commits there now)

@@ -49,6 +49,6 @@ returns-clause-planned g c = λ p t shared present merged d is merges.
     (to_z-of_z w64 c.args.epoch c.ranges.epoch)
     (c.merged.ensures.planned shared.commits (base_root t c.args.three.now.other.0) (own_root t) (root_of t.commits c.args.three.now.other.0) merged can merges) in
     plans_joined address laws.chunks laws.records laws.commits c.args.session.now c.args.look.now start started c.in_ok-work.work c.in_ok-work.ensures.work p t shared present d
-    laws.drafts laws.segments laws.databases c.args.three.now is.other_known c.args.merge.now c.args.epoch c.in_ok-message.message merged.database
+    laws.drafts laws.databases c.args.three.now is.other_known c.args.merge.now c.args.epoch c.in_ok-message.message merged.database
     (c.in_ok-message.ensures.message ∙ ap (λ (branch : List ℕ). message_on branch c.args.merge.now) own.branch) c.is_moved.result (c.is_moved.ensures p t shared present d)
     c.if-is_moved.false c.merged.result made

@@ -45,5 +45,5 @@ returns-in-Record-clause-planned g c = λ p t shared present d.
     let states = states_in g.D.Digester.address c.laws.ensures.chunks c.laws.ensures.records c.args.session.now c.args.look.now c.in-Some.start c.in-Some.is c.in_ok-work.work c.in_ok-work.ensures.work
     p t shared present d in
     planned_told g.D.Digester.address c.laws.ensures.chunks c.laws.ensures.records c.args.session.now c.args.look.now c.in-Some.start c.in-Some.is c.in_ok-work.work c.in_ok-work.ensures.work
-    p t shared present d c.laws.ensures.drafts c.candidate-made.new.draft c.candidate-made.ensures.grows c.tell.ensures c.laws.ensures.segments c.laws.ensures.commits
+    p t shared present d c.laws.ensures.drafts c.candidate-made.new.draft c.candidate-made.ensures.grows c.tell.ensures c.laws.ensures.commits
     c.in_ok-number.field-0 c.in-Record.rec c.sealed.result c.in-Record.is (c.in_ok-number.ensures.is t.start present t.own p.variables.autocommit states) c.sealed.ensures.sealed
