@@ -27,9 +27,7 @@ ghost use Rattle.branch_procs.specs.Committing.{CanCommit, CanDecide, IsCommitte
 
 use crate::making::{new_commit, staged_for};
 use crate::replying::hash_reply;
-use chunk_store::{
-    Draft, PutFault, SealFault, law_of_chunks, law_of_drafts, law_of_growth,
-};
+use chunk_store::{Draft, PutFault, SealFault, law_of_chunks, law_of_drafts, law_of_growth};
 use commit_graph::write_commit;
 use root_merge::{Candidate, candidate};
 use script_text::Reply;
