@@ -41,21 +41,21 @@ pub rests_again : (ps : List Place) (p : Place) → ps ≡ p ∷ [] → p.waits 
 rests_again ps p is e f g = ap is_at_rest is ∙ three_off p.waits p.serves p.spent e f g
 
 -- the words of a new gate
-zero_at : (k : ℕ) → k < 67 → get_or {A = ℕ} (replicate 67 0) k 0 ≡ 0
-zero_at k within = get_or-replicate {A = ℕ} 67 k 0 0 within
+zero_at : (k : ℕ) → k < 4 → get_or {A = ℕ} (replicate 4 0) k 0 ≡ 0
+zero_at k within = get_or-replicate {A = ℕ} 4 k 0 0 within
 
 module _ {T : Type 0} (fits : T → Spelling → List Entry → Type 0) (opened : Spelling) where
   only_first : (P : Place → Type 0) → P (first_place opened) → (i : ℕ) (p : Place) → get_elem? (first_place opened ∷ []) i ≡ some p → (i ≡ 0) × P p
   only_first P h zero p e = (refl, subst P (some-injective _ _ e) h)
   only_first P h (suc i) p e = absurd (some-ne-none p (sym e))
 
-  pub opens : (value : T) → fits value opened [] → Ordered fits opened (opening (replicate 67 0) (Some value ∷ []) (first_place opened))
+  pub opens : (value : T) → fits value opened [] → Ordered fits opened (opening (replicate 4 0) (Some value ∷ []) (first_place opened))
   opens value fit = (
     0,
     0,
     [],
     record {
-      words = length-replicate {A = ℕ} 67 0;
+      words = length-replicate {A = ℕ} 4 0;
       ticket_word = zero_at 0 (omega arith);
       serving_word = zero_at 1 (omega arith);
       count_word = zero_at 2 (omega arith);

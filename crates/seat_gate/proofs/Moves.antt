@@ -1,5 +1,5 @@
 -- Each step of a turn keeps the gate's rule.
-use Rattle.std.proofs.Common.{◌≡◌, ℕ, ◌+◌, ◌%◌, ◌<◌, ◌≤◌, ◌≢◌, true, false, List, [], ◌∷◌, ◌++◌, length, get_or, set, Option, Some, refl, sym, ap, ◌∙◌, subst, arith, length-set, length-append, append-nil, get_or-set_same, get_or-set_other}
+use Rattle.std.proofs.Common.{◌==◌, ◌≡◌, ℕ, ◌+◌, ◌%◌, ◌<◌, ◌≤◌, ◌≢◌, true, false, List, [], ◌∷◌, ◌++◌, length, get_or, set, Option, Some, refl, sym, ap, ◌∙◌, subst, arith, length-set, length-append, append-nil, get_or-set_same, get_or-set_other}
 use native.Mathlib.Nat.{mod-add-mod}
 use native.Mathlib.Decide.{ℕ_discrete}
 use mathlib.Core.Logic.{dite}
@@ -8,11 +8,12 @@ use lib.ListN.{get_elem?}
 use lib.Seq.{set-get_or}
 use Rattle.std.specs.List.{AllByRecursion}
 use Rattle.std.proofs.lemmas.Bool.{false_from_ne_true as not_true}
-use Rattle.atomic_table.specs.Table.{State, Me, keeps, takes, gives, stepped, Allows}
-use Rattle.atomic_table.proofs.Lists.{set_again, set_here, one_turn}
+use prog.Atomic.{either}
+use Rattle.atomic_table.specs.Table.{State, Me, Act, Valid, keeps, takes, gives, stepped, carried_after, Allows}
+use Rattle.atomic_table.proofs.Lists.{exchanged, set_again, set_here, one_turn}
 use Rattle.seat_gate.specs.History.{Spelling, Entry, Past, entries_of, StartsWith}
 use Rattle.seat_gate.specs.Places.{drawn, served, marked, done}
-use Rattle.seat_gate.specs.Rule.{turn, waiting, PastFits, SeatFits, Rule, Ordered, Drew, Looked, Rose, Recalled}
+use Rattle.seat_gate.specs.Rule.{turn, waiting, PastFits, SeatFits, Rule, Ordered, Drew, DrewWhere, Looked, Rose, Recalled}
 use Rattle.seat_gate.specs.declared.place.Place.{Place}
 use Rattle.seat_gate.proofs.HistoryLemmas.{starts_more, entries_mine, entries_other, all_map, all_join}
 use Rattle.seat_gate.proofs.PlaceLemmas.{off, inside, one_there, each_set, one_if, waiting_few, waiting_set, apart_set, past_set, past_more, one_opening, none_before}
@@ -122,6 +123,17 @@ module _ {T : Type 0} (fits : T → Spelling → List Entry → Type 0) (opened 
 
   same : (i : ℕ) (s : State (Option T) Place) → get_elem? s.views id ≡ some m.0 → Same i s
   same i s at = λ k. record { words = set-get_or s.words i 0 k; homes = s.homes; views = set_again s.views id m.0 at k }
+
+  pub tries : m.0.waits ≡ false → m.0.serves ≡ false → m.0.spent ≡ false → (wanted : ℕ)
+      → Allows (Ordered fits opened) slots id m 0 (λ n. either (n == wanted) ((wanted + 1) % turn) n) (λ n w. DrewWhere wanted m n w)
+  tries idle off_turn live wanted s o long at low =
+      let found : ℕ = get_or s.words 0 0 in
+      exchanged found wanted ((wanted + 1) % turn)
+      (λ n. (w : Place) × (a : Act (Option T)) × Valid s.homes m.1 a × Ordered fits opened (stepped s 0 n id m.1 w a) × DrewWhere wanted m found (w, carried_after m.1 a))
+      (λ hit.
+      let drew = draws idle off_turn live s o long at low in
+      (drew.0, drew.1, drew.2, subst (λ n. Ordered fits opened (stepped s 0 ((n + 1) % turn) id m.1 drew.0 drew.1)) hit drew.3, ((λ _. drew.4), (λ missed. absurd (missed hit)))))
+      (λ missed. (m.0, keeps, tt, subst (Ordered fits opened) (sym (same 0 s at)) o, ((λ hit. absurd (missed hit)), (λ _. refl))))
 
   turn_comes : m.0.waits ≡ true → m.0.serves ≡ false → (s : State (Option T) Place) (serving keeper : ℕ) (log : List Entry) → Rule fits opened s serving keeper log
       → get_elem? s.views id ≡ some m.0 → get_or s.words 1 0 ≡ m.0.ticket % turn

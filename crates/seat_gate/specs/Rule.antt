@@ -1,5 +1,5 @@
 -- The gate's rule: what holds of its words, its slot and the places of all seats, between any two atomic steps.
--- Tickets are numbers without end, and the words hold them modulo 2^64. Fewer than 2^32 seats wait, so no ticket is mistaken for another. Of the words behind the first three, on which seats sleep, it says nothing.
+-- Tickets are numbers without end, and the words hold them modulo 2^64. Fewer than 2^32 seats wait, so no ticket is mistaken for another. Of the last word, on which seats sleep, it says nothing.
 use Rattle.std.specs.Prelude.{◌≡◌, ◌≢◌, ℕ, ◌+◌, ◌%◌, ◌<◌, ◌≤◌, true, false, if◌then◌else◌, List, [], ◌∷◌, length, slice_index, Option, Some}
 use Rattle.std.specs.List.{AllByRecursion}
 use mathlib.Core.Option.{some}
@@ -40,7 +40,7 @@ pub record SeatFits (opened : Spelling) (places : List Place) (serving keeper : 
 
 -- the tickets from serving on are those of the seats that wait; the history has as many entries as the count, each of a seat that was given out; and the value is in the slot unless a seat has its turn
 pub record Rule {T : Type 0} (fits : T → Spelling → List Entry → Type 0) (opened : Spelling) (s : State (Option T) Place) (serving keeper : ℕ) (log : List Entry) : Type 0 where
-  pub words : length s.words ≡ 67
+  pub words : length s.words ≡ 4
   pub ticket_word : slice_index s.words 0 ≡ (serving + waiting s.views) % turn
   pub serving_word : slice_index s.words 1 ≡ serving % turn
   pub count_word : slice_index s.words 2 ≡ length log % turn
@@ -57,6 +57,10 @@ module _ {T : Type 0} where
   -- what a step tells its seat: of the seat before, the word found and the seat after. A ticket was drawn
   abbrev pub Drew : Me (Option T) Place → ℕ → Me (Option T) Place → Type 0
   Drew m n w = (ticket : ℕ) × (w ≡ (drawn ticket m.0, m.1)) × (n ≡ ticket % turn)
+
+  -- a ticket was drawn where the word found is the one looked for
+  abbrev pub DrewWhere : ℕ → Me (Option T) Place → ℕ → Me (Option T) Place → Type 0
+  DrewWhere wanted m n w = (n ≡ wanted → Drew m n w) × (n ≢ wanted → w ≡ m)
 
   -- the turn has come: the seat has the value, which fits the whole history
   abbrev pub HasTurn : (T → Spelling → List Entry → Type 0) → Me (Option T) Place → Me (Option T) Place → Type 0

@@ -12,5 +12,5 @@ use std::snapshot::Snapshot;
 #[derive(Drop)]
 pub struct Gate<T: Kept> {
     pub(crate) table: Table<Option<T>, Place, Snapshot<T>, Order<T>, Global>,
-    ghost sized: { (table.shared.table_id.words ≡ 67) × (table.shared.table_id.slots ≡ 1) },
+    ghost sized: { (table.shared.table_id.words ≡ 4) × (table.shared.table_id.slots ≡ 1) },
 }

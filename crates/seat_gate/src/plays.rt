@@ -2,7 +2,7 @@
 ghost use Rattle.std.specs.Prelude.{◌≡◌, []};
 ghost use Rattle.seat_gate.specs.History.{Entry};
 ghost use Rattle.seat_gate.specs.Places.{marked, first_place, giving, given_out, taking_in, gone};
-ghost use Rattle.seat_gate.specs.Rule.{Ordered, Drew, Looked, Recalled, Rose};
+ghost use Rattle.seat_gate.specs.Rule.{Ordered, DrewWhere, Looked, Recalled, Rose};
 
 use crate::kept::Kept;
 use crate::place::Place;
@@ -21,11 +21,11 @@ impl<T: Kept> TableRule<Option<T>, Place, Snapshot<T>> for Order<T> {
     ghost first = { λ key. first_place (T.spelled key.value) };
 }
 
-/// Draws a ticket.
+/// Draws a ticket, where the word is the one that was looked for.
 pub(crate) struct Draw;
 
 impl<T> Play<Option<T>, Place> for Draw {
-    ghost then = { λ _ m n w. Drew m n w };
+    ghost then = { λ step m n w. DrewWhere step.first m n w };
 }
 
 /// Reads the serving word, and takes the value where it is the seat's turn.

@@ -1,6 +1,6 @@
-//! The atomic steps of a turn. Word 0 is the next ticket, word 1 the ticket that is served, and word 2 counts the entries. The words behind them are beds:
-//! a seat sleeps on the one of its ticket, so that few wake whose turn it isn't. A bed's word is odd while a seat may sleep on it.
-ghost use Rattle.std.specs.Prelude.{◌≡◌, ◌<◌, ◌≤◌, false, true, [], ◌∷◌, Some};
+//! The atomic steps of a turn. Word 0 is the next ticket, word 1 the ticket that is served, word 2 counts the entries, and word 3 is the bed, on which seats
+//! sleep: it is odd while one may.
+ghost use Rattle.std.specs.Prelude.{◌≡◌, false, true, [], ◌∷◌, None, Some, IfSome};
 ghost use Rattle.seat_gate.specs.Places.{marked};
 ghost use Rattle.seat_gate.specs.History.{StartsWith, OneOpening, entry};
 ghost use Rattle.seat_gate.specs.Rule.{Drew, Looked, Rose};
@@ -14,34 +14,31 @@ use std::sync::Wait;
 use std::thread::yield_now;
 
 /// All words of a gate.
-pub(crate) const WORDS: usize = 67;
+pub(crate) const WORDS: usize = 4;
 
-/// So many of them are beds.
-const BEDS: u64 = 64;
+/// The word on which seats sleep.
+const BED: usize = 3;
 
-/// So often a waiting seat looks before it sleeps: once, since where other work keeps the processors busy, a thread that yields waits for all of it, and one
-/// that sleeps is run soon after it is woken.
-const LOOKS: u64 = 1;
-
-/// And so often the seat whose turn is next, so that a short turn costs no sleep.
-const LOOKS_OF_NEXT: u64 = 200;
-
-/// The bed of this ticket.
-fn bed_of(ticket: u64) -> usize
-    ensures behind { 3 ≤ result }
-    ensures within { result < 67 }
-{
-    3 + (ticket % BEDS) as usize
-}
+/// So often a waiting seat looks before it sleeps, so that a short turn of another costs no sleep.
+const LOOKS: u64 = 60;
 
 impl<T: Kept> Gate<T> {
-    pub(crate) fn draw_ticket(&self, seat: &mut Seat<Option<T>, Place>) -> u64
+    // Draws the ticket that is served, so that the seat's turn is at once, or none where another seat has it. A seat that sleeps has no ticket: who runs
+    // when a turn ends takes the next one, and none waits for a thread that the processors leave out.
+    pub(crate) fn draw_ticket(&self, seat: &mut Seat<Option<T>, Place>) -> Option<u64>
         requires here { seat.old.table_id ≡ self.now.table.shared.table_id }
         requires rests { (seat.old.me.0.waits ≡ false) × (seat.old.me.0.serves ≡ false) × (seat.old.me.0.spent ≡ false) }
         ensures same { seat.new.table_id ≡ seat.old.table_id }
-        ensures drew { Drew seat.old.me result seat.new.me }
+        ensures drew { IfSome result (λ ticket. Drew seat.old.me ticket seat.new.me) }
+        ensures none { result ≡ None → seat.new.me ≡ seat.old.me }
     {
-        self.table.shared.fetch_add::<Draw>(seat, 0, 1)
+        let served = self.table.shared.peek(1);
+        let next = served.wrapping_add(1);
+        let found = self
+            .table
+            .shared
+            .compare_exchange::<Draw>(seat, 0, served, next);
+        if found == served { Some(found) } else { None }
     }
 
     pub(crate) fn read_serving(&self, seat: &mut Seat<Option<T>, Place>) -> u64
@@ -80,7 +77,7 @@ impl<T: Kept> Gate<T> {
         self.table.shared.load::<Recall>(seat, 0);
     }
 
-    // Whose turn has come is called, and whose is next, so that it looks when its turn comes.
+    // One of those that sleep is called, to try for the next turn.
     pub(crate) fn serve_next(&self, seat: &mut Seat<Option<T>, Place>)
         requires here { seat.old.table_id ≡ self.now.table.shared.table_id }
         requires serves { seat.old.me.0.serves ≡ true }
@@ -88,62 +85,40 @@ impl<T: Kept> Gate<T> {
         ensures same { seat.new.table_id ≡ seat.old.table_id }
         ensures rose { Rose seat.old.me seat.new.me }
     {
-        let found = self.table.shared.fetch_add::<Rise>(seat, 1, 1);
-        let served = found.wrapping_add(1);
-        self.call(seat, served);
-        self.call(seat, served.wrapping_add(1));
+        self.table.shared.fetch_add::<Rise>(seat, 1, 1);
+        self.call(seat);
     }
 
-    // Wakes who sleeps on the bed of this ticket. A seat that has lain down and doesn't sleep yet finds the bed's word raised, and won't.
-    fn call(&self, seat: &mut Seat<Option<T>, Place>, ticket: u64)
+    // Wakes one seat that sleeps. One that has lain down and doesn't sleep yet finds the bed's word raised, and won't.
+    fn call(&self, seat: &mut Seat<Option<T>, Place>)
         requires here { seat.old.table_id ≡ self.now.table.shared.table_id }
         ensures same { (seat.new.table_id ≡ seat.old.table_id) × (seat.new.me ≡ seat.old.me) }
     {
-        let bed = bed_of(ticket);
-        if self.table.shared.peek(bed) % 2 == 1 {
-            self.table.shared.fetch_add::<Bed>(seat, bed, 1);
-            self.table.shared.wake_all(bed);
+        if self.table.shared.peek(BED) % 2 == 1 {
+            self.table.shared.fetch_add::<Bed>(seat, BED, 1);
+            self.table.shared.wake_one(BED);
         }
     }
 
-    // Makes the word of the ticket's bed odd, and gives it.
-    fn lie_down(&self, seat: &mut Seat<Option<T>, Place>, ticket: u64) -> u64
+    // The bed's word, made odd, once the seat has looked often enough. It does so before it tries again: whoever ends a turn behind that try finds the word odd,
+    // and calls. One that slept does so each time, since others may still sleep.
+    pub(crate) fn lie_down(&self, seat: &mut Seat<Option<T>, Place>, looks: u64) -> Option<u64>
         requires here { seat.old.table_id ≡ self.now.table.shared.table_id }
         ensures same { (seat.new.table_id ≡ seat.old.table_id) × (seat.new.me ≡ seat.old.me) }
     {
-        self.table.shared.fetch_or::<Bed>(seat, bed_of(ticket), 1) | 1
-    }
-
-    // The word of the bed on which to sleep, once the seat has looked often enough. It lies down before it looks again: whoever serves it behind that look
-    // finds the bed's word odd, and calls.
-    pub(crate) fn tire(
-        &self,
-        seat: &mut Seat<Option<T>, Place>,
-        ticket: u64,
-        found: u64,
-        looks: u64,
-    ) -> Option<u64>
-        requires here { seat.old.table_id ≡ self.now.table.shared.table_id }
-        ensures same { (seat.new.table_id ≡ seat.old.table_id) × (seat.new.me ≡ seat.old.me) }
-    {
-        let most = if ticket.wrapping_sub(found) <= 1 {
-            LOOKS_OF_NEXT
-        } else {
-            LOOKS
-        };
-        if looks < most {
+        if looks < LOOKS {
             None
         } else {
-            Some(self.lie_down(seat, ticket))
+            Some(self.table.shared.fetch_or::<Bed>(seat, BED, 1) | 1)
         }
     }
 
-    // Returns at once, or sleeps on the ticket's bed until its word is another than this.
-    pub(crate) fn wait<R: Wait>(&self, rt: &R, ticket: u64, bed: Option<u64>) {
+    // Lets others run, or sleeps until the bed's word is another than this.
+    pub(crate) fn wait<R: Wait>(&self, rt: &R, bed: Option<u64>) {
         match bed {
             Some(word) => {
                 let expected = (word % (1 << 32)) as u32;
-                self.table.shared.park(rt, bed_of(ticket), expected);
+                self.table.shared.park(rt, BED, expected);
             }
             None => yield_now(),
         }

@@ -1,12 +1,15 @@
-//! A turn: a seat draws a ticket, waits until it is served, takes the value out, and puts it back.
-ghost use Rattle.std.specs.Prelude.{◌≡◌, ◌++◌, ◌∷◌, []};
+//! A turn: a seat waits until no other has one, draws the ticket that is served, takes the value out, and puts it back.
+ghost use Rattle.std.specs.Prelude.{◌≡◌, ◌++◌, ◌∷◌, [], false};
 ghost use Rattle.seat_gate.specs.History.{StartsWith, entry, entries_of, having_seen, with_entry, HasMade};
+ghost use Rattle.seat_gate.specs.Rule.{Drew};
 ghost use Rattle.seat_gate.specs.Words.{gate_id, gate_of, seat_view, held_at, held_view, held_value, IsTaken};
 
 use crate::gate::Gate;
 use crate::held::Held;
 use crate::kept::Kept;
+use crate::place::Place;
 use crate::seat::Seat;
+use atomic_table::Seat as TableSeat;
 use std::marker::Brand;
 use std::sync::Wait;
 
@@ -22,11 +25,9 @@ impl<T: Kept> Gate<T> {
         ensures own { entries_of (seat_view seat).number (held_view result).seen ≡ (seat_view seat).made }
     {
         let mut seat = seat.badge.into_seat();
-        let ticket = self.draw_ticket(&mut seat);
-        let mut looks = 0u64;
-        let mut last = ticket;
+        let ticket = self.wait_for_ticket(rt, &mut seat);
+        // The word said so before the ticket was drawn, and never falls, so one look is enough; and it tells of the whole history.
         for _ in rt.forever() {
-            let bed = self.tire(&mut seat, ticket, last, looks);
             let found = self.read_serving(&mut seat);
             if found == ticket {
                 let value = self.table.shared.exchange(&mut seat, 0, None).unwrap();
@@ -36,8 +37,24 @@ impl<T: Kept> Gate<T> {
                     value,
                 };
             }
-            self.wait(rt, ticket, bed);
-            last = found;
+        }
+        unreachable!()
+    }
+
+    /// The ticket that is served, once no other seat has it.
+    fn wait_for_ticket<R: Wait>(&self, rt: &R, seat: &mut TableSeat<Option<T>, Place>) -> u64
+        requires here { seat.old.table_id ≡ self.now.table.shared.table_id }
+        requires rests { (seat.old.me.0.waits ≡ false) × (seat.old.me.0.serves ≡ false) × (seat.old.me.0.spent ≡ false) }
+        ensures same { seat.new.table_id ≡ seat.old.table_id }
+        ensures drew { Drew seat.old.me result seat.new.me }
+    {
+        let mut looks = 0u64;
+        for _ in rt.forever() {
+            let bed = self.lie_down(seat, looks);
+            if let Some(ticket) = self.draw_ticket(seat) {
+                return ticket;
+            }
+            self.wait(rt, bed);
             looks = looks.saturating_add(1);
         }
         unreachable!()

@@ -6,4 +6,4 @@ use Rattle.seat_gate.proofs.gate.Gate.call.Goals as goal
 pub fetch_add-requires : goal.fetch_add-requires
 fetch_add-requires g c =
     let here = c.args.self.now.sized.0 in
-    (c.requires.here, omega (arith, c.bed_of-bed.ensures.within), lies g.T.Kept.fits _ _ _ _ _ (λ n. (n + 1) % turn) c.bed_of-bed.ensures.behind)
+    (c.requires.here, omega arith, lies g.T.Kept.fits _ _ _ _ 3 (λ n. (n + 1) % turn) (omega arith))

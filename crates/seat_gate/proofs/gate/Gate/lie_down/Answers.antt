@@ -6,4 +6,4 @@ use Rattle.seat_gate.proofs.gate.Gate.lie_down.Goals as goal
 pub fetch_or-requires : goal.fetch_or-requires
 fetch_or-requires g c =
     let here = c.args.self.now.sized.0 in
-    (c.requires.here, omega (arith, c.bed_of.ensures.within), lies g.T.Kept.fits _ _ _ _ _ (λ n. bit_or n 1) c.bed_of.ensures.behind)
+    (c.requires.here, omega arith, lies g.T.Kept.fits _ _ _ _ 3 (λ n. bit_or n 1) (omega arith))

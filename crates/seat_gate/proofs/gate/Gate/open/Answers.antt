@@ -11,5 +11,5 @@ new-requires g c =
     let value = c.args.value in
     let opened = kept.spelled c.of-opening.result.value in
     let items : c.push_reserved.new.self.items ≡ Some value ∷ [] = c.push_reserved.ensures.items ∙ ap (λ l. l ++ Some value ∷ []) c.in_ok-slots.ensures.items in
-    subst (λ (l : List (Option g.row.T.Denot)). Ordered kept.fits opened (opening (replicate 67 0) l (first_place opened))) (sym items)
+    subst (λ (l : List (Option g.row.T.Denot)). Ordered kept.fits opened (opening (replicate 4 0) l (first_place opened))) (sym items)
     (opens kept.fits opened value (subst (λ v. kept.fits value (kept.spelled v) []) (sym c.of-opening.ensures) c.requires))
