@@ -31,7 +31,7 @@ use session_txn::due;
 use std::alloc::Global;
 use tuple_codec::{BranchRecord, Digester};
 
-/// Answers a DOLT_ADD or a DOLT_RESET. Where it is refused, or there is no memory, the session stays as it was.
+/// Answers a DOLT_ADD or a DOLT_RESET. Where it is refused, or there is no memory, the session stands for what it stood for.
 pub fn branch_local<D: Digester>(alloc: Global, session: &mut Session<D>, asked: &Work) -> Reply
     requires stands { IsInTransaction D.address session.old }
     requires stages { stages asked.now ≡ true }

@@ -39,7 +39,7 @@ use std::alloc::{AllocError, Global};
 use tuple_codec::{Address, BranchRecord, Digester};
 
 /// Answers a DOLT_MERGE that has no decision, a DOLT_CONFLICTS_RESOLVE or a DOLT_VERIFY_CONSTRAINTS. Where it is refused, or there is no memory, the session
-/// stays as it was. A DOLT_MERGE that has its decision is answered want of memory here.
+/// stands for what it stood for. A DOLT_MERGE that has its decision is answered want of memory here.
 pub fn merge_local<D: Digester>(alloc: Global, session: &mut Session<D>, asked: &Work) -> Reply
     requires stands { IsInTransaction D.address session.old }
     requires merges { merges asked.now ≡ true }

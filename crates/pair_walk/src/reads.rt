@@ -8,12 +8,14 @@ ghost use Rattle.pair_walk.specs.Counts.{counted};
 pub struct Reads(u64);
 
 impl Reads {
+    /// None yet.
     pub fn new() -> Reads
         ensures { result.0 ≡ 0 }
     {
         Reads(0)
     }
 
+    /// How many nodes were read.
     pub fn count(&self) -> u64
         ensures { result ≡ self.now.0 }
     {

@@ -26,8 +26,7 @@ use std::alloc::{AllocError, Global};
 use tuple_codec::{Digester, Sequence};
 use wire_io::Pacer;
 
-/// Runs a script's statements one after another in the text's order, each by its session. A command that `runs` doesn't take is refused by
-/// its text alone. The dates of commits are the epoch.
+/// Runs a script's statements one after another in the text's order, each by its session. The dates of commits are the epoch.
 pub fn run_script<D: Digester, P: Pacer>(
     alloc: Global,
     pacer: &P,

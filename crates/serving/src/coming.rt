@@ -31,8 +31,8 @@ use sql_procedures::MergeRequest;
 use std::alloc::Global;
 use tuple_codec::Digester;
 
-/// Answers a statement that needs no moment, and the session goes on to the next one. `None` where it needs one; the session is then as it
-/// was, but for pages of its draft.
+/// Answers a statement that needs no moment, and the session goes on to the next one. `None` where it needs one; the session then stands
+/// for the same one before the same statement.
 pub fn come_to<D: Digester>(
     alloc: Global,
     session: &mut Session<D>,

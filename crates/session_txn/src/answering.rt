@@ -23,8 +23,8 @@ use sql_ast::{Refusal, Setting};
 use std::alloc::Global;
 use tuple_codec::Digester;
 
-/// Answers a statement that needs no moment, or whose start was taken. Where it is refused, or there is no memory, the session stays as it
-/// was; so it does at a statement that isn't the session's alone, which gets want of memory.
+/// Answers a statement that needs no moment, or whose start was taken. Where it is refused, or there is no memory, the session stands
+/// for what it stood for; so it does at a statement that isn't the session's alone, which gets want of memory.
 pub fn local<D: Digester>(alloc: Global, session: &mut Session<D>, asked: &Command) -> Reply
     requires stands { (p : plain.Session) × SessionStands D.address session.old p × (is_local p asked.now ≡ true) }
     requires fit { IsFitCommand asked.now }

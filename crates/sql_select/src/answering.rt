@@ -16,9 +16,8 @@ use sql_ast::Select;
 use std::alloc::Global;
 use tuple_codec::{Answer, Digester};
 
-/// What a SELECT shows of a database and of system tables, or its first refusal. The tables that it names are read whole, each once,
-/// and combinations of their rows are tried one by one; of an only source whose WHERE names the primary key just the row of that
-/// key is read. The draft is only read.
+/// What a SELECT shows of a database and of system tables, or its first refusal. The tables that it names are read once each, whole, or
+/// where the WHERE bounds an only source's primary key or fixes an index's columns, just the rows of those keys. The draft is only read.
 ///
 /// `@@name` and `active_branch()` have no value here: whoever knows the session puts literals in their places.
 pub fn answer<D: Digester>(

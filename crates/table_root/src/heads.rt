@@ -42,6 +42,7 @@ impl Heads {
         Heads { heads }
     }
 
+    /// The heads by rising name.
     pub fn as_slice(&self) -> &[Head]
         ensures heads { result.now ≡ self.now }
         ensures rise { heads_rise self.now ≡ true }

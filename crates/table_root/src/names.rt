@@ -46,6 +46,7 @@ impl BranchName {
         }
     }
 
+    /// The name as it is written.
     pub fn bytes(&self) -> &[u8]
         ensures bytes { result.now ≡ self.now }
         ensures form { is_branch_name self.now ≡ true }
