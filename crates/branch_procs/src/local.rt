@@ -1,9 +1,9 @@
 //! DOLT_ADD and DOLT_RESET of a session in a transaction.
 
-ghost use Rattle.std.specs.Prelude.{◌≡◌, IfErr, IfOk, true};
+ghost use Rattle.std.specs.Prelude.{◌≡◌, ◌≤◌, IfErr, IfOk, true};
 ghost use Rattle.schema_model.specs.PlainCommits.{Commits};
 ghost use Rattle.chunk_store.specs.Clashes.{IsReason};
-ghost use Rattle.chunk_store.specs.Drafts.{Grows, IsNamed, chunks_of};
+ghost use Rattle.chunk_store.specs.Drafts.{Grows, IsNamed, chunks_of, pages_in};
 ghost use Rattle.chunk_store.specs.Kinds.{is_database};
 ghost use Rattle.chunk_store.specs.Laws.{ChunksFollow, DraftsFollow, DraftsGrow};
 ghost use Rattle.script_text.specs.Collisions.{TellsTruly};
@@ -40,6 +40,7 @@ pub fn branch_local<D: Digester>(alloc: Global, session: &mut Session<D>, asked:
     ensures sound { is_sound_reply result ≡ true }
     ensures truly { TellsTruly D.address result }
     ensures base { session.new.draft.chunks.base ≡ session.old.draft.chunks.base }
+    ensures pages { pages_in session.old.draft ≤ pages_in session.new.draft }
 {
     match status_reply(alloc) {
         Ok(reply) => staged(alloc, session, asked, reply),
@@ -57,6 +58,7 @@ fn staged<D: Digester>(alloc: Global, session: &mut Session<D>, asked: &Work, re
     ensures sound { is_sound_reply result ≡ true }
     ensures truly { TellsTruly D.address result }
     ensures base { session.new.draft.chunks.base ≡ session.old.draft.chunks.base }
+    ensures pages { pages_in session.old.draft ≤ pages_in session.new.draft }
 {
     laws();
     let mut own = session.own;
@@ -82,6 +84,7 @@ fn stage<D: Digester>(
     ensures sound { is_sound_reply result ≡ true }
     ensures truly { TellsTruly D.address result }
     ensures base { draft.new.chunks.base ≡ draft.old.chunks.base }
+    ensures pages { pages_in draft.old ≤ pages_in draft.new }
 {
     laws();
     let mark = draft.mark();
@@ -108,6 +111,7 @@ fn settle<D: Digester>(
     ensures settles { Settles mark.own draft.old draft.new own.old own.new made result }
     ensures sound { is_sound_reply result ≡ true }
     ensures base { draft.new.chunks.base ≡ draft.old.chunks.base }
+    ensures pages { pages_in draft.new ≡ pages_in draft.old }
 {
     match made {
         Candidate::Record(rec) => {

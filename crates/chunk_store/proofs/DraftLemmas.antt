@@ -70,3 +70,8 @@ over_cut a base old new cs n d over keeps is =
       fit = subst AllFit (sym same) (all_take (λ x. length x.1 ≤ 65536) n (chunks_in old cs) over.fit);
       single = subst (λ l. IsSingle (base ++ l)) (sym same) (single_cut base (chunks_in old cs) n over.single);
     }
+
+-- nothing of its own is left
+pub over_none : (a : List ℕ → List ℕ) (base : List Chunk) (old new : Pages) (cs : List Placed) → AreOver a base old cs → AreOver a base new []
+over_none a base old new cs over =
+    record { all_written = tt; in_order = tt; named = tt; fit = tt; single = single_cut base (chunks_in old cs) 0 over.single }

@@ -250,6 +250,17 @@ impl<D: Digester> Draft<D> {
         self.base = base;
     }
 
+    /// Drops what the draft has of its own; the store below stays.
+    pub fn clear(&mut self)
+        ensures chunks { self.new.chunks ≡ record { base = self.old.chunks.base; own = [] } }
+        ensures segments { self.new.segments ≡ self.old.segments }
+        ensures free { self.new.free ≡ pages_in self.old }
+        ensures taken { self.new.taken ≡ 0 }
+    {
+        self.region.clear();
+        self.index.cut(0);
+    }
+
     /// How many pages of the pool are free.
     pub fn free_pages(&self) -> u32
         ensures { result ≡ self.now.free }

@@ -113,6 +113,8 @@ mod tests {
         assert_eq!(rt; draft.free_pages(), 1);
         draft.refill(4).expect(&rt, "memory for pages");
         assert_eq!(rt; draft.free_pages(), 4);
+        draft.clear();
+        assert_eq!(rt; draft.free_pages(), 4);
         let found = draft.get(&address).expect(&rt, "the chunk");
         assert_eq!(rt; found, b"kept".as_slice());
     }

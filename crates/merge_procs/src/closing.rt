@@ -1,7 +1,7 @@
 //! Whether a DOLT_MERGE has its decision.
 
-ghost use Rattle.std.specs.Prelude.{◌≡◌, IfErr, IfOk, Some};
-ghost use Rattle.chunk_store.specs.Drafts.{IsNamed, chunks_of};
+ghost use Rattle.std.specs.Prelude.{◌≡◌, ◌≤◌, IfErr, IfOk, Some};
+ghost use Rattle.chunk_store.specs.Drafts.{IsNamed, chunks_of, pages_in};
 ghost use Rattle.chunk_store.specs.Laws.{ChunksFollow, DraftsFollow, DraftsGrow};
 ghost use Rattle.constraint_scan.specs.Scanning.{HasKeptAt};
 ghost use Rattle.plain_sessions.specs.Sessions as plain;
@@ -35,6 +35,7 @@ pub fn merge_closes<D: Digester>(
         → IfOk result (λ closes. closes ≡ is_closing (worked p t (work.Merge request.now))) }
     ensures fault { IfErr result (IsFault D.address) }
     ensures same { IsAsBefore session.old session.new }
+    ensures pages { pages_in session.old.draft ≤ pages_in session.new.draft }
 {
     match request {
         MergeRequest::Abort => Ok(false),
@@ -53,6 +54,7 @@ fn closes<D: Digester>(
         → IfOk result (λ closes. closes ≡ is_closing (worked p t (work.Merge (merging.Merge request.now)))) }
     ensures fault { IfErr result (IsFault D.address) }
     ensures same { IsAsBefore session.old session.new }
+    ensures pages { pages_in session.old.draft ≤ pages_in session.new.draft }
 {
     match find_way(alloc, session, request)? {
         Way::Refused(_) => Ok(false),
@@ -77,6 +79,7 @@ fn meets_clean<D: Digester>(
     ensures fault { IfErr result (IsFault D.address) }
     ensures chunks { draft.new.chunks ≡ draft.old.chunks }
     ensures segments { draft.new.segments ≡ draft.old.segments }
+    ensures pages { pages_in draft.old ≤ pages_in draft.new }
 {
     laws();
     let mark = draft.mark();

@@ -1,8 +1,8 @@
 //! Calls that a session answers by itself.
 
-ghost use Rattle.std.specs.Prelude.{◌≡◌, IfErr, IfOk, Some, [], true};
+ghost use Rattle.std.specs.Prelude.{◌≡◌, ◌≤◌, IfErr, IfOk, Some, [], true};
 ghost use Rattle.chunk_store.specs.Clashes.{IsReason};
-ghost use Rattle.chunk_store.specs.Drafts.{Grows, chunks_of};
+ghost use Rattle.chunk_store.specs.Drafts.{Grows, chunks_of, pages_in};
 ghost use Rattle.chunk_store.specs.Laws.{ChunksFollow, DraftsFollow, DraftsGrow};
 ghost use Rattle.plain_sessions.specs.Merging.{merge, merge_reply};
 ghost use Rattle.plain_sessions.specs.Moments.{is_in_transaction};
@@ -48,6 +48,7 @@ pub fn merge_local<D: Digester>(alloc: Global, session: &mut Session<D>, asked: 
     ensures sound { is_sound_reply result ≡ true }
     ensures truly { TellsTruly D.address result }
     ensures base { session.new.draft.chunks.base ≡ session.old.draft.chunks.base }
+    ensures pages { pages_in session.old.draft ≤ pages_in session.new.draft }
 {
     laws();
     let mark = session.draft.mark();
@@ -64,6 +65,7 @@ fn settle<D: Digester>(
 ) -> Reply
     requires { IsPlain made }
     ensures settles { Settles mark.own session.old session.new made result }
+    ensures pages { pages_in session.new.draft ≡ pages_in session.old.draft }
     ensures sound { is_sound_reply result ≡ true }
 {
     match made {

@@ -66,6 +66,7 @@ pub player_new : {D : Type 0} (address : List ℕ → List ℕ) (place : ℕ) (n
 player_new address place name lines statements speaker texts new are = record {
   stands = new.stands;
   base = new.base;
+  pages = new.pages;
   silent = new.silent;
   room = new.room;
   texts = are;

@@ -14,10 +14,11 @@ abbrev pub counts : ℕ → List Line → List ℕ
 counts zero lines = []
 counts (suc sessions) lines = counts sessions lines ++ count_of sessions lines ∷ []
 
--- the session of this name at this place, silent so far, with room for so many replies
+-- the session of this name at this place, silent so far, with 16 free pages and room for so many replies
 pub record IsNew {D : Type 0} (address : List ℕ → List ℕ) (place : ℕ) (name : List ℕ) (statements : ℕ) (speaker : Speaker D) : Type 0 where
   pub stands : SessionStands address speaker.session (new_session place name)
   pub base : speaker.session.draft.chunks.base ≡ []
+  pub pages : speaker.session.draft.free ≡ 16
   pub silent : speaker.replies.items ≡ []
   pub room : statements ≤ vec_capacity speaker.replies
 
@@ -31,6 +32,7 @@ pub record AreNew {D : Type 0} (address : List ℕ → List ℕ) (names : List (
 pub record IsNewPlayer {D : Type 0} (address : List ℕ → List ℕ) (place : ℕ) (name : List ℕ) (lines : List Line) (statements : ℕ) (player : Player D) : Type 0 where
   pub stands : SessionStands address player.session (new_session place name)
   pub base : player.session.draft.chunks.base ≡ []
+  pub pages : player.session.draft.free ≡ 16
   pub silent : player.replies.items ≡ []
   pub room : statements ≤ vec_capacity player.replies
   pub texts : player.texts ≡ texts_of place lines

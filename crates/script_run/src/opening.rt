@@ -89,7 +89,7 @@ pub(crate) fn new_speaker<D: Digester>(
         return Err(AllocError);
     };
     let name = Text::from_slice(alloc, name.as_slice())?;
-    let pool = PagePool::with_pages(alloc, 0)?;
+    let pool = PagePool::with_pages(alloc, 16)?;
     let session = Session::new(alloc, name, number, pool)?;
     let replies = Vec::with_capacity(alloc, statements as usize)?;
     Ok(Speaker { session, replies })

@@ -8,6 +8,7 @@ pub mod ClosingLemmas
 pub mod ComingLemmas
 pub mod ConcludeLemmas
 pub mod DecisionLemmas
+pub mod FillLemmas
 pub mod GrowthLemmas
 pub mod LookLemmas
 pub mod MeetLemmas

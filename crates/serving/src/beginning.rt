@@ -15,12 +15,13 @@ ghost use Rattle.serving.specs.Steps.{HasRoomStill};
 
 use crate::ahead::look_ahead;
 use crate::deciding::settle;
+use crate::filling::start_at;
 use crate::places::number_of;
 use chunk_store::{PutFault, law_of_chunks};
 use script_text::Reply;
 use session_laws::law_of_states;
 use session_state::Session;
-use session_txn::{plan_begin, plan_commit};
+use session_txn::plan_commit;
 use shared_db::{Change, SharedDb};
 use std::alloc::Global;
 use tuple_codec::Digester;
@@ -73,7 +74,7 @@ fn begin_unchanged<D: Digester>(
     let look = db.look(alloc, &session.branch)?;
     let number = number_of(session.position);
     db.start(session.number, number);
-    plan_begin(alloc, session, look);
+    start_at(alloc, session, look);
     Ok(Reply::Done)
 }
 
@@ -110,7 +111,7 @@ fn begin_anew<D: Digester>(
         Change::Record(rec) => {
             let next = look_ahead(alloc, db, &look.branch, rec, &plan.sealed)?;
             let reply = settle(db, session.number, number, &look, plan)?;
-            plan_begin(alloc, session, next);
+            start_at(alloc, session, next);
             Ok(reply)
         }
     }

@@ -13,6 +13,7 @@ mod concluding;
 mod courses;
 mod deciding;
 mod faults;
+mod filling;
 mod meeting;
 mod places;
 mod planned;

@@ -19,13 +19,13 @@ ghost use Rattle.serving.specs.Steps.{HasRoomStill, after_start};
 
 use crate::alone::answer_alone;
 use crate::faults::after_start;
+use crate::filling::start_at;
 use crate::meeting::{Met, Pending};
 use crate::places::number_of;
 use plain_sessions::Command;
 use script_text::Reply;
 use session_laws::law_of_states;
 use session_state::Session;
-use session_txn::plan_begin;
 use shared_db::SharedDb;
 use std::alloc::{AllocError, Global};
 use tuple_codec::Digester;
@@ -49,7 +49,7 @@ pub(crate) fn take_start<D: Digester>(
     let look = db.look(alloc, &session.branch)?;
     let number = number_of(session.position);
     db.start(session.number, number);
-    plan_begin(alloc, session, look);
+    start_at(alloc, session, look);
     Ok(())
 }
 

@@ -3,6 +3,7 @@
 ghost use Rattle.std.specs.Prelude.{◌≡◌, ◌≤◌, [], length, max, true, IfOk, OnOk, OnErr};
 ghost use Rattle.plain_sessions.specs.Sessions.{is_changed, new_session};
 ghost use Rattle.plain_sessions.specs.Sessions as plain;
+ghost use Rattle.session_state.specs.Pages.{with_free};
 ghost use Rattle.session_state.specs.Standing.{SessionStands};
 
 use chunk_region::PagePool;
@@ -51,6 +52,7 @@ impl<D: Digester> Session<D> {
         requires { length name ≤ 32 }
         ensures stands { IfOk result (λ session. SessionStands D.address session (new_session number name)) }
         ensures base { IfOk result (λ session. session.draft.chunks.base ≡ []) }
+        ensures free { IfOk result (λ session. session.draft.free ≡ pool.free) }
     {
         let Some(branch) = BranchName::read(b"main") else {
             return Err(AllocError);
@@ -86,6 +88,14 @@ impl<D: Digester> Session<D> {
         ensures { result ≡ self.now.draft.free }
     {
         self.draft.free_pages()
+    }
+
+    /// Raises the free pages of its pool to `n` where they are fewer, or changes nothing.
+    pub fn refill(&mut self, n: u32) -> Result<(), AllocError>
+        ensures raised { OnOk result (self.new ≡ with_free (max self.old.draft.free n) self.old) }
+        ensures same { OnErr result (self.new ≡ self.old) }
+    {
+        self.draft.refill(n)
     }
 }
 

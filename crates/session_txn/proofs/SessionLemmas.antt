@@ -1,5 +1,5 @@
 -- What a session's steps leave of it.
-use Rattle.std.proofs.Common.{◌≡◌, refl, sym, ◌∙◌, ap, subst, inl, inr, ◌⊎◌, ℕ, Bool, true, false, ◌&&◌, not, List, [], ◌∷◌, ◌++◌, Option, None, Some, Ok, Err, cond, if◌then◌else◌}
+use Rattle.std.proofs.Common.{◌≡◌, ◌≤◌, ◌+◌, arith, refl, sym, ◌∙◌, ap, subst, inl, inr, ◌⊎◌, ℕ, Bool, true, false, ◌&&◌, not, List, [], ◌∷◌, ◌++◌, Option, None, Some, Ok, Err, cond, if◌then◌else◌}
 use Rattle.std.specs.Option.{option_map}
 use Rattle.basic_laws.proofs.Options.{some_there as has_one}
 use Rattle.basic_laws.proofs.Truths.{not_true as kept_so}
@@ -106,6 +106,27 @@ pub in_transaction : {D : Type 0} (address : List ℕ → List ℕ) (session : S
 in_transaction address session p stands inside = let found = has_one p.transaction inside in (p, found.0, stands, found.1)
 
 -- ---- COMMIT of nothing, and ROLLBACK
+
+-- all pages are free
+pub none_lost : (free taken new_free new_taken : ℕ) → new_free ≡ free + taken → new_taken ≡ 0 → free + taken ≤ new_free + new_taken
+none_lost free taken new_free new_taken all none = omega (arith, all, none)
+
+-- with no transaction and nothing of its own over the store
+pub ended : {D : Type 0} (address : List ℕ → List ℕ) (old : Session D) (d : Drafting) (p : plain.Session) → d.chunks ≡ (record { base = old.draft.chunks.base; own = [] })
+    → SessionStands address old p → SessionStands address (record old { start = None; draft = d }) (over p)
+ended address old d p is stands = record {
+  name = stands.name;
+  number = stands.number;
+  branch = stands.branch;
+  autocommit = stands.autocommit;
+  allow = stands.allow;
+  force = stands.force;
+  position = stands.position;
+  transaction = tt;
+  named = subst (λ (chunks : DraftParts). IsNamed address chunks) (sym is) stands.named;
+  plain_own = subst (λ (chunks : DraftParts). HasNoCommit chunks.own) (sym is) nothing_there;
+  committer = stands.committer;
+}
 
 end_effect : (p : plain.Session) (asked : Command) → (asked ≡ command.CommitAll) ⊎ (asked ≡ command.Rollback) → is_local p asked ≡ true → effect_alone p asked ≡ Some (over p, done)
 end_effect p asked (inl is) local =

@@ -1,6 +1,7 @@
 //! Statements that need no moment, or whose start was taken.
 
-ghost use Rattle.std.specs.Prelude.{◌≡◌, if◌then◌else◌, true};
+ghost use Rattle.std.specs.Prelude.{◌≡◌, ◌≤◌, if◌then◌else◌, true};
+ghost use Rattle.chunk_store.specs.Drafts.{pages_in};
 ghost use Rattle.script_text.specs.Collisions.{TellsTruly};
 ghost use Rattle.script_text.specs.declared.replies.Reply.TheVariants.{Done};
 ghost use Rattle.plain_sessions.specs.Fitness.{IsFitCommand};
@@ -33,6 +34,8 @@ pub fn local<D: Digester>(alloc: Global, session: &mut Session<D>, asked: &Comma
     ensures sound { is_sound_reply result ≡ true }
     ensures truly { TellsTruly D.address result }
     ensures base { session.new.draft.chunks.base ≡ session.old.draft.chunks.base }
+    ensures pages { pages_in session.old.draft ≤ pages_in session.new.draft }
+    ensures rollback { asked.now ≡ command.Rollback → session.new.draft.taken ≡ 0 }
 {
     match asked {
         Command::Faulty(refusal) => refuse(*refusal),
@@ -53,6 +56,7 @@ fn do_work<D: Digester>(alloc: Global, session: &mut Session<D>, work: &Work) ->
     ensures sound { is_sound_reply result ≡ true }
     ensures truly { TellsTruly D.address result }
     ensures base { session.new.draft.chunks.base ≡ session.old.draft.chunks.base }
+    ensures pages { pages_in session.old.draft ≤ pages_in session.new.draft }
 {
     match work {
         Work::Ask(select) => ask(alloc, session, select),
@@ -73,12 +77,15 @@ fn refuse(refusal: Refusal) -> Reply
     }
 }
 
-/// Ends the transaction, if one is open.
+/// Ends the transaction, if one is open. The pages that it took are free again.
 fn end<D: Digester>(session: &mut Session<D>) -> Reply
     ensures over { (p : plain.Session) → SessionStands D.address session.old p → SessionStands D.address session.new (over p) }
     ensures done { result ≡ Done }
     ensures base { session.new.draft.chunks.base ≡ session.old.draft.chunks.base }
+    ensures pages { pages_in session.old.draft ≤ pages_in session.new.draft }
+    ensures freed { session.new.draft.taken ≡ 0 }
 {
+    session.draft.clear();
     session.start = None;
     Reply::Done
 }
@@ -89,6 +96,7 @@ fn switch<D: Digester>(session: &mut Session<D>, setting: &Setting) -> Reply
         → AnswersAlone D.address p (command.Switch setting.now) session.new result }
     ensures done { result ≡ Done }
     ensures base { session.new.draft.chunks.base ≡ session.old.draft.chunks.base }
+    ensures pages { pages_in session.old.draft ≤ pages_in session.new.draft }
 {
     let variable = setting.variable.as_slice();
     let ends = ends_transaction(session, variable, setting.on);
@@ -100,6 +108,7 @@ fn switch<D: Digester>(session: &mut Session<D>, setting: &Setting) -> Reply
 fn end_if<D: Digester>(session: &mut Session<D>, ends: bool)
     ensures stands { (p : plain.Session) → SessionStands D.address session.old p → SessionStands D.address session.new (if ends then over p else p) }
     ensures base { session.new.draft.chunks.base ≡ session.old.draft.chunks.base }
+    ensures pages { pages_in session.old.draft ≤ pages_in session.new.draft }
 {
     if ends {
         session.start = None;
@@ -116,6 +125,7 @@ pub fn ends_transaction<D: Digester>(session: &Session<D>, variable: &[u8], on: 
 fn set_variable<D: Digester>(session: &mut Session<D>, variable: &[u8], on: bool)
     ensures stands { (p : plain.Session) → SessionStands D.address session.old p → SessionStands D.address session.new (with_variable variable.now on p) }
     ensures base { session.new.draft.chunks.base ≡ session.old.draft.chunks.base }
+    ensures pages { pages_in session.old.draft ≤ pages_in session.new.draft }
 {
     if variable == b"autocommit".as_slice() {
         session.autocommit = on;

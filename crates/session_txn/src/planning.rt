@@ -1,6 +1,7 @@
 //! Starts and decisions: what a session plans for the state that sessions share.
 
-ghost use Rattle.std.specs.Prelude.{◌≡◌, [], Some};
+ghost use Rattle.std.specs.Prelude.{◌≡◌, ◌≤◌, [], Some};
+ghost use Rattle.chunk_store.specs.Drafts.{pages_in};
 ghost use Rattle.chunk_store.specs.Stores.{all_chunks};
 ghost use Rattle.plain_sessions.specs.Records.{Shared};
 ghost use Rattle.plain_sessions.specs.Sessions as plain;
@@ -25,6 +26,7 @@ pub fn plan_begin<D: Digester>(alloc: Global, session: &mut Session<D>, look: Lo
     ensures started { (p : plain.Session) (shared : Shared) → SessionStands D.address session.old p → IsLookOf D.address look shared
         → (t : plain.Transaction) × (taken shared p ≡ Some t) × SessionStands D.address session.new (within p t) }
     ensures chunks { session.new.draft.chunks ≡ record { base = all_chunks look.store; own = [] } }
+    ensures pages { pages_in session.old.draft ≤ pages_in session.new.draft }
 {
     law_of_transactions();
     let Look {
@@ -46,7 +48,8 @@ pub fn plan_begin<D: Digester>(alloc: Global, session: &mut Session<D>, look: Lo
 /// Ends a decision as it was settled: the transaction is over where it was done, and stays as it was where it wasn't.
 pub fn finish<D: Digester>(session: &mut Session<D>, plan: Plan, settled: Settled) -> Reply
     requires { IsFinal settled }
-    ensures { IsFinished D.address session.old session.new plan settled result }
+    ensures finished { IsFinished D.address session.old session.new plan settled result }
+    ensures pages { pages_in session.old.draft ≤ pages_in session.new.draft }
 {
     match settled {
         Settled::Done => {

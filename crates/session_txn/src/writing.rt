@@ -1,8 +1,8 @@
 //! Statements that write, in a transaction.
 
-ghost use Rattle.std.specs.Prelude.{◌≡◌, true};
+ghost use Rattle.std.specs.Prelude.{◌≡◌, ◌≤◌, true};
 ghost use Rattle.chunk_store.specs.Laws.{ChunksFollow, DraftsFollow, DraftsGrow};
-ghost use Rattle.chunk_store.specs.Drafts.{Grows, IsNamed, Longer, chunks_of};
+ghost use Rattle.chunk_store.specs.Drafts.{Grows, IsNamed, Longer, chunks_of, pages_in};
 ghost use Rattle.constraint_scan.specs.Scanning.{HasKeptAt, IsKeptAt};
 ghost use Rattle.schema_model.specs.PlainTables.{PlainDatabase};
 ghost use Rattle.script_text.specs.Collisions.{TellsTruly};
@@ -47,6 +47,7 @@ pub(crate) fn change<D: Digester>(
     ensures sound { is_sound_reply result ≡ true }
     ensures truly { TellsTruly D.address result }
     ensures base { session.new.draft.chunks.base ≡ session.old.draft.chunks.base }
+    ensures pages { pages_in session.old.draft ≤ pages_in session.new.draft }
 {
     laws();
     let mut root = session.own.working;
@@ -70,6 +71,7 @@ fn turn<D: Digester>(
     ensures sound { is_sound_reply result ≡ true }
     ensures truly { TellsTruly D.address result }
     ensures base { draft.new.chunks.base ≡ draft.old.chunks.base }
+    ensures pages { pages_in draft.old ≤ pages_in draft.new }
 {
     laws();
     let mark = draft.mark();

@@ -1,4 +1,5 @@
-use Rattle.std.proofs.Common.{◌≡◌, ◌∙◌, sym, ap}
+use Rattle.std.proofs.Common.{◌≡◌, ◌≤◌, ◌∙◌, sym, ap, subst}
+use Rattle.chunk_store.specs.Drafts.{pages_in}
 use Rattle.plain_sessions.specs.Records.{root_of}
 use Rattle.branch_procs.specs.Calls.{staged_by}
 use Rattle.branch_procs.proofs.LocalLemmas.{base_back, failed_so, fails_truly, settled_so, settled_truly}
@@ -31,3 +32,9 @@ returns-in-Ok-clause-base g c = c.settle.ensures.base ∙ c.in-Ok.ensures.grows.
 pub returns-in-Err-clause-base : goal.returns-in-Err-clause-base
 returns-in-Err-clause-base g c =
     base_back c.args.draft.now.chunks c.made-made.new.draft.chunks c.back_to.new.self.chunks c.mark-mark.result.own c.in-Err.ensures.grows.base c.back_to.ensures.chunks
+
+pub returns-in-Ok-clause-pages : goal.returns-in-Ok-clause-pages
+returns-in-Ok-clause-pages g c = subst (λ n. pages_in c.args.draft.now ≤ n) (sym c.settle.ensures.pages) c.in-Ok.ensures.grows.pages
+
+pub returns-in-Err-clause-pages : goal.returns-in-Err-clause-pages
+returns-in-Err-clause-pages g c = subst (λ n. pages_in c.args.draft.now ≤ n) (sym c.back_to.ensures.pages) c.in-Err.ensures.grows.pages

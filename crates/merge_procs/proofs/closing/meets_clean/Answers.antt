@@ -1,5 +1,5 @@
-use Rattle.std.proofs.Common.{◌∙◌}
-use Rattle.chunk_store.specs.Drafts.{chunks_of}
+use Rattle.std.proofs.Common.{◌≤◌, ◌∙◌, subst, sym}
+use Rattle.chunk_store.specs.Drafts.{chunks_of, pages_in}
 use Rattle.merge_procs.specs.Databases.{merged_of}
 use Rattle.merge_procs.proofs.ClosingLemmas.{clean_told, comes_back, fails_truly}
 use Rattle.merge_procs.proofs.closing.meets_clean.Goals as goal
@@ -20,3 +20,9 @@ pub returns-in-Err-clause-fault : goal.returns-in-Err-clause-fault
 returns-in-Err-clause-fault g c =
     fails_truly g.D.Digester.address c.args.draft.now c.meet-met.new.draft c.in-Err.fault c.laws.ensures.chunks c.laws.ensures.drafts c.laws.ensures.growth c.requires.named c.tell.ensures
     c.in-Err.ensures.grows c.in-Err.ensures.cause
+
+pub returns-in-Ok-clause-pages : goal.returns-in-Ok-clause-pages
+returns-in-Ok-clause-pages g c = subst (λ n. pages_in c.args.draft.now ≤ n) (sym c.back_to.ensures.pages) c.meet-met.ensures.grows.pages
+
+pub returns-in-Err-clause-pages : goal.returns-in-Err-clause-pages
+returns-in-Err-clause-pages g c = subst (λ n. pages_in c.args.draft.now ≤ n) (sym c.back_to.ensures.pages) c.meet-met.ensures.grows.pages

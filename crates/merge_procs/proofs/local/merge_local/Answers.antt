@@ -1,4 +1,5 @@
-use Rattle.chunk_store.specs.Drafts.{chunks_of}
+use Rattle.std.proofs.Common.{◌≤◌, subst, sym}
+use Rattle.chunk_store.specs.Drafts.{chunks_of, pages_in}
 use Rattle.plain_sessions.specs.Statements.{worked}
 use Rattle.merge_procs.proofs.StepLemmas.{answers, plain_step, settles_truly}
 use Rattle.merge_procs.proofs.local.merge_local.Goals as goal
@@ -22,3 +23,6 @@ returns-clause-truly g c =
     c.laws.ensures.chunks c.laws.ensures.drafts c.laws.ensures.growth stands.named c.tell.ensures c.worked-step.ensures.grows
     (plain_step g.D.Digester.address (chunks_of c.worked-step.new.session.draft.chunks) t.commits (worked p t c.args.asked.now) c.worked-step.result (c.worked-step.ensures.is p t stands there))
     c.worked-step.ensures.cause c.settle.ensures.settles
+
+pub returns-clause-pages : goal.returns-clause-pages
+returns-clause-pages g c = subst (λ n. pages_in c.args.session.now.draft ≤ n) (sym c.settle.ensures.pages) c.worked-step.ensures.grows.pages

@@ -78,8 +78,8 @@ returns-in_err-reply-in-Record-clause-fault g c =
     rw (e.1, e.2) (fault_is c.law_of_states.ensures g.D.Digester.address c.args.session.now c.args.db.now.parts c.in_ok-look.look looks c.in_ok-plan.plan c.in_ok-plan.ensures.planned
     held.0 held.1 held.2 here held.4 c.law_of_chunks.ensures (Err c.in_err-reply-in-Record.field-0.0) c.in_err-reply-in-Record.ensures.fault)
 
-pub plan_begin-requires-clause-look : goal.plan_begin-requires-clause-look
-plan_begin-requires-clause-look g c κs within =
+pub start_at-requires-clause-look : goal.start_at-requires-clause-look
+start_at-requires-clause-look g c κs within =
     let looks : Looks c.args.session.now c.args.db.now.parts c.in_ok-look.look =
     record { branch = c.in_ok-look.ensures.branch; there = c.in_ok-look.ensures.there; heads = c.in_ok-look.ensures.heads; chunks = c.in_ok-look.ensures.chunks } in
     let held = c.requires.open in
@@ -100,7 +100,7 @@ returns-clause-answered g c = λ epoch p t shared before transaction changed.
     c.in_ok-plan.ensures.planned c.number_of-number.result c.number_of-number.ensures c.in_ok-reply-in-Record.ensures.settled c.in_ok-reply-in-Record.ensures.single
     c.in-Record.rec c.in-Record.is c.in_ok-next-in-Record.next
     (record { branch = next.branch; rec_is = next.rec; heads = next.heads; chunks = next.chunks; single = next.single })
-    c.in_ok-reply-in-Record.reply c.in_ok-reply-in-Record.ensures.reply c.plan_begin.new.session (ap (λ (d : DraftParts). d.base) c.plan_begin.ensures.chunks) c.plan_begin.ensures.started
+    c.in_ok-reply-in-Record.reply c.in_ok-reply-in-Record.ensures.reply c.start_at.new.session (ap (λ (d : DraftParts). d.base) c.start_at.ensures.chunks) c.start_at.ensures.started
     epoch p t shared before transaction changed
 
 pub returns-clause-sound : goal.returns-clause-sound

@@ -1,5 +1,5 @@
-use Rattle.std.proofs.Common.{ap, ◌∙◌}
-use Rattle.chunk_store.specs.Drafts.{DraftParts}
+use Rattle.std.proofs.Common.{ap, ◌∙◌, ◌≤◌, subst, sym}
+use Rattle.chunk_store.specs.Drafts.{DraftParts, pages_in}
 use Rattle.session_txn.specs.Deleting.{turn_effect}
 use Rattle.session_txn.proofs.WriteLemmas.{refuses_truly, turned, unturned}
 use Rattle.session_txn.proofs.writing.turn.Goals as goal
@@ -24,3 +24,9 @@ returns-in-Ok-clause-base g c = c.in-Ok.ensures.grows.base
 
 pub returns-in-Err-clause-base : goal.returns-in-Err-clause-base
 returns-in-Err-clause-base g c = ap (λ (d : DraftParts). d.base) c.back_to.ensures.chunks ∙ c.in-Err.ensures.longer.base
+
+pub returns-in-Ok-clause-pages : goal.returns-in-Ok-clause-pages
+returns-in-Ok-clause-pages g c = c.in-Ok.ensures.grows.pages
+
+pub returns-in-Err-clause-pages : goal.returns-in-Err-clause-pages
+returns-in-Err-clause-pages g c = subst (λ n. pages_in c.args.draft.now ≤ n) (sym c.back_to.ensures.pages) c.in-Err.ensures.grows.pages
