@@ -14,7 +14,7 @@ use Rattle.schema_model.specs.WrittenForms.{table_address}
 use Rattle.chunk_store.specs.Chunks.{Chunks}
 use Rattle.expr_eval.specs.Binding.{Outcome, and_then}
 use Rattle.table_root.specs.Standing.{IsTableAt, TablesStand, named_tables}
-use Rattle.table_root.specs.declared.records.NamedTable.{NamedTable}
+use Rattle.table_root.specs.declared.records.TableEntry.{TableEntry}
 use Rattle.plain_sql.specs.Lists.{unless}
 use Rattle.sql_procedures.specs.declared.requests.CommitRequest.{CommitRequest}
 use Rattle.plain_sessions.specs.Branching as plain_branching
@@ -40,14 +40,14 @@ fold_on : {A B : Type 0} (f : A → B → A) (held : A) (xs ys : List B) → fol
 fold_on f held [] ys = refl
 fold_on f held (x ∷ xs) ys = fold_on f (f held x) xs ys
 
-abbrev name_of : NamedTable → List ℕ
+abbrev name_of : TableEntry → List ℕ
 name_of named = named.name
 
 names_named : (address : List ℕ → List ℕ) (database : PlainDatabase) → map name_of (named_tables address database) ≡ names_in database
 names_named address [] = refl
 names_named address (named ∷ database) = ap (λ (l : List (List ℕ)). named.name ∷ l) (names_named address database)
 
-pub known_tables : (address : List ℕ → List ℕ) (chunks : Chunks) (working staged names head first made : List NamedTable) (w s root : PlainDatabase) → AreFewTables address chunks working w
+pub known_tables : (address : List ℕ → List ℕ) (chunks : Chunks) (working staged names head first made : List TableEntry) (w s root : PlainDatabase) → AreFewTables address chunks working w
     → AreFewTables address chunks staged s → AreFewTables address chunks names s → AreFewTables address chunks head root → first ≡ taking_all working staged (map name_of names)
     → made ≡ taking_all working first (map name_of head) → AreFewTables address chunks made (plain_branching.taking_all w s (names_in s ++ names_in root))
 known_tables address chunks working staged names head first made w s root w_few s_few n_few r_few first_is made_is =
@@ -59,14 +59,14 @@ known_tables address chunks working staged names head first made w s root w_few 
     let few = taking_few w s (names_in root) from.tables into (few_so w w_few.few) in
     record {
       tables_are = taken_are address chunks working staged made w s all w_few s_few
-          (made_is ∙ ap (λ (l : List NamedTable). taking_all working l (map name_of head)) first_is
+          (made_is ∙ ap (λ (l : List TableEntry). taking_all working l (map name_of head)) first_is
           ∙ (λ i. taking_all working (taking_all working staged ((ap (map name_of) n.listed ∙ names_named address s) i)) ((ap (map name_of) r.listed ∙ names_named address root) i))
           ∙ sym (fold_on (taking working) staged (names_in s) (names_in root)));
       few = leb-true (length (plain_branching.taking_all w s all)) most_tables few;
     }
 
 -- the same of lists that are shown twice
-pub known_told : (address : List ℕ → List ℕ) (chunks : Chunks) (working staged names head s1 s2 s3 s4 first made : List NamedTable) (w s root : PlainDatabase) → AreFewTables address chunks working w
+pub known_told : (address : List ℕ → List ℕ) (chunks : Chunks) (working staged names head s1 s2 s3 s4 first made : List TableEntry) (w s root : PlainDatabase) → AreFewTables address chunks working w
     → AreFewTables address chunks staged s → AreFewTables address chunks names s → AreFewTables address chunks head root → s1 ≡ working → s2 ≡ names → s3 ≡ working → s4 ≡ head
     → first ≡ taking_all s1 staged (map name_of s2) → made ≡ taking_all s3 first (map name_of s4)
     → AreFewTables address chunks made (plain_branching.taking_all w s (names_in s ++ names_in root))
@@ -98,7 +98,7 @@ module _ (address : List ℕ → List ℕ) (chunks : Chunks) (law : TablesStand)
   same_databases (one ∷ ones) (other ∷ others) x y =
       λ i. (bytes_eq one.name other.name && same_table one.table other.table x.0 y.0 i) && same_databases ones others x.1 y.1 i
 
-  pub same_told : (ones others shown seen : List NamedTable) (a b : PlainDatabase) → shown ≡ ones → seen ≡ others → AreFewTables address chunks ones a → AreFewTables address chunks others b
+  pub same_told : (ones others shown seen : List TableEntry) (a b : PlainDatabase) → shown ≡ ones → seen ≡ others → AreFewTables address chunks ones a → AreFewTables address chunks others b
       → are_same shown seen ≡ is_same_database a b
   same_told ones others shown seen a b first second few more =
       let x = few.tables_are in

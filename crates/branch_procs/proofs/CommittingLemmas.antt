@@ -6,10 +6,10 @@ use Rattle.std.specs.Option.{option_map_or, option_to_list}
 use Rattle.basic_laws.proofs.Bytes.{bytes_same}
 use Rattle.tuple_codec.specs.declared.addresses.Address.{Address}
 use Rattle.tuple_codec.specs.declared.records.BranchRecord.{BranchRecord}
-use Rattle.chunk_store.specs.Chunks.{AreNamed, Chunk, Chunks, Extends, IsSingle, Lists, bytes_at}
+use Rattle.chunk_store.specs.Chunks.{AreNamed, Chunk, Chunks, Extends, IsSingle, Lists, chunk_bytes}
 use Rattle.chunk_store.specs.Clashes.{IsReason}
 use Rattle.chunk_store.specs.Drafts.{Drafting, DraftParts, Grows, IsNamed, IsSound, Longer, chunks_of, put_in}
-use Rattle.chunk_store.specs.Kinds.{is_commit, is_database, is_node, is_table}
+use Rattle.chunk_store.specs.Kinds.{is_commit, is_data, is_database, is_node, is_table}
 use Rattle.chunk_store.specs.Laws.{ChunksFollow, DraftsFollow}
 use Rattle.chunk_store.specs.Standing.{IsThere}
 use Rattle.chunk_store.specs.Stores.{all_chunks, joined}
@@ -40,20 +40,19 @@ use Rattle.plain_sessions.specs.Sessions.{Transaction, own_root}
 use Rattle.plain_sessions.specs.Statements.{worked}
 use Rattle.plain_sessions.specs.declared.commands.Work.TheVariants as call
 use Rattle.root_merge.specs.Deciding.{AreStates, set}
-use Rattle.root_merge.specs.Merging.{is_data}
-use Rattle.root_merge.specs.States.{IsCandidate, StateStands}
+use Rattle.root_merge.specs.States.{BranchStateStands, IsCandidate}
 use Rattle.root_merge.specs.declared.candidates.Candidate.{Candidate}
 use Rattle.root_merge.specs.declared.candidates.Candidate.TheVariants as made
 use Rattle.session_laws.specs.Commits.{AreAmong, CommitsAreThere, HasNoCommit}
 use Rattle.session_laws.specs.Laws.{CommitsFollow, RecordsFollow}
 use Rattle.session_state.specs.declared.sessions.Session.{Session}
 use Rattle.shared_db.specs.Plans.{IsPlannedAs, IsRefusedBy, PlanIs, brought}
-use Rattle.shared_db.specs.declared.changes.Plan.{Plan}
+use Rattle.shared_db.specs.declared.changes.DecisionPlan.{DecisionPlan}
 use Rattle.session_txn.specs.Answering.{Decides}
 use Rattle.session_txn.specs.Committing.{IsWorkOf}
 use Rattle.session_txn.proofs.CommitLemmas as decisions
 use Rattle.session_txn.proofs.CommitLemmas.{gives, ok_same, past_unless}
-use Rattle.branch_procs.specs.Committing.{CanCommit, CanDecide, IsCommitted, IsPlannedOf, IsWritten, hash_reply, parents_on, staged_in}
+use Rattle.branch_procs.specs.Committing.{CanCommit, CanDecide, IsCommitWritten, IsCommitted, IsPlannedOf, hash_reply, parents_on, staged_in}
 use Rattle.branch_procs.proofs.ClosingLemmas.{worked_commit}
 use Rattle.branch_procs.proofs.LocalLemmas.{Known, record_in}
 use Rattle.branch_procs.proofs.StageLemmas.{kept_later}
@@ -65,8 +64,8 @@ or_third true b c h = refl
 or_third false true c h = refl
 or_third false false c h = h
 
-pub state_later : (address : List ℕ → List ℕ) (old new : Chunks) → Extends old new → DatabasesStand → (rec : BranchRecord) (state : BranchState) → StateStands address old rec state
-    → StateStands address new rec state
+pub state_later : (address : List ℕ → List ℕ) (old new : Chunks) → Extends old new → DatabasesStand → (rec : BranchRecord) (state : BranchState) → BranchStateStands address old rec state
+    → BranchStateStands address new rec state
 state_later address old new more laws rec state stands = record {
   head = stands.head;
   working = kept_later address old new more laws rec.working.0 state.working stands.working;
@@ -80,7 +79,7 @@ database_is_data bytes is = or_third (is_node bytes) (is_table bytes) (is_databa
 -- the commit was put
 pub write_made : (address : List ℕ → List ℕ) (old new : DraftParts) (wrote : CommitRecord) (commit : PlainCommit) (k : Address) → parts_of wrote ≡ commit_parts address commit → length k.0 ≡ 20
     → k.0 ≡ address (commit_bytes (parts_of wrote)) → new ≡ put_in address (commit_bytes (parts_of wrote)) old → IsCommitFound (chunks_of new) k.0 (parts_of wrote)
-    → IsWritten address old new commit k
+    → IsCommitWritten address old new commit k
 write_made address old new wrote commit k is twenty named chunks found = record {
   named = subst (λ (parts : CommitParts). k.0 ≡ address (commit_bytes parts)) is named;
   length_is = twenty;
@@ -109,8 +108,8 @@ module _ (address : List ℕ → List ℕ) (chunks : ChunksFollow) (drafts : Dra
 abbrev record_at : BranchRecord → Address → BranchRecord
 record_at rec k = record { head = k; working = rec.working; staged = rec.staged; merging = None }
 
-pub committed_told : (address : List ℕ → List ℕ) (work after : Drafting) (commit : PlainCommit) (rec at : BranchRecord) (k : Address) (reply : Reply) (result : Result Plan PutFault)
-    → IsWritten address work.chunks after.chunks commit k → after.segments ≡ work.segments → IsSound address after.chunks → at ≡ record_at rec k → reply ≡ hash_reply k.0
+pub committed_told : (address : List ℕ → List ℕ) (work after : Drafting) (commit : PlainCommit) (rec at : BranchRecord) (k : Address) (reply : Reply) (result : Result DecisionPlan PutFault)
+    → IsCommitWritten address work.chunks after.chunks commit k → after.segments ≡ work.segments → IsSound address after.chunks → at ≡ record_at rec k → reply ≡ hash_reply k.0
     → IfOk result (λ plan. IsPlannedOf after at reply plan) → IfOk result (λ plan. IsCommitted address work commit rec plan)
 committed_told address work after commit rec at k reply (Err fault) written segments sound at_is told is = tt
 committed_told address work after commit rec at k reply (Ok plan) written segments sound at_is told is = record {
@@ -126,10 +125,10 @@ committed_told address work after commit rec at k reply (Ok plan) written segmen
 
 -- no other commit than the one that was put is among the draft's own chunks
 pub one_put : (there : Bool) (d : DraftParts) (k bytes j more : List ℕ) → HasNoCommit d.own
-    → (let put : DraftParts = if there then d else record { base = d.base; own = d.own ++ (k, bytes) ∷ [] } in bytes_at put.own j ≡ Some more) → is_commit more ≡ true → j ≡ k
+    → (let put : DraftParts = if there then d else record { base = d.base; own = d.own ++ (k, bytes) ∷ [] } in chunk_bytes put.own j ≡ Some more) → is_commit more ≡ true → j ≡ k
 one_put true d k bytes j more none found is = absurd (none j more found is)
 one_put false d k bytes j more none found is =
-    elim (either_some (bytes_at d.own j) (bytes_at ((k, bytes) ∷ []) j) more (sym (at_join d.own ((k, bytes) ∷ []) j) ∙ found)) [
+    elim (either_some (chunk_bytes d.own j) (chunk_bytes ((k, bytes) ∷ []) j) more (sym (at_join d.own ((k, bytes) ∷ []) j) ∙ found)) [
       | inl here ↦ absurd (none j more here is)
       | inr here ↦ sym (one_at k bytes j more here).0
     ]
@@ -146,7 +145,7 @@ abbrev own_in : Outcome Worked → BranchState → BranchState
 own_in (Ok (Closes (Committing own message))) other = own
 own_in outcome other = other
 
-refused_by : (address : List ℕ → List ℕ) (found : Chunks) (look : Look) (commits : Commits) (number : ℕ) (plan : Plan) (outcome : Outcome BranchState) (f : BranchState → Change)
+refused_by : (address : List ℕ → List ℕ) (found : Chunks) (look : Look) (commits : Commits) (number : ℕ) (plan : DecisionPlan) (outcome : Outcome BranchState) (f : BranchState → Change)
     → IsRefusedBy number plan → IsCandidate address found (made.Refused number) outcome → PlanIs address look commits plan (and_then outcome (λ (state : BranchState). Ok (f state)))
 refused_by address found look commits number plan (Err refusal) f is same = subst (λ (n : ℕ). IsRefusedBy n plan) same is
 refused_by address found look commits number plan (Ok state) f is same = absurd same
@@ -159,11 +158,11 @@ module _ {D : Type 0} (address : List ℕ → List ℕ) (chunks : ChunksFollow) 
   abbrev store : List Chunk
   store = all_chunks look.store
 
-  there_before : CommitsAreThere address (bytes_at session.draft.chunks.base) t.commits
+  there_before : CommitsAreThere address (chunk_bytes session.draft.chunks.base) t.commits
   there_before = let stands = decisions.stands address chunks records session look start started work w p t shared present d in stands.commits
 
   among : AreAmong t.commits shared.commits
-  among = commits.among address (bytes_at session.draft.chunks.base) (bytes_at store) t.commits shared.commits
+  among = commits.among address (chunk_bytes session.draft.chunks.base) (chunk_bytes store) t.commits shared.commits
       (decisions.base_extends address chunks records session look start started work w p t shared present d) there_before d.look_is.commits
 
   head_known : is_known t.commits t.own.head ≡ true
@@ -185,7 +184,7 @@ module _ {D : Type 0} (address : List ℕ → List ℕ) (chunks : ChunksFollow) 
     present_stands = states.present_stands;
     own_stands = record {
       stands = record_in address (chunks_of work.chunks) shared.commits session.own t.own states.own_stands own_known;
-      all_there = subst (λ (base : List Chunk). CommitsAreThere address (bytes_at base) shared.commits) (sym w.base) d.look_is.commits;
+      all_there = subst (λ (base : List Chunk). CommitsAreThere address (chunk_bytes base) shared.commits) (sym w.base) d.look_is.commits;
     };
   }
 
@@ -219,7 +218,7 @@ module _ {D : Type 0} (address : List ℕ → List ℕ) (chunks : ChunksFollow) 
     by_variables : (other : Candidate) → m ≡ other → IsCandidate address (chunks_of after.chunks) other outcome
     by_variables other is = decisions.decided_so address (chunks_of after.chunks) session p (record t { own = mine }) present m other d.session_stands is told
 
-    pub refuses : (epoch : ℤ) (message : List ℕ) (number : ℕ) (plan : Plan) → m ≡ made.Refused number → IsRefusedBy number plan
+    pub refuses : (epoch : ℤ) (message : List ℕ) (number : ℕ) (plan : DecisionPlan) → m ≡ made.Refused number → IsRefusedBy number plan
         → PlanIs address look shared.commits plan (closed address epoch shared.commits p t present (Committing mine message))
     refuses epoch message number plan is refused =
         refused_by address (chunks_of after.chunks) look shared.commits number plan outcome (λ state. committed_as address (commit_of epoch shared.commits p present message state) state) refused
@@ -240,7 +239,7 @@ module _ {D : Type 0} (address : List ℕ → List ℕ) (chunks : ChunksFollow) 
             decided,
             record {
               stands = stood;
-              all_there = subst (λ (base : List Chunk). CommitsAreThere address (bytes_at base) shared.commits) (sym after_base) d.look_is.commits;
+              all_there = subst (λ (base : List Chunk). CommitsAreThere address (chunk_bytes base) shared.commits) (sym after_base) d.look_is.commits;
               present_known = ap (is_known shared.commits) now.head ∙ now.head_known;
               merging_known = (decisions.decided_known shared.commits t.start present mine state p.variables own_known now.head_known decided).1;
             },
@@ -268,7 +267,7 @@ module _ {D : Type 0} (address : List ℕ → List ℕ) (chunks : ChunksFollow) 
             subst HasNoCommit (sym (grown.own ∙ ap (λ (cs : List Chunk). cs ++ grown.more) w.own))
             (decisions.no_commit_more chunks session.draft.chunks.own grown.more stands.plain_own grown.kinds)
 
-        module _ (plan : Plan) (made_so : IsCommitted address after commit rec plan) where
+        module _ (plan : DecisionPlan) (made_so : IsCommitted address after commit rec plan) where
           abbrev now : Drafting
           now = made_so.after
 
@@ -286,29 +285,29 @@ module _ {D : Type 0} (address : List ℕ → List ℕ) (chunks : ChunksFollow) 
           abbrev beside : List Chunk
           beside = store ++ now.chunks.own
 
-          at_now : chunks_of now.chunks ≡ bytes_at beside
-          at_now = λ i. bytes_at (now_base i ++ now.chunks.own)
+          at_now : chunks_of now.chunks ≡ chunk_bytes beside
+          at_now = λ i. chunk_bytes (now_base i ++ now.chunks.own)
 
-          only_one : (j bytes : List ℕ) → bytes_at now.chunks.own j ≡ Some bytes → is_commit bytes ≡ true → j ≡ k
+          only_one : (j bytes : List ℕ) → chunk_bytes now.chunks.own j ≡ Some bytes → is_commit bytes ≡ true → j ≡ k
           only_one j bytes found is =
               let written = made_so.written in
               one_put (is_some (chunks_of after.chunks k)) after.chunks k (plain_commit_bytes address commit) j bytes no_commit
-              (subst (λ (parts : DraftParts). bytes_at parts.own j ≡ Some bytes) written.chunks found) is
+              (subst (λ (parts : DraftParts). chunk_bytes parts.own j ≡ Some bytes) written.chunks found) is
 
-          here : StateStands address (bytes_at beside) rec state
-          here = subst (λ (found : Chunks). StateStands address found rec state) at_now
+          here : BranchStateStands address (chunk_bytes beside) rec state
+          here = subst (λ (found : Chunks). BranchStateStands address found rec state) at_now
               (state_later address (chunks_of after.chunks) (chunks_of now.chunks) (drafts.longer_extends after.chunks now.chunks longer) databases rec state can.stands)
 
-          is_held : IsThere address (bytes_at beside) (plain_commit_bytes address commit)
+          is_held : IsThere address (chunk_bytes beside) (plain_commit_bytes address commit)
           is_held =
               let written = made_so.written in
               let found = written.found in (
-                subst (λ (j : List ℕ). bytes_at beside j ≡ Some (plain_commit_bytes address commit)) written.named
+                subst (λ (j : List ℕ). chunk_bytes beside j ≡ Some (plain_commit_bytes address commit)) written.named
                     (subst (λ (have : Chunks). have made_so.k.0 ≡ Some (plain_commit_bytes address commit)) at_now found.held),
                 subst (λ (j : List ℕ). length j ≡ 20) written.named written.length_is,
               )
 
-          is_there : IsCommitThere address (bytes_at beside) k commit
+          is_there : IsCommitThere address (chunk_bytes beside) k commit
           is_there =
               let written = made_so.written in
               let found = written.found in
@@ -318,7 +317,7 @@ module _ {D : Type 0} (address : List ℕ → List ℕ) (chunks : ChunksFollow) 
                 is_commit = found.is_commit;
                 named = refl;
                 there = is_held;
-                database = subst (λ (root : List ℕ). IsDatabaseAt address (bytes_at beside) root state.staged) (sym database.named) database;
+                database = subst (λ (root : List ℕ). IsDatabaseAt address (chunk_bytes beside) root state.staged) (sym database.named) database;
               }
 
           is_grown : IsGrown shared.commits commit
@@ -326,7 +325,7 @@ module _ {D : Type 0} (address : List ℕ → List ℕ) (chunks : ChunksFollow) 
               let stands = decisions.present_stands address chunks records session look start started work w p t shared present d in
               record { parents = λ i. stands.head_known i && merging_all shared.commits state.merging can.merging_known i; height = refl }
 
-          with_it : (left : Commits) × (with_new_commit address commit shared.commits ≡ Some left) × CommitsAreThere address (bytes_at beside) left
+          with_it : (left : Commits) × (with_new_commit address commit shared.commits ≡ Some left) × CommitsAreThere address (chunk_bytes beside) left
           with_it =
               let staged = here.staged in
               commits.with_one address store now.chunks.own shared.commits commit d.look_is.commits is_there is_grown staged.within present.head
@@ -343,7 +342,7 @@ module _ {D : Type 0} (address : List ℕ → List ℕ) (chunks : ChunksFollow) 
               let planned = made_so.planned in
               subst (λ (kept : List (List Chunk)). Lists sealed (joined kept ++ now.chunks.own)) (made_so.segments ∙ grown.segments ∙ w.segments) planned.sealed.only
 
-          same : bytes_at beside ≡ bytes_at (store ++ sealed)
+          same : chunk_bytes beside ≡ chunk_bytes (store ++ sealed)
           same =
               let planned = made_so.planned in decisions.sealed_found chunks store now.chunks.own sealed single planned.sealed.all only
 
@@ -352,8 +351,8 @@ module _ {D : Type 0} (address : List ℕ → List ℕ) (chunks : ChunksFollow) 
               (subst (λ (base : List Chunk). AreNamed address (base ++ now.chunks.own)) now_base
               (drafts.all_named address now.chunks (subst (AreNamed address) (sym now_base) d.look_is.named) made_so.sound))
 
-          stands_sealed : StateStands address (bytes_at (store ++ sealed)) rec state
-          stands_sealed = subst (λ (found : Chunks). StateStands address found rec state) same here
+          stands_sealed : BranchStateStands address (chunk_bytes (store ++ sealed)) rec state
+          stands_sealed = subst (λ (found : Chunks). BranchStateStands address found rec state) same here
 
           planned_as : IsPlannedAs address look shared.commits plan (committed_as address commit state)
           planned_as =
@@ -380,13 +379,13 @@ module _ {D : Type 0} (address : List ℕ → List ℕ) (chunks : ChunksFollow) 
                 };
               }
 
-        plans : (plan : Plan) → outcome ≡ Ok state → IsCommitted address after named_by rec plan
+        plans : (plan : DecisionPlan) → outcome ≡ Ok state → IsCommitted address after named_by rec plan
             → PlanIs address look shared.commits plan (closed address epoch shared.commits p t present (Committing mine message))
         plans plan decided made_so =
             subst (λ (o : Outcome BranchState). PlanIs address look shared.commits plan (and_then o (λ (found : BranchState). Ok (committed_as address (commit_of epoch shared.commits p present message found) found))))
             (sym decided) (planned_as plan (subst (λ (c : PlainCommit). IsCommitted address after c rec plan) same_commit made_so))
 
-        pub plans_told : outcome ≡ Ok state → (result : Result Plan PutFault) → IfOk result (λ plan. IsCommitted address after named_by rec plan)
+        pub plans_told : outcome ≡ Ok state → (result : Result DecisionPlan PutFault) → IfOk result (λ plan. IsCommitted address after named_by rec plan)
             → IfOk result (λ plan. PlanIs address look shared.commits plan (closed address epoch shared.commits p t present (Committing mine message)))
         plans_told decided (Err fault) made_so = tt
         plans_told decided (Ok plan) made_so = plans plan decided made_so

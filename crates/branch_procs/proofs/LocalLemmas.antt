@@ -5,7 +5,7 @@ use Rattle.std.proofs.lemmas.Bool.Decides.{nat_tests}
 use Rattle.basic_laws.proofs.Options.{some_there as has_one}
 use Rattle.tuple_codec.specs.declared.addresses.Address.{Address}
 use Rattle.tuple_codec.specs.declared.records.BranchRecord.{BranchRecord}
-use Rattle.chunk_store.specs.Chunks.{Chunk, Chunks, bytes_at}
+use Rattle.chunk_store.specs.Chunks.{Chunk, Chunks, chunk_bytes}
 use Rattle.chunk_store.specs.Clashes.{IsReason}
 use Rattle.chunk_store.specs.Drafts.{AreOfKind, Drafting, DraftParts, Grows, IsNamed, IsSound, Longer, chunks_of, cut_to}
 use Rattle.chunk_store.specs.Kinds.{is_commit, is_database}
@@ -38,7 +38,7 @@ use Rattle.plain_sessions.specs.Statements.{staged, worked}
 use Rattle.plain_sessions.specs.declared.commands.Command.TheVariants as command
 use Rattle.plain_sessions.specs.declared.commands.Work.{Work}
 use Rattle.plain_sessions.specs.declared.commands.Work.TheVariants.{Ask, Change, Add, ResetTo, Commit, Merge, Resolve, Verify}
-use Rattle.root_merge.specs.States.{IsCandidate, StateStands}
+use Rattle.root_merge.specs.States.{BranchStateStands, IsCandidate}
 use Rattle.root_merge.specs.declared.candidates.Candidate.{Candidate}
 use Rattle.root_merge.specs.declared.candidates.Candidate.TheVariants as cand
 use Rattle.session_laws.specs.Commits.{HasNoCommit}
@@ -90,7 +90,7 @@ module _ (commits : Commits) (own made : BranchState) (known : Known commits own
   known_after root (Resolve request) is = subst (Known commits) (ok_same own made is) known
   known_after root (Verify way) is = subst (Known commits) (ok_same own made is) known
 
-pub record_in : (address : List ℕ → List ℕ) (chunks : Chunks) (commits : Commits) (rec : BranchRecord) (state : BranchState) → StateStands address chunks rec state → Known commits state
+pub record_in : (address : List ℕ → List ℕ) (chunks : Chunks) (commits : Commits) (rec : BranchRecord) (state : BranchState) → BranchStateStands address chunks rec state → Known commits state
     → RecordStands address chunks commits rec state
 record_in address chunks commits rec state stands known = record {
   head = stands.head;
@@ -102,7 +102,7 @@ record_in address chunks commits rec state stands known = record {
 }
 
 pub state_in : (address : List ℕ → List ℕ) (chunks : Chunks) (commits : Commits) (rec : BranchRecord) (state : BranchState) → RecordStands address chunks commits rec state
-    → StateStands address chunks rec state
+    → BranchStateStands address chunks rec state
 state_in address chunks commits rec state stands = record { head = stands.head; working = stands.working; staged = stands.staged; merging = stands.merging }
 
 -- ---- the head
@@ -131,7 +131,7 @@ database_apart (byte ∷ bytes) h is =
 -- databases more are no commits
 no_commit_more : ChunksFollow → (own more : List Chunk) → HasNoCommit own → AreOfKind is_database more → HasNoCommit (own ++ more)
 no_commit_more laws own more none all k bytes there is =
-    elim (either_some (bytes_at own k) (bytes_at more k) bytes (sym (at_join own more k) ∙ there)) [
+    elim (either_some (chunk_bytes own k) (chunk_bytes more k) bytes (sym (at_join own more k) ∙ there)) [
       | inl here ↦ none k bytes here is
       | inr here ↦ database_apart bytes (of_kind is_database more k bytes all (laws.is_listed more k bytes here)) is
     ]
@@ -232,7 +232,7 @@ abbrev with_record : {D : Type 0} → Session D → BranchRecord → Drafting �
 with_record session own d = record session { own = own; draft = d }
 
 done_stands : {D : Type 0} (address : List ℕ → List ℕ) (old : Session D) (d : Drafting) (own : BranchRecord) (p : plain.Session) (t : Transaction) (state : BranchState)
-    → ChunksFollow → DraftsFollow → DraftsGrow → TransactionsFollow → p.transaction ≡ Some t → SessionStands address old p → StateStands address (chunks_of d.chunks) own state
+    → ChunksFollow → DraftsFollow → DraftsGrow → TransactionsFollow → p.transaction ≡ Some t → SessionStands address old p → BranchStateStands address (chunks_of d.chunks) own state
     → Known t.commits state → Grows is_database old.draft d → SessionStands address (with_record old own d) (within p (with_own state t))
 done_stands address old d own p t state chunks drafts growth follow there stands stood known grows =
     let longer = growth.is_longer is_database old.draft d grows in

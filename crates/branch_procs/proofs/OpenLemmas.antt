@@ -6,20 +6,20 @@ use Rattle.schema_model.specs.PlainTables.{PlainDatabase, PlainTable, conflict_i
 use Rattle.chunk_store.specs.Chunks.{Chunks}
 use Rattle.chunk_store.specs.Standing.{IsTree}
 use Rattle.table_root.specs.Standing.{IsTableOf}
-use Rattle.table_root.specs.declared.records.NamedTable.{NamedTable}
-use Rattle.table_root.specs.declared.records.Table.{Table}
+use Rattle.table_root.specs.declared.records.StoredTable.{StoredTable}
+use Rattle.table_root.specs.declared.records.TableEntry.{TableEntry}
 use Rattle.plain_sessions.specs.Branching.{is_open, is_open_table}
 use Rattle.plain_sessions.specs.CommitRule.{has_conflicts, has_violations, is_none}
 
-pub conflicts_tree : (address : List ℕ → List ℕ) (chunks : Chunks) (table : Table) (contents : PlainTable) → IsTableOf address chunks table contents
+pub conflicts_tree : (address : List ℕ → List ℕ) (chunks : Chunks) (table : StoredTable) (contents : PlainTable) → IsTableOf address chunks table contents
     → IsTree address chunks table.conflicts.0 (conflict_items contents)
 conflicts_tree address chunks table contents stands =
-    subst (λ (k : List ℕ). IsTree address chunks k (conflict_items contents)) (sym (ap (λ (t : Table). t.conflicts.0) stands.value)) stands.trees.conflicts
+    subst (λ (k : List ℕ). IsTree address chunks k (conflict_items contents)) (sym (ap (λ (t : StoredTable). t.conflicts.0) stands.value)) stands.trees.conflicts
 
-pub violations_tree : (address : List ℕ → List ℕ) (chunks : Chunks) (table : Table) (contents : PlainTable) → IsTableOf address chunks table contents
+pub violations_tree : (address : List ℕ → List ℕ) (chunks : Chunks) (table : StoredTable) (contents : PlainTable) → IsTableOf address chunks table contents
     → IsTree address chunks table.violations.0 (violation_items contents)
 violations_tree address chunks table contents stands =
-    subst (λ (k : List ℕ). IsTree address chunks k (violation_items contents)) (sym (ap (λ (t : Table). t.violations.0) stands.value)) stands.trees.violations
+    subst (λ (k : List ℕ). IsTree address chunks k (violation_items contents)) (sym (ap (λ (t : StoredTable). t.violations.0) stands.value)) stands.trees.violations
 
 some_open : (contents : PlainTable) (conflicts violations : Bool) → conflicts ≡ not (length (conflict_items contents) == 0) → violations ≡ not (length (violation_items contents) == 0)
     → (conflicts || violations) ≡ is_open_table contents

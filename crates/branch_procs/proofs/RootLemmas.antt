@@ -5,7 +5,7 @@ use Rattle.std.proofs.lemmas.Option.{same_Some}
 use Rattle.schema_model.specs.PlainCommits.{Commits, PlainCommit, commit_parts, height_in, height_of, is_known}
 use Rattle.schema_model.specs.PlainTables.{PlainDatabase}
 use Rattle.schema_model.specs.WrittenForms.{CommitParts, commit_bytes, database_address}
-use Rattle.chunk_store.specs.Chunks.{Extends, bytes_at}
+use Rattle.chunk_store.specs.Chunks.{Extends, chunk_bytes}
 use Rattle.chunk_store.specs.Drafts.{DraftParts, chunks_of}
 use Rattle.chunk_store.specs.Laws.{ChunksFollow}
 use Rattle.commit_graph.specs.Commits.{HasCommit, HasOneSpelling, IsCommitFound, parts_of}
@@ -16,8 +16,8 @@ use Rattle.table_root.specs.Standing.{DatabasesStand}
 use Rattle.plain_sessions.specs.Records.{database_in, root_of}
 use Rattle.session_laws.specs.Commits.{CommitsAreThere}
 
-module _ (address : List ℕ → List ℕ) (chunks : ChunksFollow) (law : CommitsFollow) (d : DraftParts) (commits : Commits) (there : CommitsAreThere address (bytes_at d.base) commits) (k : List ℕ) where
-  more : Extends (bytes_at d.base) (chunks_of d)
+module _ (address : List ℕ → List ℕ) (chunks : ChunksFollow) (law : CommitsFollow) (d : DraftParts) (commits : Commits) (there : CommitsAreThere address (chunk_bytes d.base) commits) (k : List ℕ) where
+  more : Extends (chunk_bytes d.base) (chunks_of d)
   more = chunks.extends_left d.base d.own
 
   found_by : (o : Option PlainCommit) → commits k ≡ o → is_some o ≡ true → (commit : PlainCommit) × (commits k ≡ Some commit)
@@ -30,7 +30,7 @@ module _ (address : List ℕ → List ℕ) (chunks : ChunksFollow) (law : Commit
   found : (commit : PlainCommit) → commits k ≡ Some commit → IsCommitFound (chunks_of d) k (commit_parts address commit)
   found commit is =
       let stand = there.stand in
-      let at = law.found address (bytes_at d.base) k commit (stand.each k commit is) in
+      let at = law.found address (chunk_bytes d.base) k commit (stand.each k commit is) in
       record { is_commit = at.is_commit; held = more k (commit_bytes (commit_parts address commit)) at.held }
 
   pub has_commit : is_known commits k ≡ true → HasCommit (chunks_of d) k
@@ -55,6 +55,6 @@ module _ (address : List ℕ → List ℕ) (chunks : ChunksFollow) (law : Commit
       subst (λ (other : PlainDatabase). IsKeptAt address (chunks_of d) read.root.0 other) (sym database)
       (subst (λ (root : List ℕ). IsKeptAt address (chunks_of d) root commit.database) (sym root)
       (record {
-        stands = databases.later address (bytes_at d.base) (chunks_of d) (database_address address commit.database) commit.database more here.database;
+        stands = databases.later address (chunk_bytes d.base) (chunks_of d) (database_address address commit.database) commit.database more here.database;
         within = there.within k commit one.1;
       }))

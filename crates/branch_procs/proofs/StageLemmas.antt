@@ -8,16 +8,16 @@ use Rattle.tuple_codec.specs.declared.records.BranchRecord.{BranchRecord}
 use Rattle.schema_model.specs.Limits.{most_tables}
 use Rattle.schema_model.specs.PlainTables.{PlainDatabase, PlainTable}
 use Rattle.chunk_store.specs.Chunks.{Chunks, Extends}
-use Rattle.constraint_scan.specs.Scanning.{AreThere, IsKeptAt}
+use Rattle.constraint_scan.specs.Scanning.{IsKeptAt}
 use Rattle.expr_eval.specs.Binding.{Outcome, and_then}
-use Rattle.table_root.specs.Standing.{DatabasesStand, named_tables}
-use Rattle.table_root.specs.declared.records.NamedTable.{NamedTable}
+use Rattle.table_root.specs.Standing.{AreThere, DatabasesStand, named_tables}
+use Rattle.table_root.specs.declared.records.TableEntry.{TableEntry}
 use Rattle.table_root.proofs.ListingLemmas.{made_count as count_names}
 use Rattle.plain_sql.specs.Lists.{each, unless}
 use Rattle.plain_writes.specs.Violations.{table_in}
 use Rattle.plain_sessions.specs.Branching.{add, is_open, is_open_table, may_reset, may_stage, reset_to, staged_as, taking_all}
 use Rattle.plain_sessions.specs.Records.{BranchState, clean_at}
-use Rattle.root_merge.specs.States.{IsCandidate, StateStands}
+use Rattle.root_merge.specs.States.{BranchStateStands, IsCandidate}
 use Rattle.root_merge.specs.declared.candidates.Candidate.{Candidate}
 use Rattle.root_merge.specs.declared.candidates.Candidate.TheVariants as made
 use Rattle.sql_procedures.specs.declared.requests.Reset.TheVariants as reset
@@ -86,11 +86,11 @@ absent_so w s k f name none is =
     by None = refl
     by (Some t) = refl
 
-pub stage_absent : (address : List ℕ → List ℕ) (state : BranchState) (staged : List NamedTable) (name : List ℕ) → table_in state.working name ≡ None
+pub stage_absent : (address : List ℕ → List ℕ) (state : BranchState) (staged : List TableEntry) (name : List ℕ) → table_in state.working name ≡ None
     → staged ≡ named_tables address state.staged → absence staged name ≡ refusal_of (may_stage state name)
 stage_absent address state staged name none is =
     absent_so (table_in state.working name) (table_in state.staged name) (address_in staged name) (at address) name none
-    (ap (λ (l : List NamedTable). address_in l name) is ∙ found_named address state.staged name)
+    (ap (λ (l : List TableEntry). address_in l name) is ∙ found_named address state.staged name)
 
 reset_so : (r s : Option PlainTable) (f : PlainTable → Address) (name : List ℕ)
     → (if is_some (option_map f r) then None else (if is_some (option_map f s) then None else Some 1146)) ≡ refusal_of (reset_where r s name)
@@ -111,7 +111,7 @@ absences_told address root state [] = refl
 absences_told address root state (name ∷ names) =
     (λ i. option_or (reset_told address root state name i) (absences_told address root state names i)) ∙ each_told (may_reset root state name) (each (may_reset root state) names)
 
-pub resets_told : (address : List ℕ → List ℕ) (root : PlainDatabase) (state : BranchState) (head staged : List NamedTable) (names : List (List ℕ)) → head ≡ named_tables address root
+pub resets_told : (address : List ℕ → List ℕ) (root : PlainDatabase) (state : BranchState) (head staged : List TableEntry) (names : List (List ℕ)) → head ≡ named_tables address root
     → staged ≡ named_tables address state.staged → first_absence head staged names ≡ refusal_of (each (may_reset root state) names)
 resets_told address root state head staged names h s = (λ i. first_absence (h i) (s i) names) ∙ absences_told address root state names
 
@@ -122,7 +122,7 @@ kept_later address old new more laws k database kept = record { stands = laws.la
 
 -- with another staged database
 pub staged_stands : (address : List ℕ → List ℕ) (old new : Chunks) → Extends old new → DatabasesStand → (own : BranchRecord) (staged : Address) (state : BranchState) (database : PlainDatabase)
-    → StateStands address old own state → IsKeptAt address new staged.0 database → StateStands address new (record own { staged = staged }) (record state { staged = database })
+    → BranchStateStands address old own state → IsKeptAt address new staged.0 database → BranchStateStands address new (record own { staged = staged }) (record state { staged = database })
 staged_stands address old new more laws own staged state database stands kept = record {
   head = stands.head;
   working = kept_later address old new more laws own.working.0 state.working stands.working;
@@ -140,7 +140,7 @@ module _ (address : List ℕ → List ℕ) (chunks : Chunks) where
   too_many state database h = subst (λ (b : Bool). IsCandidate address chunks (made.Refused 9010) (unless b 9010 (Ok (record state { staged = database })))) (sym h) refl
 
   pub few_enough : (rec : BranchRecord) (state : BranchState) (database : PlainDatabase) → nat_lt most_tables (length database) ≡ false
-      → StateStands address chunks rec (record state { staged = database }) → IsCandidate address chunks (made.Record rec) (staged_as state database)
+      → BranchStateStands address chunks rec (record state { staged = database }) → IsCandidate address chunks (made.Record rec) (staged_as state database)
   few_enough rec state database h stands =
       subst (λ (b : Bool). IsCandidate address chunks (made.Record rec) (unless b 9010 (Ok (record state { staged = database })))) (sym h) stands
 
@@ -171,31 +171,31 @@ module _ (address : List ℕ → List ℕ) (chunks : Chunks) where
 
   -- ---- the databases of a state
 
-  pub counted : (tables : List NamedTable) (database : PlainDatabase) → AreTables address chunks tables database → length tables ≡ length database
-  counted tables database are = ap (λ (l : List NamedTable). length l) are.listed ∙ count_names address database
+  pub counted : (tables : List TableEntry) (database : PlainDatabase) → AreTables address chunks tables database → length tables ≡ length database
+  counted tables database are = ap (λ (l : List TableEntry). length l) are.listed ∙ count_names address database
 
-  pub few_tables : (tables : List NamedTable) (database : PlainDatabase) (many : Bool) → AreTables address chunks tables database → many ≡ nat_lt most_tables (length tables) → many ≡ false
+  pub few_tables : (tables : List TableEntry) (database : PlainDatabase) (many : Bool) → AreTables address chunks tables database → many ≡ nat_lt most_tables (length tables) → many ≡ false
       → AreFewTables address chunks tables database
   few_tables tables database many are told fails =
       record { tables_are = are; few = ltb-false most_tables (length database) (ap (nat_lt most_tables) (sym (counted tables database are)) ∙ sym told ∙ fails) }
 
-  pub many_refused : (tables : List NamedTable) (state : BranchState) (database : PlainDatabase) (many : Bool) → AreTables address chunks tables database → many ≡ nat_lt most_tables (length tables)
+  pub many_refused : (tables : List TableEntry) (state : BranchState) (database : PlainDatabase) (many : Bool) → AreTables address chunks tables database → many ≡ nat_lt most_tables (length tables)
       → many ≡ true → IsCandidate address chunks (made.Refused 9010) (staged_as state database)
   many_refused tables state database many are told holds = too_many state database (ap (nat_lt most_tables) (sym (counted tables database are)) ∙ sym told ∙ holds)
 
-  pub all_there : (tables shown : List NamedTable) (database : PlainDatabase) → shown ≡ tables → AreFewTables address chunks tables database → AreThere address chunks database shown
+  pub all_there : (tables shown : List TableEntry) (database : PlainDatabase) → shown ≡ tables → AreFewTables address chunks tables database → AreThere address chunks database shown
   all_there tables shown database is few = let are = few.tables_are in record { stand = are.stand; listed = is ∙ are.listed }
 
-  pub few_of : (tables : List NamedTable) (database : PlainDatabase) → AreFewTables address chunks tables database → nat_lt most_tables (length database) ≡ false
+  pub few_of : (tables : List TableEntry) (database : PlainDatabase) → AreFewTables address chunks tables database → nat_lt most_tables (length database) ≡ false
   few_of tables database few = let most = few.few in not_more (length database) most
 
-  pub stand_as : (own rec : BranchRecord) (state : BranchState) → rec ≡ record own { staged = own.working } → StateStands address chunks own state
-      → StateStands address chunks rec (record state { staged = state.working })
+  pub stand_as : (own rec : BranchRecord) (state : BranchState) → rec ≡ record own { staged = own.working } → BranchStateStands address chunks own state
+      → BranchStateStands address chunks rec (record state { staged = state.working })
   stand_as own rec state is stands =
-      subst (λ (r : BranchRecord). StateStands address chunks r (record state { staged = state.working })) (sym is)
+      subst (λ (r : BranchRecord). BranchStateStands address chunks r (record state { staged = state.working })) (sym is)
       (record { head = stands.head; working = stands.working; staged = stands.working; merging = stands.merging })
 
-  pub both_of : (ones others shown seen : List NamedTable) (state : BranchState) (one : PlainDatabase) → shown ≡ ones → seen ≡ others → AreFewTables address chunks ones one
+  pub both_of : (ones others shown seen : List TableEntry) (state : BranchState) (one : PlainDatabase) → shown ≡ ones → seen ≡ others → AreFewTables address chunks ones one
       → AreFewTables address chunks others state.staged → AreBoth address chunks shown seen one state.staged
   both_of ones others shown seen state one first second few more =
       let a = few.tables_are in
@@ -205,14 +205,14 @@ module _ (address : List ℕ → List ℕ) (chunks : Chunks) where
         others_are = record { is_database = b.is_database; within = b.within; stand = b.stand; listed = second ∙ b.listed };
       }
 
-  pub resets_listed : (ones others : List NamedTable) (root : PlainDatabase) (state : BranchState) (head staged : List NamedTable) (names : List (List ℕ)) (found : Option ℕ) → found ≡ first_absence head staged names
+  pub resets_listed : (ones others : List TableEntry) (root : PlainDatabase) (state : BranchState) (head staged : List TableEntry) (names : List (List ℕ)) (found : Option ℕ) → found ≡ first_absence head staged names
       → head ≡ ones → staged ≡ others → AreFewTables address chunks ones root → AreFewTables address chunks others state.staged → found ≡ refusal_of (each (may_reset root state) names)
   resets_listed ones others root state head staged names found told first second few more =
       let a = few.tables_are in
       let b = more.tables_are in
       told ∙ resets_told address root state head staged names (first ∙ a.listed) (second ∙ b.listed)
 
-  pub can_stage : (ones others taken shown : List NamedTable) (own : BranchRecord) (state : BranchState) (from : PlainDatabase) (names : List (List ℕ)) → StateStands address chunks own state
+  pub can_stage : (ones others taken shown : List TableEntry) (own : BranchRecord) (state : BranchState) (from : PlainDatabase) (names : List (List ℕ)) → BranchStateStands address chunks own state
       → AreFewTables address chunks ones from → AreFewTables address chunks others state.staged → taken ≡ chunk_taking_all ones others names → shown ≡ taken
       → CanStage address chunks own shown state (taking_all from state.staged names)
   can_stage ones others taken shown own state from names stands few more is seen =
@@ -220,20 +220,20 @@ module _ (address : List ℕ → List ℕ) (chunks : Chunks) where
 
 -- the record with another staged database, whose tables are few enough
 pub staged_so : (address : List ℕ → List ℕ) (old new : Chunks) → Extends old new → DatabasesStand → (own : BranchRecord) (staged : Address) (rec : BranchRecord) (state : BranchState) (database : PlainDatabase)
-    → StateStands address old own state → IsKeptAt address new staged.0 database → rec ≡ record own { staged = staged } → length database ≤ 256
+    → BranchStateStands address old own state → IsKeptAt address new staged.0 database → rec ≡ record own { staged = staged } → length database ≤ 256
     → IsCandidate address new (made.Record rec) (staged_as state database)
 staged_so address old new more laws own staged rec state database stands kept is few =
     few_enough address new rec state database (not_more (length database) few)
-    (subst (λ (r : BranchRecord). StateStands address new r (record state { staged = database })) (sym is) (staged_stands address old new more laws own staged state database stands kept))
+    (subst (λ (r : BranchRecord). BranchStateStands address new r (record state { staged = database })) (sym is) (staged_stands address old new more laws own staged state database stands kept))
 
 -- the head's database staged, and the whole state set back
-pub root_staged : (address : List ℕ → List ℕ) (chunks : Chunks) (own rec : BranchRecord) (root : Address) (state : BranchState) (database : PlainDatabase) → StateStands address chunks own state
-    → IsKeptAt address chunks root.0 database → rec ≡ record own { staged = root } → StateStands address chunks rec (record state { staged = database })
+pub root_staged : (address : List ℕ → List ℕ) (chunks : Chunks) (own rec : BranchRecord) (root : Address) (state : BranchState) (database : PlainDatabase) → BranchStateStands address chunks own state
+    → IsKeptAt address chunks root.0 database → rec ≡ record own { staged = root } → BranchStateStands address chunks rec (record state { staged = database })
 root_staged address chunks own rec root state database stands kept is =
-    subst (λ (r : BranchRecord). StateStands address chunks r (record state { staged = database })) (sym is)
+    subst (λ (r : BranchRecord). BranchStateStands address chunks r (record state { staged = database })) (sym is)
     (record { head = stands.head; working = stands.working; staged = kept; merging = stands.merging })
 
-pub set_back : (address : List ℕ → List ℕ) (chunks : Chunks) (own rec : BranchRecord) (root : Address) (state : BranchState) (database : PlainDatabase) → StateStands address chunks own state
-    → IsKeptAt address chunks root.0 database → rec ≡ (record { head = own.head; working = root; staged = root; merging = None }) → StateStands address chunks rec (clean_at state.head database)
+pub set_back : (address : List ℕ → List ℕ) (chunks : Chunks) (own rec : BranchRecord) (root : Address) (state : BranchState) (database : PlainDatabase) → BranchStateStands address chunks own state
+    → IsKeptAt address chunks root.0 database → rec ≡ (record { head = own.head; working = root; staged = root; merging = None }) → BranchStateStands address chunks rec (clean_at state.head database)
 set_back address chunks own rec root state database stands kept is =
-    subst (λ (r : BranchRecord). StateStands address chunks r (clean_at state.head database)) (sym is) (record { head = stands.head; working = kept; staged = kept; merging = refl })
+    subst (λ (r : BranchRecord). BranchStateStands address chunks r (clean_at state.head database)) (sym is) (record { head = stands.head; working = kept; staged = kept; merging = refl })

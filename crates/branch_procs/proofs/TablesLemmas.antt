@@ -8,7 +8,7 @@ use Rattle.schema_model.proofs.SizeLemmas.{kept_few}
 use Rattle.chunk_store.specs.Chunks.{Chunks, Extends}
 use Rattle.constraint_scan.specs.Scanning.{IsKeptAt}
 use Rattle.table_root.specs.Standing.{TablesStand, named_tables}
-use Rattle.table_root.specs.declared.records.NamedTable.{NamedTable}
+use Rattle.table_root.specs.declared.records.TableEntry.{TableEntry}
 use Rattle.sql_write.proofs.TableLemmas.{stand_later}
 use Rattle.write_laws.proofs.OrderLemmas.{both_so, right_so}
 use Rattle.branch_procs.specs.Listing.{AreFewTables, AreTables}
@@ -19,7 +19,7 @@ few_so database few = le-leb (length database) most_tables few
 pub few_kept : (database : PlainDatabase) → list_all is_named_within_limits database ≡ true → length database ≤ 256 → is_database_within_limits database ≡ true
 few_kept database within few = both_so (few_so database few) within
 
-pub tables_kept : (address : List ℕ → List ℕ) (chunks : Chunks) (k : List ℕ) (database : PlainDatabase) (tables : List NamedTable) → IsKeptAt address chunks k database
+pub tables_kept : (address : List ℕ → List ℕ) (chunks : Chunks) (k : List ℕ) (database : PlainDatabase) (tables : List TableEntry) → IsKeptAt address chunks k database
     → tables ≡ named_tables address database → AreFewTables address chunks tables database
 tables_kept address chunks k database tables kept is = record {
   tables_are = record {
@@ -31,7 +31,7 @@ tables_kept address chunks k database tables kept is = record {
   few = kept_few database kept.within;
 }
 
-pub tables_later : (address : List ℕ → List ℕ) (old new : Chunks) → Extends old new → TablesStand → (tables : List NamedTable) (database : PlainDatabase)
+pub tables_later : (address : List ℕ → List ℕ) (old new : Chunks) → Extends old new → TablesStand → (tables : List TableEntry) (database : PlainDatabase)
     → AreTables address old tables database → AreTables address new tables database
 tables_later address old new more laws tables database are = record {
   is_database = are.is_database;
@@ -40,6 +40,6 @@ tables_later address old new more laws tables database are = record {
   listed = are.listed;
 }
 
-pub few_as : (address : List ℕ → List ℕ) (chunks : Chunks) (tables shown : List NamedTable) (database : PlainDatabase) → shown ≡ tables → AreFewTables address chunks tables database
+pub few_as : (address : List ℕ → List ℕ) (chunks : Chunks) (tables shown : List TableEntry) (database : PlainDatabase) → shown ≡ tables → AreFewTables address chunks tables database
     → AreFewTables address chunks shown database
-few_as address chunks tables shown database is few = subst (λ (l : List NamedTable). AreFewTables address chunks l database) (sym is) few
+few_as address chunks tables shown database is few = subst (λ (l : List TableEntry). AreFewTables address chunks l database) (sym is) few

@@ -12,12 +12,12 @@ use Rattle.schema_model.specs.Schemas.{is_name}
 use Rattle.schema_model.specs.WrittenForms.{table_address}
 use Rattle.chunk_store.specs.Chunks.{Chunks}
 use Rattle.table_root.specs.Standing.{IsTableAt, named_tables}
-use Rattle.table_root.specs.declared.records.NamedTable.{NamedTable}
+use Rattle.table_root.specs.declared.records.TableEntry.{TableEntry}
 use Rattle.plain_sql.specs.Lists.{has, placed}
 use Rattle.plain_writes.specs.Violations.{is_called, table_in}
-use Rattle.plain_schemas.specs.Effects.{placed_in}
+use Rattle.plain_schemas.specs.Effects.{placed_in, without_table}
 use Rattle.plain_sessions.specs.Branching as plain_branching
-use Rattle.plain_sessions.specs.Branching.{put_table, table_cmp, without_table}
+use Rattle.plain_sessions.specs.Branching.{put_table, table_cmp}
 use Rattle.sql_write.specs.Listing as listing
 use Rattle.sql_write.specs.Putting.{address_in}
 use Rattle.sql_write.proofs.ListingLemmas.{all_without, named_placed, named_without}
@@ -102,7 +102,7 @@ pub taken_named : (address : List ℕ → List ℕ) (from into : PlainDatabase) 
     → taking_all (named_tables address from) (named_tables address into) names ≡ named_tables address (plain_branching.taking_all from into names)
 taken_named address from into [] f i = refl
 taken_named address from into (name ∷ names) f i =
-    ap (λ (l : List NamedTable). fold (taking (named_tables address from)) l names)
+    ap (λ (l : List TableEntry). fold (taking (named_tables address from)) l names)
     (ap (λ (o : Option Address). put name o (named_tables address into)) (found_named address from name) ∙ put_named address name (table_in from name) into i.rise)
     ∙ taken_named address from (plain_branching.taking from into name) names f (put_kept name (table_in from name) into (found_well name from f) i)
 
@@ -136,13 +136,13 @@ names_are : (database : PlainDatabase) → AllByRecursion IsKeptNamed database �
 names_are [] h = refl
 names_are (named ∷ database) h = let here = h.0 in both_so here.is_name (names_are database h.1)
 
-pub kept_of : (address : List ℕ → List ℕ) (chunks : Chunks) (tables : List NamedTable) (database : PlainDatabase) → AreFewTables address chunks tables database → AreKept database
+pub kept_of : (address : List ℕ → List ℕ) (chunks : Chunks) (tables : List TableEntry) (database : PlainDatabase) → AreFewTables address chunks tables database → AreKept database
 kept_of address chunks tables database few =
     let are = few.tables_are in
     are_kept database (record { is_database = are.is_database; within = both_so (few_so database few.few) are.within })
 
 -- the list that took the tables is of the database that took them
-pub taken_are : (address : List ℕ → List ℕ) (chunks : Chunks) (ones others made : List NamedTable) (from into : PlainDatabase) (names : List (List ℕ)) → AreFewTables address chunks ones from
+pub taken_are : (address : List ℕ → List ℕ) (chunks : Chunks) (ones others made : List TableEntry) (from into : PlainDatabase) (names : List (List ℕ)) → AreFewTables address chunks ones from
     → AreFewTables address chunks others into → made ≡ taking_all ones others names → AreTables address chunks made (plain_branching.taking_all from into names)
 taken_are address chunks ones others made from into names few more is =
     let f = few.tables_are in

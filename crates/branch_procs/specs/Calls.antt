@@ -1,7 +1,7 @@
 -- DOLT_ADD and DOLT_RESET in a session's transaction.
 use Rattle.std.specs.Prelude.{◌≡◌, ◌⊎◌, ℕ, Bool, true, false, List, [], ◌∷◌, Ok, Err}
 use Rattle.tuple_codec.specs.declared.records.BranchRecord.{BranchRecord}
-use Rattle.chunk_store.specs.Chunks.{bytes_at}
+use Rattle.chunk_store.specs.Chunks.{chunk_bytes}
 use Rattle.chunk_store.specs.Drafts.{Drafting, DraftParts, Grows, chunks_of, cut_to}
 use Rattle.chunk_store.specs.Kinds.{is_database}
 use Rattle.chunk_store.specs.declared.faults.Clash.{Clash}
@@ -17,7 +17,7 @@ use Rattle.plain_sessions.specs.Records.{BranchState}
 use Rattle.plain_sessions.specs.Replies.{one_row}
 use Rattle.plain_sessions.specs.declared.commands.Work.{Work}
 use Rattle.plain_sessions.specs.declared.commands.Work.TheVariants.{Add, ResetTo}
-use Rattle.root_merge.specs.States.{StateStands}
+use Rattle.root_merge.specs.States.{BranchStateStands}
 use Rattle.root_merge.specs.declared.candidates.Candidate.{Candidate}
 use Rattle.root_merge.specs.declared.candidates.Candidate.TheVariants as candidate
 use Rattle.session_laws.specs.Commits.{CommitsAreThere}
@@ -39,7 +39,7 @@ staged_by root other own = Ok own
 -- a record stands in a draft for a state, and the store below has all commits
 pub record OwnStands (address : List ℕ → List ℕ) (draft : DraftParts) (own : BranchRecord) (commits : Commits) (state : BranchState) : Type 0 where
   pub stands : RecordStands address (chunks_of draft) commits own state
-  pub all_there : CommitsAreThere address (bytes_at draft.base) commits
+  pub all_there : CommitsAreThere address (chunk_bytes draft.base) commits
 
 abbrev pub status_reply : Reply
 status_reply = one_row (status ∷ [])
@@ -49,7 +49,7 @@ pub record IsDone (address : List ℕ → List ℕ) (old new : Drafting) (own : 
   pub made : BranchState
   pub is : wanted ≡ Ok made
   pub reply_is : reply ≡ status_reply
-  pub stands : StateStands address (chunks_of new.chunks) own made
+  pub stands : BranchStateStands address (chunks_of new.chunks) own made
   pub grows : Grows is_database old new
 
 -- it was refused, or found no memory, or met two byte strings of one address

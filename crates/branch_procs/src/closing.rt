@@ -25,7 +25,7 @@ use schema_model::law_of_sameness;
 use session_state::Session;
 use sql_procedures::{CommitRequest, Staging};
 use std::alloc::{AllocError, Global};
-use table_root::NamedTable;
+use table_root::TableEntry;
 use tuple_codec::{Address, BranchRecord, Digester};
 
 /// The staged tables, with the working ones in place of those that staged or the head names.
@@ -34,7 +34,7 @@ fn known_staged<D: Digester>(
     draft: &Draft<D>,
     own: &BranchRecord,
     root: &Address,
-) -> Result<Vec<NamedTable>, AllocError>
+) -> Result<Vec<TableEntry>, AllocError>
     requires { (state : BranchState) × (database : PlainDatabase) × StandsOn D.address (chunks_of draft.now.chunks) own.now root.now state database }
     ensures { (state : BranchState) (database : PlainDatabase) → StandsOn D.address (chunks_of draft.now.chunks) own.now root.now state database
         → IfOk result (λ made. AreFewTables D.address (chunks_of draft.now.chunks) made.items (staged_first database staging.Known state)) }
@@ -54,7 +54,7 @@ pub(crate) fn first_staged<D: Digester>(
     own: &BranchRecord,
     root: &Address,
     staging: Staging,
-) -> Result<Vec<NamedTable>, AllocError>
+) -> Result<Vec<TableEntry>, AllocError>
     requires { (state : BranchState) × (database : PlainDatabase) × StandsOn D.address (chunks_of draft.now.chunks) own.now root.now state database }
     ensures { (state : BranchState) (database : PlainDatabase) → StandsOn D.address (chunks_of draft.now.chunks) own.now root.now state database
         → IfOk result (λ made. AreFewTables D.address (chunks_of draft.now.chunks) made.items (staged_first database staging state)) }
@@ -67,7 +67,7 @@ pub(crate) fn first_staged<D: Digester>(
 }
 
 /// Whether two lists name the same tables.
-fn are_same(ones: &[NamedTable], others: &[NamedTable]) -> bool
+fn are_same(ones: &[TableEntry], others: &[TableEntry]) -> bool
     ensures { result ≡ are_same ones.now others.now }
 {
     match ones {
@@ -79,7 +79,7 @@ fn are_same(ones: &[NamedTable], others: &[NamedTable]) -> bool
     }
 }
 
-fn is_same(one: &NamedTable, other: &NamedTable) -> bool
+fn is_same(one: &TableEntry, other: &TableEntry) -> bool
     ensures { result ≡ is_same one.now other.now }
 {
     one.name.as_slice() == other.name.as_slice() && one.table == other.table

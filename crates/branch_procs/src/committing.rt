@@ -3,7 +3,7 @@
 ghost use Rattle.std.specs.Prelude.{◌≡◌, ◌≤◌, ◌≤ℤ◌, Bool, IfErr, IfOk, Ok, length, pos, true};
 ghost use Rattle.chunk_store.specs.Clashes.{IsReason};
 ghost use Rattle.chunk_store.specs.Drafts.{Grows, IsNamed, chunks_of};
-ghost use Rattle.chunk_store.specs.Kinds.{is_commit};
+ghost use Rattle.chunk_store.specs.Kinds.{is_commit, is_data};
 ghost use Rattle.chunk_store.specs.Laws.{ChunksFollow, DraftsFollow, DraftsGrow};
 ghost use Rattle.schema_model.specs.PlainCommits.{Commits};
 ghost use Rattle.script_text.specs.Collisions.{IsFault};
@@ -17,13 +17,12 @@ ghost use Rattle.plain_sessions.specs.Sessions as plain;
 ghost use Rattle.plain_sessions.specs.Statements.{worked};
 ghost use Rattle.plain_sessions.specs.declared.commands.Work.TheVariants as work;
 ghost use Rattle.root_merge.specs.Deciding.{set};
-ghost use Rattle.root_merge.specs.Merging.{is_data};
 ghost use Rattle.root_merge.specs.States.{IsCandidate};
 ghost use Rattle.session_laws.specs.Laws.{CommitsFollow, RecordsFollow};
 ghost use Rattle.session_txn.specs.Answering.{Decides};
 ghost use Rattle.session_txn.specs.Committing.{IsWorkOf};
 ghost use Rattle.shared_db.specs.Plans.{IsRefusedBy, PlanIs};
-ghost use Rattle.branch_procs.specs.Committing.{CanCommit, CanDecide, IsCommitted, IsPlannedOf, IsWritten, parents_on, staged_in};
+ghost use Rattle.branch_procs.specs.Committing.{CanCommit, CanDecide, IsCommitWritten, IsCommitted, IsPlannedOf, parents_on, staged_in};
 
 use crate::making::{new_commit, staged_for};
 use crate::replying::hash_reply;
@@ -33,7 +32,7 @@ use root_merge::{Candidate, candidate};
 use script_text::Reply;
 use session_laws::{law_of_records, law_of_standing_commits};
 use session_state::Session;
-use shared_db::{Change, Plan};
+use shared_db::{DecisionPlan, RecordChange};
 use sql_procedures::{CommitRequest, Staging};
 use std::alloc::Global;
 use table_root::{Look, law_of_databases};
@@ -47,7 +46,7 @@ pub fn plan_dolt_commit<D: Digester>(
     request: &CommitRequest,
     look: &Look,
     epoch: i64,
-) -> Result<Plan, PutFault>
+) -> Result<DecisionPlan, PutFault>
     requires decides { (p : plain.Session) × (t : plain.Transaction) × (shared : Shared) × (present : BranchState) × Decides D.address session.now look.now p t shared present }
     requires date { pos 0 ≤ℤ epoch }
     requires message { is_message request.now.message ≡ true }
@@ -143,7 +142,7 @@ pub fn written<D: Digester>(
     requires date { pos 0 ≤ℤ epoch }
     requires message { length message.now ≤ 8192 }
     ensures written { (commits : Commits) (state : BranchState) → CanCommit D.address work.old.chunks rec.now present.now commits state
-        → IfOk result (λ k. IsWritten D.address work.old.chunks work.new.chunks (commit_on commits epoch committer.now state.staged (parents_on present.now state) message.now) k) }
+        → IfOk result (λ k. IsCommitWritten D.address work.old.chunks work.new.chunks (commit_on commits epoch committer.now state.staged (parents_on present.now state) message.now) k) }
     ensures grows { Grows is_commit work.old work.new }
     ensures cause { IfErr result (IsReason D.address (chunks_of work.new.chunks)) }
 {
@@ -162,7 +161,7 @@ fn committed<D: Digester>(
     committer: &Text,
     message: &Text,
     epoch: i64,
-) -> Result<Plan, PutFault>
+) -> Result<DecisionPlan, PutFault>
     requires can { (commits : Commits) × (state : BranchState) × CanCommit D.address work.chunks rec.now present.now commits state }
     requires committer { length committer.now ≤ 32 }
     requires date { pos 0 ≤ℤ epoch }
@@ -197,13 +196,13 @@ pub fn sealed<D: Digester>(
     work: Draft<D>,
     rec: BranchRecord,
     reply: Reply,
-) -> Result<Plan, PutFault>
+) -> Result<DecisionPlan, PutFault>
     ensures sealed { IfOk result (λ plan. IsPlannedOf work rec reply plan) }
     ensures fault { IfErr result (IsFault D.address) }
 {
     match work.seal_own() {
-        Ok((segment, _)) => Ok(Plan {
-            change: Change::Record(rec),
+        Ok((segment, _)) => Ok(DecisionPlan {
+            change: RecordChange::Record(rec),
             reply,
             sealed: Some(segment),
         }),
@@ -212,11 +211,11 @@ pub fn sealed<D: Digester>(
 }
 
 /// A decision that changes nothing, and answers this refusal.
-pub fn refused(number: u16) -> Plan
+pub fn refused(number: u16) -> DecisionPlan
     ensures { IsRefusedBy number result }
 {
-    Plan {
-        change: Change::Nothing,
+    DecisionPlan {
+        change: RecordChange::Nothing,
         reply: Reply::Refused(number),
         sealed: None,
     }

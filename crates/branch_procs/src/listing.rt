@@ -15,7 +15,7 @@ ghost use Rattle.branch_procs.specs.Listing.{AreFewTables};
 use crate::laws::laws_of_growth;
 use chunk_store::{Draft, PutFault};
 use std::alloc::{AllocError, Global};
-use table_root::{NamedTable, read_database, write_database};
+use table_root::{TableEntry, read_database, write_database};
 use tuple_codec::{Address, Digester};
 
 /// The names and addresses of the tables of the database at an address, by rising name.
@@ -23,7 +23,7 @@ pub(crate) fn read_tables<D: Digester>(
     alloc: Global,
     draft: &Draft<D>,
     database: &Address,
-) -> Result<Vec<NamedTable>, AllocError>
+) -> Result<Vec<TableEntry>, AllocError>
     requires { HasKeptAt D.address (chunks_of draft.now.chunks) database.now.0 }
     ensures { (contents : PlainDatabase) → IsKeptAt D.address (chunks_of draft.now.chunks) database.now.0 contents
         → IfOk result (λ tables. AreFewTables D.address (chunks_of draft.now.chunks) tables.items contents) }
@@ -36,7 +36,7 @@ pub(crate) fn read_tables<D: Digester>(
 pub(crate) fn put_database<D: Digester>(
     alloc: Global,
     draft: &mut Draft<D>,
-    tables: &[NamedTable],
+    tables: &[TableEntry],
 ) -> Result<Address, PutFault>
     requires { (database : PlainDatabase) × AreFewTables D.address (chunks_of draft.old.chunks) tables.now database }
     ensures stands { (database : PlainDatabase) → AreFewTables D.address (chunks_of draft.old.chunks) tables.now database
@@ -50,7 +50,7 @@ pub(crate) fn put_database<D: Digester>(
 }
 
 /// The address of the table of a name.
-pub(crate) fn table_in(tables: &[NamedTable], name: &[u8]) -> Option<Address>
+pub(crate) fn table_in(tables: &[TableEntry], name: &[u8]) -> Option<Address>
     ensures { result ≡ address_in tables.now name.now }
 {
     for named in tables {
@@ -68,7 +68,7 @@ fn comes_before(name: &[u8], other: &[u8]) -> bool
 }
 
 /// How many stand before the first of a greater name.
-fn count_before(name: &[u8], tables: &[NamedTable]) -> usize
+fn count_before(name: &[u8], tables: &[TableEntry]) -> usize
     ensures is { result ≡ count_before name.now tables.now }
     ensures at_most { result ≤ length tables.now }
 {
@@ -86,9 +86,9 @@ fn count_before(name: &[u8], tables: &[NamedTable]) -> usize
 
 /// The list with a table more, in its place by name.
 pub(crate) fn placed(
-    mut tables: Vec<NamedTable>,
-    new: NamedTable,
-) -> Result<Vec<NamedTable>, AllocError>
+    mut tables: Vec<TableEntry>,
+    new: TableEntry,
+) -> Result<Vec<TableEntry>, AllocError>
     ensures { IfOk result (λ made. made.items ≡ placed new tables.items) }
 {
     let at = count_before(new.name.as_slice(), tables.as_slice());
@@ -99,9 +99,9 @@ pub(crate) fn placed(
 /// The list without the table of a name.
 pub(crate) fn without(
     alloc: Global,
-    tables: Vec<NamedTable>,
+    tables: Vec<TableEntry>,
     name: &[u8],
-) -> Result<Vec<NamedTable>, AllocError>
+) -> Result<Vec<TableEntry>, AllocError>
     ensures { IfOk result (λ left. left.items ≡ without name.now tables.items) }
 {
     let mut left = Vec::new(alloc);

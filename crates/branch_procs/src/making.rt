@@ -7,7 +7,7 @@ ghost use Rattle.chunk_store.specs.Drafts.{Grows, chunks_of};
 ghost use Rattle.chunk_store.specs.Kinds.{is_database};
 ghost use Rattle.commit_graph.specs.Commits.{KeepsLimits, parts_of};
 ghost use Rattle.plain_sessions.specs.Branching.{staged_first};
-ghost use Rattle.root_merge.specs.States.{StateStands, bytes_of};
+ghost use Rattle.root_merge.specs.States.{BranchStateStands, bytes_of};
 ghost use Rattle.branch_procs.specs.Calls.{OwnStands};
 ghost use Rattle.schema_model.specs.PlainCommits.{Commits, commit_parts, greatest, height_of};
 ghost use Rattle.plain_sessions.specs.Records.{BranchState, commit_on, root_of};
@@ -57,7 +57,7 @@ pub(crate) fn staged_for<D: Digester>(
 ) -> Result<BranchRecord, PutFault>
     requires { (commits : Commits) × (state : BranchState) × OwnStands D.address draft.old.chunks own.now commits state }
     ensures stands { (commits : Commits) (state : BranchState) → OwnStands D.address draft.old.chunks own.now commits state
-        → IfOk result (λ made. StateStands D.address (chunks_of draft.new.chunks) made (record state { staged = staged_first (root_of commits state.head) staging state })) }
+        → IfOk result (λ made. BranchStateStands D.address (chunks_of draft.new.chunks) made (record state { staged = staged_first (root_of commits state.head) staging state })) }
     ensures grows { Grows is_database draft.old draft.new }
     ensures cause { IfErr result (IsReason D.address (chunks_of draft.new.chunks)) }
 {

@@ -5,15 +5,14 @@ ghost use Rattle.tuple_codec.specs.Nodes.{Item};
 ghost use Rattle.schema_model.specs.PlainTables.{PlainDatabase, PlainTable};
 ghost use Rattle.chunk_store.specs.Drafts.{chunks_of};
 ghost use Rattle.chunk_store.specs.Standing.{IsTree};
-ghost use Rattle.table_root.specs.Standing.{IsTableAt};
-ghost use Rattle.constraint_scan.specs.Scanning.{AreThere};
+ghost use Rattle.table_root.specs.Standing.{AreThere, IsTableAt};
 ghost use Rattle.plain_sessions.specs.Branching.{is_open, is_open_table};
 
 use crate::laws::laws_of_growth;
 use chunk_store::Draft;
 use prolly_tree::count;
 use std::alloc::{AllocError, Global};
-use table_root::{NamedTable, read_table};
+use table_root::{TableEntry, read_table};
 use tuple_codec::{Address, Digester};
 
 /// Whether a tree has rows.
@@ -48,7 +47,7 @@ pub(crate) fn is_open_table<D: Digester>(
 pub(crate) fn any_is_open<D: Digester>(
     alloc: Global,
     draft: &Draft<D>,
-    tables: &[NamedTable],
+    tables: &[TableEntry],
 ) -> Result<bool, AllocError>
     requires { (database : PlainDatabase) × AreThere D.address (chunks_of draft.now.chunks) database tables.now }
     ensures { (database : PlainDatabase) → AreThere D.address (chunks_of draft.now.chunks) database tables.now

@@ -2,7 +2,7 @@
 
 ghost use Rattle.std.specs.Prelude.{◌≡◌, IfOk, true};
 ghost use Rattle.schema_model.specs.PlainCommits.{Commits, is_known};
-ghost use Rattle.chunk_store.specs.Chunks.{bytes_at};
+ghost use Rattle.chunk_store.specs.Chunks.{chunk_bytes};
 ghost use Rattle.chunk_store.specs.Drafts.{chunks_of};
 ghost use Rattle.constraint_scan.specs.Scanning.{IsKeptAt};
 ghost use Rattle.plain_sessions.specs.Records.{root_of};
@@ -20,8 +20,8 @@ pub fn head_root<D: Digester>(
     draft: &Draft<D>,
     head: &Address,
 ) -> Result<Address, AllocError>
-    requires { (commits : Commits) × CommitsAreThere D.address (bytes_at draft.now.chunks.base) commits × (is_known commits head.now.0 ≡ true) }
-    ensures { (commits : Commits) → CommitsAreThere D.address (bytes_at draft.now.chunks.base) commits → is_known commits head.now.0 ≡ true
+    requires { (commits : Commits) × CommitsAreThere D.address (chunk_bytes draft.now.chunks.base) commits × (is_known commits head.now.0 ≡ true) }
+    ensures { (commits : Commits) → CommitsAreThere D.address (chunk_bytes draft.now.chunks.base) commits → is_known commits head.now.0 ≡ true
         → IfOk result (λ root. IsKeptAt D.address (chunks_of draft.now.chunks) root.0 (root_of commits head.now.0)) }
 {
     law_of_chunks();

@@ -9,7 +9,7 @@ ghost use Rattle.chunk_store.specs.Kinds.{is_database};
 ghost use Rattle.plain_sql.specs.Lists.{each};
 ghost use Rattle.plain_sessions.specs.Branching.{add, may_stage, reset_to, staged_as};
 ghost use Rattle.plain_sessions.specs.Records.{BranchState};
-ghost use Rattle.root_merge.specs.States.{HasState, IsCandidate, StateStands};
+ghost use Rattle.root_merge.specs.States.{BranchStateStands, HasBranchState, IsCandidate};
 ghost use Rattle.sql_procedures.specs.declared.requests.Tables.TheVariants as tables;
 ghost use Rattle.sql_procedures.specs.declared.requests.Reset.TheVariants as reset;
 ghost use Rattle.branch_procs.specs.Staging.{AreBoth, CanStage, StandsOn, absence, first_absence, refusal_of, reset_absence};
@@ -23,7 +23,7 @@ use root_merge::Candidate;
 use schema_model::limits::MOST_TABLES;
 use sql_procedures::{Reset, Tables};
 use std::alloc::{AllocError, Global};
-use table_root::NamedTable;
+use table_root::TableEntry;
 use tuple_codec::{Address, BranchRecord, Digester, Text};
 
 /// The record with another staged database.
@@ -39,7 +39,7 @@ pub(crate) fn with_staged(own: &BranchRecord, staged: Address) -> BranchRecord
 }
 
 /// Whether a database can't have so many.
-fn are_too_many(tables: &[NamedTable]) -> bool
+fn are_too_many(tables: &[TableEntry]) -> bool
     ensures { result ≡ nat_lt most_tables (length tables.now) }
 {
     tables.len() > MOST_TABLES
@@ -50,7 +50,7 @@ fn stage_tables<D: Digester>(
     alloc: Global,
     draft: &mut Draft<D>,
     own: &BranchRecord,
-    tables: &[NamedTable],
+    tables: &[TableEntry],
 ) -> Result<Candidate, PutFault>
     requires { (state : BranchState) × (database : PlainDatabase) × CanStage D.address (chunks_of draft.old.chunks) own.now tables.now state database }
     ensures is { (state : BranchState) (database : PlainDatabase) → CanStage D.address (chunks_of draft.old.chunks) own.now tables.now state database
@@ -71,8 +71,8 @@ fn stage_tables<D: Digester>(
 fn may_stage<D: Digester>(
     alloc: Global,
     draft: &Draft<D>,
-    working: &[NamedTable],
-    staged: &[NamedTable],
+    working: &[TableEntry],
+    staged: &[TableEntry],
     name: &[u8],
 ) -> Result<Option<u16>, AllocError>
     requires { (state : BranchState) × AreBoth D.address (chunks_of draft.now.chunks) working.now staged.now state.working state.staged }
@@ -96,7 +96,7 @@ fn openness(found: bool) -> Option<u16>
 }
 
 /// Why a table that only this list may have can't be taken.
-fn absence(tables: &[NamedTable], name: &[u8]) -> Option<u16>
+fn absence(tables: &[TableEntry], name: &[u8]) -> Option<u16>
     ensures { result ≡ absence tables.now name.now }
 {
     match table_in(tables, name) {
@@ -109,8 +109,8 @@ fn absence(tables: &[NamedTable], name: &[u8]) -> Option<u16>
 fn add_refusal<D: Digester>(
     alloc: Global,
     draft: &Draft<D>,
-    working: &[NamedTable],
-    staged: &[NamedTable],
+    working: &[TableEntry],
+    staged: &[TableEntry],
     names: &[Text],
 ) -> Result<Option<u16>, AllocError>
     requires { (state : BranchState) × AreBoth D.address (chunks_of draft.now.chunks) working.now staged.now state.working state.staged }
@@ -127,7 +127,7 @@ fn add_refusal<D: Digester>(
 }
 
 /// Why one of these tables can't be set back, by the first.
-fn reset_refusal(root: &[NamedTable], staged: &[NamedTable], names: &[Text]) -> Option<u16>
+fn reset_refusal(root: &[TableEntry], staged: &[TableEntry], names: &[Text]) -> Option<u16>
     ensures { result ≡ first_absence root.now staged.now names.now }
 {
     for name in names {
@@ -140,7 +140,7 @@ fn reset_refusal(root: &[NamedTable], staged: &[NamedTable], names: &[Text]) -> 
 }
 
 /// Why a table that neither list may have can't be taken.
-fn reset_absence(root: &[NamedTable], staged: &[NamedTable], name: &[u8]) -> Option<u16>
+fn reset_absence(root: &[TableEntry], staged: &[TableEntry], name: &[u8]) -> Option<u16>
     ensures { result ≡ reset_absence root.now staged.now name.now }
 {
     match table_in(root, name) {
@@ -155,8 +155,8 @@ fn add_all<D: Digester>(
     draft: &Draft<D>,
     own: &BranchRecord,
 ) -> Result<Candidate, AllocError>
-    requires { HasState D.address (chunks_of draft.now.chunks) own.now }
-    ensures { (state : BranchState) → StateStands D.address (chunks_of draft.now.chunks) own.now state
+    requires { HasBranchState D.address (chunks_of draft.now.chunks) own.now }
+    ensures { (state : BranchState) → BranchStateStands D.address (chunks_of draft.now.chunks) own.now state
         → IfOk result (λ made. IsCandidate D.address (chunks_of draft.now.chunks) made (add tables.All state)) }
 {
     let working = read_tables(alloc, draft, &own.working)?;
@@ -174,8 +174,8 @@ fn add_named<D: Digester>(
     own: &BranchRecord,
     names: &[Text],
 ) -> Result<Candidate, PutFault>
-    requires { HasState D.address (chunks_of draft.old.chunks) own.now }
-    ensures is { (state : BranchState) → StateStands D.address (chunks_of draft.old.chunks) own.now state
+    requires { HasBranchState D.address (chunks_of draft.old.chunks) own.now }
+    ensures is { (state : BranchState) → BranchStateStands D.address (chunks_of draft.old.chunks) own.now state
         → IfOk result (λ made. IsCandidate D.address (chunks_of draft.new.chunks) made (add (tables.Named names.now) state)) }
     ensures grows { Grows is_database draft.old draft.new }
     ensures cause { IfErr result (IsReason D.address (chunks_of draft.new.chunks)) }
@@ -200,8 +200,8 @@ pub(crate) fn add<D: Digester>(
     own: &BranchRecord,
     tables: &Tables,
 ) -> Result<Candidate, PutFault>
-    requires { HasState D.address (chunks_of draft.old.chunks) own.now }
-    ensures is { (state : BranchState) → StateStands D.address (chunks_of draft.old.chunks) own.now state
+    requires { HasBranchState D.address (chunks_of draft.old.chunks) own.now }
+    ensures is { (state : BranchState) → BranchStateStands D.address (chunks_of draft.old.chunks) own.now state
         → IfOk result (λ made. IsCandidate D.address (chunks_of draft.new.chunks) made (add tables.now state)) }
     ensures grows { Grows is_database draft.old draft.new }
     ensures cause { IfErr result (IsReason D.address (chunks_of draft.new.chunks)) }

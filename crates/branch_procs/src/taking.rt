@@ -5,16 +5,16 @@ ghost use Rattle.branch_procs.specs.Taking.{taking, taking_all};
 
 use crate::listing::{placed, table_in, without};
 use std::alloc::{AllocError, Global};
-use table_root::NamedTable;
+use table_root::TableEntry;
 use tuple_codec::Text;
 
 /// The list that takes the table of this name, or its absence, from another.
 fn take(
     alloc: Global,
-    from: &[NamedTable],
-    into: Vec<NamedTable>,
+    from: &[TableEntry],
+    into: Vec<TableEntry>,
     name: &Text,
-) -> Result<Vec<NamedTable>, AllocError>
+) -> Result<Vec<TableEntry>, AllocError>
     ensures { IfOk result (λ made. made.items ≡ taking from.now into.items name.now) }
 {
     let name = name.as_slice();
@@ -23,7 +23,7 @@ fn take(
         None => Ok(left),
         Some(table) => {
             let name = Text::from_slice(alloc, name)?;
-            placed(left, NamedTable { name, table })
+            placed(left, TableEntry { name, table })
         }
     }
 }
@@ -31,10 +31,10 @@ fn take(
 /// The list that takes the tables of these names, or their absence, from another.
 pub(crate) fn take_all(
     alloc: Global,
-    from: &[NamedTable],
-    into: Vec<NamedTable>,
+    from: &[TableEntry],
+    into: Vec<TableEntry>,
     names: &[Text],
-) -> Result<Vec<NamedTable>, AllocError>
+) -> Result<Vec<TableEntry>, AllocError>
     ensures { IfOk result (λ made. made.items ≡ taking_all from.now into.items names.now) }
 {
     let mut made = into;
@@ -47,10 +47,10 @@ pub(crate) fn take_all(
 /// The same by the names of tables.
 pub(crate) fn take_named(
     alloc: Global,
-    from: &[NamedTable],
-    into: Vec<NamedTable>,
-    tables: &[NamedTable],
-) -> Result<Vec<NamedTable>, AllocError>
+    from: &[TableEntry],
+    into: Vec<TableEntry>,
+    tables: &[TableEntry],
+) -> Result<Vec<TableEntry>, AllocError>
     ensures { IfOk result (λ made. made.items ≡ taking_all from.now into.items (map (λ named. named.name) tables.now)) }
 {
     let mut made = into;

@@ -14,7 +14,7 @@ use Rattle.sql_ast.specs.Bytes.{is_digit}
 use Rattle.sql_ast.specs.Tokens.{ended, next_place, tokens_from}
 use Rattle.sql_ast.specs.declared.places.Last.{Last}
 use Rattle.sql_ast.specs.declared.places.Last.TheVariants.{Operand}
-use Rattle.sql_ast.specs.declared.places.Place.TheVariants as place
+use Rattle.sql_ast.specs.declared.places.LexerState.TheVariants as place
 use Rattle.sql_ast.specs.declared.tokens.Token.{Token}
 use Rattle.sql_ast.specs.declared.tokens.TokenKind.TheVariants as kind
 use Rattle.sql_grammar.specs.declared.pieces.Piece.TheVariants as piece

@@ -7,7 +7,7 @@ use Rattle.sql_ast.specs.declared.expressions.Comparison.TheVariants as comparis
 use Rattle.sql_ast.specs.declared.expressions.Term.{Term}
 use Rattle.sql_ast.specs.declared.expressions.Term.TheVariants as term
 use Rattle.sql_ast.specs.declared.places.Last.TheVariants.{Other, UnaryMinus}
-use Rattle.sql_ast.specs.declared.places.Place.TheVariants as place
+use Rattle.sql_ast.specs.declared.places.LexerState.TheVariants as place
 use Rattle.sql_ast.specs.declared.signs.Sign.TheVariants as sign
 use Rattle.sql_ast.specs.declared.words.Keyword.TheVariants as word
 use Rattle.sql_grammar.specs.declared.pieces.Piece.{Piece}

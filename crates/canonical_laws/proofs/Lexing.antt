@@ -6,8 +6,8 @@ use Rattle.sql_ast.specs.Bytes.{is_blank}
 use Rattle.sql_ast.specs.Tokens.{and_then, begun, ended, first_place, gone_on, next_place, taken, tokens_from}
 use Rattle.sql_ast.specs.declared.lexer.Reading.{Reading}
 use Rattle.sql_ast.specs.declared.places.Last.{Last}
-use Rattle.sql_ast.specs.declared.places.Place.{Place}
-use Rattle.sql_ast.specs.declared.places.Place.TheVariants as place
+use Rattle.sql_ast.specs.declared.places.LexerState.{LexerState}
+use Rattle.sql_ast.specs.declared.places.LexerState.TheVariants as place
 use Rattle.sql_ast.specs.declared.tokens.Token.{Token}
 use Rattle.sql_ast.specs.declared.tokens.TokenKind.{TokenKind}
 use Rattle.sql_grammar.specs.declared.pieces.Piece.{Piece}
@@ -18,7 +18,7 @@ abbrev pub between : ℕ → Last → List Token → Reading
 between start last done = record { place = place.Between; start = start; held = []; value = 0; digits = 0; last = last; done = done }
 
 -- a token that stands at this place doesn't go on with these bytes
-abbrev pub Stops : Place → List ℕ → Type 0
+abbrev pub Stops : LexerState → List ℕ → Type 0
 Stops place [] = Unit {0}
 Stops place (byte ∷ bytes) = next_place place byte ≡ None
 
@@ -29,11 +29,11 @@ closes at (byte ∷ bytes) reading start last done end stops =
     ap (λ p. and_then (gone_on p at byte reading) (tokens_from (at + 1) bytes)) stops
     ∙ ap (λ s. and_then (and_then s (begun at byte)) (tokens_from (at + 1) bytes)) end
 
-pub opens : (at byte : ℕ) (rest : List ℕ) (place : Place) (start : ℕ) (last : Last) (done : List Token) → is_blank byte ≡ false → first_place byte ≡ Some place
+pub opens : (at byte : ℕ) (rest : List ℕ) (place : LexerState) (start : ℕ) (last : Last) (done : List Token) → is_blank byte ≡ false → first_place byte ≡ Some place
     → tokens_from at (byte ∷ rest) (between start last done) ≡ tokens_from (at + 1) rest (taken place byte (between at last done))
 opens at byte rest place start last done some first = rw (some, first) refl
 
-pub goes : (at byte : ℕ) (rest : List ℕ) (place : Place) (reading : Reading) → next_place reading.place byte ≡ Some place
+pub goes : (at byte : ℕ) (rest : List ℕ) (place : LexerState) (reading : Reading) → next_place reading.place byte ≡ Some place
     → tokens_from at (byte ∷ rest) reading ≡ tokens_from (at + 1) rest (taken place byte reading)
 goes at byte rest place reading next = ap (λ p. and_then (gone_on p at byte reading) (tokens_from (at + 1) rest)) next
 

@@ -3,7 +3,7 @@ use Rattle.std.proofs.Common.{◌≡◌, ◌∙◌, ◌⊎◌, inl, inr, sym, ap
 use Rattle.std.proofs.lemmas.Bool.{eqb-true, false≢true, or_from as or_false}
 use Rattle.sql_ast.specs.Bytes.{is_blank, is_word_byte, is_word_start}
 use Rattle.sql_ast.specs.Tokens.{first_place, next_place}
-use Rattle.sql_ast.specs.declared.places.Place.TheVariants as place
+use Rattle.sql_ast.specs.declared.places.LexerState.TheVariants as place
 
 -- a byte of a kind is none that isn't
 pub differs : (test : ℕ → Bool) (byte other : ℕ) → test byte ≡ true → test other ≡ false → (byte == other) ≡ false

@@ -12,8 +12,8 @@ use Rattle.sql_ast.specs.Tokens.{ended, first_place, most_whole, next_place, tak
 use Rattle.sql_ast.specs.declared.lexer.Reading.{Reading}
 use Rattle.sql_ast.specs.declared.places.Last.{Last}
 use Rattle.sql_ast.specs.declared.places.Last.TheVariants.{Operand, Other, UnaryMinus}
-use Rattle.sql_ast.specs.declared.places.Place.{Place}
-use Rattle.sql_ast.specs.declared.places.Place.TheVariants as place
+use Rattle.sql_ast.specs.declared.places.LexerState.{LexerState}
+use Rattle.sql_ast.specs.declared.places.LexerState.TheVariants as place
 use Rattle.sql_ast.specs.declared.tokens.Token.{Token}
 use Rattle.sql_ast.specs.declared.tokens.TokenKind.TheVariants as kind
 use Rattle.sql_grammar.specs.declared.pieces.Piece.TheVariants as piece
@@ -98,11 +98,11 @@ begins_digit byte digit = (
   rw (differs is_digit byte 120 digit refl, differs is_digit byte 88 digit refl, not_word byte digit, digit) refl,
 )
 
-abbrev pub in_number : Place → ℕ → ℕ → ℕ → Last → List Token → Reading
+abbrev pub in_number : LexerState → ℕ → ℕ → ℕ → Last → List Token → Reading
 in_number place start value digits last done = record { place = place; start = start; held = []; value = value; digits = digits; last = last; done = done }
 
 -- a place at which digits go on
-pub record IsNumber (place : Place) : Type 0 where
+pub record IsNumber (place : LexerState) : Type 0 where
   pub next : (byte : ℕ) → is_digit byte ≡ true → next_place place byte ≡ Some place
   pub notes : (byte start value digits : ℕ) (last : Last) (done : List Token)
       → taken place byte (record { place = place; start = start; held = []; value = value; digits = digits; last = last; done = done })
@@ -114,7 +114,7 @@ whole_number = record { next = λ byte digit. rw (differs is_digit byte 46 digit
 pub decimal_number : IsNumber place.InDecimal
 decimal_number = record { next = λ byte digit. rw digit refl; notes = λ byte start value digits last done. refl }
 
-pub digits_go : (place : Place) → IsNumber place → (bytes : List ℕ) → list_all is_digit bytes ≡ true → (at : ℕ) (rest : List ℕ) (start value digits : ℕ) (last : Last) (done : List Token)
+pub digits_go : (place : LexerState) → IsNumber place → (bytes : List ℕ) → list_all is_digit bytes ≡ true → (at : ℕ) (rest : List ℕ) (start value digits : ℕ) (last : Last) (done : List Token)
     → tokens_from at (bytes ++ rest) (in_number place start value digits last done) ≡ tokens_from (at + length bytes) rest (in_number place start (capped (2 ^ 63 + 1) value bytes) (counted digits bytes) last done)
 digits_go place number [] all at rest start value digits last done =
     let here : at ≡ at + 0 = omega arith in

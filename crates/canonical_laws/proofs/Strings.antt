@@ -12,8 +12,8 @@ use Rattle.sql_ast.specs.Tokens.{next_place, tokens_from}
 use Rattle.sql_ast.specs.declared.lexer.Reading.{Reading}
 use Rattle.sql_ast.specs.declared.places.Last.{Last}
 use Rattle.sql_ast.specs.declared.places.Last.TheVariants.{Operand}
-use Rattle.sql_ast.specs.declared.places.Place.{Place}
-use Rattle.sql_ast.specs.declared.places.Place.TheVariants as place
+use Rattle.sql_ast.specs.declared.places.LexerState.{LexerState}
+use Rattle.sql_ast.specs.declared.places.LexerState.TheVariants as place
 use Rattle.sql_ast.specs.declared.tokens.Token.{Token}
 use Rattle.sql_ast.specs.declared.tokens.TokenKind.TheVariants as kind
 use Rattle.sql_grammar.specs.declared.pieces.Piece.TheVariants as piece
@@ -49,10 +49,10 @@ escaped_form byte =
     ] refl
 
 -- within a string or a byte string
-abbrev within : Place → List ℕ → ℕ → Last → List Token → Reading
+abbrev within : LexerState → List ℕ → ℕ → Last → List Token → Reading
 within place held start last done = record { place = place; start = start; held = held; value = 0; digits = 0; last = last; done = done }
 
-abbrev in_string : Place
+abbrev in_string : LexerState
 in_string = place.InString 39
 
 plain_goes : (byte at : ℕ) (more : List ℕ) (start : ℕ) (last : Last) (done : List Token) → (byte == 39) ≡ false → (byte == 92) ≡ false

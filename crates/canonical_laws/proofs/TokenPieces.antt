@@ -23,8 +23,8 @@ use Rattle.sql_ast.specs.declared.faults.Refusal.{Refusal}
 use Rattle.sql_ast.specs.declared.lexer.Reading.{Reading}
 use Rattle.sql_ast.specs.declared.places.Last.{Last}
 use Rattle.sql_ast.specs.declared.places.Last.TheVariants.{Operand, Other, UnaryMinus}
-use Rattle.sql_ast.specs.declared.places.Place.{Place}
-use Rattle.sql_ast.specs.declared.places.Place.TheVariants as place
+use Rattle.sql_ast.specs.declared.places.LexerState.{LexerState}
+use Rattle.sql_ast.specs.declared.places.LexerState.TheVariants as place
 use Rattle.sql_ast.specs.declared.signs.Sign.{Sign}
 use Rattle.sql_ast.specs.declared.signs.Sign.TheVariants as sign
 use Rattle.sql_ast.specs.declared.tokens.Token.{Token}
@@ -274,7 +274,7 @@ record IsClosed (quote : ℕ) (bytes : List ℕ) : Type 0 where
   bytes_are : bytes ≡ quote ∷ (body ++ quote ∷ [])
   low : quote < 128
 
-abbrev OpenAs : Place → List ℕ → List ℕ → ℕ → ℕ → Type 0
+abbrev OpenAs : LexerState → List ℕ → List ℕ → ℕ → ℕ → Type 0
 OpenAs place.Between bytes held number count = ⊥
 OpenAs place.InWord bytes held number count = IsWordRead bytes held
 OpenAs place.AfterX bytes held number count = IsWordRead bytes held
@@ -291,10 +291,10 @@ OpenAs (place.AfterSign s) bytes held number count = IsSigned s bytes
 OpenAs (place.AfterHalf first) bytes held number count = bytes ≡ first ∷ []
 OpenAs place bytes held number count = Unit {0}
 
-abbrev reading_at : Place → ℕ → List ℕ → ℕ → ℕ → Last → List Token → Reading
+abbrev reading_at : LexerState → ℕ → List ℕ → ℕ → ℕ → Last → List Token → Reading
 reading_at place start held number count last done = record { place = place; start = start; held = held; value = number; digits = count; last = last; done = done }
 
-record Open (place : Place) (bytes : List ℕ) (start : ℕ) (last : Last) (done : List Token) (reading : Reading) : Type 0 where
+record Open (place : LexerState) (bytes : List ℕ) (start : ℕ) (last : Last) (done : List Token) (reading : Reading) : Type 0 where
   held : List ℕ
   number : ℕ
   count : ℕ
@@ -303,10 +303,10 @@ record Open (place : Place) (bytes : List ℕ) (start : ℕ) (last : Last) (done
 
 -- places that are given by tests
 
-some_place : (p q : Place) → Path (Option Place) (Some p) (Some q) → p ≡ q
+some_place : (p q : LexerState) → Path (Option LexerState) (Some p) (Some q) → p ≡ q
 some_place p q e = ap (λ o. unwrap_or o p) e
 
-on_place : (test : Bool) (p q : Place) → on test p ≡ Some q → (test ≡ true) × (p ≡ q)
+on_place : (test : Bool) (p q : LexerState) → on test p ≡ Some q → (test ≡ true) × (p ≡ q)
 on_place true p q e = (refl, some_place p q e)
 on_place false p q e = absurd (cc)
 
@@ -405,23 +405,23 @@ quote_low byte e =
     ] refl e
 
 module _ (start : ℕ) (last : Last) (done : List Token) where
-  abbrev Opens : Place → ℕ → Type 0
+  abbrev Opens : LexerState → ℕ → Type 0
   Opens p byte = Open p (byte ∷ []) start last done (taken p byte (between start last done))
 
-  opens_at : (p q : Place) (byte : ℕ) → Path (Option Place) (Some p) (Some q) → Opens p byte → Opens q byte
+  opens_at : (p q : LexerState) (byte : ℕ) → Path (Option LexerState) (Some p) (Some q) → Opens p byte → Opens q byte
   opens_at p q byte e o = subst (λ r. Opens r byte) (some_place p q e) o
 
-  opens_sign : (o : Option Sign) (byte : ℕ) (q : Place) → single_sign byte ≡ o → Path (Option Place) (option_map (λ s. place.AfterSign s) o) (Some q) → Opens q byte
+  opens_sign : (o : Option Sign) (byte : ℕ) (q : LexerState) → single_sign byte ≡ o → Path (Option LexerState) (option_map (λ s. place.AfterSign s) o) (Some q) → Opens q byte
   opens_sign (Some s) byte q is e = opens_at (place.AfterSign s) q byte e (record { held = []; number = 0; count = 0; is = refl; as_ = signed_first byte s is })
   opens_sign None byte q is e = absurd (cc)
 
-  first_opens : (byte : ℕ) (q : Place) → first_place byte ≡ Some q → Opens q byte
+  first_opens : (byte : ℕ) (q : LexerState) → first_place byte ≡ Some q → Opens q byte
   first_opens byte q e =
-      elim (byte == 120 || byte == 88) as (λ b. (byte == 120 || byte == 88) ≡ b → Path (Option Place) (if b then Some place.AfterX else (if is_word_start byte then Some place.InWord else (if is_digit byte then Some place.InWhole else (if byte == 39 || byte == 34 then Some (place.InString byte) else (if byte == 96 then Some place.NameStart else first_of_sign byte))))) (Some q) → Opens q byte) [
+      elim (byte == 120 || byte == 88) as (λ b. (byte == 120 || byte == 88) ≡ b → Path (Option LexerState) (if b then Some place.AfterX else (if is_word_start byte then Some place.InWord else (if is_digit byte then Some place.InWhole else (if byte == 39 || byte == 34 then Some (place.InString byte) else (if byte == 96 then Some place.NameStart else first_of_sign byte))))) (Some q) → Opens q byte) [
         | true ↦ λ is f. opens_at place.AfterX q byte f (record { held = lower byte ∷ []; number = 0; count = 0; is = refl; as_ = (and_from (is_word_start byte) true (start_x byte is) refl, refl) })
-        | false ↦ λ no f. elim (is_word_start byte) as (λ b. is_word_start byte ≡ b → Path (Option Place) (if b then Some place.InWord else (if is_digit byte then Some place.InWhole else (if byte == 39 || byte == 34 then Some (place.InString byte) else (if byte == 96 then Some place.NameStart else first_of_sign byte)))) (Some q) → Opens q byte) [
+        | false ↦ λ no f. elim (is_word_start byte) as (λ b. is_word_start byte ≡ b → Path (Option LexerState) (if b then Some place.InWord else (if is_digit byte then Some place.InWhole else (if byte == 39 || byte == 34 then Some (place.InString byte) else (if byte == 96 then Some place.NameStart else first_of_sign byte)))) (Some q) → Opens q byte) [
           | true ↦ λ is g. opens_at place.InWord q byte g (record { held = lower byte ∷ []; number = 0; count = 0; is = refl; as_ = (and_from (is_word_start byte) true is refl, refl) })
-          | false ↦ λ no2 g. elim (is_digit byte) as (λ b. is_digit byte ≡ b → Path (Option Place) (if b then Some place.InWhole else (if byte == 39 || byte == 34 then Some (place.InString byte) else (if byte == 96 then Some place.NameStart else first_of_sign byte))) (Some q) → Opens q byte) [
+          | false ↦ λ no2 g. elim (is_digit byte) as (λ b. is_digit byte ≡ b → Path (Option LexerState) (if b then Some place.InWhole else (if byte == 39 || byte == 34 then Some (place.InString byte) else (if byte == 96 then Some place.NameStart else first_of_sign byte))) (Some q) → Opens q byte) [
             | true ↦ λ is h. opens_at place.InWhole q byte h (record {
               held = [];
               number = min (10 * 0 + (byte - 48)) (2 ^ 63 + 1);
@@ -429,11 +429,11 @@ module _ (start : ℕ) (last : Last) (done : List Token) where
               is = refl;
               as_ = record { digits = record { all = and_from (is_digit byte) true is refl; some = omega arith }; number_is = refl; count_is = refl };
             })
-            | false ↦ λ no3 h. elim (byte == 39 || byte == 34) as (λ b. (byte == 39 || byte == 34) ≡ b → Path (Option Place) (if b then Some (place.InString byte) else (if byte == 96 then Some place.NameStart else first_of_sign byte)) (Some q) → Opens q byte) [
+            | false ↦ λ no3 h. elim (byte == 39 || byte == 34) as (λ b. (byte == 39 || byte == 34) ≡ b → Path (Option LexerState) (if b then Some (place.InString byte) else (if byte == 96 then Some place.NameStart else first_of_sign byte)) (Some q) → Opens q byte) [
               | true ↦ λ is i. opens_at (place.InString byte) q byte i (record { held = []; number = 0; count = 0; is = refl; as_ = record { body = []; bytes_are = refl; low = quote_low byte is } })
-              | false ↦ λ no5 i. elim (byte == 96) as (λ b. (byte == 96) ≡ b → Path (Option Place) (if b then Some place.NameStart else first_of_sign byte) (Some q) → Opens q byte) [
+              | false ↦ λ no5 i. elim (byte == 96) as (λ b. (byte == 96) ≡ b → Path (Option LexerState) (if b then Some place.NameStart else first_of_sign byte) (Some q) → Opens q byte) [
                 | true ↦ λ is j. opens_at place.NameStart q byte j (record { held = []; number = 0; count = 0; is = refl; as_ = ap (λ n. n ∷ []) (eqb-true byte 96 is) })
-                | false ↦ λ no4 j. elim (byte == 33 || byte == 64) as (λ b. Path (Option Place) (if b then Some (place.AfterHalf byte) else option_map (λ s. place.AfterSign s) (single_sign byte)) (Some q) → Opens q byte) [
+                | false ↦ λ no4 j. elim (byte == 33 || byte == 64) as (λ b. Path (Option LexerState) (if b then Some (place.AfterHalf byte) else option_map (λ s. place.AfterSign s) (single_sign byte)) (Some q) → Opens q byte) [
                   | true ↦ λ k. opens_at (place.AfterHalf byte) q byte k (record { held = []; number = 0; count = 0; is = refl; as_ = refl })
                   | false ↦ λ k. opens_sign (single_sign byte) byte q refl k
                 ] j
@@ -449,13 +449,13 @@ module _ (bytes : List ℕ) (start : ℕ) (held : List ℕ) (number count : ℕ)
   abbrev more : List ℕ
   more = bytes ++ byte ∷ []
 
-  abbrev GoesOn : Place → Place → Type 0
+  abbrev GoesOn : LexerState → LexerState → Type 0
   GoesOn p q = Open q more start last done (taken q byte (reading_at p start held number count last done))
 
-  goes_to : (p q r : Place) → q ≡ r → GoesOn p q → GoesOn p r
+  goes_to : (p q r : LexerState) → q ≡ r → GoesOn p q → GoesOn p r
   goes_to p q r e o = subst (λ s. GoesOn p s) e o
 
-  word_on : (p q : Place) → IsWordRead bytes held → on (is_word_byte byte) place.InWord ≡ Some q → GoesOn p q
+  word_on : (p q : LexerState) → IsWordRead bytes held → on (is_word_byte byte) place.InWord ≡ Some q → GoesOn p q
   word_on p q as_ e =
       let word = on_place (is_word_byte byte) place.InWord q e in
       goes_to p place.InWord q word.1 (record {
@@ -466,7 +466,7 @@ module _ (bytes : List ℕ) (start : ℕ) (held : List ℕ) (number count : ℕ)
         as_ = (word_more bytes byte as_.0 word.0, map-append lower bytes (byte ∷ []) ∙ ap (λ h. h ++ lower byte ∷ []) as_.1);
       })
 
-  quoted_on : (p q : Place) (name : List ℕ) → bytes ≡ 96 ∷ name → is_word name ≡ true → on (is_word_byte byte) place.InName ≡ Some q → GoesOn p q
+  quoted_on : (p q : LexerState) (name : List ℕ) → bytes ≡ 96 ∷ name → is_word name ≡ true → on (is_word_byte byte) place.InName ≡ Some q → GoesOn p q
   quoted_on p q name are is e =
       let word = on_place (is_word_byte byte) place.InName q e in
       goes_to p place.InName q word.1 (record {
@@ -477,7 +477,7 @@ module _ (bytes : List ℕ) (start : ℕ) (held : List ℕ) (number count : ℕ)
         as_ = (name ++ byte ∷ [], (ap (λ b. b ++ byte ∷ []) are, word_more name byte is word.0));
       })
 
-  string_on : (p : Place) (quote : ℕ) → IsOpened quote bytes → GoesOn p (in_string quote byte)
+  string_on : (p : LexerState) (quote : ℕ) → IsOpened quote bytes → GoesOn p (in_string quote byte)
   string_on p quote as_ =
       let still : IsOpened quote more = record { body = as_.body ++ byte ∷ []; bytes_are = ap (λ b. b ++ byte ∷ []) as_.bytes_are; low = as_.low } in
       elim (byte == quote) as (λ b. (byte == quote) ≡ b → GoesOn p (if b then place.AfterQuote quote else (if byte == 92 then place.AfterSlash quote else place.InString quote))) [
@@ -494,22 +494,22 @@ module _ (bytes : List ℕ) (start : ℕ) (held : List ℕ) (number count : ℕ)
         ]
       ] refl
 
-  sign_on : (p q : Place) (first : ℕ) (o : Option Sign) → double_sign first byte ≡ o → ((s : Sign) → double_sign first byte ≡ Some s → sign_of more ≡ Some s)
-      → Path (Option Place) (option_map (λ s. place.AfterSign s) o) (Some q) → GoesOn p q
+  sign_on : (p q : LexerState) (first : ℕ) (o : Option Sign) → double_sign first byte ≡ o → ((s : Sign) → double_sign first byte ≡ Some s → sign_of more ≡ Some s)
+      → Path (Option LexerState) (option_map (λ s. place.AfterSign s) o) (Some q) → GoesOn p q
   sign_on p q first (Some s) is spells e =
       goes_to p (place.AfterSign s) q (some_place (place.AfterSign s) q e) (record { held = held; number = number; count = count; is = refl; as_ = signed_second first byte s more is (spells s is) })
   sign_on p q first None is spells e = absurd (cc)
 
-  next_opens : (p q : Place) → OpenAs p bytes held number count → next_place p byte ≡ Some q → GoesOn p q
+  next_opens : (p q : LexerState) → OpenAs p bytes held number count → next_place p byte ≡ Some q → GoesOn p q
   next_opens place.Between q as_ e = absurd as_
   next_opens place.InWord q as_ e = word_on place.InWord q as_ e
   next_opens place.AfterX q as_ e =
-      elim (byte == 39) as (λ b. Path (Option Place) (if b then Some place.HexEven else on (is_word_byte byte) place.InWord) (Some q) → GoesOn place.AfterX q) [
+      elim (byte == 39) as (λ b. Path (Option LexerState) (if b then Some place.HexEven else on (is_word_byte byte) place.InWord) (Some q) → GoesOn place.AfterX q) [
         | true ↦ λ f. goes_to place.AfterX place.HexEven q (some_place place.HexEven q f) (record { held = held; number = number; count = count; is = refl; as_ = tt })
         | false ↦ λ f. word_on place.AfterX q as_ f
       ] e
   next_opens place.InWhole q as_ e =
-      elim (byte == 46) as (λ b. (byte == 46) ≡ b → Path (Option Place) (if b then Some place.AtPoint else on (is_digit byte) place.InWhole) (Some q) → GoesOn place.InWhole q) [
+      elim (byte == 46) as (λ b. (byte == 46) ≡ b → Path (Option LexerState) (if b then Some place.AtPoint else on (is_digit byte) place.InWhole) (Some q) → GoesOn place.InWhole q) [
         | true ↦ λ is f. goes_to place.InWhole place.AtPoint q (some_place place.AtPoint q f) (record {
           held = held;
           number = number;
@@ -580,7 +580,7 @@ module _ (bytes : List ℕ) (start : ℕ) (held : List ℕ) (number count : ℕ)
         as_ = record { body = as_.body ++ byte ∷ []; bytes_are = ap (λ b. b ++ byte ∷ []) as_.bytes_are; low = as_.low };
       })
   next_opens place.HexEven q as_ e =
-      elim (byte == 39) as (λ b. Path (Option Place) (if b then Some place.AfterBytes else on (is_some (hex_value byte)) place.HexOdd) (Some q) → GoesOn place.HexEven q) [
+      elim (byte == 39) as (λ b. Path (Option LexerState) (if b then Some place.AfterBytes else on (is_some (hex_value byte)) place.HexOdd) (Some q) → GoesOn place.HexEven q) [
         | true ↦ λ f. goes_to place.HexEven place.AfterBytes q (some_place place.AfterBytes q f) (record { held = held; number = number; count = count; is = refl; as_ = tt })
         | false ↦ λ f. goes_to place.HexEven place.HexOdd q (on_place (is_some (hex_value byte)) place.HexOdd q f).1 (record { held = held; number = number; count = count; is = refl; as_ = tt })
       ] e
@@ -596,7 +596,7 @@ module _ (bytes : List ℕ) (start : ℕ) (held : List ℕ) (number count : ℕ)
         as_ = (byte ∷ [], (ap (λ b. b ++ byte ∷ []) as_, and_from (is_word_start byte) true word.0 refl));
       })
   next_opens place.InName q as_ e =
-      elim (byte == 96) as (λ b. (byte == 96) ≡ b → Path (Option Place) (if b then Some place.AfterName else on (is_word_byte byte) place.InName) (Some q) → GoesOn place.InName q) [
+      elim (byte == 96) as (λ b. (byte == 96) ≡ b → Path (Option LexerState) (if b then Some place.AfterName else on (is_word_byte byte) place.InName) (Some q) → GoesOn place.InName q) [
         | true ↦ λ is f. goes_to place.InName place.AfterName q (some_place place.AfterName q f) (record {
           held = held;
           number = number;
@@ -716,7 +716,7 @@ module _ (before front rest : List ℕ) (number count : ℕ) (last : Last) (done
 
 -- how a token ends
 module _ (before bytes rest held : List ℕ) (number count : ℕ) (last : Last) (done : List Token) (given : Given (whole before bytes rest) last done) where
-  abbrev Ends : Place → Type 0
+  abbrev Ends : LexerState → Type 0
   Ends p = EndsWell (whole before bytes rest) (ended p (at before bytes rest) (reading_at p (length before) held number count last done))
 
   string_given : {quote : ℕ} → IsClosed quote bytes → is_utf8 (values.string bytes) ≡ true
@@ -724,7 +724,7 @@ module _ (before bytes rest held : List ℕ) (number count : ℕ) (last : Last) 
       let Goal = λ (b : List ℕ). IsUtf8 (whole before b rest) → is_utf8 (values.string b) ≡ true in
       subst Goal (sym as_.bytes_are) (λ utf8. to_test (values.string (quote ∷ (as_.body ++ quote ∷ []))) (string_of before as_.body rest quote as_.low utf8)) given.utf8
 
-  ends_well : (p : Place) → OpenAs p bytes held number count → Ends p
+  ends_well : (p : LexerState) → OpenAs p bytes held number count → Ends p
   ends_well place.Between as_ = absurd as_
   ends_well place.InWord as_ = word_well before bytes rest held last done as_ given
   ends_well place.AfterX as_ = word_well before bytes rest held last done as_ given
@@ -756,7 +756,7 @@ module _ (before bytes rest held : List ℕ) (number count : ℕ) (last : Last) 
 
 -- a reading within a token
 record Busy (front rest : List ℕ) (reading : Reading) : Type 0 where
-  place : Place
+  place : LexerState
   before : List ℕ
   bytes : List ℕ
   last : Last

@@ -9,8 +9,8 @@ use Rattle.sql_ast.specs.Words.{keyword_of}
 use Rattle.sql_ast.specs.declared.lexer.Reading.{Reading}
 use Rattle.sql_ast.specs.declared.places.Last.{Last}
 use Rattle.sql_ast.specs.declared.places.Last.TheVariants.{Other, UnaryMinus}
-use Rattle.sql_ast.specs.declared.places.Place.{Place}
-use Rattle.sql_ast.specs.declared.places.Place.TheVariants as place
+use Rattle.sql_ast.specs.declared.places.LexerState.{LexerState}
+use Rattle.sql_ast.specs.declared.places.LexerState.TheVariants as place
 use Rattle.sql_ast.specs.declared.signs.Sign.{Sign}
 use Rattle.sql_ast.specs.declared.signs.Sign.TheVariants as sign
 use Rattle.sql_ast.specs.declared.tokens.Token.{Token}
@@ -25,7 +25,7 @@ use Rattle.canonical_laws.proofs.Lexing.{Any, Closes, Lexes, LexesTo, Stops, bet
 use Rattle.canonical_laws.proofs.Marks.{AfterExpr, EndsWord, at_end, after_x, begins_word, ends_word, ends_x, on_word}
 
 -- within a word
-abbrev in_word : Place → ℕ → List ℕ → Last → List Token → Reading
+abbrev in_word : LexerState → ℕ → List ℕ → Last → List Token → Reading
 in_word place start held last done = record { place = place; start = start; held = held; value = 0; digits = 0; last = last; done = done }
 
 -- no word goes on with these bytes

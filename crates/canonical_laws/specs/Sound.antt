@@ -6,8 +6,8 @@ use Rattle.sql_ast.specs.declared.selects.Clauses.{Clauses}
 use Rattle.sql_ast.specs.declared.selects.ColumnName.{ColumnName}
 use Rattle.sql_ast.specs.declared.selects.ColumnName.TheVariants as column
 use Rattle.sql_ast.specs.declared.selects.FromClause.{FromClause}
-use Rattle.sql_ast.specs.declared.selects.Item.{Item}
-use Rattle.sql_ast.specs.declared.selects.Item.TheVariants as item
+use Rattle.sql_ast.specs.declared.selects.SelectItem.{SelectItem}
+use Rattle.sql_ast.specs.declared.selects.SelectItem.TheVariants as item
 use Rattle.sql_ast.specs.declared.selects.Items.{Items}
 use Rattle.sql_ast.specs.declared.selects.Items.TheVariants as items
 use Rattle.sql_ast.specs.declared.selects.Join.{Join}
@@ -17,15 +17,15 @@ use Rattle.sql_ast.specs.declared.selects.Query.{Query}
 use Rattle.sql_ast.specs.declared.selects.Select.{Select}
 use Rattle.sql_ast.specs.declared.selects.Select.TheVariants as select
 use Rattle.sql_ast.specs.declared.selects.Sorting.{Sorting}
-use Rattle.sql_ast.specs.declared.selects.Source.{Source}
+use Rattle.sql_ast.specs.declared.selects.TableSource.{TableSource}
 use Rattle.sql_ast.specs.declared.statements.Alter.{Alter}
 use Rattle.sql_ast.specs.declared.statements.AlterAction.{AlterAction}
 use Rattle.sql_ast.specs.declared.statements.AlterAction.TheVariants as action
 use Rattle.sql_ast.specs.declared.statements.Assignment.{Assignment}
 use Rattle.sql_ast.specs.declared.statements.Call.{Call}
 use Rattle.sql_ast.specs.declared.statements.Delete.{Delete}
-use Rattle.sql_ast.specs.declared.statements.Entry.{Entry}
-use Rattle.sql_ast.specs.declared.statements.Entry.TheVariants as entry
+use Rattle.sql_ast.specs.declared.statements.InsertCell.{InsertCell}
+use Rattle.sql_ast.specs.declared.statements.InsertCell.TheVariants as entry
 use Rattle.sql_ast.specs.declared.statements.Insert.{Insert}
 use Rattle.sql_ast.specs.declared.statements.Setting.{Setting}
 use Rattle.sql_ast.specs.declared.statements.Statement.{Statement}
@@ -63,11 +63,11 @@ is_names names = is_filled is_name names
 
 -- ---- rows
 
-abbrev pub is_entry : Entry → Bool
+abbrev pub is_entry : InsertCell → Bool
 is_entry (entry.Value x) = is_expr x
 is_entry entry.Default = true
 
-abbrev pub is_tuple : List Entry → Bool
+abbrev pub is_tuple : List InsertCell → Bool
 is_tuple entries = is_filled is_entry entries
 
 abbrev pub is_insert : Insert → Bool
@@ -113,7 +113,7 @@ is_drop x = is_name x.table
 abbrev pub is_named : NamedExpr → Bool
 is_named x = is_expr x.expr && is_perhaps is_name x.name
 
-abbrev pub is_item : Item → Bool
+abbrev pub is_item : SelectItem → Bool
 is_item (item.AllOf source) = is_name source
 is_item (item.One x) = is_named x
 
@@ -121,7 +121,7 @@ abbrev pub is_items : Items → Bool
 is_items items.All = true
 is_items (items.Listed found) = is_filled is_item found
 
-abbrev pub is_source : Source → Bool
+abbrev pub is_source : TableSource → Bool
 is_source x = is_name x.table && is_perhaps is_name x.alias
 
 abbrev pub is_join : Join → Bool

@@ -11,9 +11,9 @@ use Rattle.sql_values.specs.declared.kinds.Kind.TheVariants as kind
 use Rattle.sql_values.specs.Worths.{Worth}
 use Rattle.expr_eval.specs.declared.bound.BoundExpr.{BoundExpr}
 use Rattle.expr_eval.specs.declared.bound.Chain.{Chain}
-use Rattle.expr_eval.specs.declared.bound.Node.{Node}
-use Rattle.expr_eval.specs.declared.bound.Node.TheVariants as n
-use Rattle.expr_eval.specs.declared.bound.Node.TheVariants.{outs-And, outs-Factors, outs-In, outs-Or}
+use Rattle.expr_eval.specs.declared.bound.BoundNode.{BoundNode}
+use Rattle.expr_eval.specs.declared.bound.BoundNode.TheVariants as n
+use Rattle.expr_eval.specs.declared.bound.BoundNode.TheVariants.{outs-And, outs-Factors, outs-In, outs-Or}
 use Rattle.expr_eval.specs.declared.scopes.ScopeColumn.{ScopeColumn}
 use Rattle.expr_eval.specs.Binding.{Outcome, and_then, bound, bound_chain, bound_in, compared_kind, extended, in_node, logic_kind, longer_if, opened_chain}
 use Rattle.expr_eval.specs.Binding as binding
@@ -25,17 +25,17 @@ use Rattle.check_laws.proofs.Nodes.{Alike, IsPlain, IsPlainIfBound, plain, same}
 abbrev pub IsKept : List ScopeColumn → Expr → Type 0
 IsKept scope x = Alike (bound scope (paired x)) (bound scope x)
 
-pub plain_and : (a : Node) (xs : List Node) → IsPlain (n.And a xs)
+pub plain_and : (a : BoundNode) (xs : List BoundNode) → IsPlain (n.And a xs)
 plain_and a xs = plain _ (n.And a xs) (outs-And a xs) refl
 
-pub plain_or : (a : Node) (xs : List Node) → IsPlain (n.Or a xs)
+pub plain_or : (a : BoundNode) (xs : List BoundNode) → IsPlain (n.Or a xs)
 plain_or a xs = plain _ (n.Or a xs) (outs-Or a xs) refl
 
-pub plain_factors : (a : Node) (xs : List Node) → IsPlain (n.Factors a xs)
+pub plain_factors : (a : BoundNode) (xs : List BoundNode) → IsPlain (n.Factors a xs)
 plain_factors a xs = plain _ (n.Factors a xs) (outs-Factors a xs) refl
 
-module _ (meet : Kind → Kind → Option Kind) (f : Worth → Worth → Worthy) (join : Node → List Node → Node)
-    (join_worth : (row : Cells) (a : Node) (xs : List Node) → worth row (join a xs) ≡ chained f (worth row a) (map (worth row) xs)) (join_plain : (a : Node) (xs : List Node) → IsPlain (join a xs)) where
+module _ (meet : Kind → Kind → Option Kind) (f : Worth → Worth → Worthy) (join : BoundNode → List BoundNode → BoundNode)
+    (join_worth : (row : Cells) (a : BoundNode) (xs : List BoundNode) → worth row (join a xs) ≡ chained f (worth row a) (map (worth row) xs)) (join_plain : (a : BoundNode) (xs : List BoundNode) → IsPlain (join a xs)) where
   abbrev pub made : Chain → Outcome BoundExpr
   made chain = Ok (record { kind = chain.kind; node = join chain.first chain.rest })
 
@@ -127,7 +127,7 @@ ElementsAlike (Err m) (Err k) = m ≡ k
 ElementsAlike (Ok c) (Err k) = ⊥
 ElementsAlike (Err k) (Ok d) = ⊥
 
-longer_alike : (k : Option Kind) (c d : Chain) (a b : Node) → ((row : Cells) → worth row c.first ≡ worth row d.first) → ((row : Cells) → map (worth row) c.rest ≡ map (worth row) d.rest)
+longer_alike : (k : Option Kind) (c d : Chain) (a b : BoundNode) → ((row : Cells) → worth row c.first ≡ worth row d.first) → ((row : Cells) → map (worth row) c.rest ≡ map (worth row) d.rest)
     → ((row : Cells) → worth row a ≡ worth row b) → ElementsAlike (longer_if k c a) (longer_if k d b)
 longer_alike (Some k) c d a b first rest w =
     (refl, first, λ row. map_push (worth row) c.rest a ∙ ap (λ ws. ws ++ worth row a ∷ []) (rest row) ∙ ap (λ z. map (worth row) d.rest ++ z ∷ []) (w row) ∙ sym (map_push (worth row) d.rest b))

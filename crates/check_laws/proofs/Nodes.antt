@@ -12,15 +12,15 @@ use Rattle.expr_eval.specs.Binding.{Outcome, and_then, bound_compare, bound_is_n
 use Rattle.expr_eval.specs.Binding as binding
 use Rattle.expr_eval.specs.Valuing.{Worthy, comparison, negation, one, two, worth}
 use Rattle.expr_eval.specs.declared.bound.BoundExpr.{BoundExpr}
-use Rattle.expr_eval.specs.declared.bound.Node.{Node, out-Node}
-use Rattle.expr_eval.specs.declared.bound.Node.TheOpen.{Node-F}
-use Rattle.expr_eval.specs.declared.bound.Node.TheVariants as n
-use Rattle.expr_eval.specs.declared.bound.Node.TheVariants.{outs-Compare, outs-Constant, outs-IsNotNull, outs-IsNull, outs-Negate, outs-Not, rolls-Compare, rolls-IsNotNull, rolls-IsNull, rolls-Negate, rolls-Not}
+use Rattle.expr_eval.specs.declared.bound.BoundNode.{BoundNode, out-BoundNode}
+use Rattle.expr_eval.specs.declared.bound.BoundNode.TheOpen.{BoundNode-F}
+use Rattle.expr_eval.specs.declared.bound.BoundNode.TheVariants as n
+use Rattle.expr_eval.specs.declared.bound.BoundNode.TheVariants.{outs-Compare, outs-Constant, outs-IsNotNull, outs-IsNull, outs-Negate, outs-Not, rolls-Compare, rolls-IsNotNull, rolls-IsNull, rolls-Negate, rolls-Not}
 use Rattle.expr_eval.proofs.WorthNodes.{worth_compare, worth_is_not_null, worth_is_null, worth_negate, worth_not}
 
 -- what an operand is worth under a unary minus, which brings the literal 2^63 into range
-abbrev pub worth_behind_minus : Cells → Node → Worthy
-worth_behind_minus row a = worth row (minus_of (out-Node a) a)
+abbrev pub worth_behind_minus : Cells → BoundNode → Worthy
+worth_behind_minus row a = worth row (minus_of (out-BoundNode a) a)
 
 abbrev pub Same : BoundExpr → BoundExpr → Type 0
 Same a b = (a.kind ≡ b.kind) × ((row : Cells) → worth row a.node ≡ worth row b.node) × ((row : Cells) → worth_behind_minus row a.node ≡ worth_behind_minus row b.node)
@@ -33,7 +33,7 @@ Alike (Ok a) (Err k) = ⊥
 Alike (Err k) (Ok b) = ⊥
 
 -- a node that isn't the literal 2^63
-abbrev pub IsPlain : Node → Type 0
+abbrev pub IsPlain : BoundNode → Type 0
 IsPlain a = (row : Cells) → worth_behind_minus row a ≡ one negated (worth row a)
 
 abbrev pub IsPlainIfBound : Outcome BoundExpr → Type 0
@@ -41,18 +41,18 @@ IsPlainIfBound (Ok a) = IsPlain a.node
 IsPlainIfBound (Err k) = Unit {0}
 
 -- which nodes are plain
-pub plain : (y : Node-F Node) (a : Node) → out-Node a ≡ y → minus_of y a ≡ n.Negate a → IsPlain a
+pub plain : (y : BoundNode-F BoundNode) (a : BoundNode) → out-BoundNode a ≡ y → minus_of y a ≡ n.Negate a → IsPlain a
 plain y a out is row = ap (λ z. worth row (minus_of z a)) out ∙ ap (λ z. worth row z) is ∙ worth_negate row a
 
-plain_minus : (y : Node-F Node) (a : Node) → IsPlain (minus_of y a)
-plain_minus Node-F.MinusOnly a = plain _ (n.Constant kind.Int (cell.Int (negsuc (2 ^ 63 - 1)))) (outs-Constant kind.Int (cell.Int (negsuc (2 ^ 63 - 1)))) refl
+plain_minus : (y : BoundNode-F BoundNode) (a : BoundNode) → IsPlain (minus_of y a)
+plain_minus BoundNode-F.MinusOnly a = plain _ (n.Constant kind.Int (cell.Int (negsuc (2 ^ 63 - 1)))) (outs-Constant kind.Int (cell.Int (negsuc (2 ^ 63 - 1)))) refl
 plain_minus _ a = plain _ (n.Negate a) (outs-Negate a) refl
 
 pub same : (a b : BoundExpr) → a.kind ≡ b.kind → ((row : Cells) → worth row a.node ≡ worth row b.node) → IsPlain a.node → IsPlain b.node → Same a b
 same a b k w p q = (k, w, λ row. p row ∙ ap (one negated) (w row) ∙ sym (q row))
 
 -- a truth value of operands that fit
-pub truths : (fit : Bool) (a b : Node) → ((row : Cells) → worth row a ≡ worth row b) → IsPlain a → IsPlain b → Alike (truth_if fit a) (truth_if fit b)
+pub truths : (fit : Bool) (a b : BoundNode) → ((row : Cells) → worth row a ≡ worth row b) → IsPlain a → IsPlain b → Alike (truth_if fit a) (truth_if fit b)
 truths true a b w p q = same (record { kind = kind.Bool; node = a }) (record { kind = kind.Bool; node = b }) refl w p q
 truths false a b w p q = refl
 
@@ -83,7 +83,7 @@ is_not_null_alike (Err m) (Err k) h = h
 is_not_null_alike (Ok a) (Err k) h = absurd h
 is_not_null_alike (Err k) (Ok b) h = absurd h
 
-pub plain_compare : (a : Node) (o : Comparison) (b : Node) → IsPlain (n.Compare a o b)
+pub plain_compare : (a : BoundNode) (o : Comparison) (b : BoundNode) → IsPlain (n.Compare a o b)
 plain_compare a o b = plain _ (n.Compare a o b) (outs-Compare a o b) refl
 
 pub compare_alike : (o : Comparison) (a b c d : Outcome BoundExpr) → Alike a c → Alike b d → Alike (binding.two (bound_compare o) a b) (binding.two (bound_compare o) c d)
@@ -100,14 +100,14 @@ compare_alike o (Ok a) (Err m) (Ok c) (Ok d) h e = absurd e
 compare_alike o (Ok a) b (Err k) d h e = absurd h
 compare_alike o (Err m) b (Ok c) d h e = absurd h
 
-negates : (k : Option Kind) (a b : Node) → ((row : Cells) → worth_behind_minus row a ≡ worth_behind_minus row b) → Alike (typed k (minus_of (out-Node a) a)) (typed k (minus_of (out-Node b) b))
+negates : (k : Option Kind) (a b : BoundNode) → ((row : Cells) → worth_behind_minus row a ≡ worth_behind_minus row b) → Alike (typed k (minus_of (out-BoundNode a) a)) (typed k (minus_of (out-BoundNode b) b))
 negates (Some k) a b w =
-    same (record { kind = k; node = minus_of (out-Node a) a }) (record { kind = k; node = minus_of (out-Node b) b }) refl w (plain_minus (out-Node a) a) (plain_minus (out-Node b) b)
+    same (record { kind = k; node = minus_of (out-BoundNode a) a }) (record { kind = k; node = minus_of (out-BoundNode b) b }) refl w (plain_minus (out-BoundNode a) a) (plain_minus (out-BoundNode b) b)
 negates None a b w = refl
 
 pub negate_alike : (o p : Outcome BoundExpr) → Alike o p → Alike (and_then o bound_negate) (and_then p bound_negate)
 negate_alike (Ok a) (Ok b) h =
-    subst (λ k. Alike (typed (negative_kind a.kind) (minus_of (out-Node a.node) a.node)) (typed k (minus_of (out-Node b.node) b.node))) (ap negative_kind h.0)
+    subst (λ k. Alike (typed (negative_kind a.kind) (minus_of (out-BoundNode a.node) a.node)) (typed k (minus_of (out-BoundNode b.node) b.node))) (ap negative_kind h.0)
     (negates (negative_kind a.kind) a.node b.node h.2)
 negate_alike (Err m) (Err k) h = h
 negate_alike (Ok a) (Err k) h = absurd h

@@ -7,9 +7,9 @@ use Rattle.sql_values.specs.Logic.{Truth3, and3}
 use Rattle.sql_values.specs.Worths.{of_truth, truth}
 use Rattle.sql_values.specs.declared.kinds.Kind.TheVariants as kind
 use Rattle.expr_eval.specs.declared.bound.BoundExpr.{BoundExpr}
-use Rattle.expr_eval.specs.declared.bound.Node.{Node}
-use Rattle.expr_eval.specs.declared.bound.Node.TheVariants as n
-use Rattle.expr_eval.specs.declared.bound.Node.TheVariants.{outs-Between, rolls-Between}
+use Rattle.expr_eval.specs.declared.bound.BoundNode.{BoundNode}
+use Rattle.expr_eval.specs.declared.bound.BoundNode.TheVariants as n
+use Rattle.expr_eval.specs.declared.bound.BoundNode.TheVariants.{outs-Between, rolls-Between}
 use Rattle.expr_eval.specs.Binding.{Outcome, and_node, and_then, bound_between, bound_chain, bound_compare, high_end, logic_kind, low_end, mismatch, truth_if}
 use Rattle.expr_eval.specs.Binding as binding
 use Rattle.expr_eval.specs.Valuing.{Worthy, between, compared, comparison, conjunction, two, worth}
@@ -33,7 +33,7 @@ conjoined_is (Some a) (Some low) None = refl
 conjoined_is (Some a) None high = refl
 conjoined_is None low high = refl
 
-within_is : (row : Cells) (a low high b from to : Node) → worth row a ≡ worth row b → worth row low ≡ worth row from → worth row high ≡ worth row to
+within_is : (row : Cells) (a low high b from to : BoundNode) → worth row a ≡ worth row b → worth row low ≡ worth row from → worth row high ≡ worth row to
     → worth row (n.And (n.Compare a op.AtLeast low) (n.Compare a op.AtMost high ∷ [])) ≡ worth row (n.Between b from to)
 within_is row a low high b from to a_is low_is high_is =
     worth_and row (n.Compare a op.AtLeast low) (n.Compare a op.AtMost high ∷ [])

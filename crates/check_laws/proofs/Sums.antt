@@ -11,9 +11,9 @@ use Rattle.tuple_codec.specs.Rows.{Cells}
 use Rattle.sql_values.specs.declared.kinds.Kind.{Kind}
 use Rattle.sql_values.specs.Kinds.{sum_kind}
 use Rattle.expr_eval.specs.declared.bound.BoundExpr.{BoundExpr}
-use Rattle.expr_eval.specs.declared.bound.Node.{Node}
-use Rattle.expr_eval.specs.declared.bound.Node.TheVariants as n
-use Rattle.expr_eval.specs.declared.bound.Node.TheVariants.{outs-Terms}
+use Rattle.expr_eval.specs.declared.bound.BoundNode.{BoundNode}
+use Rattle.expr_eval.specs.declared.bound.BoundNode.TheVariants as n
+use Rattle.expr_eval.specs.declared.bound.BoundNode.TheVariants.{outs-Terms}
 use Rattle.expr_eval.specs.declared.bound.Sum.{Sum}
 use Rattle.expr_eval.specs.declared.scopes.ScopeColumn.{ScopeColumn}
 use Rattle.expr_eval.specs.Binding.{Outcome, and_then, bound, bound_sum, lengthened, longer_sum_if, opened_sum, step, terms_node}
@@ -29,13 +29,13 @@ paired_term y = (y.0, paired y.1)
 abbrev bound_term : List ScopeColumn → Term × Expr → Term × Outcome BoundExpr
 bound_term scope y = (y.0, bound scope y.1)
 
-abbrev worth_term : Cells → Term × Node → Term × Worthy
+abbrev worth_term : Cells → Term × BoundNode → Term × Worthy
 worth_term row y = (y.0, worth row y.1)
 
 abbrev pair : Outcome BoundExpr → Term × Outcome BoundExpr → Outcome BoundExpr
 pair o q = and_then (and_then o (bound_sum (q ∷ []))) terms_node
 
-plain_terms : (a : Node) (xs : List (Term × Node)) → IsPlain (n.Terms a xs)
+plain_terms : (a : BoundNode) (xs : List (Term × BoundNode)) → IsPlain (n.Terms a xs)
 plain_terms a xs = plain _ (n.Terms a xs) (outs-Terms a xs) refl
 
 abbrev SumIs : Outcome Sum → Outcome BoundExpr → Type 0

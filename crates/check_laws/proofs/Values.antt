@@ -16,7 +16,7 @@ use Rattle.sql_values.specs.Worths.{cell_of}
 use Rattle.expr_eval.specs.Binding.{Outcome, and_then, bound, bound_compare, bound_in, bound_not, logic_kind, step, two}
 use Rattle.expr_eval.specs.Valuing.{conjunction, disjunction}
 use Rattle.expr_eval.specs.declared.bound.BoundExpr.{BoundExpr}
-use Rattle.expr_eval.specs.declared.bound.Node.TheVariants as n
+use Rattle.expr_eval.specs.declared.bound.BoundNode.TheVariants as n
 use Rattle.expr_eval.specs.declared.scopes.ScopeColumn.{ScopeColumn}
 use Rattle.expr_eval.proofs.BoundNodes.{bound_of_compare, bound_of_count, bound_of_in, bound_of_is_not_null, bound_of_is_null, bound_of_max, bound_of_min, bound_of_negate, bound_of_not, bound_of_sum}
 use Rattle.expr_eval.proofs.WorthNodes.{worth_and, worth_factors, worth_or}

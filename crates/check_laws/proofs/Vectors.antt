@@ -13,8 +13,8 @@ use Rattle.std.specs.Option.{option_map}
 use Rattle.sql_values.specs.declared.kinds.Kind.TheVariants as kind
 use Rattle.expr_eval.specs.Binding.{and_then, bound, bound_chain, bound_negate, logic_kind, minus_of, or_node, step}
 use Rattle.expr_eval.specs.Valuing.{one, value, worth}
-use Rattle.expr_eval.specs.declared.bound.Node.TheVariants as n
-use Rattle.expr_eval.specs.declared.bound.Node.TheVariants.{outs-MinusOnly, outs-Or, rolls-Constant, rolls-MinusOnly}
+use Rattle.expr_eval.specs.declared.bound.BoundNode.TheVariants as n
+use Rattle.expr_eval.specs.declared.bound.BoundNode.TheVariants.{outs-MinusOnly, outs-Or, rolls-Constant, rolls-MinusOnly}
 use Rattle.expr_eval.proofs.BoundNodes.{bound_of_literal, bound_of_negate}
 use Rattle.expr_eval.proofs.WorthNodes.{worth_constant, worth_minus_only, worth_negate, worth_or}
 use Rattle.canonical_laws.specs.Canonical.{paired, paired_at}

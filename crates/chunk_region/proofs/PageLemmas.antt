@@ -6,7 +6,7 @@ use Rattle.std.proofs.lemmas.Option.{cond_some}
 use Rattle.std.proofs.lemmas.Bool.{and_from, leb-true, le-leb, lt-ltb, ltb-true, and_parts as and_both}
 use Rattle.chunk_region.specs.declared.span.Span.{Span}
 use Rattle.chunk_region.specs.declared.mark.Mark.{Mark}
-use Rattle.chunk_region.specs.Pages.{Pages, bytes_at, part_of, Stands, has_room, on_last_page, mark_of, cut, cut_page, cut_pages, place_on, write_on_last, IsLater, IsLaterPage, IsBefore, IsWritten, Keeps, WritesOn, behind}
+use Rattle.chunk_region.specs.Pages.{Pages, span_bytes, part_of, Stands, has_room, on_last_page, mark_of, cut, cut_page, cut_pages, place_on, write_on_last, IsLater, IsLaterPage, IsBeforeMark, IsWritten, Keeps, WritesOn, behind}
 
 page_itself : (pages : Pages) (page : List ℕ) → IsLaterPage pages page page
 page_itself [] page = ([], sym (append-nil page))
@@ -251,12 +251,12 @@ some_is (Some x) _ = (x, refl)
 
 pub taken_written : (pages : Pages) (used : ℕ) (span : Span) → IsWritten (take used pages) span → IsWritten pages span
 taken_written pages used span written =
-    let found = some_is (bytes_at (take used pages) span) written in
+    let found = some_is (span_bytes (take used pages) span) written in
     is_written pages span found.0 (taken_stands pages used span found.0 found.1)
 
 pub stands_taken : (pages : Pages) (used : ℕ) (span : Span) (bytes : List ℕ) → IsWritten (take used pages) span → Stands pages span bytes → Stands (take used pages) span bytes
 stands_taken pages used span bytes written held =
-    let found = some_is (bytes_at (take used pages) span) written in
+    let found = some_is (span_bytes (take used pages) span) written in
     found.1 ∙ sym (taken_stands pages used span found.0 found.1) ∙ held
 
 -- a part of a page ends where the page does, or before
@@ -312,10 +312,10 @@ stood_in (p ∷ pages) (suc zero) last zero start len bytes held = part_uncut st
 stood_in (p ∷ pages) (suc (suc n)) last zero start len bytes held = held
 stood_in (p ∷ pages) (suc n) last (suc at) start len bytes held = stood_in pages n last at start len bytes held
 
-pub ends_at : (pages : Pages) (span : Span) (bytes : List ℕ) → Stands pages span bytes → IsBefore (mark_of pages) span
+pub ends_at : (pages : Pages) (span : Span) (bytes : List ℕ) → Stands pages span bytes → IsBeforeMark (mark_of pages) span
 ends_at pages span bytes held = ends_in pages span.page span.start span.len bytes held
 
-pub stays : (pages : Pages) (mark : Mark) (span : Span) (bytes : List ℕ) → IsBefore mark span → Stands pages span bytes → Stands (cut mark pages) span bytes
+pub stays : (pages : Pages) (mark : Mark) (span : Span) (bytes : List ℕ) → IsBeforeMark mark span → Stands pages span bytes → Stands (cut mark pages) span bytes
 stays pages mark span bytes before held = stays_in pages mark.pages mark.last span.page span.start span.len bytes before.0 before.1 held
 
 pub stood : (pages : Pages) (mark : Mark) (span : Span) (bytes : List ℕ) → Stands (cut mark pages) span bytes → Stands pages span bytes
@@ -340,7 +340,7 @@ behind_get (x ∷ xs) ys at =
     ap (slice_get (x ∷ xs ++ ys)) next ∙ behind_get xs ys at
 
 -- what stands on pages stands there with others before them, so many pages further on
-pub behind_is : (xs ys : Pages) (span : Span) → bytes_at (xs ++ ys) (behind (length xs) span) ≡ bytes_at ys span
+pub behind_is : (xs ys : Pages) (span : Span) → span_bytes (xs ++ ys) (behind (length xs) span) ≡ span_bytes ys span
 behind_is xs ys span = ap (option_and_then (part_of span.start span.len)) (behind_get xs ys span.page)
 
 page_within : (pages : Pages) (at start len : ℕ) → IsSome (option_and_then (part_of start len) (slice_get pages at)) → at < length pages

@@ -11,16 +11,16 @@ abbrev pub part_of : ℕ → ℕ → List ℕ → Option (List ℕ)
 part_of start len page = if nat_le (start + len) (length page) then Some (take len (drop start page)) else None
 
 -- the bytes that a span names: None where nothing, or less, is written there
-abbrev pub bytes_at : Pages → Span → Option (List ℕ)
-bytes_at pages span = option_and_then (part_of span.start span.len) (slice_get pages span.page)
+abbrev pub span_bytes : Pages → Span → Option (List ℕ)
+span_bytes pages span = option_and_then (part_of span.start span.len) (slice_get pages span.page)
 
 -- the span names these bytes
 abbrev pub Stands : Pages → Span → List ℕ → Type 0
-Stands pages span bytes = bytes_at pages span ≡ Some bytes
+Stands pages span bytes = span_bytes pages span ≡ Some bytes
 
 -- the span names some bytes
 abbrev pub IsWritten : Pages → Span → Type 0
-IsWritten pages span = IsSome (bytes_at pages span)
+IsWritten pages span = IsSome (span_bytes pages span)
 
 -- the span where so many pages come before those that it is of
 abbrev pub behind : ℕ → Span → Span
@@ -66,8 +66,8 @@ abbrev pub cut : Mark → Pages → Pages
 cut mark pages = cut_pages mark.pages mark.last pages
 
 -- the span lies before the mark
-abbrev pub IsBefore : Mark → Span → Type 0
-IsBefore mark span = (span.page < mark.pages) × (span.page + 1 ≡ mark.pages → span.start + span.len ≤ mark.last)
+abbrev pub IsBeforeMark : Mark → Span → Type 0
+IsBeforeMark mark span = (span.page < mark.pages) × (span.page + 1 ≡ mark.pages → span.start + span.len ≤ mark.last)
 
 -- a page as it was, or, if it was the last one, as the front of what it has become
 abbrev pub IsLaterPage : Pages → List ℕ → List ℕ → Type 0
@@ -86,11 +86,11 @@ Keeps old new = (span : Span) (bytes : List ℕ) → Stands old span bytes → S
 
 -- each span that stands lies before the mark
 abbrev pub AllBefore : Mark → Pages → Type 0
-AllBefore mark pages = (span : Span) (bytes : List ℕ) → Stands pages span bytes → IsBefore mark span
+AllBefore mark pages = (span : Span) (bytes : List ℕ) → Stands pages span bytes → IsBeforeMark mark span
 
 -- each span before the mark stands in the new pages for what it stood for in the old
 abbrev pub KeepsBefore : Mark → Pages → Pages → Type 0
-KeepsBefore mark old new = (span : Span) (bytes : List ℕ) → IsBefore mark span → Stands old span bytes → Stands new span bytes
+KeepsBefore mark old new = (span : Span) (bytes : List ℕ) → IsBeforeMark mark span → Stands old span bytes → Stands new span bytes
 
 -- the new pages are those at which the mark was taken, if the old ones came from them by writing on
 abbrev pub LeadsBack : Mark → Pages → Pages → Type 0

@@ -19,7 +19,7 @@ pub use mark::Mark;
 pub use pool::PagePool;
 pub use region::Region;
 pub use sealed::Sealed;
-pub use shared::Shared;
+pub use shared::SharedPages;
 pub use span::Span;
 
 #[cfg(test)]

@@ -8,7 +8,7 @@ ghost use Rattle.chunk_region.specs.Pages.{AllBefore, IsLater, IsWritten, Keeps,
 use crate::page::{PAGE_BYTES, Page};
 use crate::pool::fill;
 use crate::shared::SharedPage;
-use crate::{Mark, PagePool, Sealed, Shared, Span};
+use crate::{Mark, PagePool, Sealed, SharedPages, Span};
 use std::alloc::AllocError;
 use std::marker::Model;
 
@@ -162,7 +162,7 @@ impl Region {
     }
 
     /// A copy of what was placed, to be read by the same spans, on pages of just the size of what is written on them.
-    pub fn shared_copy(&self) -> Result<Shared, AllocError>
+    pub fn shared_copy(&self) -> Result<SharedPages, AllocError>
         ensures { IfOk result (λ copy. copy ≡ self.now.pages) }
     {
         let alloc = *self.pages.allocator();
@@ -171,7 +171,7 @@ impl Region {
             let page = &self.pages[at];
             pages.push(SharedPage::copy_of(alloc, page.as_slice())?)?;
         }
-        Ok(Shared { pages })
+        Ok(SharedPages { pages })
     }
 
     /// Where the writing ends now, to go back to.

@@ -51,11 +51,11 @@ impl SharedPage {
 
 /// Bytes on pages that several holders share, to be read by spans. A contract sees the bytes of each page.
 #[derive(Debug, Drop)]
-pub struct Shared {
+pub struct SharedPages {
     pub(crate) pages: Vec<SharedPage>,
 }
 
-impl Model for Shared {
+impl Model for SharedPages {
     ghost use Rattle.std.specs.Prelude.{ℕ, List, length, ◌<◌, ◌^◌};
 
     ghost Value = { List (List ℕ) };
@@ -65,7 +65,7 @@ impl Model for Shared {
     ghost invariant = { λ shared. length shared.pages.items < 2 ^ 32 };
 }
 
-impl Shared {
+impl SharedPages {
     /// How many pages there are.
     pub fn pages(&self) -> u32
         ensures { result ≡ length self.now }
@@ -87,11 +87,11 @@ impl Shared {
     /// These pages, and behind them those of another one, which both hold from now on: no bytes are copied.
     ///
     /// Where there would be more than 2^32 - 1 pages the answer is want of memory.
-    pub fn joined(self, other: &Shared) -> Result<Shared, AllocError>
+    pub fn joined(self, other: &SharedPages) -> Result<SharedPages, AllocError>
         ensures pages { IfOk result (λ both. both ≡ self ++ other.now) }
         ensures few { IfOk result (λ both. length both < 2 ^ 32) }
     {
-        let Shared { mut pages } = self;
+        let SharedPages { mut pages } = self;
         let count = pages.len() + other.pages.len();
         if count > u32::MAX as usize {
             return Err(AllocError);
@@ -100,6 +100,6 @@ impl Shared {
         for page in &other.pages {
             pages.push(page.share()?)?;
         }
-        Ok(Shared { pages })
+        Ok(SharedPages { pages })
     }
 }

@@ -7,7 +7,7 @@ use Rattle.chunk_region.specs.Pages.{Pages, Stands, IsWritten, Keeps}
 use Rattle.chunk_region.proofs.PageLemmas.{behind_is, front_keeps, is_written, written_within}
 use Rattle.chunk_store.specs.declared.index.Placed.{Placed}
 use Rattle.chunk_store.specs.Building.{gather, with_chunk}
-use Rattle.chunk_store.specs.Chunks.{Chunk, bytes_at, Listed, IsSingle}
+use Rattle.chunk_store.specs.Chunks.{Chunk, chunk_bytes, Listed, IsSingle}
 use Rattle.chunk_store.specs.Placing.{AllFit, AllWritten, ArePlaced, chunk_of, chunks_in, gather_placed, placed_behind, span_at, with_placed, written}
 use Rattle.chunk_store.proofs.ChunkLemmas.{found_listed, listed_either, listed_left, listed_right, single_fewer, single_push}
 use Rattle.chunk_store.proofs.PlacingLemmas.{all_push, all_stay, chunks_push, found_at, kept_chunks, kept_written, same_found}
@@ -20,7 +20,7 @@ pub placed_push : (old new : Pages) (cs : List Placed) (c : Placed) (bytes : Lis
 placed_push old new cs c bytes placed keeps held fits absent =
     let stay = all_stay old new cs keeps in
     let pushed = chunks_push old new cs c bytes placed.all_written stay held in
-    let none : bytes_at (chunks_in old cs) c.address.0 ≡ None = found_at old cs c.address.0 ∙ ap (option_map (written old)) absent in
+    let none : chunk_bytes (chunks_in old cs) c.address.0 ≡ None = found_at old cs c.address.0 ∙ ap (option_map (written old)) absent in
     record {
       all_written = all_push (λ x. IsWritten new x.span) cs c (kept_written old new cs placed.all_written stay) (is_written new c.span bytes held);
       fit = subst AllFit (sym pushed) (all_push (λ x. length x.1 ≤ 65536) (chunks_in old cs) (c.address.0, bytes) placed.fit fits);
@@ -30,10 +30,10 @@ placed_push old new cs c bytes placed keeps held fits absent =
     nothing : (others : List ℕ) → ◌≡◌ {A = Option (List ℕ)} None (Some others) → ⊥
     nothing others is = cc
 
-pub with_there : (cs : List Chunk) (c : Chunk) (x : List ℕ) → bytes_at cs c.0 ≡ Some x → with_chunk cs c ≡ cs
+pub with_there : (cs : List Chunk) (c : Chunk) (x : List ℕ) → chunk_bytes cs c.0 ≡ Some x → with_chunk cs c ≡ cs
 with_there cs c x held = ap (λ (o : Option (List ℕ)). cond (is_some o) cs (cs ++ c ∷ [])) held
 
-pub with_absent : (cs : List Chunk) (c : Chunk) → bytes_at cs c.0 ≡ None → with_chunk cs c ≡ cs ++ c ∷ []
+pub with_absent : (cs : List Chunk) (c : Chunk) → chunk_bytes cs c.0 ≡ None → with_chunk cs c ≡ cs ++ c ∷ []
 with_absent cs c none = ap (λ (o : Option (List ℕ)). cond (is_some o) cs (cs ++ c ∷ [])) none
 
 pub gather_next : (cs more : List Chunk) (n : ℕ) (c : Chunk) → slice_get more n ≡ Some c → gather (with_chunk cs c) (drop (n + 1) more) ≡ gather cs (drop n more)
@@ -51,14 +51,14 @@ case_keeps false cs c k bytes listed = listed_left cs (c ∷ []) k bytes listed
 
 pub gather_keeps : (cs xs : List Chunk) (k bytes : List ℕ) → Listed cs k bytes → Listed (gather cs xs) k bytes
 gather_keeps cs [] k bytes listed = listed
-gather_keeps cs (x ∷ xs) k bytes listed = gather_keeps (with_chunk cs x) xs k bytes (case_keeps (is_some (bytes_at cs x.0)) cs x k bytes listed)
+gather_keeps cs (x ∷ xs) k bytes listed = gather_keeps (with_chunk cs x) xs k bytes (case_keeps (is_some (chunk_bytes cs x.0)) cs x k bytes listed)
 
 case_only : (t : Bool) (cs : List Chunk) (c : Chunk) (k bytes : List ℕ) → Listed (cond t cs (cs ++ c ∷ [])) k bytes → Listed (cs ++ c ∷ []) k bytes
 case_only true cs c k bytes listed = listed_left cs (c ∷ []) k bytes listed
 case_only false cs c k bytes listed = listed
 
 with_only : (cs : List Chunk) (c : Chunk) (k bytes : List ℕ) → Listed (with_chunk cs c) k bytes → Listed (cs ++ c ∷ []) k bytes
-with_only cs c k bytes = case_only (is_some (bytes_at cs c.0)) cs c k bytes
+with_only cs c k bytes = case_only (is_some (chunk_bytes cs c.0)) cs c k bytes
 
 pub gather_only : (cs xs : List Chunk) (k bytes : List ℕ) → Listed (gather cs xs) k bytes → Listed cs k bytes ⊎ Listed xs k bytes
 gather_only cs [] k bytes listed = inl listed
@@ -71,7 +71,7 @@ gather_only cs (x ∷ xs) k bytes listed =
       | inr later ↦ inr (inr later)
     ]
 
-has_case : (o : Option (List ℕ)) (cs : List Chunk) (c : Chunk) (k bytes : List ℕ) → bytes_at cs c.0 ≡ o → (c.0 ≡ k) × (c.1 ≡ bytes) → ((y : List ℕ) → Listed cs c.0 y → y ≡ c.1)
+has_case : (o : Option (List ℕ)) (cs : List Chunk) (c : Chunk) (k bytes : List ℕ) → chunk_bytes cs c.0 ≡ o → (c.0 ≡ k) × (c.1 ≡ bytes) → ((y : List ℕ) → Listed cs c.0 y → y ≡ c.1)
     → Listed (with_chunk cs c) k bytes
 has_case None cs c k bytes none is same = subst (λ l. Listed l k bytes) (sym (with_absent cs c none)) (listed_right cs (c ∷ []) k bytes (inl is))
 has_case (Some y) cs c k bytes held is same =
@@ -85,7 +85,7 @@ pub gather_has : (cs xs : List Chunk) (k bytes : List ℕ) → IsSingle (cs ++ x
 gather_has cs [] k bytes single none = absurd none
 gather_has cs (x ∷ xs) k bytes single (inl is) =
     gather_keeps (with_chunk cs x) xs k bytes
-    (has_case (bytes_at cs x.0) cs x k bytes refl is
+    (has_case (chunk_bytes cs x.0) cs x k bytes refl is
     (λ y listed. single x.0 y x.1 (listed_left cs (x ∷ xs) x.0 y listed) (listed_right cs (x ∷ xs) x.0 x.1 (inl (refl, refl)))))
 gather_has cs (x ∷ xs) k bytes single (inr later) =
     gather_has (with_chunk cs x) xs k bytes
@@ -106,7 +106,7 @@ pub gather_size : (cs xs : List Chunk) → length (gather cs xs) ≤ length cs +
 gather_size cs [] = omega arith
 gather_size cs (x ∷ xs) =
     let rest = gather_size (with_chunk cs x) xs in
-    let here : length (with_chunk cs x) ≤ length cs + 1 = case_size (is_some (bytes_at cs x.0)) cs x in
+    let here : length (with_chunk cs x) ≤ length cs + 1 = case_size (is_some (chunk_bytes cs x.0)) cs x in
     omega arith
 
 -- ---- chunks that are placed
@@ -117,9 +117,9 @@ fit_case false cs c all here = all_push (λ x. length x.1 ≤ 65536) cs c all he
 
 gather_fit : (cs xs : List Chunk) → AllFit cs → AllFit xs → AllFit (gather cs xs)
 gather_fit cs [] all more = all
-gather_fit cs (x ∷ xs) all more = gather_fit (with_chunk cs x) xs (fit_case (is_some (bytes_at cs x.0)) cs x all more.0) more.1
+gather_fit cs (x ∷ xs) all more = gather_fit (with_chunk cs x) xs (fit_case (is_some (chunk_bytes cs x.0)) cs x all more.0) more.1
 
-single_case : (o : Option (List ℕ)) (cs : List Chunk) (c : Chunk) → bytes_at cs c.0 ≡ o → IsSingle cs → IsSingle (with_chunk cs c)
+single_case : (o : Option (List ℕ)) (cs : List Chunk) (c : Chunk) → chunk_bytes cs c.0 ≡ o → IsSingle cs → IsSingle (with_chunk cs c)
 single_case None cs c none single =
     subst IsSingle (sym (with_absent cs c none)) (single_push [] cs c.0 c.1 single (λ others held. absurd (nothing others held)) none)
   where
@@ -130,7 +130,7 @@ single_case (Some y) cs c held single = subst IsSingle (sym (with_there cs c y h
 -- chunks whose addresses are there are left out, so that chunks stay single
 gather_single : (cs xs : List Chunk) → IsSingle cs → IsSingle (gather cs xs)
 gather_single cs [] single = single
-gather_single cs (x ∷ xs) single = gather_single (with_chunk cs x) xs (single_case (bytes_at cs x.0) cs x refl single)
+gather_single cs (x ∷ xs) single = gather_single (with_chunk cs x) xs (single_case (chunk_bytes cs x.0) cs x refl single)
 
 written_case : (P : Placed → Type 0) (t : Bool) (cs : List Placed) (c : Placed) → AllByRecursion P cs → P c → AllByRecursion P (cond t cs (cs ++ c ∷ []))
 written_case P true cs c all here = all

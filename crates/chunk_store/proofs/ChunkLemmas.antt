@@ -3,7 +3,7 @@ use Rattle.std.proofs.lemmas.Bool.{cond-true}
 use Rattle.std.proofs.lemmas.Option.{cond_some, same_Some}
 use Rattle.std.proofs.lemmas.List.{append-nil, append_assoc}
 use Rattle.basic_laws.proofs.Bytes.{bytes_same, same_bytes}
-use Rattle.chunk_store.specs.Chunks.{Chunk, Chunks, bytes_at, Listed, Lists, IsSingle, Agree, AreNamed}
+use Rattle.chunk_store.specs.Chunks.{Chunk, Chunks, chunk_bytes, Listed, Lists, IsSingle, Agree, AreNamed}
 use Rattle.chunk_store.specs.Stores.{joined}
 
 -- ---- looking up in a list
@@ -18,10 +18,10 @@ either_cond true x o p = refl
 either_cond false x o p = refl
 
 -- a joined list is looked up in its front first
-pub at_join : (xs ys : List Chunk) (k : List ℕ) → bytes_at (xs ++ ys) k ≡ either (bytes_at xs k) (bytes_at ys k)
+pub at_join : (xs ys : List Chunk) (k : List ℕ) → chunk_bytes (xs ++ ys) k ≡ either (chunk_bytes xs k) (chunk_bytes ys k)
 at_join [] ys k = refl
 at_join (x ∷ xs) ys k =
-    ap (λ o. cond (bytes_eq x.0 k) (Some x.1) o) (at_join xs ys k) ∙ either_cond (bytes_eq x.0 k) x.1 (bytes_at xs k) (bytes_at ys k)
+    ap (λ o. cond (bytes_eq x.0 k) (Some x.1) o) (at_join xs ys k) ∙ either_cond (bytes_eq x.0 k) x.1 (chunk_bytes xs k) (chunk_bytes ys k)
 
 pub either_some : {X : Type 0} (o p : Option X) (x : X) → either o p ≡ Some x → (o ≡ Some x) ⊎ (p ≡ Some x)
 either_some None p x is = inr is
@@ -31,17 +31,17 @@ pub either_none : {X : Type 0} (o p : Option X) → either o p ≡ None → (o �
 either_none None p is = (refl, is)
 either_none (Some y) p is = cc
 
-pub left_first : (xs ys : List Chunk) (k bytes : List ℕ) → bytes_at xs k ≡ Some bytes → bytes_at (xs ++ ys) k ≡ Some bytes
-left_first xs ys k bytes held = at_join xs ys k ∙ ap (λ o. either o (bytes_at ys k)) held
+pub left_first : (xs ys : List Chunk) (k bytes : List ℕ) → chunk_bytes xs k ≡ Some bytes → chunk_bytes (xs ++ ys) k ≡ Some bytes
+left_first xs ys k bytes held = at_join xs ys k ∙ ap (λ o. either o (chunk_bytes ys k)) held
 
-pub right_else : (xs ys : List Chunk) (k : List ℕ) → bytes_at xs k ≡ None → bytes_at (xs ++ ys) k ≡ bytes_at ys k
-right_else xs ys k none = at_join xs ys k ∙ ap (λ o. either o (bytes_at ys k)) none
+pub right_else : (xs ys : List Chunk) (k : List ℕ) → chunk_bytes xs k ≡ None → chunk_bytes (xs ++ ys) k ≡ chunk_bytes ys k
+right_else xs ys k none = at_join xs ys k ∙ ap (λ o. either o (chunk_bytes ys k)) none
 
 -- one chunk alone
-pub at_one : (k bytes : List ℕ) → bytes_at ((k, bytes) ∷ []) k ≡ Some bytes
+pub at_one : (k bytes : List ℕ) → chunk_bytes ((k, bytes) ∷ []) k ≡ Some bytes
 at_one k bytes = cond-true (bytes_eq k k) (Some bytes) None (bytes_same k k refl)
 
-pub one_at : (k bytes j more : List ℕ) → bytes_at ((k, bytes) ∷ []) j ≡ Some more → (k ≡ j) × (bytes ≡ more)
+pub one_at : (k bytes j more : List ℕ) → chunk_bytes ((k, bytes) ∷ []) j ≡ Some more → (k ≡ j) × (bytes ≡ more)
 one_at k bytes j more held =
     let parts = cond_some (bytes_eq k j) bytes more held in (same_bytes k j parts.0, parts.1)
 
@@ -51,22 +51,22 @@ found_case : (t : Bool) (x bytes : List ℕ) (o : Option (List ℕ)) → cond t 
 found_case true x bytes o held = inl (refl, same_Some x bytes held)
 found_case false x bytes o held = inr held
 
-pub found_listed : (cs : List Chunk) (k bytes : List ℕ) → bytes_at cs k ≡ Some bytes → Listed cs k bytes
+pub found_listed : (cs : List Chunk) (k bytes : List ℕ) → chunk_bytes cs k ≡ Some bytes → Listed cs k bytes
 found_listed [] k bytes held = cc
 found_listed (c ∷ cs) k bytes held =
-    elim (found_case (bytes_eq c.0 k) c.1 bytes (bytes_at cs k) held) [ inl here ↦ inl (same_bytes c.0 k here.0, here.1) | inr later ↦ inr (found_listed cs k bytes later) ]
+    elim (found_case (bytes_eq c.0 k) c.1 bytes (chunk_bytes cs k) held) [ inl here ↦ inl (same_bytes c.0 k here.0, here.1) | inr later ↦ inr (found_listed cs k bytes later) ]
 
 finds_case : (t : Bool) (x : List ℕ) (o : Option (List ℕ)) → ((y : List ℕ) × (o ≡ Some y)) → (y : List ℕ) × (cond t (Some x) o ≡ Some y)
 finds_case true x o found = (x, refl)
 finds_case false x o found = found
 
-pub listed_finds : (cs : List Chunk) (k bytes : List ℕ) → Listed cs k bytes → (y : List ℕ) × (bytes_at cs k ≡ Some y)
+pub listed_finds : (cs : List Chunk) (k bytes : List ℕ) → Listed cs k bytes → (y : List ℕ) × (chunk_bytes cs k ≡ Some y)
 listed_finds [] k bytes none = absurd none
-listed_finds (c ∷ cs) k bytes (inl here) = (c.1, cond-true (bytes_eq c.0 k) (Some c.1) (bytes_at cs k) (bytes_same c.0 k here.0))
-listed_finds (c ∷ cs) k bytes (inr later) = finds_case (bytes_eq c.0 k) c.1 (bytes_at cs k) (listed_finds cs k bytes later)
+listed_finds (c ∷ cs) k bytes (inl here) = (c.1, cond-true (bytes_eq c.0 k) (Some c.1) (chunk_bytes cs k) (bytes_same c.0 k here.0))
+listed_finds (c ∷ cs) k bytes (inr later) = finds_case (bytes_eq c.0 k) c.1 (chunk_bytes cs k) (listed_finds cs k bytes later)
 
 -- of a single list each chunk is found
-pub listed_is : (cs : List Chunk) (k bytes : List ℕ) → IsSingle cs → Listed cs k bytes → bytes_at cs k ≡ Some bytes
+pub listed_is : (cs : List Chunk) (k bytes : List ℕ) → IsSingle cs → Listed cs k bytes → chunk_bytes cs k ≡ Some bytes
 listed_is cs k bytes single listed =
     let found = listed_finds cs k bytes listed in
     found.1 ∙ ap Some (single k found.0 bytes (found_listed cs k found.0 found.1) listed)
@@ -109,11 +109,11 @@ single_left xs ys = single_fewer xs (xs ++ ys) (listed_left xs ys)
 pub single_right : (xs ys : List Chunk) → IsSingle (xs ++ ys) → IsSingle ys
 single_right xs ys = single_fewer ys (xs ++ ys) (listed_right xs ys)
 
-pub single_agree : (xs ys : List Chunk) → IsSingle (xs ++ ys) → Agree (bytes_at xs) (bytes_at ys)
+pub single_agree : (xs ys : List Chunk) → IsSingle (xs ++ ys) → Agree (chunk_bytes xs) (chunk_bytes ys)
 single_agree xs ys single k bytes more left right =
     single k bytes more (listed_left xs ys k bytes (found_listed xs k bytes left)) (listed_right xs ys k more (found_listed ys k more right))
 
-pub single_join : (xs ys : List Chunk) → IsSingle xs → IsSingle ys → Agree (bytes_at xs) (bytes_at ys) → IsSingle (xs ++ ys)
+pub single_join : (xs ys : List Chunk) → IsSingle xs → IsSingle ys → Agree (chunk_bytes xs) (chunk_bytes ys) → IsSingle (xs ++ ys)
 single_join xs ys left right agree k bytes others one two =
     elim (listed_either xs ys k bytes one) [
       | inl x ↦ elim (listed_either xs ys k others two) [
@@ -131,23 +131,23 @@ single_one k bytes j some others (inl one) (inl two) = sym one.1 ∙ two.1
 single_one k bytes j some others (inl one) (inr none) = absurd none
 single_one k bytes j some others (inr none) _ = absurd none
 
-pub agree_push : (some : Chunks) (xs : List Chunk) (k bytes : List ℕ) → Agree some (bytes_at xs) → ((others : List ℕ) → some k ≡ Some others → others ≡ bytes)
-    → Agree some (bytes_at (xs ++ (k, bytes) ∷ []))
+pub agree_push : (some : Chunks) (xs : List Chunk) (k bytes : List ℕ) → Agree some (chunk_bytes xs) → ((others : List ℕ) → some k ≡ Some others → others ≡ bytes)
+    → Agree some (chunk_bytes (xs ++ (k, bytes) ∷ []))
 agree_push some xs k bytes agree here j one two held found =
-    elim (either_some (bytes_at xs j) (bytes_at ((k, bytes) ∷ []) j) two (sym (at_join xs ((k, bytes) ∷ []) j) ∙ found)) [
+    elim (either_some (chunk_bytes xs j) (chunk_bytes ((k, bytes) ∷ []) j) two (sym (at_join xs ((k, bytes) ∷ []) j) ∙ found)) [
       | inl before ↦ agree j one two held before
       | inr last ↦ let is = one_at k bytes j two last in here one (ap some is.0 ∙ held) ∙ is.1
     ]
 
-pub single_push : (base own : List Chunk) (k bytes : List ℕ) → IsSingle (base ++ own) → ((others : List ℕ) → bytes_at base k ≡ Some others → others ≡ bytes)
-    → bytes_at own k ≡ None → IsSingle (base ++ (own ++ (k, bytes) ∷ []))
+pub single_push : (base own : List Chunk) (k bytes : List ℕ) → IsSingle (base ++ own) → ((others : List ℕ) → chunk_bytes base k ≡ Some others → others ≡ bytes)
+    → chunk_bytes own k ≡ None → IsSingle (base ++ (own ++ (k, bytes) ∷ []))
 single_push base own k bytes single agrees absent =
     let mine = single_right base own single in
-    let apart : Agree (bytes_at own) (bytes_at ((k, bytes) ∷ [])) =
-    λ j one two held last. absurd (nothing one (sym held ∙ ap (bytes_at own) (sym (one_at k bytes j two last).0) ∙ absent)) in
+    let apart : Agree (chunk_bytes own) (chunk_bytes ((k, bytes) ∷ [])) =
+    λ j one two held last. absurd (nothing one (sym held ∙ ap (chunk_bytes own) (sym (one_at k bytes j two last).0) ∙ absent)) in
     single_join base (own ++ (k, bytes) ∷ []) (single_left base own single)
     (single_join own ((k, bytes) ∷ []) mine (single_one k bytes) apart)
-    (agree_push (bytes_at base) own k bytes (single_agree base own single) agrees)
+    (agree_push (chunk_bytes base) own k bytes (single_agree base own single) agrees)
   where
     nothing : (x : List ℕ) → ◌≡◌ {A = Option (List ℕ)} (Some x) None → ⊥
     nothing x is = cc

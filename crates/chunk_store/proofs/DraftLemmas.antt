@@ -3,7 +3,7 @@ use Rattle.std.proofs.lemmas.List.{take-map}
 use Rattle.chunk_region.specs.Pages.{Pages, Stands, IsWritten, Keeps, KeepsBefore, AllBefore}
 use Rattle.chunk_region.proofs.PageLemmas.{is_written}
 use Rattle.chunk_store.specs.declared.index.Placed.{Placed}
-use Rattle.chunk_store.specs.Chunks.{Chunk, bytes_at, IsSingle, AreNamed}
+use Rattle.chunk_store.specs.Chunks.{Chunk, chunk_bytes, IsSingle, AreNamed}
 use Rattle.chunk_store.specs.Drafts.{DraftParts, chunks_of, put_in}
 use Rattle.chunk_store.specs.Placing.{span_at, written, chunk_of, chunks_in, AllFit, AreOver}
 use Rattle.chunk_store.proofs.ChunkLemmas.{at_join, at_one, either_none, right_else, named_push, named_take, single_push, single_cut}
@@ -17,11 +17,11 @@ same_parts base own other more b o =
     ap with_base b ∙ ap with_own o
 
 -- nothing is found in a draft that isn't found in its parts
-pub absent_in_both : (base own : List Chunk) (k : List ℕ) → bytes_at (base ++ own) k ≡ None → (bytes_at base k ≡ None) × (bytes_at own k ≡ None)
-absent_in_both base own k none = either_none (bytes_at base k) (bytes_at own k) (sym (at_join base own k) ∙ none)
+pub absent_in_both : (base own : List Chunk) (k : List ℕ) → chunk_bytes (base ++ own) k ≡ None → (chunk_bytes base k ≡ None) × (chunk_bytes own k ≡ None)
+absent_in_both base own k none = either_none (chunk_bytes base k) (chunk_bytes own k) (sym (at_join base own k) ∙ none)
 
 -- bytes that were put are found
-pub put_held : (base own : List Chunk) (k bytes : List ℕ) → bytes_at (base ++ own) k ≡ None → bytes_at (base ++ (own ++ (k, bytes) ∷ [])) k ≡ Some bytes
+pub put_held : (base own : List Chunk) (k bytes : List ℕ) → chunk_bytes (base ++ own) k ≡ None → chunk_bytes (base ++ (own ++ (k, bytes) ∷ [])) k ≡ Some bytes
 put_held base own k bytes none =
     let parts = absent_in_both base own k none in
     right_else base (own ++ (k, bytes) ∷ []) k parts.0 ∙ right_else own ((k, bytes) ∷ []) k parts.1 ∙ at_one k bytes
@@ -37,7 +37,7 @@ put_is a bytes k d e is absent one =
 -- one more chunk was placed
 pub over_push : (a : List ℕ → List ℕ) (base : List Chunk) (old new : Pages) (cs : List Placed) (c : Placed) (bytes : List ℕ) → AreOver a base old cs → Keeps old new
     → Stands new c.span bytes → AllBefore c.before old → length bytes ≤ 65536 → a bytes ≡ c.address.0 → span_at cs c.address.0 ≡ None
-    → ((others : List ℕ) → bytes_at base c.address.0 ≡ Some others → others ≡ bytes) → AreOver a base new (cs ++ c ∷ [])
+    → ((others : List ℕ) → chunk_bytes base c.address.0 ≡ Some others → others ≡ bytes) → AreOver a base new (cs ++ c ∷ [])
 over_push a base old new cs c bytes over keeps held before fits is absent agrees =
     let stay = all_stay old new cs keeps in
     let pushed = chunks_push old new cs c bytes over.all_written stay held in

@@ -4,7 +4,7 @@ use Rattle.std.specs.List.{AllByRecursion}
 use Rattle.std.proofs.lemmas.List.{length-append}
 use Rattle.std.proofs.lemmas.Bool.{and_from, ltb-false}
 use Rattle.std.proofs.lemmas.Grind.{pow_more}
-use Rattle.chunk_store.specs.Chunks.{bytes_at, Chunk, Lists}
+use Rattle.chunk_store.specs.Chunks.{chunk_bytes, Chunk, Lists}
 use Rattle.chunk_store.specs.Stores.{AreSome, StaysFew, drop_held, has_none, is_within, joined, joins}
 use Rattle.chunk_store.proofs.ChunkLemmas.{joined_push, listed_finds, listed_left, listed_right}
 
@@ -15,7 +15,7 @@ within_from : (segment other : List Chunk) → Lists segment other → is_within
 within_from [] other lists = refl
 within_from (c ∷ segment) other lists =
     let found = listed_finds other c.0 c.1 (lists c.0 c.1 (inl (refl, refl))) in
-    and_from (is_some (bytes_at other c.0)) (is_within segment other) (ap (λ (o : Option (List ℕ)). is_some o) found.1)
+    and_from (is_some (chunk_bytes other c.0)) (is_within segment other) (ap (λ (o : Option (List ℕ)). is_some o) found.1)
     (within_from segment other (λ k bytes listed. lists k bytes (inr listed)))
 
 pub all_within : (segments : List (List Chunk)) (other : List Chunk) → Lists (joined segments) other → AreWithin segments other

@@ -1,6 +1,6 @@
 use Rattle.std.proofs.Common.{◌≡◌, inl, inr, ℕ, Bool, true, false, List, [], ◌∷◌, ◌++◌, length, take, Option, Some, None, is_some, if◌then◌else◌, sym, refl, ap, ◌∙◌, subst}
 use Rattle.std.proofs.lemmas.List.{append-nil, append_assoc, take_at}
-use Rattle.chunk_store.specs.Chunks.{Chunk, bytes_at, Listed, Lists, Extends, Agree, AreNamed}
+use Rattle.chunk_store.specs.Chunks.{Chunk, chunk_bytes, Listed, Lists, Extends, Agree, AreNamed}
 use Rattle.chunk_store.specs.Drafts.{DraftParts, chunks_of, Longer}
 use Rattle.chunk_store.specs.Laws.{ChunksFollow, DraftsFollow}
 use Rattle.chunk_store.proofs.ChunkLemmas.{either, either_some, at_join, left_first, found_listed, listed_is, listed_left, listed_right, single_join, single_agree}
@@ -24,14 +24,14 @@ right_case : (o p : Option (List ℕ)) (bytes : List ℕ) → ((others : List �
 right_case None p bytes agrees held = held
 right_case (Some x) p bytes agrees held = ap Some (agrees x refl)
 
-extends_right : (xs ys : List Chunk) → Agree (bytes_at xs) (bytes_at ys) → Extends (bytes_at ys) (bytes_at (xs ++ ys))
+extends_right : (xs ys : List Chunk) → Agree (chunk_bytes xs) (chunk_bytes ys) → Extends (chunk_bytes ys) (chunk_bytes (xs ++ ys))
 extends_right xs ys agree k bytes held =
-    at_join xs ys k ∙ right_case (bytes_at xs k) (bytes_at ys k) bytes (λ others other. agree k others bytes other held) held
+    at_join xs ys k ∙ right_case (chunk_bytes xs k) (chunk_bytes ys k) bytes (λ others other. agree k others bytes other held) held
 
-joined_extends : (xs more ys : List Chunk) → Extends (bytes_at xs) (bytes_at more) → Agree (bytes_at more) (bytes_at ys)
-    → Extends (bytes_at (xs ++ ys)) (bytes_at (more ++ ys))
+joined_extends : (xs more ys : List Chunk) → Extends (chunk_bytes xs) (chunk_bytes more) → Agree (chunk_bytes more) (chunk_bytes ys)
+    → Extends (chunk_bytes (xs ++ ys)) (chunk_bytes (more ++ ys))
 joined_extends xs more ys extends agree k bytes held =
-    elim (either_some (bytes_at xs k) (bytes_at ys k) bytes (sym (at_join xs ys k) ∙ held)) [
+    elim (either_some (chunk_bytes xs k) (chunk_bytes ys k) bytes (sym (at_join xs ys k) ∙ held)) [
       | inl left ↦ left_first more ys k bytes (extends k bytes left)
       | inr right ↦ extends_right more ys agree k bytes right
     ]
@@ -58,8 +58,8 @@ put_case false d x = record { more = x ∷ []; base = refl; own = refl }
 
 longer_extends : (d e : DraftParts) → Longer d e → Extends (chunks_of d) (chunks_of e)
 longer_extends d e longer k bytes held =
-    ap (λ l. bytes_at (l ++ e.own) k) longer.base ∙ ap (λ l. bytes_at (d.base ++ l) k) longer.own
-    ∙ ap (λ l. bytes_at l k) (sym (append_assoc d.base d.own longer.more)) ∙ left_first (d.base ++ d.own) longer.more k bytes held
+    ap (λ l. chunk_bytes (l ++ e.own) k) longer.base ∙ ap (λ l. chunk_bytes (d.base ++ l) k) longer.own
+    ∙ ap (λ l. chunk_bytes l k) (sym (append_assoc d.base d.own longer.more)) ∙ left_first (d.base ++ d.own) longer.more k bytes held
 
 pub drafts_follow : DraftsFollow
 drafts_follow = record {

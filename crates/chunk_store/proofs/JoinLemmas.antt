@@ -4,7 +4,7 @@ use Rattle.std.proofs.lemmas.List.{length-append, map-append, take-map}
 use Rattle.std.proofs.lemmas.Bool.{and_parts as and_both}
 use Rattle.basic_laws.proofs.Lists.{drop_at_get as drop_next, take_at_get as take_next}
 use Rattle.chunk_store.specs.Building.{gather}
-use Rattle.chunk_store.specs.Chunks.{Agree, Chunk, bytes_at, IsSingle, Listed, Lists}
+use Rattle.chunk_store.specs.Chunks.{Agree, Chunk, chunk_bytes, IsSingle, Listed, Lists}
 use Rattle.chunk_store.specs.Stores.{AreSome, IsSealed, IsUnion, drop_held, has_none, is_within, joined, joins, with_segment}
 use Rattle.chunk_store.proofs.BuildLemmas.{gather_has, gather_join, gather_keeps, gather_only, gather_size}
 use Rattle.chunk_store.proofs.ChunkLemmas.{at_join, either, found_listed, joined_push, listed_either, listed_is, listed_left, listed_right, single_fewer, single_join}
@@ -59,20 +59,20 @@ some_case None is = absurd (cc)
 some_case (Some y) is = (y, refl)
 
 -- a chunk of a segment that is within another one has an address there
-pub within_finds : (segment other : List Chunk) (k bytes : List ℕ) → is_within segment other ≡ true → Listed segment k bytes → (y : List ℕ) × (bytes_at other k ≡ Some y)
+pub within_finds : (segment other : List Chunk) (k bytes : List ℕ) → is_within segment other ≡ true → Listed segment k bytes → (y : List ℕ) × (chunk_bytes other k ≡ Some y)
 within_finds [] other k bytes within none = absurd none
 within_finds (c ∷ segment) other k bytes within (inl here) =
-    let found = some_case (bytes_at other c.0) (and_both (is_some (bytes_at other c.0)) (is_within segment other) within).0 in
-    (found.0, ap (bytes_at other) (sym here.0) ∙ found.1)
+    let found = some_case (chunk_bytes other c.0) (and_both (is_some (chunk_bytes other c.0)) (is_within segment other) within).0 in
+    (found.0, ap (chunk_bytes other) (sym here.0) ∙ found.1)
 within_finds (c ∷ segment) other k bytes within (inr later) =
-    within_finds segment other k bytes (and_both (is_some (bytes_at other c.0)) (is_within segment other) within).1 later
+    within_finds segment other k bytes (and_both (is_some (chunk_bytes other c.0)) (is_within segment other) within).1 later
 
 pub within_next : (segment other : List Chunk) (n : ℕ) (c : Chunk) → slice_get segment n ≡ Some c
-    → is_within (drop n segment) other ≡ (is_some (bytes_at other c.0) && is_within (drop (n + 1) segment) other)
+    → is_within (drop n segment) other ≡ (is_some (chunk_bytes other c.0) && is_within (drop (n + 1) segment) other)
 within_next segment other n c is = ap (λ (l : List Chunk). is_within l other) (drop_next segment n c is)
 
 abbrev Left : List Chunk → List (List Chunk) → List ℕ → List ℕ → Type 0
-Left other kept k bytes = Listed (joined kept) k bytes ⊎ ((y : List ℕ) × (bytes_at other k ≡ Some y))
+Left other kept k bytes = Listed (joined kept) k bytes ⊎ ((y : List ℕ) × (chunk_bytes other k ≡ Some y))
 
 none_listed : (D : List (List Chunk)) (k bytes : List ℕ) → has_none D ≡ true → Listed (joined D) k bytes → ⊥
 none_listed [] k bytes is none = none
@@ -125,7 +125,7 @@ pub with_are_some : (segment : List Chunk) (segments : List (List Chunk)) → Ar
 with_are_some [] segments some = some
 with_are_some (c ∷ segment) segments some = some_push (drop_held (c ∷ segment) segments) (c ∷ segment) (drop_some (c ∷ segment) segments some) (omega arith)
 
-pushed_union : (segment : List Chunk) (segments : List (List Chunk)) → IsSingle (joined segments) → Agree (bytes_at (joined segments)) (bytes_at segment)
+pushed_union : (segment : List Chunk) (segments : List (List Chunk)) → IsSingle (joined segments) → Agree (chunk_bytes (joined segments)) (chunk_bytes segment)
     → IsUnion (joined segments) segment (joined (drop_held segment segments ++ segment ∷ []))
 pushed_union segment segments single agree =
     let both = joined_push (drop_held segment segments) segment in
@@ -143,7 +143,7 @@ pushed_union segment segments single agree =
       ];
     }
 
-pub with_union : (segment : List Chunk) (segments : List (List Chunk)) → IsSingle (joined segments) → Agree (bytes_at (joined segments)) (bytes_at segment)
+pub with_union : (segment : List Chunk) (segments : List (List Chunk)) → IsSingle (joined segments) → Agree (chunk_bytes (joined segments)) (chunk_bytes segment)
     → IsUnion (joined segments) segment (joined (with_segment segment segments))
 with_union [] segments single agree = record { left = λ k bytes listed. listed; right = λ k bytes none. absurd none; only = λ k bytes listed. inl listed }
 with_union (c ∷ segment) segments single agree = pushed_union (c ∷ segment) segments single agree
@@ -153,7 +153,7 @@ union_single xs ys zs union single =
     single_fewer zs (xs ++ ys) (λ k bytes listed.
     elim (union.only k bytes listed) [ inl x ↦ listed_left xs ys k bytes x | inr y ↦ listed_right xs ys k bytes y ]) single
 
-pub with_single : (segment : List Chunk) (segments : List (List Chunk)) → IsSingle (joined segments) → IsSingle segment → Agree (bytes_at (joined segments)) (bytes_at segment)
+pub with_single : (segment : List Chunk) (segments : List (List Chunk)) → IsSingle (joined segments) → IsSingle segment → Agree (chunk_bytes (joined segments)) (chunk_bytes segment)
     → IsSingle (joined (with_segment segment segments))
 with_single segment segments single one agree =
     union_single (joined segments) segment (joined (with_segment segment segments)) (with_union segment segments single agree) (single_join (joined segments) segment single one agree)
@@ -222,16 +222,16 @@ listed_behind [] (suc n) k bytes listed = listed
 listed_behind (s ∷ segments) (suc n) k bytes listed = listed_right s (joined segments) k bytes (listed_behind segments n k bytes listed)
 
 pub held_behind : (segments : List (List Chunk)) (before at : ℕ) (s : List Chunk) (k bytes : List ℕ) → drop before segments ≡ s ∷ drop at segments
-    → IsSingle (joined segments) → bytes_at s k ≡ Some bytes → bytes_at (joined segments) k ≡ Some bytes
+    → IsSingle (joined segments) → chunk_bytes s k ≡ Some bytes → chunk_bytes (joined segments) k ≡ Some bytes
 held_behind segments before at s k bytes next single held =
     let here = listed_left s (joined (drop at segments)) k bytes (found_listed s k bytes held) in
     listed_is (joined segments) k bytes single (listed_behind segments before k bytes (subst (λ (l : List (List Chunk)). Listed (joined l) k bytes) (sym next) here))
 
 pub none_behind : (segments : List (List Chunk)) (before at : ℕ) (s : List Chunk) (k : List ℕ) → drop before segments ≡ s ∷ drop at segments
-    → bytes_at s k ≡ None → bytes_at (joined (drop at segments)) k ≡ None → bytes_at (joined (drop before segments)) k ≡ None
+    → chunk_bytes s k ≡ None → chunk_bytes (joined (drop at segments)) k ≡ None → chunk_bytes (joined (drop before segments)) k ≡ None
 none_behind segments before at s k next here rest =
-    let behind = bytes_at (joined (drop at segments)) k in
-    ap (λ (l : List (List Chunk)). bytes_at (joined l) k) next ∙ at_join s (joined (drop at segments)) k ∙ ap (λ o. either o behind) here ∙ rest
+    let behind = chunk_bytes (joined (drop at segments)) k in
+    ap (λ (l : List (List Chunk)). chunk_bytes (joined l) k) next ∙ at_join s (joined (drop at segments)) k ∙ ap (λ o. either o behind) here ∙ rest
 
 pub size_next : (segments : List (List Chunk)) (before at : ℕ) (s : List Chunk) → drop before segments ≡ s ∷ drop at segments
     → length (joined (drop before segments)) ≡ length s + length (joined (drop at segments))

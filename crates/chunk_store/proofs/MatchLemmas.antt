@@ -4,7 +4,7 @@ use Rattle.std.proofs.lemmas.List.{append_assoc, take-append-drop}
 use Rattle.basic_laws.proofs.Bytes.{same_bytes}
 use Rattle.basic_laws.proofs.Lists.{drop_at_get as drop_next, take_at_get as take_next}
 use Rattle.basic_laws.proofs.Truths.{not_false}
-use Rattle.chunk_store.specs.Chunks.{Agree, Chunk, bytes_at, IsSingle, Listed, Lists}
+use Rattle.chunk_store.specs.Chunks.{Agree, Chunk, chunk_bytes, IsSingle, Listed, Lists}
 use Rattle.chunk_store.specs.Stores.{IsMatched, drop_held, has_none, is_within, joined}
 use Rattle.chunk_store.proofs.ChunkLemmas.{at_join, either_some, found_listed, listed_right}
 use Rattle.chunk_store.proofs.FewLemmas.{AreWithin, all_held, all_within}
@@ -52,12 +52,12 @@ joined_drop (suc n) (s ∷ ss) k bytes listed = listed_right s (joined ss) k byt
 
 -- a store agrees with its own chunks
 pub agree_matched : (segment : List Chunk) (segments : List (List Chunk)) (own from : ℕ) → IsMatched segment segments own from → IsSingle (joined segments)
-    → Agree (bytes_at (joined segments)) (bytes_at (take own segment)) → Agree (bytes_at (joined segments)) (bytes_at segment)
+    → Agree (chunk_bytes (joined segments)) (chunk_bytes (take own segment)) → Agree (chunk_bytes (joined segments)) (chunk_bytes segment)
 agree_matched segment segments own from matched single agree k bytes more held found =
     let front = take own segment in
     let rest = drop own segment in
-    let at : List Chunk → Type 0 = λ l. bytes_at l k ≡ Some more in
-    elim (either_some (bytes_at front k) (bytes_at rest k) more (sym (at_join front rest k) ∙ subst at (sym (take-append-drop own segment)) found)) [
+    let at : List Chunk → Type 0 = λ l. chunk_bytes l k ≡ Some more in
+    elim (either_some (chunk_bytes front k) (chunk_bytes rest k) more (sym (at_join front rest k) ∙ subst at (sym (take-append-drop own segment)) found)) [
       | inl first ↦ agree k bytes more held first
       | inr later ↦ single k bytes more (found_listed (joined segments) k bytes held)
           (joined_drop from segments k more (found_listed (joined (drop from segments)) k more (subst at matched.same later)))

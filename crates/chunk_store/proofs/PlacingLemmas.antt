@@ -7,10 +7,10 @@ use Rattle.basic_laws.proofs.Lists.{have_at as all_get}
 use Rattle.chunk_region.specs.declared.span.Span.{Span}
 use Rattle.chunk_region.specs.declared.mark.Mark.{Mark}
 use Rattle.chunk_region.specs.Pages as region
-use Rattle.chunk_region.specs.Pages.{Pages, Stands, IsWritten, IsBefore, Keeps, KeepsBefore, AllBefore}
+use Rattle.chunk_region.specs.Pages.{Pages, Stands, IsWritten, IsBeforeMark, Keeps, KeepsBefore, AllBefore}
 use Rattle.chunk_region.proofs.PageLemmas.{is_written}
 use Rattle.chunk_store.specs.declared.index.Placed.{Placed}
-use Rattle.chunk_store.specs.Chunks.{Chunk, bytes_at, IsSingle}
+use Rattle.chunk_store.specs.Chunks.{Chunk, chunk_bytes, IsSingle}
 use Rattle.chunk_store.specs.Placing.{span_at, AreApart, IsIndex, written, chunk_of, chunks_in, AllWritten, InOrder}
 use Rattle.chunk_store.proofs.ChunkLemmas.{listed_is, listed_at}
 
@@ -159,7 +159,7 @@ some_is None none = cc
 some_is (Some x) _ = refl
 
 pub written_stands : (pages : Pages) (span : Span) → IsWritten pages span → Stands pages span (written pages span)
-written_stands pages span is = some_is (region.bytes_at pages span) is
+written_stands pages span is = some_is (region.span_bytes pages span) is
 
 pub written_is : (pages : Pages) (span : Span) (bytes : List ℕ) → Stands pages span bytes → written pages span ≡ bytes
 written_is pages span bytes held = ap (λ o. unwrap_or o []) held
@@ -169,7 +169,7 @@ map_case true f s o = refl
 map_case false f s o = refl
 
 -- the bytes at an address are those that the chunk's span names
-pub found_at : (pages : Pages) (cs : List Placed) (k : List ℕ) → bytes_at (chunks_in pages cs) k ≡ option_map (written pages) (span_at cs k)
+pub found_at : (pages : Pages) (cs : List Placed) (k : List ℕ) → chunk_bytes (chunks_in pages cs) k ≡ option_map (written pages) (span_at cs k)
 found_at pages [] k = refl
 found_at pages (c ∷ cs) k =
     ap (λ o. cond (bytes_eq c.address.0 k) (Some (written pages c.span)) o) (found_at pages cs k)
@@ -180,7 +180,7 @@ some_map f None = refl
 some_map f (Some s) = refl
 
 -- bytes are found just where a chunk lies
-pub same_found : (pages : Pages) (cs : List Placed) (k : List ℕ) → is_some (bytes_at (chunks_in pages cs) k) ≡ is_some (span_at cs k)
+pub same_found : (pages : Pages) (cs : List Placed) (k : List ℕ) → is_some (chunk_bytes (chunks_in pages cs) k) ≡ is_some (span_at cs k)
 same_found pages cs k = ap (λ (o : Option (List ℕ)). is_some o) (found_at pages cs k) ∙ some_map (written pages) (span_at cs k)
 
 found_case : (t : Bool) (P : Span → Type 0) (s found : Span) (o : Option Span) → cond t (Some s) o ≡ Some found → P s → (o ≡ Some found → P found) → P found
@@ -198,15 +198,15 @@ chunk_get pages cs n c bytes is held =
     slice_get-map (chunk_of pages) cs n ∙ ap (option_map (chunk_of pages)) is ∙ ap (λ b. Some (c.address.0, b)) (written_is pages c.span bytes held)
 
 pub chunk_found : (pages : Pages) (cs : List Placed) (n : ℕ) (c : Placed) (bytes : List ℕ) → IsSingle (chunks_in pages cs) → slice_get cs n ≡ Some c
-    → Stands pages c.span bytes → bytes_at (chunks_in pages cs) c.address.0 ≡ Some bytes
+    → Stands pages c.span bytes → chunk_bytes (chunks_in pages cs) c.address.0 ≡ Some bytes
 chunk_found pages cs n c bytes single is held =
     listed_is (chunks_in pages cs) c.address.0 bytes single (listed_at (chunks_in pages cs) n c.address.0 bytes (chunk_get pages cs n c bytes is held))
 
 -- no chunk before a place has the address of the one there
 pub first_get : (pages : Pages) (cs : List Placed) (n : ℕ) (c : Placed) → AreApart cs → slice_get cs n ≡ Some c
-    → bytes_at (take n (chunks_in pages cs)) c.address.0 ≡ None
+    → chunk_bytes (take n (chunks_in pages cs)) c.address.0 ≡ None
 first_get pages cs n c apart is =
-    ap (λ l. bytes_at l c.address.0) (take-map (chunk_of pages) n cs) ∙ found_at pages (take n cs) c.address.0
+    ap (λ l. chunk_bytes l c.address.0) (take-map (chunk_of pages) n cs) ∙ found_at pages (take n cs) c.address.0
     ∙ ap (option_map (written pages)) (apart_get cs n c apart is)
 
 -- ---- pages that changed
@@ -219,7 +219,7 @@ pub all_stay : (old new : Pages) (cs : List Placed) → Keeps old new → AllByR
 all_stay old new [] keeps = tt
 all_stay old new (c ∷ cs) keeps = (keeps c.span, all_stay old new cs keeps)
 
-pub before_stay : (mark : Mark) (old new : Pages) (cs : List Placed) → KeepsBefore mark old new → AllByRecursion (λ c. IsBefore mark c.span) cs → AllByRecursion (StaysAt old new) cs
+pub before_stay : (mark : Mark) (old new : Pages) (cs : List Placed) → KeepsBefore mark old new → AllByRecursion (λ c. IsBeforeMark mark c.span) cs → AllByRecursion (StaysAt old new) cs
 before_stay mark old new [] keeps before = tt
 before_stay mark old new (c ∷ cs) keeps before = (λ bytes. keeps c.span bytes before.0, before_stay mark old new cs keeps before.1)
 
@@ -246,22 +246,22 @@ chunks_push old new cs c bytes all stay held =
 
 -- ---- order
 
-pub marks_before : (mark : Mark) (pages : Pages) (cs : List Placed) → AllBefore mark pages → AllWritten pages cs → AllByRecursion (λ c. IsBefore mark c.span) cs
+pub marks_before : (mark : Mark) (pages : Pages) (cs : List Placed) → AllBefore mark pages → AllWritten pages cs → AllByRecursion (λ c. IsBeforeMark mark c.span) cs
 marks_before mark pages [] before all = tt
 marks_before mark pages (c ∷ cs) before all =
     (before c.span (written pages c.span) (written_stands pages c.span all.0), marks_before mark pages cs before all.1)
 
-pub order_push : (cs : List Placed) (d : Placed) → InOrder cs → AllByRecursion (λ c. IsBefore d.before c.span) cs → InOrder (cs ++ d ∷ [])
+pub order_push : (cs : List Placed) (d : Placed) → InOrder cs → AllByRecursion (λ c. IsBeforeMark d.before c.span) cs → InOrder (cs ++ d ∷ [])
 order_push [] d order before = (tt, tt)
 order_push (c ∷ cs) d order before =
-    (all_push (λ later. IsBefore later.before c.span) cs d order.0 before.0, order_push cs d order.1 before.1)
+    (all_push (λ later. IsBeforeMark later.before c.span) cs d order.0 before.0, order_push cs d order.1 before.1)
 
 pub order_take : (n : ℕ) (cs : List Placed) → InOrder cs → InOrder (take n cs)
 order_take zero cs order = tt
 order_take (suc n) [] order = tt
-order_take (suc n) (c ∷ cs) order = (all_take (λ later. IsBefore later.before c.span) n cs order.0, order_take n cs order.1)
+order_take (suc n) (c ∷ cs) order = (all_take (λ later. IsBeforeMark later.before c.span) n cs order.0, order_take n cs order.1)
 
-pub order_get : (cs : List Placed) (n : ℕ) (d : Placed) → InOrder cs → slice_get cs n ≡ Some d → AllByRecursion (λ c. IsBefore d.before c.span) (take n cs)
+pub order_get : (cs : List Placed) (n : ℕ) (d : Placed) → InOrder cs → slice_get cs n ≡ Some d → AllByRecursion (λ c. IsBeforeMark d.before c.span) (take n cs)
 order_get [] n d order is = cc
 order_get (c ∷ cs) zero d order is = tt
-order_get (c ∷ cs) (suc n) d order is = (all_get (λ later. IsBefore later.before c.span) cs n d order.0 is, order_get cs n d order.1 is)
+order_get (c ∷ cs) (suc n) d order is = (all_get (λ later. IsBeforeMark later.before c.span) cs n d order.0 is, order_get cs n d order.1 is)

@@ -10,9 +10,9 @@ abbrev pub Chunks : Type 0
 Chunks = List ℕ → Option (List ℕ)
 
 -- the bytes at an address: those of the first chunk there
-abbrev pub bytes_at : List Chunk → Chunks
-bytes_at [] k = None
-bytes_at (c ∷ cs) k = if bytes_eq c.0 k then Some c.1 else bytes_at cs k
+abbrev pub chunk_bytes : List Chunk → Chunks
+chunk_bytes [] k = None
+chunk_bytes (c ∷ cs) k = if bytes_eq c.0 k then Some c.1 else chunk_bytes cs k
 
 -- the chunk of this address and these bytes is in the list
 abbrev pub Listed : List Chunk → List ℕ → List ℕ → Type 0

@@ -55,6 +55,6 @@ IsReason address chunks Memory = Unit {0}
 IsReason address chunks (Collision clash) = IsMet address chunks clash
 
 -- where a collision is met, these bytes are the ones that were brought
-abbrev pub IsBrought : List ℕ → PutFault → Type 0
-IsBrought bytes Memory = Unit {0}
-IsBrought bytes (Collision clash) = clash.second ≡ bytes
+abbrev pub IsBroughtClash : List ℕ → PutFault → Type 0
+IsBroughtClash bytes Memory = Unit {0}
+IsBroughtClash bytes (Collision clash) = clash.second ≡ bytes

@@ -3,8 +3,8 @@ use Rattle.std.specs.Prelude.{◌≡◌, ℕ, ◌+◌, ◌<◌, ◌≤◌, Bool,
 use Rattle.std.specs.List.{AllByRecursion}
 use Rattle.tuple_codec.specs.declared.addresses.Address.{Address}
 use Rattle.chunk_store.specs.declared.faults.PutFault.{PutFault}
-use Rattle.chunk_store.specs.Chunks.{Chunk, Chunks, AreNamed, IsHeld, IsSingle, bytes_at}
-use Rattle.chunk_store.specs.Clashes.{IsBrought, IsReason}
+use Rattle.chunk_store.specs.Chunks.{Chunk, Chunks, AreNamed, IsHeld, IsSingle, chunk_bytes}
+use Rattle.chunk_store.specs.Clashes.{IsBroughtClash, IsReason}
 
 -- the chunks of the store below, and those of the draft's own, in the order in which they came
 pub record DraftParts : Type 0 where
@@ -20,7 +20,7 @@ pub record Drafting : Type 0 where
 
 -- what is found in a draft
 abbrev pub chunks_of : DraftParts → Chunks
-chunks_of d = bytes_at (d.base ++ d.own)
+chunks_of d = chunk_bytes (d.base ++ d.own)
 
 -- all pages that belong to the draft's pool, free or taken
 abbrev pub pages_in : Drafting → ℕ
@@ -77,7 +77,7 @@ pub record Puts (address_of : List ℕ → List ℕ) (bytes : List ℕ) (old new
   pub exact : OnOk result (new.chunks ≡ put_in address_of bytes old.chunks)
   pub held : OnOk result (IsHeld address_of (chunks_of new.chunks) (address_of bytes) bytes)
   pub cause : IfErr result (IsReason address_of (chunks_of new.chunks))
-  pub brought : IfErr result (IsBrought bytes)
+  pub brought : IfErr result (IsBroughtClash bytes)
   pub same : OnErr result (new ≡ old)
   pub segments : new.segments ≡ old.segments
   pub pages : TakesAtMostOnePage old new

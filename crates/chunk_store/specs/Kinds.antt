@@ -25,3 +25,7 @@ is_branch bytes = begins_with 6 bytes
 -- of the one kind or of the other
 abbrev pub is_either : (List ℕ → Bool) → (List ℕ → Bool) → List ℕ → Bool
 is_either some others bytes = some bytes || others bytes
+
+-- what a database is written in: nodes, tables, and itself
+abbrev pub is_data : List ℕ → Bool
+is_data = is_either is_node (is_either is_table is_database)

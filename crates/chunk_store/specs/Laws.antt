@@ -2,26 +2,26 @@
 use Rattle.std.specs.Prelude.{◌≡◌, ℕ, Bool, true, List, ◌++◌, Some, Result, length}
 use Rattle.tuple_codec.specs.declared.addresses.Address.{Address}
 use Rattle.chunk_store.specs.declared.faults.PutFault.{PutFault}
-use Rattle.chunk_store.specs.Chunks.{Chunk, bytes_at, Listed, Lists, IsSingle, Extends, Agree, AreNamed}
+use Rattle.chunk_store.specs.Chunks.{Chunk, chunk_bytes, Listed, Lists, IsSingle, Extends, Agree, AreNamed}
 use Rattle.chunk_store.specs.Drafts.{Drafting, DraftParts, Grows, IsNamed, IsSound, Longer, Puts, chunks_of, cut_to, put_in}
 use Rattle.chunk_store.specs.Kinds.{is_either}
 use Rattle.chunk_store.specs.Stores.{IsSealed, IsUnion, StaysFew, joined}
 
 -- what is found and what is listed, in lists and in joined lists
 pub record ChunksFollow : Type 0 where
-  pub is_listed : (cs : List Chunk) (k bytes : List ℕ) → bytes_at cs k ≡ Some bytes → Listed cs k bytes
-  pub is_found : (cs : List Chunk) (k bytes : List ℕ) → IsSingle cs → Listed cs k bytes → bytes_at cs k ≡ Some bytes
-  pub is_named : (a : List ℕ → List ℕ) (cs : List Chunk) (k bytes : List ℕ) → AreNamed a cs → bytes_at cs k ≡ Some bytes → a bytes ≡ k
+  pub is_listed : (cs : List Chunk) (k bytes : List ℕ) → chunk_bytes cs k ≡ Some bytes → Listed cs k bytes
+  pub is_found : (cs : List Chunk) (k bytes : List ℕ) → IsSingle cs → Listed cs k bytes → chunk_bytes cs k ≡ Some bytes
+  pub is_named : (a : List ℕ → List ℕ) (cs : List Chunk) (k bytes : List ℕ) → AreNamed a cs → chunk_bytes cs k ≡ Some bytes → a bytes ≡ k
   pub named_join : (a : List ℕ → List ℕ) (xs ys : List Chunk) → AreNamed a xs → AreNamed a ys → AreNamed a (xs ++ ys)
   pub named_fewer : (a : List ℕ → List ℕ) (xs ys : List Chunk) → Lists xs ys → AreNamed a ys → AreNamed a xs
   pub listed_either : (xs ys : List Chunk) → Lists xs (xs ++ ys) × Lists ys (xs ++ ys)
-  pub lists_extends : (xs ys : List Chunk) → IsSingle ys → Lists xs ys → Extends (bytes_at xs) (bytes_at ys)
-  pub extends_left : (xs ys : List Chunk) → Extends (bytes_at xs) (bytes_at (xs ++ ys))
-  pub extends_right : (xs ys : List Chunk) → Agree (bytes_at xs) (bytes_at ys) → Extends (bytes_at ys) (bytes_at (xs ++ ys))
-  pub joined_extends : (xs more ys : List Chunk) → Extends (bytes_at xs) (bytes_at more) → Agree (bytes_at more) (bytes_at ys)
-      → Extends (bytes_at (xs ++ ys)) (bytes_at (more ++ ys))
-  pub single_join : (xs ys : List Chunk) → IsSingle xs → IsSingle ys → Agree (bytes_at xs) (bytes_at ys) → IsSingle (xs ++ ys)
-  pub single_agrees : (xs ys : List Chunk) → IsSingle (xs ++ ys) → Agree (bytes_at xs) (bytes_at ys)
+  pub lists_extends : (xs ys : List Chunk) → IsSingle ys → Lists xs ys → Extends (chunk_bytes xs) (chunk_bytes ys)
+  pub extends_left : (xs ys : List Chunk) → Extends (chunk_bytes xs) (chunk_bytes (xs ++ ys))
+  pub extends_right : (xs ys : List Chunk) → Agree (chunk_bytes xs) (chunk_bytes ys) → Extends (chunk_bytes ys) (chunk_bytes (xs ++ ys))
+  pub joined_extends : (xs more ys : List Chunk) → Extends (chunk_bytes xs) (chunk_bytes more) → Agree (chunk_bytes more) (chunk_bytes ys)
+      → Extends (chunk_bytes (xs ++ ys)) (chunk_bytes (more ++ ys))
+  pub single_join : (xs ys : List Chunk) → IsSingle xs → IsSingle ys → Agree (chunk_bytes xs) (chunk_bytes ys) → IsSingle (xs ++ ys)
+  pub single_agrees : (xs ys : List Chunk) → IsSingle (xs ++ ys) → Agree (chunk_bytes xs) (chunk_bytes ys)
 
 -- putting bytes makes a draft longer, a longer draft holds what was held, and a mark leads back
 pub record DraftsFollow : Type 0 where

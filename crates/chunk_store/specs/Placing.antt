@@ -3,7 +3,7 @@ use Rattle.std.specs.Prelude.{◌≡◌, ◌≤◌, ◌++◌, ℕ, length, List,
 use Rattle.std.specs.List.{AllByRecursion}
 use Rattle.chunk_region.specs.declared.span.Span.{Span}
 use Rattle.chunk_region.specs.Pages as region
-use Rattle.chunk_region.specs.Pages.{Pages, IsWritten, IsBefore, behind}
+use Rattle.chunk_region.specs.Pages.{Pages, IsWritten, IsBeforeMark, behind}
 use Rattle.chunk_store.specs.declared.index.Placed.{Placed}
 use Rattle.chunk_store.specs.Chunks.{Chunk, AreNamed, IsSingle}
 
@@ -42,7 +42,7 @@ pub record IsIndex (placed : List Placed) (found : List ℕ → Option Span) : T
 
 -- the bytes that a span names
 abbrev pub written : Pages → Span → List ℕ
-written pages span = unwrap_or (region.bytes_at pages span) []
+written pages span = unwrap_or (region.span_bytes pages span) []
 
 -- the chunk that was placed
 abbrev pub chunk_of : Pages → Placed → Chunk
@@ -59,7 +59,7 @@ AllWritten pages placed = AllByRecursion (λ c. IsWritten pages c.span) placed
 -- each chunk lies before the marks taken at those that came later
 abbrev pub InOrder : List Placed → Type 0
 InOrder [] = Unit {0}
-InOrder (c ∷ cs) = AllByRecursion (λ later. IsBefore later.before c.span) cs × InOrder cs
+InOrder (c ∷ cs) = AllByRecursion (λ later. IsBeforeMark later.before c.span) cs × InOrder cs
 
 -- no chunk is longer than a page
 abbrev pub AllFit : List Chunk → Type 0

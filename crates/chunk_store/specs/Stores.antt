@@ -1,7 +1,7 @@
 -- Stores: the chunks of several segments, one segment after another; and how segments are joined and dropped.
 use Rattle.std.specs.Prelude.{◌≡◌, ◌⊎◌, ℕ, ◌+◌, ◌*◌, ◌^◌, ◌-◌, ◌<◌, ◌≤◌, nat_lt, Bool, true, false, ◌&&◌, List, [], ◌∷◌, ◌++◌, length, drop, if◌then◌else◌, is_some}
 use Rattle.std.specs.List.{AllByRecursion, list_all}
-use Rattle.chunk_store.specs.Chunks.{Chunk, Listed, Lists, bytes_at}
+use Rattle.chunk_store.specs.Chunks.{Chunk, Listed, Lists, chunk_bytes}
 
 -- what a store has: its segments, each the list of its chunks, and for how many segments more it has room
 pub record Stored : Type 0 where
@@ -29,7 +29,7 @@ pub record IsUnion (some others both : List Chunk) : Type 0 where
 
 -- each address of the first list is one of the second
 abbrev pub is_within : List Chunk → List Chunk → Bool
-is_within segment other = list_all (λ c. is_some (bytes_at other c.0)) segment
+is_within segment other = list_all (λ c. is_some (chunk_bytes other c.0)) segment
 
 abbrev pub has_none : List (List Chunk) → Bool
 has_none [] = true

@@ -3,7 +3,7 @@
 ghost use Rattle.std.specs.Prelude.{ℕ, List, ◌≡◌, ◌⊎◌, ◌++◌, ◌<◌, ◌≤◌, [], ◌∷◌, if◌then◌else◌, length, max, option_map, slice_get, take, Some, None, is_some, IfOk, IfErr, OnOk, OnErr};
 ghost use Rattle.std.specs.Arc.{arc_value};
 ghost use Rattle.chunk_region.specs.Pages.{Pages};
-ghost use Rattle.chunk_store.specs.Chunks.{Agree, AreNamed, IsHeld, IsSingle, bytes_at};
+ghost use Rattle.chunk_store.specs.Chunks.{Agree, AreNamed, IsHeld, IsSingle, chunk_bytes};
 ghost use Rattle.chunk_store.specs.Clashes.{IsCause};
 ghost use Rattle.chunk_store.specs.Drafts.{IsSound, Puts, TakesAtMostOnePage, chunks_of, cut_to, pages_in};
 ghost use Rattle.chunk_store.specs.Stores.{IsBrought, IsSealed, all_chunks};
@@ -85,7 +85,7 @@ impl<D: Digester> Draft<D> {
     /// Whether these bytes are at this address; a collision where others are.
     fn has(&self, address: &Address, bytes: &[u8]) -> Result<bool, PutFault>
         ensures there { IfOk result (λ there. chunks_of self.now.chunks address.now.0 ≡ (if there then Some bytes.now else None)) }
-        ensures cause { IfErr result (IsCause (chunks_of self.now.chunks) (bytes_at ((address.now.0, bytes.now) ∷ []))) }
+        ensures cause { IfErr result (IsCause (chunks_of self.now.chunks) (chunk_bytes ((address.now.0, bytes.now) ∷ []))) }
     {
         is_there(self.index.allocator(), address, self.get(address), bytes)
     }
@@ -94,8 +94,8 @@ impl<D: Digester> Draft<D> {
     fn add(&mut self, address: Address, bytes: &[u8]) -> Result<(), AllocError>
         requires size { length bytes.now ≤ 65536 }
         requires named { D.address bytes.now ≡ address.0 }
-        requires absent { bytes_at self.old.chunks.own address.0 ≡ None }
-        requires agrees { (others : List ℕ) → bytes_at self.old.chunks.base address.0 ≡ Some others → others ≡ bytes.now }
+        requires absent { chunk_bytes self.old.chunks.own address.0 ≡ None }
+        requires agrees { (others : List ℕ) → chunk_bytes self.old.chunks.base address.0 ≡ Some others → others ≡ bytes.now }
         ensures ok { OnOk result (self.new.chunks ≡ record { base = self.old.chunks.base; own = self.old.chunks.own ++ (address.0, bytes.now) ∷ [] }) }
         ensures same { OnErr result (self.new ≡ self.old) }
         ensures segments { self.new.segments ≡ self.old.segments }
@@ -158,8 +158,8 @@ impl<D: Digester> Draft<D> {
     pub fn rebase(&mut self, store: Store) -> Result<(), PutFault>
         ensures chunks { OnOk result (self.new.chunks ≡ record { base = all_chunks store; own = self.old.chunks.own }) }
         ensures segments { OnOk result (self.new.segments ≡ store.segments) }
-        ensures agree { OnOk result (Agree (bytes_at (all_chunks store)) (bytes_at self.old.chunks.own)) }
-        ensures cause { IfErr result (IsCause (bytes_at (all_chunks store)) (bytes_at self.old.chunks.own)) }
+        ensures agree { OnOk result (Agree (chunk_bytes (all_chunks store)) (chunk_bytes self.old.chunks.own)) }
+        ensures cause { IfErr result (IsCause (chunk_bytes (all_chunks store)) (chunk_bytes self.old.chunks.own)) }
         ensures same { OnErr result (self.new ≡ self.old) }
         ensures pages { pages_in self.new ≡ pages_in self.old }
     {
@@ -170,9 +170,9 @@ impl<D: Digester> Draft<D> {
 
     /// Refuses a store that has other bytes than the draft's own at some address.
     fn fits(&self, store: &Store) -> Result<(), PutFault>
-        ensures agree { OnOk result (Agree (bytes_at (all_chunks store.now)) (bytes_at self.now.chunks.own)) }
+        ensures agree { OnOk result (Agree (chunk_bytes (all_chunks store.now)) (chunk_bytes self.now.chunks.own)) }
         ensures single { IsSingle (all_chunks store.now) }
-        ensures cause { IfErr result (IsCause (bytes_at (all_chunks store.now)) (bytes_at self.now.chunks.own)) }
+        ensures cause { IfErr result (IsCause (chunk_bytes (all_chunks store.now)) (chunk_bytes self.now.chunks.own)) }
     {
         store.tell();
         for at in 0..self.own_count() {
@@ -193,10 +193,10 @@ impl<D: Digester> Draft<D> {
     fn own_chunk(&self, at: usize) -> (Address, &[u8])
         requires { at < length self.now.chunks.own }
         ensures chunk { slice_get self.now.chunks.own at ≡ Some (result.0.0, result.1.now) }
-        ensures found { bytes_at self.now.chunks.own result.0.0 ≡ Some result.1.now }
+        ensures found { chunk_bytes self.now.chunks.own result.0.0 ≡ Some result.1.now }
         ensures size { length result.1.now ≤ 65536 }
         ensures named { D.address result.1.now ≡ result.0.0 }
-        ensures first { bytes_at (take at self.now.chunks.own) result.0.0 ≡ None }
+        ensures first { chunk_bytes (take at self.now.chunks.own) result.0.0 ≡ None }
     {
         let placed = self.index.at(at);
         (placed.address, self.region.bytes(placed.span))
@@ -206,8 +206,8 @@ impl<D: Digester> Draft<D> {
     pub fn copied(&self, store: Store) -> Result<Draft<D>, PutFault>
         ensures same { IfOk result (λ draft. draft.chunks ≡ record { base = all_chunks store; own = self.now.chunks.own }) }
         ensures segments { IfOk result (λ draft. draft.segments ≡ store.segments) }
-        ensures agree { OnOk result (Agree (bytes_at (all_chunks store)) (bytes_at self.now.chunks.own)) }
-        ensures cause { IfErr result (IsCause (bytes_at (all_chunks store)) (bytes_at self.now.chunks.own)) }
+        ensures agree { OnOk result (Agree (chunk_bytes (all_chunks store)) (chunk_bytes self.now.chunks.own)) }
+        ensures cause { IfErr result (IsCause (chunk_bytes (all_chunks store)) (chunk_bytes self.now.chunks.own)) }
     {
         self.fits(&store)?;
         let pool = PagePool::with_pages(self.index.allocator(), 0)?;
@@ -227,7 +227,7 @@ impl<D: Digester> Draft<D> {
     /// Adds the own chunks to those of a draft that has none and whose store agrees with them.
     fn copy_into(&self, draft: &mut Draft<D>) -> Result<(), AllocError>
         requires none { draft.old.chunks.own ≡ [] }
-        requires agree { Agree (bytes_at draft.old.chunks.base) (bytes_at self.now.chunks.own) }
+        requires agree { Agree (chunk_bytes draft.old.chunks.base) (chunk_bytes self.now.chunks.own) }
         ensures own { OnOk result (draft.new.chunks ≡ record { base = draft.old.chunks.base; own = self.now.chunks.own }) }
         ensures segments { OnOk result (draft.new.segments ≡ draft.old.segments) }
     {

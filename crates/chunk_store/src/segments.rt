@@ -3,11 +3,11 @@
 ghost use Rattle.std.specs.Prelude.{◌≡◌, ◌<◌, ◌≤◌, [], ◌++◌, length, drop, take, option_map, slice_get, Some, None, is_some, IfOk, IfSome};
 ghost use Rattle.chunk_store.specs.Building.{gather};
 ghost use Rattle.chunk_store.specs.Placing.{ArePlaced, chunks_in};
-ghost use Rattle.chunk_store.specs.Chunks.{IsSingle, bytes_at};
+ghost use Rattle.chunk_store.specs.Chunks.{IsSingle, chunk_bytes};
 ghost use Rattle.chunk_store.specs.Stores.{is_within};
 
 use crate::index::{Index, Placed};
-use chunk_region::{PagePool, Region, Shared};
+use chunk_region::{PagePool, Region, SharedPages};
 use std::alloc::{AllocError, Global};
 use std::marker::Model;
 use tuple_codec::Address;
@@ -16,7 +16,7 @@ use tuple_codec::Address;
 #[derive(Debug, Drop)]
 pub struct Segment {
     index: Index,
-    sealed: Shared,
+    sealed: SharedPages,
 }
 
 impl Model for Segment {
@@ -116,9 +116,9 @@ impl Segment {
     pub(crate) fn chunk(&self, at: usize) -> (Address, &[u8])
         requires { at < length self.now }
         ensures chunk { slice_get self.now at ≡ Some (result.0.0, result.1.now) }
-        ensures found { bytes_at self.now result.0.0 ≡ Some result.1.now }
+        ensures found { chunk_bytes self.now result.0.0 ≡ Some result.1.now }
         ensures size { length result.1.now ≤ 65536 }
-        ensures apart { bytes_at (take at self.now) result.0.0 ≡ None }
+        ensures apart { chunk_bytes (take at self.now) result.0.0 ≡ None }
     {
         let placed = self.index.at(at);
         (placed.address, self.sealed.bytes(placed.span))
@@ -126,7 +126,7 @@ impl Segment {
 
     /// The bytes at an address, by one look-up in a table.
     pub(crate) fn get(&self, address: &Address) -> Option<&[u8]>
-        ensures { option_map (λ bytes. bytes.now) result ≡ bytes_at self.now address.now.0 }
+        ensures { option_map (λ bytes. bytes.now) result ≡ chunk_bytes self.now address.now.0 }
     {
         match self.index.find(address) {
             Some(span) => Some(self.sealed.bytes(span)),
@@ -136,7 +136,7 @@ impl Segment {
 
     /// Whether a chunk stands at an address.
     fn has(&self, address: &Address) -> bool
-        ensures { result ≡ is_some (bytes_at self.now address.now.0) }
+        ensures { result ≡ is_some (chunk_bytes self.now address.now.0) }
     {
         match self.get(address) {
             Some(_) => true,

@@ -3,7 +3,7 @@
 ghost use Rattle.std.specs.Prelude.{ℕ, ◌≡◌, ◌+◌, ◌*◌, ◌<◌, nat_lt, if◌then◌else◌, ◌≤◌, [], ◌∷◌, ◌++◌, length, min, take, drop, vec_len, option_map, IfOk, IfErr, OnOk, OnErr, IsErrOf};
 ghost use Rattle.std.specs.Arc.{arc_value};
 ghost use Rattle.std.specs.Vec.{vec_capacity};
-ghost use Rattle.chunk_store.specs.Chunks.{Agree, IsSingle, Lists, bytes_at};
+ghost use Rattle.chunk_store.specs.Chunks.{Agree, IsSingle, Lists, chunk_bytes};
 ghost use Rattle.chunk_store.specs.Clashes.{Differ, IsCause};
 ghost use Rattle.chunk_store.specs.Building.{gather};
 ghost use Rattle.chunk_store.specs.Stores.{AreSome, IsMatched, IsUnion, all_chunks, drop_held, joined, joins, with_segment};
@@ -88,7 +88,7 @@ impl Store {
 
     /// The bytes at an address, by one look-up in a table for each segment, the last one first: what was written last is read most.
     pub fn get(&self, address: &Address) -> Option<&[u8]>
-        ensures held { option_map (λ bytes. bytes.now) result ≡ bytes_at (all_chunks self.now) address.now.0 }
+        ensures held { option_map (λ bytes. bytes.now) result ≡ chunk_bytes (all_chunks self.now) address.now.0 }
         ensures single { IsSingle (all_chunks self.now) }
     {
         let mut at = self.segments.len();
@@ -118,10 +118,10 @@ impl Store {
     pub fn append(&mut self, segment: Arc<Segment>) -> Result<(), PutFault>
         ensures segments { OnOk result (self.new.segments ≡ with_segment (arc_value segment) self.old.segments) }
         ensures union { OnOk result (IsUnion (all_chunks self.old) (arc_value segment) (all_chunks self.new)) }
-        ensures agree { OnOk result (Agree (bytes_at (all_chunks self.old)) (bytes_at (arc_value segment))) }
+        ensures agree { OnOk result (Agree (chunk_bytes (all_chunks self.old)) (chunk_bytes (arc_value segment))) }
         ensures room { self.old.room ≤ self.new.room + 1 }
-        ensures cause { IfErr result (IsCause (bytes_at (all_chunks self.old)) (bytes_at (arc_value segment))) }
-        ensures memory { 0 < self.old.room → IsErrOf result PutFault.Memory → Differ (bytes_at (all_chunks self.old)) (bytes_at (arc_value segment)) }
+        ensures cause { IfErr result (IsCause (chunk_bytes (all_chunks self.old)) (chunk_bytes (arc_value segment))) }
+        ensures memory { 0 < self.old.room → IsErrOf result PutFault.Memory → Differ (chunk_bytes (all_chunks self.old)) (chunk_bytes (arc_value segment)) }
         ensures same { OnErr result (self.new.segments ≡ self.old.segments) }
         ensures kept { OnErr result (self.old.room ≤ self.new.room) }
     {
@@ -165,9 +165,9 @@ impl Store {
     fn kept_beside(&self, segment: &Segment) -> Result<usize, PutFault>
         ensures kept { IfOk result (λ kept. take kept self.now.segments ≡ drop_held segment.now self.now.segments) }
         ensures most { IfOk result (λ kept. kept ≤ length self.now.segments) }
-        ensures agree { OnOk result (Agree (bytes_at (all_chunks self.now)) (bytes_at segment.now)) }
-        ensures cause { IfErr result (IsCause (bytes_at (all_chunks self.now)) (bytes_at segment.now)) }
-        ensures differ { OnErr result (Differ (bytes_at (all_chunks self.now)) (bytes_at segment.now)) }
+        ensures agree { OnOk result (Agree (chunk_bytes (all_chunks self.now)) (chunk_bytes segment.now)) }
+        ensures cause { IfErr result (IsCause (chunk_bytes (all_chunks self.now)) (chunk_bytes segment.now)) }
+        ensures differ { OnErr result (Differ (chunk_bytes (all_chunks self.now)) (chunk_bytes segment.now)) }
     {
         let matched = self.matching(segment);
         self.allows(segment, matched)?;
@@ -255,9 +255,9 @@ impl Store {
     /// Refuses a segment that has other bytes than this store at some address.
     fn allows(&self, segment: &Segment, matched: Matched) -> Result<(), PutFault>
         requires { IsMatched segment.now self.now.segments matched.own matched.from }
-        ensures agree { OnOk result (Agree (bytes_at (all_chunks self.now)) (bytes_at segment.now)) }
-        ensures cause { IfErr result (IsCause (bytes_at (all_chunks self.now)) (bytes_at segment.now)) }
-        ensures differ { OnErr result (Differ (bytes_at (all_chunks self.now)) (bytes_at segment.now)) }
+        ensures agree { OnOk result (Agree (chunk_bytes (all_chunks self.now)) (chunk_bytes segment.now)) }
+        ensures cause { IfErr result (IsCause (chunk_bytes (all_chunks self.now)) (chunk_bytes segment.now)) }
+        ensures differ { OnErr result (Differ (chunk_bytes (all_chunks self.now)) (chunk_bytes segment.now)) }
     {
         self.tell();
         for at in 0..matched.own {

@@ -8,8 +8,8 @@ use Rattle.std.proofs.lemmas.List.{length-append}
 use Rattle.std.proofs.lemmas.Nat.{from_be_bytes-to_be_bytes_8}
 use Rattle.basic_laws.proofs.Options.{some_is}
 use Rattle.tuple_codec.specs.Fields.{bytes_at}
-use Rattle.tuple_codec.specs.RowBytes.{counted}
-use Rattle.tuple_codec.specs.Fronts.{uncounted}
+use Rattle.tuple_codec.specs.RowBytes.{length_prefixed}
+use Rattle.tuple_codec.specs.Fronts.{length_prefixed_at}
 use Rattle.tuple_codec.specs.declared.forms.Form.TheVariants as form
 use Rattle.tuple_codec.proofs.NumberLemmas.{bits_fit, number_back}
 use Rattle.tuple_codec.proofs.TextLemmas.{counted_again}
@@ -69,10 +69,10 @@ made root parents height date committer message = record {
 }
 
 abbrev after_committer : List ℕ → List (List ℕ) → ℕ → ℕ → List ℕ × List ℕ → Option CommitParts
-after_committer root parents height date committer = uncounted committer.1 >>= λ message. Some (made root parents height date committer.0 message.0)
+after_committer root parents height date committer = length_prefixed_at committer.1 >>= λ message. Some (made root parents height date committer.0 message.0)
 
 abbrev after_date : List ℕ → List (List ℕ) → ℕ → ℕ × List ℕ → Option CommitParts
-after_date root parents height date = uncounted date.1 >>= after_committer root parents height date.0
+after_date root parents height date = length_prefixed_at date.1 >>= after_committer root parents height date.0
 
 abbrev after_height : List ℕ → List (List ℕ) → ℕ × List ℕ → Option CommitParts
 after_height root parents height = number_at height.1 >>= after_date root parents height.0
@@ -87,8 +87,8 @@ pub commit_again : (c : CommitParts) → IsCommit c → commit_of (commit_bytes 
 unfolding commit_of
 commit_again c h =
     let date = cast_unsigned w64 c.date in
-    let fifth = counted c.message in
-    let fourth = counted c.committer ++ fifth in
+    let fifth = length_prefixed c.message in
+    let fourth = length_prefixed c.committer ++ fifth in
     let third = to_be_bytes w64 date ++ fourth in
     let second = to_be_bytes w64 c.height ++ third in
     let first = length c.parents ∷ (flat_map (λ parent. parent) c.parents ++ second) in
@@ -98,7 +98,7 @@ commit_again c h =
     ∙ ap (λ (o : Option (ℕ × List ℕ)). o >>= after_date c.root c.parents c.height) (number_again date fourth (bits_fit form.Row c.date h.limits.date_fits))
     ∙ ap (λ (o : Option (List ℕ × List ℕ)). o >>= after_committer c.root c.parents c.height date) (counted_again c.committer fifth)
     ∙ ap (λ (o : Option (List ℕ × List ℕ)). o >>= λ message. Some (made c.root c.parents c.height date c.committer message.0))
-    (ap uncounted (sym (append-nil fifth)) ∙ counted_again c.message [])
+    (ap length_prefixed_at (sym (append-nil fifth)) ∙ counted_again c.message [])
     ∙ ap (λ (n : ℤ). Some (record { root = c.root; parents = c.parents; height = c.height; date = n; committer = c.committer; message = c.message }))
     (number_back form.Row c.date h.limits.date_fits)
 
@@ -118,7 +118,7 @@ found_height rest = option_map (λ (x : ℕ × List ℕ). x.0) (number_at rest)
 pub height_again : (c : CommitParts) → IsCommit c → height_in (commit_bytes c) ≡ Some c.height
 unfolding height_in
 height_again c h =
-    let third = to_be_bytes w64 (cast_unsigned w64 c.date) ++ (counted c.committer ++ counted c.message) in
+    let third = to_be_bytes w64 (cast_unsigned w64 c.date) ++ (length_prefixed c.committer ++ length_prefixed c.message) in
     ap (λ (o : Option (List ℕ × List ℕ)). o >>= λ root. parents_passed root.1 >>= found_height) (bytes_again 20 c.root _ (eqb-true _ _ h.addresses.root))
     ∙ ap (λ (o : Option (List ℕ)). o >>= found_height) (after_again c.parents (to_be_bytes w64 c.height ++ third) h.addresses.parents)
     ∙ ap (option_map (λ (x : ℕ × List ℕ). x.0)) (number_again c.height third h.limits.height)
@@ -138,15 +138,15 @@ pub commit_size : (c : CommitParts) → is_address c.root ≡ true → list_all 
 commit_size c root parents few committer message =
     let many = addresses_length c.parents parents in
     let date = cast_unsigned w64 c.date in
-    let fifth = counted c.message in
-    let fourth = counted c.committer ++ fifth in
+    let fifth = length_prefixed c.message in
+    let fourth = length_prefixed c.committer ++ fifth in
     let third = to_be_bytes w64 date ++ fourth in
     let second = to_be_bytes w64 c.height ++ third in
     let a = length-append c.root (length c.parents ∷ (flat_map (λ parent. parent) c.parents ++ second)) in
     let b = length-append (flat_map (λ parent. parent) c.parents) second in
     let d = length-append (to_be_bytes w64 c.height) third in
     let e = length-append (to_be_bytes w64 date) fourth in
-    let f = length-append (counted c.committer) fifth in
+    let f = length-append (length_prefixed c.committer) fifth in
     let twenty : length c.root ≡ 20 = eqb-true _ _ root in
     omega (arith, a, b, d, e, f, many, twenty)
 
@@ -167,14 +167,14 @@ count_is (address ∷ addresses) = ap (λ (n : ℕ). suc n) (count_is addresses)
 pub commit_join : (commit : CommitRecord) (a b d e f all : List ℕ) (bits : ℕ) → bits ≡ cast_unsigned w64 commit.date → a ≡ [] → b ≡ a ++ 5 ∷ []
     → d ≡ b ++ (commit.root.0 ++ length commit.parents ∷ flat_map (λ parent. parent) (map (λ (parent : Address). parent.0) commit.parents))
     → e ≡ d ++ (to_be_bytes w64 commit.height ++ to_be_bytes w64 bits)
-    → f ≡ e ++ (counted commit.committer ++ counted commit.message) → all ≡ f → all ≡ commit_bytes (parts_of commit)
+    → f ≡ e ++ (length_prefixed commit.committer ++ length_prefixed commit.message) → all ≡ f → all ≡ commit_bytes (parts_of commit)
 commit_join commit a b d e f all bits date_is at_first with_kind with_links with_numbers with_texts same =
     let flat = flat_map (λ parent. parent) (map (λ (parent : Address). parent.0) commit.parents) in
     let height = to_be_bytes w64 commit.height in
     let date = to_be_bytes w64 (cast_unsigned w64 commit.date) in
-    let texts = counted commit.committer ++ counted commit.message in
+    let texts = length_prefixed commit.committer ++ length_prefixed commit.message in
     let one = with_kind ∙ ap (λ (l : List ℕ). l ++ 5 ∷ []) at_first in
     let two = with_links ∙ ap (λ (l : List ℕ). l ++ (commit.root.0 ++ length commit.parents ∷ flat)) one in
     let three = with_numbers ∙ ap (λ (n : ℕ). d ++ (height ++ to_be_bytes w64 n)) date_is ∙ ap (λ (l : List ℕ). l ++ (height ++ date)) two in
-    same ∙ with_texts ∙ ap (λ (l : List ℕ). l ++ texts) three ∙ in_order commit.root.0 flat height date (counted commit.committer) (counted commit.message) (length commit.parents)
+    same ∙ with_texts ∙ ap (λ (l : List ℕ). l ++ texts) three ∙ in_order commit.root.0 flat height date (length_prefixed commit.committer) (length_prefixed commit.message) (length commit.parents)
     ∙ ap (λ (n : ℕ). 5 ∷ (commit.root.0 ++ (n ∷ (flat ++ (height ++ (date ++ texts)))))) (sym (count_is commit.parents))

@@ -17,7 +17,7 @@ use Rattle.schema_model.specs.PlainTables.{rises}
 use Rattle.schema_model.specs.PlainCommits.{AncestorsFollow, AreGrown, Commits, IsAncestor, IsAncestorBy, PlainCommit, ancestors, commit_cmp, greatest, has_address, height_in, height_of, is_known, parents_in, parents_of, put_commit}
 use Rattle.schema_model.proofs.AncestorLemmas.{before_all, has_ordered, has_put, in_all, in_some, ordered_rises, put_rises, rest_rises, parent_lower}
 use Rattle.tuple_codec.specs.declared.addresses.Address.{Address}
-use Rattle.commit_graph.specs.Walks.{AreRanks, Begins, Steps, Waits, address_in, addresses_of, first_address, height_at, is_rank, left, weight, weight_of}
+use Rattle.commit_graph.specs.Walks.{AreRanks, Steps, Waits, WalksAncestors, address_in, addresses_of, first_address, height_at, is_rank, left, weight, weight_of}
 use Rattle.commit_graph.specs.declared.walks.Rank.{Rank}
 use Rattle.commit_graph.proofs.OrderLemmas.{before_later, front_rises, higher_first, same_lists}
 
@@ -282,7 +282,7 @@ module _ (laws : AncestorsFollow) (commits : Commits) (grown : AreGrown commits)
   the_one : (k : List ℕ) (walk : List Rank) → Waits commits (k ∷ []) [] walk → has_address (addresses_of walk) k ≡ true
   the_one k walk waits = waits.has k ∙ or_left _ _ (or_left _ _ (itself k))
 
-  pub begins : (k : List ℕ) (walk : List Rank) → Waits commits (k ∷ []) [] walk → Begins commits k walk
+  pub begins : (k : List ℕ) (walk : List Rank) → Waits commits (k ∷ []) [] walk → WalksAncestors commits k walk
   begins k walk waits = record {
     ranks = waits.ranks;
     all = same_lists commits (left commits walk) (ancestors commits k) (left_rises walk) (laws.rise commits k)

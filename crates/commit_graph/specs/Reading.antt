@@ -3,7 +3,7 @@ use Rattle.std.specs.Prelude.{ℕ, ◌*◌, ◌==◌, nat_lt, if◌then◌else�
 use Rattle.std.specs.Int.{w64, cast_signed, from_be_bytes}
 use Rattle.std.specs.Option.{option_map}
 use Rattle.tuple_codec.specs.Fields.{bytes_at}
-use Rattle.tuple_codec.specs.Fronts.{uncounted}
+use Rattle.tuple_codec.specs.Fronts.{length_prefixed_at}
 use Rattle.schema_model.specs.Reading.{◌>>=◌, items_at}
 use Rattle.schema_model.specs.WrittenForms.{CommitParts}
 
@@ -32,8 +32,8 @@ commit_of bytes = do
   parents ← parents_at root.1
   height ← number_at parents.1
   date ← number_at height.1
-  committer ← uncounted date.1
-  message ← uncounted committer.1
+  committer ← length_prefixed_at date.1
+  message ← length_prefixed_at committer.1
   Some (record { root = root.0; parents = parents.0; height = height.0; date = cast_signed w64 date.0; committer = committer.0; message = message.0 })
 
 -- a commit's database, and its height, without the rest

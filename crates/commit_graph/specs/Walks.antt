@@ -41,7 +41,7 @@ abbrev pub weight_of : List Rank → ℕ
 weight_of ranks = weight (map height_at ranks)
 
 -- the walk comes to the commit's ancestors
-pub record Begins (commits : Commits) (k : List ℕ) (walk : List Rank) : Type 0 where
+pub record WalksAncestors (commits : Commits) (k : List ℕ) (walk : List Rank) : Type 0 where
   pub ranks : AreRanks commits walk
   pub all : left commits walk ≡ ancestors commits k
 

@@ -5,7 +5,7 @@ ghost use Rattle.schema_model.specs.PlainCommits.{Commits, ancestors, is_known};
 ghost use Rattle.chunk_store.specs.Drafts.{chunks_of};
 ghost use Rattle.commit_graph.specs.Standing.{CommitsStand};
 
-use crate::walks::Walk;
+use crate::walks::AncestorWalk;
 use chunk_store::Draft;
 use std::alloc::{AllocError, Global};
 use tuple_codec::{Address, Digester};
@@ -21,7 +21,7 @@ pub fn ancestors<D: Digester>(
         → IfOk result (λ list. map (λ ancestor. ancestor.0) list.items ≡ ancestors commits address.now.0) }
 {
     let mut ancestors = Vec::new(alloc);
-    let mut walk = Walk::new(alloc, draft, address)?;
+    let mut walk = AncestorWalk::new(alloc, draft, address)?;
     'walk: while let Some(ancestor) = walk.next(alloc, draft)? {
         ancestors.push(ancestor)?;
     }

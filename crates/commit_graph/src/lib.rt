@@ -19,5 +19,5 @@ pub use commits::CommitRecord;
 pub use laws::{law_of_commits, law_of_standing_commits};
 pub use parts::{height, is_commit, root_of};
 pub use reading::read_commit;
-pub use walks::{Rank, Walk};
+pub use walks::{AncestorWalk, Rank};
 pub use writing::write_commit;

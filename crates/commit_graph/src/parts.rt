@@ -4,7 +4,7 @@ ghost use Rattle.std.specs.Prelude.{◌≡◌};
 ghost use Rattle.std.specs.Option.{option_map};
 ghost use Rattle.tuple_codec.specs.Fields.{bytes_at};
 ghost use Rattle.schema_model.specs.WrittenForms.{CommitParts};
-ghost use Rattle.chunk_store.specs.Chunks.{bytes_at as found_at};
+ghost use Rattle.chunk_store.specs.Chunks.{chunk_bytes as found_at};
 ghost use Rattle.chunk_store.specs.Drafts.{chunks_of};
 ghost use Rattle.chunk_store.specs.Stores.{all_chunks};
 ghost use Rattle.commit_graph.specs.Commits.{HasCommit, IsCommitFound, is_commit_found};

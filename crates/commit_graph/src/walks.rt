@@ -5,7 +5,7 @@ ghost use Rattle.std.specs.List.{list_all, slice_get};
 ghost use Rattle.schema_model.specs.PlainCommits.{Commits, is_known};
 ghost use Rattle.chunk_store.specs.Drafts.{chunks_of};
 ghost use Rattle.commit_graph.specs.Standing.{CommitsStand};
-ghost use Rattle.commit_graph.specs.Walks.{AreRanks, Begins, Steps, Waits};
+ghost use Rattle.commit_graph.specs.Walks.{AreRanks, Steps, Waits, WalksAncestors};
 
 use crate::parts::height;
 use crate::reading::read_commit;
@@ -26,12 +26,12 @@ pub struct Rank {
 
 /// The ancestors of a commit, one by one and in order, without a list of all of them. A commit is read when the walk goes on from it.
 #[derive(Drop)]
-pub struct Walk {
+pub struct AncestorWalk {
     /// The parents of the commits that the walk has come to, less those that it has come to as well.
     waiting: BTreeSet<Rank>,
 }
 
-impl Model for Walk {
+impl Model for AncestorWalk {
     ghost use Rattle.std.specs.Prelude.{List};
     ghost use Rattle.commit_graph.specs.declared.walks.Rank.{Rank as Place};
 
@@ -40,19 +40,19 @@ impl Model for Walk {
     ghost view = { λ walk. walk.waiting.keys };
 }
 
-impl Walk {
+impl AncestorWalk {
     /// A walk to the commit and its ancestors.
     pub fn new<D: Digester>(
         alloc: Global,
         draft: &Draft<D>,
         address: &Address,
-    ) -> Result<Walk, AllocError>
+    ) -> Result<AncestorWalk, AllocError>
         requires { (commits : Commits) × CommitsStand D.address (chunks_of draft.now.chunks) commits × (is_known commits address.now.0 ≡ true) }
         ensures { (commits : Commits) → CommitsStand D.address (chunks_of draft.now.chunks) commits → is_known commits address.now.0 ≡ true
-            → IfOk result (Begins commits address.now.0) }
+            → IfOk result (WalksAncestors commits address.now.0) }
     {
         law_of_ancestors();
-        let mut walk = Walk {
+        let mut walk = AncestorWalk {
             waiting: BTreeSet::new(alloc),
         };
         walk.put(draft, address)?;

@@ -2,7 +2,7 @@
 
 ghost use Rattle.std.specs.Prelude.{◌≡◌, ◌<◌, ◌≤◌, ◌++◌, ◌∷◌, true, length, map, OnOk, IfOk};
 ghost use Rattle.std.specs.Int.{w64, cast_unsigned, to_be_bytes};
-ghost use Rattle.tuple_codec.specs.RowBytes.{counted};
+ghost use Rattle.tuple_codec.specs.RowBytes.{length_prefixed};
 ghost use Rattle.std.specs.List.{flat_map, list_all};
 ghost use Rattle.schema_model.specs.WrittenForms.{commit_bytes};
 ghost use Rattle.chunk_store.specs.Drafts.{Grows, Puts, chunks_of};
@@ -85,7 +85,7 @@ fn date_bits(commit: &CommitRecord) -> u64
 fn push_texts(out: &mut Vec<u8>, committer: &Text, message: &Text) -> Result<(), AllocError>
     requires committer { length committer.now < 65536 }
     requires message { length message.now < 65536 }
-    ensures { OnOk result (out.new.items ≡ out.old.items ++ (counted committer.now ++ counted message.now)) }
+    ensures { OnOk result (out.new.items ≡ out.old.items ++ (length_prefixed committer.now ++ length_prefixed message.now)) }
 {
     push_long(out, committer.as_slice())?;
     push_long(out, message.as_slice())

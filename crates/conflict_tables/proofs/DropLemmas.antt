@@ -21,7 +21,7 @@ use Rattle.schema_model.specs.declared.schemas.Schema.{Schema}
 use Rattle.chunk_store.specs.Chunks.{Chunks, Extends}
 use Rattle.chunk_store.specs.Standing.{IsTree}
 use Rattle.table_root.specs.Standing.{IsTableOf, TableValuesStand}
-use Rattle.table_root.specs.declared.records.Table.{Table}
+use Rattle.table_root.specs.declared.records.StoredTable.{StoredTable}
 use Rattle.prolly_edit.specs.Editing.{CanEdit, PutsRow}
 use Rattle.prolly_tree.specs.Lists.{from_key, pair_of}
 use Rattle.table_rows.proofs.ReadingLemmas.{from_first}
@@ -193,11 +193,11 @@ is_table_without keys table is = record {
 }
 
 -- the tree of a table's conflicts
-pub own_tree : (address : List ℕ → List ℕ) (chunks : Chunks) (table : Table) (contents : PlainTable) → IsTableOf address chunks table contents → IsTree address chunks table.conflicts.0 (conflict_items contents)
-own_tree address chunks table contents stands = subst (λ (k : List ℕ). IsTree address chunks k (conflict_items contents)) (sym (ap (λ (t : Table). t.conflicts.0) stands.value)) stands.trees.conflicts
+pub own_tree : (address : List ℕ → List ℕ) (chunks : Chunks) (table : StoredTable) (contents : PlainTable) → IsTableOf address chunks table contents → IsTree address chunks table.conflicts.0 (conflict_items contents)
+own_tree address chunks table contents stands = subst (λ (k : List ℕ). IsTree address chunks k (conflict_items contents)) (sym (ap (λ (t : StoredTable). t.conflicts.0) stands.value)) stands.trees.conflicts
 
 -- a table's value with the root of what is left of its conflicts
-pub without_stands : (keys : List (List ℕ)) (address : List ℕ → List ℕ) (old new : Chunks) → Extends old new → TableValuesStand → (table : Table) (contents : PlainTable) (k : Address) → IsTableOf address old table contents
+pub without_stands : (keys : List (List ℕ)) (address : List ℕ → List ℕ) (old new : Chunks) → Extends old new → TableValuesStand → (table : StoredTable) (contents : PlainTable) (k : Address) → IsTableOf address old table contents
     → IsTree address new k.0 (edited (conflict_items contents) (removals keys (conflict_items contents)))
     → IsTableOf address new (record { schema = table.schema; rows = table.rows; indexes = table.indexes; conflicts = k; violations = table.violations }) (without_conflicts keys contents)
 without_stands keys address old new more values table contents k was tree =

@@ -2,7 +2,7 @@
 use Rattle.std.specs.Prelude.{◌≡◌, ℕ, ◌==◌, Bool, not, if◌then◌else◌, List, [], ◌∷◌, filter, map, Option, None, Some, bytes_eq}
 use Rattle.std.specs.List.{list_any}
 use Rattle.std.specs.Option.{option_and_then, option_map}
-use Rattle.tuple_codec.specs.Fronts.{uncounted}
+use Rattle.tuple_codec.specs.Fronts.{length_prefixed_at}
 use Rattle.tuple_codec.specs.KeyBytes.{key_bytes}
 use Rattle.tuple_codec.specs.Nodes.{Item}
 use Rattle.tuple_codec.specs.Rows.{Cells}
@@ -11,11 +11,11 @@ use Rattle.schema_model.specs.PlainTables.{Conflict, PlainTable, body_bytes}
 use Rattle.schema_model.specs.declared.schemas.Schema.{Schema}
 use Rattle.chunk_store.specs.Chunks.{Chunks}
 use Rattle.table_root.specs.Standing.{IsTableOf}
-use Rattle.table_root.specs.declared.records.Table.{Table}
+use Rattle.table_root.specs.declared.records.StoredTable.{StoredTable}
 use Rattle.conflict_tables.specs.declared.entries.ConflictEntry.{ConflictEntry}
 
 -- some table it is
-abbrev pub IsSomeTable : (List ℕ → List ℕ) → Chunks → Table → Type 0
+abbrev pub IsSomeTable : (List ℕ → List ℕ) → Chunks → StoredTable → Type 0
 IsSomeTable address chunks table = (contents : PlainTable) × IsTableOf address chunks table contents
 
 -- ---- what is read
@@ -61,7 +61,7 @@ theirs_edits table = map (theirs_edit table.schema) table.conflicts
 
 -- a row behind its length, and the bytes after it
 abbrev pub row_at : List ℕ → Option (Option (List ℕ) × List ℕ)
-row_at bytes = option_map (λ p. (Some p.0, p.1)) (uncounted bytes)
+row_at bytes = option_map (λ p. (Some p.0, p.1)) (length_prefixed_at bytes)
 
 -- a side at the front of bytes, and the bytes after it
 abbrev pub side_at : List ℕ → Option (Option (List ℕ) × List ℕ)

@@ -17,7 +17,7 @@ use plain_writes::copy_schema;
 use prolly_edit::apply;
 use prolly_tree::scan_from;
 use std::alloc::{AllocError, Global};
-use table_root::{Table, law_of_tables};
+use table_root::{StoredTable, law_of_tables};
 use tuple_codec::{Address, Blob, Digester, Edit, Sequence};
 
 fn is_among(keys: &[Blob], key: &[u8]) -> bool
@@ -67,9 +67,9 @@ fn removals<D: Digester>(
 pub fn drop_conflicts<D: Digester>(
     alloc: Global,
     draft: &mut Draft<D>,
-    table: &Table,
+    table: &StoredTable,
     keys: &[Blob],
-) -> Result<Table, PutFault>
+) -> Result<StoredTable, PutFault>
     requires { IsSomeTable D.address (chunks_of draft.old.chunks) table.now }
     ensures stands { (contents : PlainTable) → IsTableOf D.address (chunks_of draft.old.chunks) table.now contents
         → IfOk result (λ made. IsTableOf D.address (chunks_of draft.new.chunks) made (without_conflicts keys.now contents)) }
@@ -81,7 +81,7 @@ pub fn drop_conflicts<D: Digester>(
     law_of_tables();
     let edits = removals(alloc, draft, &table.conflicts, keys)?;
     let conflicts = apply(alloc, draft, &table.conflicts, edits.as_slice())?;
-    Ok(Table {
+    Ok(StoredTable {
         schema: copy_schema(alloc, &table.schema)?,
         rows: table.rows,
         indexes: copy_roots(alloc, table.indexes.as_slice())?,

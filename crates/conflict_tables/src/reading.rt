@@ -10,14 +10,14 @@ use crate::entries::{ConflictEntry, read_entry};
 use chunk_store::Draft;
 use prolly_tree::scan_from;
 use std::alloc::{AllocError, Global};
-use table_root::Table;
+use table_root::StoredTable;
 use tuple_codec::{Digester, Edit, Sequence};
 
 /// The table's conflicts, by rising key.
 pub fn conflicts<D: Digester>(
     alloc: Global,
     draft: &Draft<D>,
-    table: &Table,
+    table: &StoredTable,
 ) -> Result<Sequence<ConflictEntry>, AllocError>
     requires { IsSomeTable D.address (chunks_of draft.now.chunks) table.now }
     ensures { (contents : PlainTable) → IsTableOf D.address (chunks_of draft.now.chunks) table.now contents
@@ -48,7 +48,7 @@ fn edits_of(alloc: Global, list: Vec<ConflictEntry>) -> Result<Sequence<Edit>, A
 pub fn theirs_edits<D: Digester>(
     alloc: Global,
     draft: &Draft<D>,
-    table: &Table,
+    table: &StoredTable,
 ) -> Result<Sequence<Edit>, AllocError>
     requires { IsSomeTable D.address (chunks_of draft.now.chunks) table.now }
     ensures { (contents : PlainTable) → IsTableOf D.address (chunks_of draft.now.chunks) table.now contents

@@ -13,7 +13,7 @@ use Rattle.basic_laws.proofs.Truths.{alike_truths as as_one}
 use Rattle.tuple_codec.specs.Edits.{against, added, all_added, changed, order, removed, replaced}
 use Rattle.tuple_codec.specs.Nodes.{Item, Rise, RiseAfter, leaf_item}
 use Rattle.tuple_codec.specs.Rows.{Cells, same_cells}
-use Rattle.tuple_codec.specs.declared.edits.Change.{Change}
+use Rattle.tuple_codec.specs.declared.edits.ItemChange.{ItemChange}
 use Rattle.tuple_codec.proofs.Orders.{cells_told}
 use Rattle.schema_model.specs.PlainTables.{is_row, row_item}
 use Rattle.schema_model.specs.Schemas.{is_schema}
@@ -150,13 +150,13 @@ come_fit p rows (other ∷ others) all =
 
 -- ---- a change and those behind it
 
-pub change_comes : (change : Change) (changes : List Change) (value : List ℕ) → change.new ≡ Some value → come_pairs (change ∷ changes) ≡ (change.key, value) ∷ come_pairs changes
+pub change_comes : (change : ItemChange) (changes : List ItemChange) (value : List ℕ) → change.new ≡ Some value → come_pairs (change ∷ changes) ≡ (change.key, value) ∷ come_pairs changes
 change_comes change changes value e = ap (λ o. option_map_or (λ v. (change.key, v) ∷ come_pairs changes) o (come_pairs changes)) e
 
-pub change_goes : (change : Change) (changes : List Change) → change.new ≡ None → come_pairs (change ∷ changes) ≡ come_pairs changes
+pub change_goes : (change : ItemChange) (changes : List ItemChange) → change.new ≡ None → come_pairs (change ∷ changes) ≡ come_pairs changes
 change_goes change changes e = ap (λ o. option_map_or (λ v. (change.key, v) ∷ come_pairs changes) o (come_pairs changes)) e
 
-module _ (list : List Change) (place : ℕ) (item : Change) (inside : place < length list) (is : item ≡ slice_index_or list place item) where
+module _ (list : List ItemChange) (place : ℕ) (item : ItemChange) (inside : place < length list) (is : item ≡ slice_index_or list place item) where
   split_at : come_pairs (drop place list) ≡ come_pairs (item ∷ drop (place + 1) list)
   split_at = ap come_pairs (drop_more list place item inside) ∙ ap (λ c. come_pairs (c ∷ drop (place + 1) list)) (sym is)
 

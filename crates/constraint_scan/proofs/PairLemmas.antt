@@ -14,13 +14,13 @@ use Rattle.schema_model.specs.PlainTables.{IsDatabase, NamedTable, PlainDatabase
 use Rattle.chunk_store.specs.Chunks.{Chunks}
 use Rattle.plain_writes.specs.Violations.{Checks, breaks_check, first_violation, is_called, is_whole, keys_of_parent, parent_keys, table_in}
 use Rattle.schema_model.specs.Schemas.{is_schema}
-use Rattle.table_root.specs.Standing.{IsTableOf, named_tables}
-use Rattle.table_root.specs.declared.records.NamedTable as entries
-use Rattle.table_root.specs.declared.records.Table.{Table}
+use Rattle.table_root.specs.Standing.{AreThere, IsTableOf, named_tables}
+use Rattle.table_root.specs.declared.records.StoredTable.{StoredTable}
+use Rattle.table_root.specs.declared.records.TableEntry as entries
 use Rattle.table_rows.specs.Rows.{AreRowsAt}
 use Rattle.constraint_scan.specs.Changed.{ChangesTell, has_just, is_failed, is_missed, is_missed_row, is_orphan, is_orphan_by, is_repeated, repeats_by, some_changed, some_deserted}
 use Rattle.constraint_scan.specs.Pairs.{ArePairs, HasRoot, IsPair, come_of, deserts, some_come, some_deserts, told_by_pairs}
-use Rattle.constraint_scan.specs.Scanning.{AreThere, skeleton}
+use Rattle.constraint_scan.specs.Scanning.{skeleton}
 use Rattle.constraint_scan.specs.declared.pairing.Pair.{Pair}
 use Rattle.constraint_scan.proofs.LostLemmas.{keys_alike}
 use Rattle.constraint_scan.proofs.MemberLemmas.{any_filtered}
@@ -81,7 +81,7 @@ module _ (address : List ℕ → List ℕ) (chunks : Chunks) where
       (subst (ArePairs address chunks pairs done) (sym (append-nil made) ∙ ap (λ (d : PlainDatabase). made ++ d) (sym nothing)) are)
 
   -- no entries name no tables
-  pub no_tables : (database : PlainDatabase) (tables : List entries.NamedTable) → AreThere address chunks database tables → length tables ≡ 0 → database ≡ []
+  pub no_tables : (database : PlainDatabase) (tables : List entries.TableEntry) → AreThere address chunks database tables → length tables ≡ 0 → database ≡ []
   no_tables [] tables there none = refl
   no_tables (named ∷ others) tables there none = absurd (no_less (length (named_tables address others)) (sym (ap length there.listed) ∙ none))
     where
@@ -174,9 +174,9 @@ module _ (address : List ℕ → List ℕ) (chunks : Chunks) where
 
 -- ---- the rows of a table's value
 
-module _ (address : List ℕ → List ℕ) (chunks : Chunks) (table : Table) (contents : PlainTable) (stands : IsTableOf address chunks table contents) where
+module _ (address : List ℕ → List ℕ) (chunks : Chunks) (table : StoredTable) (contents : PlainTable) (stands : IsTableOf address chunks table contents) where
   pub schema_at : table.schema ≡ contents.schema
-  schema_at = ap (λ (t : Table). t.schema) stands.value
+  schema_at = ap (λ (t : StoredTable). t.schema) stands.value
 
   pub valid_at : is_schema table.schema ≡ true
   valid_at = let is = stands.is_table in ap is_schema schema_at ∙ is.schema
@@ -185,7 +185,7 @@ module _ (address : List ℕ → List ℕ) (chunks : Chunks) (table : Table) (co
   rows_at =
       let is = stands.is_table in
       let trees = stands.trees in
-      subst (λ (t : Table). AreRowsAt address chunks t.rows.0 t.schema contents.rows) (sym stands.value) (record { fit = is.rows; tree = trees.rows })
+      subst (λ (t : StoredTable). AreRowsAt address chunks t.rows.0 t.schema contents.rows) (sym stands.value) (record { fit = is.rows; tree = trees.rows })
 
 -- ---- a parent among tables
 
@@ -288,7 +288,7 @@ module _ (after : PlainDatabase) (schema : Schema) (foreign : ForeignKey) (row k
 
 -- ---- a pair as it is made
 
-pub is_paired : (address : List ℕ → List ℕ) (chunks : Chunks) (pair : Pair) (before after : NamedTable) (called : List ℕ) (root : Address) (table : Table) → called ≡ after.name → before.name ≡ after.name
+pub is_paired : (address : List ℕ → List ℕ) (chunks : Chunks) (pair : Pair) (before after : NamedTable) (called : List ℕ) (root : Address) (table : StoredTable) → called ≡ after.name → before.name ≡ after.name
     → HasRoot address chunks root.0 table.schema before.table → IsTableOf address chunks table after.table
     → pair ≡ record { name = called; old = root; new = table; come = come_of before.table.rows after.table.rows } → IsPair address chunks pair before after
 is_paired address chunks pair before after called root table name old_name has stands is =

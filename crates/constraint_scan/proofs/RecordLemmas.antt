@@ -24,15 +24,14 @@ use Rattle.schema_model.specs.declared.schemas.Schema.{Schema}
 use Rattle.chunk_store.specs.Chunks.{Chunks, Extends}
 use Rattle.chunk_store.specs.Standing.{IsTree}
 use Rattle.table_root.specs.Databases.{has_short_name, names_rise}
-use Rattle.table_root.specs.Standing.{IsTableAt, IsTableOf, TableValuesStand, TablesStand, named_tables}
+use Rattle.table_root.specs.Standing.{AreThere, IsTableAt, IsTableOf, TableValuesStand, TablesStand, named_tables}
 use Rattle.table_root.specs.Tables.{IsTableFound}
-use Rattle.table_root.specs.declared.records.NamedTable as entries
-use Rattle.table_root.specs.declared.records.Table.{Table}
+use Rattle.table_root.specs.declared.records.StoredTable.{StoredTable}
+use Rattle.table_root.specs.declared.records.TableEntry as entries
 use Rattle.plain_writes.specs.Violations.{Found, table_in}
-use Rattle.constraint_scan.specs.Recording.{CanRecord, CanRecordEach, CanRecordTable, IsEntry, MayBeWritten, MayList, MayListNamed, MayStand, found_cmp, has_name, is_listed, is_of, listed_if, listed_item, listed_items, may_stand, may_stand_in, recorded_as, recorded_in, violations_of, with_list}
-use Rattle.constraint_scan.specs.Scanning.{AreThere}
+use Rattle.constraint_scan.specs.Recording.{CanRecord, CanRecordEach, CanRecordTable, IsEntryOf, MayBeWritten, MayList, MayListNamed, MayStand, found_cmp, has_name, is_listed, is_of, listed_if, listed_item, listed_items, may_stand, may_stand_in, recorded_as, recorded_in, violations_of, with_list}
 use Rattle.constraint_scan.specs.Written.{written, written_in}
-use Rattle.constraint_scan.specs.declared.listing.Violation as listing
+use Rattle.constraint_scan.specs.declared.listing.ListedViolation as listing
 use Rattle.constraint_scan.proofs.NameLemmas.{each_found}
 use Rattle.constraint_scan.proofs.StandLemmas.{Parts}
 
@@ -59,7 +58,7 @@ listed_table table found is all rise = record {
 }
 
 -- a table's value with another root of its violations is that of the table with their list
-pub relisted : (address : List ℕ → List ℕ) (chunks : Chunks) (table : Table) (contents : PlainTable) (items : List Item) (found : List Violation) (k : Address) → IsTableOf address chunks table contents
+pub relisted : (address : List ℕ → List ℕ) (chunks : Chunks) (table : StoredTable) (contents : PlainTable) (items : List Item) (found : List Violation) (k : Address) → IsTableOf address chunks table contents
     → MayList items contents.schema found → IsTree address chunks k.0 items
     → IsTableOf address chunks (record { schema = table.schema; rows = table.rows; indexes = table.indexes; conflicts = table.conflicts; violations = k }) (with_list contents found)
 relisted address chunks table contents items found k stands may tree =
@@ -82,7 +81,7 @@ relisted address chunks table contents items found k stands may tree =
     }
 
 -- a table that was read, once the tree of its list is built
-pub may_keep : (address : List ℕ → List ℕ) (old new : Chunks) → Extends old new → TableValuesStand → (k name : List ℕ) (list : List listing.Violation) (contents : PlainTable) (found : List Violation) (table : Table) (violations : Address)
+pub may_keep : (address : List ℕ → List ℕ) (old new : Chunks) → Extends old new → TableValuesStand → (k name : List ℕ) (list : List listing.ListedViolation) (contents : PlainTable) (found : List Violation) (table : StoredTable) (violations : Address)
     → CanRecordTable address old k name list contents found → IsTableFound old k table → IsTree address new violations.0 (listed_items name list)
     → MayStand address new (record { schema = table.schema; rows = table.rows; indexes = table.indexes; conflicts = table.conflicts; violations = violations }) (with_list contents found)
 may_keep address old new more values k name list contents found table violations can read tree = record {
@@ -92,7 +91,7 @@ may_keep address old new more values k name list contents found table violations
 
 -- ---- a table of which there is nothing to record
 
-none_listed : (name : List ℕ) (list : List listing.Violation) → list_any (is_listed name) list ≡ false → listed_items name list ≡ []
+none_listed : (name : List ℕ) (list : List listing.ListedViolation) → list_any (is_listed name) list ≡ false → listed_items name list ≡ []
 none_listed name [] none = refl
 none_listed name (one ∷ list) none = by (is_listed name one) (none_listed name list) none where
   by : (b : Bool) → (list_any (is_listed name) list ≡ false → listed_items name list ≡ []) → (b || list_any (is_listed name) list) ≡ false → cond b (listed_item one ∷ []) [] ++ listed_items name list ≡ []
@@ -112,12 +111,12 @@ none_counted (item ∷ items) none = absurd (nothing (length items) none) where
   nothing n e = grind (arith, nat_tests)
 
 -- the tree of the violations that a table which was read has recorded
-pub recorded_tree : (address : List ℕ → List ℕ) (chunks : Chunks) (table : Table) (contents : PlainTable) → IsTableOf address chunks table contents → IsTree address chunks table.violations.0 (violation_items contents)
+pub recorded_tree : (address : List ℕ → List ℕ) (chunks : Chunks) (table : StoredTable) (contents : PlainTable) → IsTableOf address chunks table contents → IsTree address chunks table.violations.0 (violation_items contents)
 recorded_tree address chunks table contents stands =
-    subst (λ (k : List ℕ). IsTree address chunks k (violation_items contents)) (sym (ap (λ (t : Table). t.violations.0) stands.value)) stands.trees.violations
+    subst (λ (k : List ℕ). IsTree address chunks k (violation_items contents)) (sym (ap (λ (t : StoredTable). t.violations.0) stands.value)) stands.trees.violations
 
 -- a table that the list doesn't name, and that has recorded none, stays
-pub stays : (address : List ℕ → List ℕ) (chunks : Chunks) (k name : List ℕ) (list : List listing.Violation) (contents : PlainTable) (found : List Violation) → CanRecordTable address chunks k name list contents found
+pub stays : (address : List ℕ → List ℕ) (chunks : Chunks) (k name : List ℕ) (list : List listing.ListedViolation) (contents : PlainTable) (found : List Violation) → CanRecordTable address chunks k name list contents found
     → list_any (is_listed name) list ≡ false → (length (violation_items contents) == 0) ≡ true → IsTableAt address chunks k (with_list contents found)
 stays address chunks k name list contents found can unlisted none =
     let may = can.may in
@@ -136,7 +135,7 @@ each_later address old new more laws [] h = tt
 each_later address old new more laws (named ∷ database) h =
     (laws.later address old new (table_address address named.table) named.table more h.0, each_later address old new more laws database h.1)
 
-pub there_later : (address : List ℕ → List ℕ) (old new : Chunks) → Extends old new → TablesStand → (database : PlainDatabase) (tables : List entries.NamedTable)
+pub there_later : (address : List ℕ → List ℕ) (old new : Chunks) → Extends old new → TablesStand → (database : PlainDatabase) (tables : List entries.TableEntry)
     → AreThere address old database tables → AreThere address new database tables
 there_later address old new more laws database tables there = record { stand = each_later address old new more laws database there.stand; listed = there.listed }
 
@@ -151,8 +150,8 @@ map_more f [] x = refl
 map_more f (y ∷ xs) x = ap (λ l. f y ∷ l) (map_more f xs x)
 
 -- one more of them
-pub there_more : (address : List ℕ → List ℕ) (chunks : Chunks) (database : PlainDatabase) (tables : List entries.NamedTable) (entry : entries.NamedTable) (named : NamedTable)
-    → AreThere address chunks database tables → IsEntry address chunks entry named → AreThere address chunks (database ++ named ∷ []) (tables ++ entry ∷ [])
+pub there_more : (address : List ℕ → List ℕ) (chunks : Chunks) (database : PlainDatabase) (tables : List entries.TableEntry) (entry : entries.TableEntry) (named : NamedTable)
+    → AreThere address chunks database tables → IsEntryOf address chunks entry named → AreThere address chunks (database ++ named ∷ []) (tables ++ entry ∷ [])
 there_more address chunks database tables entry named there is = record {
   stand = each_more address chunks named (subst (λ (k : List ℕ). IsTableAt address chunks k named.table) (sym (let at = is.at in at.named)) is.at) database there.stand;
   listed = (λ i. there.listed i ++ record { name = is.name i; table = record { 0 = sym (let at = is.at in at.named) i } } ∷ [])
@@ -173,7 +172,7 @@ rise_names address (named ∷ next ∷ database) = ap (λ b. is_lt (slice_cmp na
 listed_within : (table : PlainTable) (found : List Violation) → is_table_within_limits table ≡ true → list_all (may_stand table.schema) found ≡ true → is_table_within_limits (with_list table found) ≡ true
 listed_within table found within all = both (and_parts _ (list_all (is_violation_within_limits table.schema) table.violations) within).0 (stands_all table.schema found all).1
 
-module _ (list : List listing.Violation) (found : List Found) where
+module _ (list : List listing.ListedViolation) (found : List Found) where
   pub recorded_tables : (database : PlainDatabase) → AllByRecursion (λ named. IsTable named.table) database → AllByRecursion (MayListNamed list found) database
       → AllByRecursion (λ named. IsTable named.table) (recorded_as found database)
   recorded_tables [] are may = tt
@@ -301,14 +300,14 @@ names_of database (one ∷ found) all =
     let parts = and_parts (may_stand_in database one) (list_all (may_stand_in database) found) all in
     by_table (table_in database one.table) (flat_map (written_in database) found) parts.0 (names_of database found parts.1)
   where
-    by_table : (o : Option PlainTable) (more : List listing.Violation) → option_map_or (λ (x : PlainTable). may_stand x.schema one.violation) o false ≡ true → list_all has_name more ≡ true
+    by_table : (o : Option PlainTable) (more : List listing.ListedViolation) → option_map_or (λ (x : PlainTable). may_stand x.schema one.violation) o false ≡ true → list_all has_name more ≡ true
         → list_all has_name (option_map_or (λ (x : PlainTable). written x.schema one ∷ []) o [] ++ more) ≡ true
     by_table None more h all = all
     by_table (Some x) more h all =
         let is = (and_parts (is_violation x.schema one.violation) (is_violation_within_limits x.schema one.violation) h).0 in
         both (and_parts _ (is_name one.violation.constraint) (and_parts _ _ (and_parts _ _ is).0).0).1 all
 
-pub may_list : (database : PlainDatabase) (list : List listing.Violation) (found : List Found) (named : NamedTable) → table_in database named.name ≡ Some named.table
+pub may_list : (database : PlainDatabase) (list : List listing.ListedViolation) (found : List Found) (named : NamedTable) → table_in database named.name ≡ Some named.table
     → list ≡ flat_map (written_in database) found → list_all (may_stand_in database) found ≡ true → rises found_cmp found ≡ true → MayListNamed list found named
 may_list database list found named is written_ all rise = record {
   items_are = ap (flat_map (listed_if named.name)) written_ ∙ of_items database named.name named.table is found;
@@ -316,7 +315,7 @@ may_list database list found named is written_ all rise = record {
   rise = of_rises named.name found rise;
 }
 
-pub all_may : (database : PlainDatabase) (list : List listing.Violation) (found : List Found) (tables : PlainDatabase) → AllByRecursion (λ named. table_in database named.name ≡ Some named.table) tables
+pub all_may : (database : PlainDatabase) (list : List listing.ListedViolation) (found : List Found) (tables : PlainDatabase) → AllByRecursion (λ named. table_in database named.name ≡ Some named.table) tables
     → list ≡ flat_map (written_in database) found → list_all (may_stand_in database) found ≡ true → rises found_cmp found ≡ true → AllByRecursion (MayListNamed list found) tables
 all_may database list found [] finds written_ all rise = tt
 all_may database list found (named ∷ tables) finds written_ all rise =
@@ -324,7 +323,7 @@ all_may database list found (named ∷ tables) finds written_ all rise =
 
 -- ---- the first of the tables, and the others
 
-module _ (address : List ℕ → List ℕ) (chunks : Chunks) (tables rest : List entries.NamedTable) (list : List listing.Violation) (database : PlainDatabase) (found : List Found) (first : entries.NamedTable)
+module _ (address : List ℕ → List ℕ) (chunks : Chunks) (tables rest : List entries.TableEntry) (list : List listing.ListedViolation) (database : PlainDatabase) (found : List Found) (first : entries.TableEntry)
     (can : CanRecordEach address chunks tables list database found) (parts : Parts address chunks database first rest) where
   within_parts : (is_named_within_limits parts.named ≡ true) × (list_all is_named_within_limits parts.others ≡ true)
   within_parts = and_parts (is_named_within_limits parts.named) (list_all is_named_within_limits parts.others) (subst (λ (d : PlainDatabase). list_all is_named_within_limits d ≡ true) parts.both can.limits)
@@ -353,7 +352,7 @@ pub joined : (found : List Found) (done others database : PlainDatabase) (named 
     → (done ++ recorded_in found named ∷ []) ++ recorded_as found others ≡ done ++ recorded_as found database
 joined found done others database named is = append_assoc done (recorded_in found named ∷ []) (recorded_as found others) ∙ ap (λ (d : PlainDatabase). done ++ recorded_as found d) (sym is)
 
-pub nothing_left : (address : List ℕ → List ℕ) (chunks : Chunks) (tables : List entries.NamedTable) (database : PlainDatabase) → AreThere address chunks database tables → length tables ≡ 0 → database ≡ []
+pub nothing_left : (address : List ℕ → List ℕ) (chunks : Chunks) (tables : List entries.TableEntry) (database : PlainDatabase) → AreThere address chunks database tables → length tables ≡ 0 → database ≡ []
 nothing_left address chunks tables [] there none = refl
 nothing_left address chunks tables (named ∷ database) there none =
     let some : length tables ≡ suc (length (named_tables address database)) = ap length there.listed in
@@ -361,8 +360,8 @@ nothing_left address chunks tables (named ∷ database) there none =
 
 -- ---- a whole database
 
-pub can_each : (address : List ℕ → List ℕ) (chunks : Chunks) (k : List ℕ) (list : List listing.Violation) (database : PlainDatabase) (found : List Found) → CanRecord address chunks k list database found
-    → (tables : List entries.NamedTable) → tables ≡ named_tables address database → CanRecordEach address chunks tables list database found
+pub can_each : (address : List ℕ → List ℕ) (chunks : Chunks) (k : List ℕ) (list : List listing.ListedViolation) (database : PlainDatabase) (found : List Found) → CanRecord address chunks k list database found
+    → (tables : List entries.TableEntry) → tables ≡ named_tables address database → CanRecordEach address chunks tables list database found
 can_each address chunks k list database found can tables are =
     let stands = let kept = can.kept in kept.stands in
     let recordable = can.recordable in
@@ -370,11 +369,11 @@ can_each address chunks k list database found can tables are =
     record {
       there = record { stand = stands.tables; listed = are };
       limits = let kept = can.kept in (and_parts (nat_le (length database) most_tables) (list_all is_named_within_limits database) kept.within).1;
-      names = subst (λ (l : List listing.Violation). list_all has_name l ≡ true) (sym recordable.written) (names_of database found recordable.stand);
+      names = subst (λ (l : List listing.ListedViolation). list_all has_name l ≡ true) (sym recordable.written) (names_of database found recordable.stand);
       may = all_may database list found database (each_found database is_database.rise) recordable.written recordable.stand recordable.rise;
     }
 
-pub may_write : (address : List ℕ → List ℕ) (old new : Chunks) (k : List ℕ) (list : List listing.Violation) (database : PlainDatabase) (found : List Found) (tables : List entries.NamedTable) → CanRecord address old k list database found
+pub may_write : (address : List ℕ → List ℕ) (old new : Chunks) (k : List ℕ) (list : List listing.ListedViolation) (database : PlainDatabase) (found : List Found) (tables : List entries.TableEntry) → CanRecord address old k list database found
     → AreThere address new (recorded_as found database) tables → MayBeWritten address new tables (recorded_as found database)
 may_write address old new k list database found tables can there =
     let each = can_each address old k list database found can (named_tables address database) refl in

@@ -18,7 +18,7 @@ use Rattle.chunk_store.specs.Standing.{IsTree}
 use Rattle.tree_laws.proofs.Standing.{trees_lead}
 use Rattle.plain_writes.specs.Violations.{is_twin, types_at}
 use Rattle.table_root.specs.Standing.{IsTableOf}
-use Rattle.table_root.specs.declared.records.Table.{Table}
+use Rattle.table_root.specs.declared.records.StoredTable.{StoredTable}
 use Rattle.table_rows.specs.Rows.{AreRowsAt}
 use Rattle.constraint_scan.specs.Seeking.{begins, can_seek, is_another, sought}
 use Rattle.constraint_scan.specs.Roots.{IsIndexedAt, root_for}
@@ -46,15 +46,15 @@ rises address chunks k items tree =
     let there = trees_lead address chunks k items tree in
     subst Rise there.1.rows_are there.1.opens.leads.rise
 
-module _ (address : List ℕ → List ℕ) (chunks : Chunks) (table : Table) (contents : PlainTable) (at : IsTableOf address chunks table contents) where
+module _ (address : List ℕ → List ℕ) (chunks : Chunks) (table : StoredTable) (contents : PlainTable) (at : IsTableOf address chunks table contents) where
   pub schema_same : table.schema ≡ contents.schema
-  schema_same = ap (λ (t : Table). t.schema) at.value
+  schema_same = ap (λ (t : StoredTable). t.schema) at.value
 
   pub rows_tree : IsTree address chunks table.rows.0 (row_items contents)
-  rows_tree = subst (λ (t : Table). IsTree address chunks t.rows.0 (row_items contents)) (sym at.value) at.trees.rows
+  rows_tree = subst (λ (t : StoredTable). IsTree address chunks t.rows.0 (row_items contents)) (sym at.value) at.trees.rows
 
   pub rows_at : AreRowsAt address chunks table.rows.0 table.schema contents.rows
-  rows_at = subst (λ (t : Table). AreRowsAt address chunks t.rows.0 t.schema contents.rows) (sym at.value) (record { fit = at.is_table.rows; tree = at.trees.rows })
+  rows_at = subst (λ (t : StoredTable). AreRowsAt address chunks t.rows.0 t.schema contents.rows) (sym at.value) (record { fit = at.is_table.rows; tree = at.trees.rows })
 
 -- ---- the roots of indexes
 
@@ -72,14 +72,14 @@ one_is address chunks contents (other ∷ indexes) zero index found trees e f =
     (subst (λ (i : IndexDef). IsTree address chunks (root address (index_items contents other)) (index_items contents i)) same trees.0)
 one_is address chunks contents (other ∷ indexes) (suc place) index found trees e f = one_is address chunks contents indexes place index found trees.1 e f
 
-pub indexed_at : (address : List ℕ → List ℕ) (chunks : Chunks) (table : Table) (contents : PlainTable) (at : IsTableOf address chunks table contents) (place : ℕ) (index : IndexDef) (found : Address)
+pub indexed_at : (address : List ℕ → List ℕ) (chunks : Chunks) (table : StoredTable) (contents : PlainTable) (at : IsTableOf address chunks table contents) (place : ℕ) (index : IndexDef) (found : Address)
     → slice_get table.schema.indexes place ≡ Some index → slice_get table.indexes place ≡ Some found → IsIndexedAt address chunks table index found.0 contents
 indexed_at address chunks table contents at place index found e f = record {
   stands = at;
   tree =
       one_is address chunks contents contents.schema.indexes place index found at.trees.indexes
-      (ap (λ (t : Table). slice_get t.schema.indexes place) (sym at.value) ∙ e)
-      (ap (λ (t : Table). slice_get t.indexes place) (sym at.value) ∙ f);
+      (ap (λ (t : StoredTable). slice_get t.schema.indexes place) (sym at.value) ∙ e)
+      (ap (λ (t : StoredTable). slice_get t.indexes place) (sym at.value) ∙ f);
 }
 
 -- the index whose root was found
@@ -107,14 +107,14 @@ pub root_told : (places : List ℕ) (indexes a : List IndexDef) (roots b : List 
     → root_for places indexes roots ≡ Some found
 root_told places indexes a roots b found e f is = sym (is ∙ (λ i. root_for places (e i) (f i)))
 
-pub indexed_for : (address : List ℕ → List ℕ) (chunks : Chunks) (table : Table) (contents : PlainTable) (at : IsTableOf address chunks table contents) (places : List ℕ) (found : Address)
+pub indexed_for : (address : List ℕ → List ℕ) (chunks : Chunks) (table : StoredTable) (contents : PlainTable) (at : IsTableOf address chunks table contents) (places : List ℕ) (found : Address)
     → root_for places table.schema.indexes table.indexes ≡ Some found → Indexed address chunks contents places found.0
 indexed_for address chunks table contents at places found e =
-    found_in address chunks contents places contents.schema.indexes found at.trees.indexes (ap (λ (t : Table). root_for places t.schema.indexes t.indexes) (sym at.value) ∙ e)
+    found_in address chunks contents places contents.schema.indexes found at.trees.indexes (ap (λ (t : StoredTable). root_for places t.schema.indexes t.indexes) (sym at.value) ∙ e)
 
 -- ---- what keys that begin with bytes tell
 
-module _ (address : List ℕ → List ℕ) (chunks : Chunks) (table : Table) (contents : PlainTable) (at : IsTableOf address chunks table contents) (places : List ℕ) (key : Cells) (bytes : List ℕ)
+module _ (address : List ℕ → List ℕ) (chunks : Chunks) (table : StoredTable) (contents : PlainTable) (at : IsTableOf address chunks table contents) (places : List ℕ) (key : Cells) (bytes : List ℕ)
     (is : sought table.schema places key ≡ Some bytes) where
   sought_there : IsSought contents.schema places key bytes
   sought_there = sought_parts contents.schema places key bytes (ap (λ (s : Schema). sought s places key) (sym (schema_same address chunks table contents at)) ∙ is)
@@ -143,7 +143,7 @@ module _ (address : List ℕ → List ℕ) (chunks : Chunks) (table : Table) (co
       contents.rows at.is_table.rows
 
 -- the entries of an index that begin with a row's cells, but for the row's own
-pub in_twins : (address : List ℕ → List ℕ) (chunks : Chunks) (table : Table) (contents : PlainTable) (at : IsTableOf address chunks table contents) (index : IndexDef) (row : Cells) (bytes own : List ℕ)
+pub in_twins : (address : List ℕ → List ℕ) (chunks : Chunks) (table : StoredTable) (contents : PlainTable) (at : IsTableOf address chunks table contents) (index : IndexDef) (row : Cells) (bytes own : List ℕ)
     → sought table.schema index.columns (key_of index.columns row) ≡ Some bytes → sought table.schema table.schema.key (key_of table.schema.key row) ≡ Some own
     → list_any (λ item. is_another bytes (bytes ++ own) item.key) (index_items contents index) ≡ list_any (is_twin contents.schema index.columns row) contents.rows
 in_twins address chunks table contents at index row bytes own is is_own =

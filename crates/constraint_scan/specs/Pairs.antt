@@ -3,7 +3,7 @@ use Rattle.std.specs.Prelude.{◌≡◌, ℕ, Bool, false, ◌||◌, not, List, 
 use Rattle.std.specs.List.{list_any}
 use Rattle.std.specs.Option.{option_map_or}
 use Rattle.tuple_codec.specs.Rows.{Cells, same_cells}
-use Rattle.tuple_codec.specs.declared.edits.Change.{Change}
+use Rattle.tuple_codec.specs.declared.edits.ItemChange.{ItemChange}
 use Rattle.schema_model.specs.PlainTables.{NamedTable, PlainDatabase, PlainTable, row_item}
 use Rattle.schema_model.specs.declared.schemas.ForeignKey.{ForeignKey}
 use Rattle.schema_model.specs.declared.schemas.Schema.{Schema}
@@ -22,7 +22,7 @@ abbrev pub come_of : List Cells → List Cells → List Cells
 come_of old new = filter (λ row. not (list_any (same_cells row) old)) new
 
 -- the keys and values that changes bring
-abbrev pub come_pairs : List Change → List (List ℕ × List ℕ)
+abbrev pub come_pairs : List ItemChange → List (List ℕ × List ℕ)
 come_pairs [] = []
 come_pairs (change ∷ changes) = option_map_or (λ value. (change.key, value) ∷ come_pairs changes) change.new (come_pairs changes)
 

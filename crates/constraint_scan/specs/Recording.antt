@@ -14,18 +14,14 @@ use Rattle.schema_model.specs.PlainTables.{IsDatabase, NamedTable, PlainDatabase
 use Rattle.schema_model.specs.Schemas.{is_name}
 use Rattle.schema_model.specs.declared.schemas.Schema.{Schema}
 use Rattle.chunk_store.specs.Chunks.{Chunks}
-use Rattle.chunk_store.specs.Kinds.{is_database, is_either, is_node, is_table}
-use Rattle.table_root.specs.Standing.{IsTableAt, IsTableOf}
-use Rattle.table_root.specs.declared.records.NamedTable as entries
-use Rattle.table_root.specs.declared.records.Table.{Table}
+use Rattle.chunk_store.specs.Kinds.{is_database}
+use Rattle.table_root.specs.Standing.{AreThere, IsTableAt, IsTableOf}
+use Rattle.table_root.specs.declared.records.StoredTable.{StoredTable}
+use Rattle.table_root.specs.declared.records.TableEntry as entries
 use Rattle.plain_writes.specs.Violations.{Found, table_in}
-use Rattle.constraint_scan.specs.Scanning.{AreThere, IsKeptAt}
+use Rattle.constraint_scan.specs.Scanning.{IsKeptAt}
 use Rattle.constraint_scan.specs.Written.{written_in}
-use Rattle.constraint_scan.specs.declared.listing.Violation as listing
-
--- what a database is written in: nodes, tables, and itself
-abbrev pub is_data : List ℕ → Bool
-is_data = is_either is_node (is_either is_table is_database)
+use Rattle.constraint_scan.specs.declared.listing.ListedViolation as listing
 
 -- ---- the database that has recorded them
 
@@ -62,34 +58,34 @@ abbrev pub may_stand_in : PlainDatabase → Found → Bool
 may_stand_in database one = option_map_or (λ table. may_stand table.schema one.violation) (table_in database one.table) false
 
 -- the list writes down violations that tables of the database may have, each once and in order
-pub record IsRecordable (database : PlainDatabase) (list : List listing.Violation) (found : List Found) : Type 0 where
+pub record IsRecordable (database : PlainDatabase) (list : List listing.ListedViolation) (found : List Found) : Type 0 where
   pub written : list ≡ flat_map (written_in database) found
   pub stand : list_all (may_stand_in database) found ≡ true
   pub rise : rises found_cmp found ≡ true
 
 -- the same, where the database stands at an address
-pub record CanRecord (address : List ℕ → List ℕ) (chunks : Chunks) (k : List ℕ) (list : List listing.Violation) (database : PlainDatabase) (found : List Found) : Type 0 where
+pub record CanRecord (address : List ℕ → List ℕ) (chunks : Chunks) (k : List ℕ) (list : List listing.ListedViolation) (database : PlainDatabase) (found : List Found) : Type 0 where
   pub kept : IsKeptAt address chunks k database
   pub recordable : IsRecordable database list found
 
 -- ---- how the private functions go
 
 -- the item of a violation in its table's list
-abbrev pub listed_item : listing.Violation → Item
+abbrev pub listed_item : listing.ListedViolation → Item
 listed_item one = leaf_item (one.kind ∷ (key_cell (cell.Text one.constraint) ++ one.key)) one.row
 
 -- it is a violation of the table of this name
-abbrev pub is_listed : List ℕ → listing.Violation → Bool
+abbrev pub is_listed : List ℕ → listing.ListedViolation → Bool
 is_listed name one = bytes_eq one.table name
 
-abbrev pub listed_if : List ℕ → listing.Violation → List Item
+abbrev pub listed_if : List ℕ → listing.ListedViolation → List Item
 listed_if name one = if is_listed name one then listed_item one ∷ [] else []
 
 -- the items of the violations of the table of this name
-abbrev pub listed_items : List ℕ → List listing.Violation → List Item
+abbrev pub listed_items : List ℕ → List listing.ListedViolation → List Item
 listed_items name list = flat_map (listed_if name) list
 
-abbrev pub has_name : listing.Violation → Bool
+abbrev pub has_name : listing.ListedViolation → Bool
 has_name one = is_name one.constraint
 
 -- these items are those of violations that the table may have, each once and in order
@@ -104,34 +100,34 @@ pub record AreRising (items : List Item) : Type 0 where
   pub rise : Rise items
 
 -- the address stands for the table, whose violations may be these
-pub record CanRecordTable (address : List ℕ → List ℕ) (chunks : Chunks) (k name : List ℕ) (list : List listing.Violation) (table : PlainTable) (found : List Violation) : Type 0 where
+pub record CanRecordTable (address : List ℕ → List ℕ) (chunks : Chunks) (k name : List ℕ) (list : List listing.ListedViolation) (table : PlainTable) (found : List Violation) : Type 0 where
   pub at : IsTableAt address chunks k table
   pub limits : is_within_limits table.schema ≡ true
   pub names : list_all has_name list ≡ true
   pub may : MayList (listed_items name list) table.schema found
 
-abbrev pub MayListNamed : List listing.Violation → List Found → NamedTable → Type 0
+abbrev pub MayListNamed : List listing.ListedViolation → List Found → NamedTable → Type 0
 MayListNamed list found named = MayList (listed_items named.name list) named.table.schema (violations_of named.name found)
 
 -- these tables stand, and the violations of each may be those that the list has of it
-pub record CanRecordEach (address : List ℕ → List ℕ) (chunks : Chunks) (tables : List entries.NamedTable) (list : List listing.Violation) (database : PlainDatabase) (found : List Found) : Type 0 where
+pub record CanRecordEach (address : List ℕ → List ℕ) (chunks : Chunks) (tables : List entries.TableEntry) (list : List listing.ListedViolation) (database : PlainDatabase) (found : List Found) : Type 0 where
   pub there : AreThere address chunks database tables
   pub limits : list_all is_named_within_limits database ≡ true
   pub names : list_all has_name list ≡ true
   pub may : AllByRecursion (MayListNamed list found) database
 
 -- a table that may be written
-pub record MayStand (address : List ℕ → List ℕ) (chunks : Chunks) (table : Table) (contents : PlainTable) : Type 0 where
+pub record MayStand (address : List ℕ → List ℕ) (chunks : Chunks) (table : StoredTable) (contents : PlainTable) : Type 0 where
   pub stands : IsTableOf address chunks table contents
   pub limits : is_within_limits contents.schema ≡ true
 
 -- a database that may be written: its tables stand
-pub record MayBeWritten (address : List ℕ → List ℕ) (chunks : Chunks) (tables : List entries.NamedTable) (database : PlainDatabase) : Type 0 where
+pub record MayBeWritten (address : List ℕ → List ℕ) (chunks : Chunks) (tables : List entries.TableEntry) (database : PlainDatabase) : Type 0 where
   pub is_database : IsDatabase database
   pub within : is_database_within_limits database ≡ true
   pub there : AreThere address chunks database tables
 
 -- a table is named so and stands there
-pub record IsEntry (address : List ℕ → List ℕ) (chunks : Chunks) (entry : entries.NamedTable) (named : NamedTable) : Type 0 where
+pub record IsEntryOf (address : List ℕ → List ℕ) (chunks : Chunks) (entry : entries.TableEntry) (named : NamedTable) : Type 0 where
   pub name : entry.name ≡ named.name
   pub at : IsTableAt address chunks entry.table.0 named.table

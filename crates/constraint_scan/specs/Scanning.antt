@@ -1,23 +1,13 @@
 -- Databases that addresses in a draft stand for, as scans read them.
-use Rattle.std.specs.Prelude.{◌≡◌, ◌<◌, ◌^◌, ◌||◌, ℕ, Bool, true, not, List, [], length, map}
-use Rattle.std.specs.List.{AllByRecursion, list_any}
+use Rattle.std.specs.Prelude.{◌≡◌, ◌||◌, ℕ, Bool, true, not, List, [], map}
+use Rattle.std.specs.List.{list_any}
 use Rattle.schema_model.specs.Limits.{is_database_within_limits}
 use Rattle.schema_model.specs.Schemas.{is_empty}
 use Rattle.schema_model.specs.declared.schemas.Schema.{Schema}
 use Rattle.schema_model.specs.PlainTables as plain
 use Rattle.schema_model.specs.PlainTables.{PlainDatabase, PlainTable}
-use Rattle.schema_model.specs.WrittenForms.{table_address}
 use Rattle.chunk_store.specs.Chunks.{Chunks}
-use Rattle.table_root.specs.Standing.{IsDatabaseAt, IsTableAt, named_tables}
-use Rattle.table_root.specs.declared.records.NamedTable.{NamedTable}
-
--- the address stands for the database, of fewer tables than its written form holds
-pub record IsReadAt (address : List ℕ → List ℕ) (chunks : Chunks) (k : List ℕ) (database : PlainDatabase) : Type 0 where
-  pub stands : IsDatabaseAt address chunks k database
-  pub few : length database < 2 ^ 16
-
-abbrev pub CanRead : (List ℕ → List ℕ) → Chunks → List ℕ → Type 0
-CanRead address chunks k = (database : PlainDatabase) × IsReadAt address chunks k database
+use Rattle.table_root.specs.Standing.{IsDatabaseAt}
 
 -- the address stands for the database, which keeps the limits on data
 pub record IsKeptAt (address : List ℕ → List ℕ) (chunks : Chunks) (k : List ℕ) (database : PlainDatabase) : Type 0 where
@@ -26,11 +16,6 @@ pub record IsKeptAt (address : List ℕ → List ℕ) (chunks : Chunks) (k : Lis
 
 abbrev pub HasKeptAt : (List ℕ → List ℕ) → Chunks → List ℕ → Type 0
 HasKeptAt address chunks k = (database : PlainDatabase) × IsKeptAt address chunks k database
-
--- this list names the tables of the database, which stand
-pub record AreThere (address : List ℕ → List ℕ) (chunks : Chunks) (database : PlainDatabase) (tables : List NamedTable) : Type 0 where
-  pub stand : AllByRecursion (λ named. IsTableAt address chunks (table_address address named.table) named.table) database
-  pub listed : tables ≡ named_tables address database
 
 -- a table by its schema and rows alone: what a constraint looks at
 abbrev pub bare_table : PlainTable → PlainTable

@@ -8,15 +8,15 @@ use Rattle.schema_model.specs.PlainTables as plain
 use Rattle.schema_model.specs.PlainTables.{PlainDatabase, body_bytes, is_row, primary_key}
 use Rattle.schema_model.specs.Schemas.{is_schema}
 use Rattle.plain_writes.specs.Violations.{Found, table_in}
-use Rattle.constraint_scan.specs.declared.listing.Violation.{Violation}
+use Rattle.constraint_scan.specs.declared.listing.ListedViolation.{ListedViolation}
 
 -- a violation with the bytes of its key and its row
-abbrev pub written : Schema → Found → Violation
+abbrev pub written : Schema → Found → ListedViolation
 written schema found =
     record { table = found.table; kind = found.violation.kind; constraint = found.violation.constraint; key = key_bytes found.violation.key; row = body_bytes schema found.violation.row }
 
 -- the same by the schema of the table of its name
-abbrev pub written_in : PlainDatabase → Found → List Violation
+abbrev pub written_in : PlainDatabase → Found → List ListedViolation
 written_in database found = option_map_or (λ table. written table.schema found ∷ []) (table_in database found.table) []
 
 -- the row is one of the schema's, under its key

@@ -24,7 +24,7 @@ use plain_sql::{Refused, ask, cells_at};
 use plain_writes::{check_of, own_scope, same_types};
 use schema_model::{CheckDef, ForeignKey, Schema};
 use std::alloc::{AllocError, Global};
-use table_root::Table;
+use table_root::StoredTable;
 use tuple_codec::{Digester, Row, Value, key_of};
 
 /// Whether the table that a foreign key names is there and has this key. There are few tables, so the calls don't go deep.
@@ -148,7 +148,7 @@ fn some_orphan<D: Digester>(
 fn is_repeated_by_any<D: Digester>(
     alloc: Global,
     draft: &Draft<D>,
-    table: &Table,
+    table: &StoredTable,
     row: &[Value],
 ) -> Result<bool, AllocError>
     requires { (contents : PlainTable) × IsTableOf D.address (chunks_of draft.now.chunks) table.now contents }
@@ -168,7 +168,7 @@ fn is_repeated_by_any<D: Digester>(
 fn has_repeated<D: Digester>(
     alloc: Global,
     draft: &Draft<D>,
-    table: &Table,
+    table: &StoredTable,
     rows: &[Row],
 ) -> Result<bool, AllocError>
     requires { (contents : PlainTable) × IsTableOf D.address (chunks_of draft.now.chunks) table.now contents }
@@ -312,7 +312,7 @@ fn is_missed<D: Digester>(
     alloc: Global,
     draft: &Draft<D>,
     pairs: &[Pair],
-    child: &Table,
+    child: &StoredTable,
     foreign: &ForeignKey,
     key: &Row,
 ) -> Result<bool, AllocError>
@@ -351,7 +351,7 @@ fn is_missed_at<D: Digester>(
     alloc: Global,
     draft: &Draft<D>,
     pairs: &[Pair],
-    child: &Table,
+    child: &StoredTable,
     foreign: &ForeignKey,
     parent: &Schema,
     places: &[usize],
@@ -376,7 +376,7 @@ fn is_missed_row<D: Digester>(
     alloc: Global,
     draft: &Draft<D>,
     pairs: &[Pair],
-    child: &Table,
+    child: &StoredTable,
     foreign: &ForeignKey,
     parent: &Schema,
     row: &[Value],
@@ -406,7 +406,7 @@ fn has_missed<D: Digester>(
     alloc: Global,
     draft: &Draft<D>,
     pairs: &[Pair],
-    child: &Table,
+    child: &StoredTable,
     foreign: &ForeignKey,
     parent: &Schema,
     rows: &[Row],
@@ -430,7 +430,7 @@ fn deserts<D: Digester>(
     alloc: Global,
     draft: &Draft<D>,
     pairs: &[Pair],
-    child: &Table,
+    child: &StoredTable,
     foreign: &ForeignKey,
     parent: &Pair,
 ) -> Result<bool, AllocError>
@@ -451,7 +451,7 @@ fn deserts_in<D: Digester>(
     alloc: Global,
     draft: &Draft<D>,
     pairs: &[Pair],
-    child: &Table,
+    child: &StoredTable,
     foreign: &ForeignKey,
     tables: &[Pair],
 ) -> Result<bool, AllocError>
@@ -477,7 +477,7 @@ fn deserts_by_any<D: Digester>(
     alloc: Global,
     draft: &Draft<D>,
     pairs: &[Pair],
-    child: &Table,
+    child: &StoredTable,
     keys: &[ForeignKey],
 ) -> Result<bool, AllocError>
     requires pairs { HavePairs D.address (chunks_of draft.now.chunks) pairs.now }

@@ -6,8 +6,8 @@ ghost use Rattle.schema_model.specs.PlainTables.{PlainDatabase, PlainTable};
 ghost use Rattle.chunk_store.specs.Drafts.{chunks_of};
 ghost use Rattle.plain_writes.specs.Violations.{first_violation};
 ghost use Rattle.plain_schemas.specs.Statements.{checks};
-ghost use Rattle.table_root.specs.Standing.{IsTableAt};
-ghost use Rattle.constraint_scan.specs.Scanning.{AreThere, CanRead, IsReadAt, has_constraints, is_constrained};
+ghost use Rattle.table_root.specs.Standing.{AreThere, CanRead, IsReadAt, IsTableAt};
+ghost use Rattle.constraint_scan.specs.Scanning.{has_constraints, is_constrained};
 
 use crate::canonical::CanonicalChecks;
 use crate::changing::told_by_pairs;
@@ -18,7 +18,7 @@ use chunk_store::Draft;
 use plain_writes::first_violation as first_of_tables;
 use schema_model::{IndexDef, Schema};
 use std::alloc::{AllocError, Global};
-use table_root::{NamedTable as Entry, law_of_databases, law_of_tables, read_database, read_table};
+use table_root::{TableEntry, law_of_databases, law_of_tables, read_database, read_table};
 use tuple_codec::{Address, Digester};
 
 fn is_any_unique(indexes: &[IndexDef]) -> bool
@@ -54,7 +54,7 @@ fn is_table_constrained<D: Digester>(
 fn is_any_constrained<D: Digester>(
     alloc: Global,
     draft: &Draft<D>,
-    entries: &[Entry],
+    entries: &[TableEntry],
 ) -> Result<bool, AllocError>
     requires { (database : PlainDatabase) × AreThere D.address (chunks_of draft.now.chunks) database entries.now }
     ensures { (database : PlainDatabase) → AreThere D.address (chunks_of draft.now.chunks) database entries.now

@@ -23,7 +23,7 @@ mod thinning;
 pub use canonical::CanonicalChecks;
 pub use judging::first_violation;
 pub use laws::law_of_recording;
-pub use listing::{Violation, violations};
+pub use listing::{ListedViolation, violations};
 pub use reading::{read_schemas, read_tables};
 pub use recording::record_violations;
 pub use seeking::{has_child, has_parent, is_repeated};

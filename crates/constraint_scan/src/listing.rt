@@ -4,10 +4,10 @@ ghost use Rattle.std.specs.Prelude.{◌≡◌, ◌++◌, IfOk, OnOk, map, true};
 ghost use Rattle.std.specs.List.{flat_map, list_all};
 ghost use Rattle.schema_model.specs.PlainTables.{IsDatabase, PlainDatabase};
 ghost use Rattle.chunk_store.specs.Drafts.{chunks_of};
+ghost use Rattle.table_root.specs.Standing.{AreThere, CanRead, IsReadAt};
 ghost use Rattle.plain_writes.specs.Seen.{broken_seen, found_seen, named_seen};
 ghost use Rattle.plain_writes.specs.Violations.{violations};
 ghost use Rattle.plain_schemas.specs.Statements.{checks};
-ghost use Rattle.constraint_scan.specs.Scanning.{AreThere, CanRead, IsReadAt};
 ghost use Rattle.constraint_scan.specs.Written.{fits, fits_in, written, written_in};
 
 use crate::canonical::CanonicalChecks;
@@ -17,13 +17,13 @@ use chunk_store::Draft;
 use plain_writes::{Found, NamedTable, table_in, violations as violations_of_tables};
 use schema_model::Schema;
 use std::alloc::{AllocError, Global};
-use table_root::{NamedTable as Entry, law_of_databases, read_database};
+use table_root::{TableEntry, law_of_databases, read_database};
 use table_rows::row_item;
 use tuple_codec::{Address, Blob, Digester, Text};
 
 /// A row that breaks a constraint, as the list of a table's violations keeps it.
 #[derive(Debug, Drop)]
-pub struct Violation {
+pub struct ListedViolation {
     pub table: Text,
     /// 1 a foreign key, 2 a unique index, 3 a CHECK, 4 NULL in a NOT NULL column.
     pub kind: u8,
@@ -35,12 +35,12 @@ pub struct Violation {
     pub row: Blob,
 }
 
-fn written(alloc: Global, schema: &Schema, one: &Found) -> Result<Violation, AllocError>
+fn written(alloc: Global, schema: &Schema, one: &Found) -> Result<ListedViolation, AllocError>
     requires { fits schema.now (broken_seen one.now.violation) ≡ true }
     ensures { IfOk result (λ violation. violation ≡ written schema.now (found_seen one.now)) }
 {
     let item = row_item(alloc, schema, one.violation.row.as_slice())?;
-    Ok(Violation {
+    Ok(ListedViolation {
         table: Text::from_slice(alloc, one.table.as_slice())?,
         kind: one.violation.kind,
         constraint: Text::from_slice(alloc, one.violation.constraint.as_slice())?,
@@ -54,7 +54,7 @@ fn push_written(
     alloc: Global,
     tables: &[NamedTable],
     one: &Found,
-    list: &mut Vec<Violation>,
+    list: &mut Vec<ListedViolation>,
 ) -> Result<(), AllocError>
     requires { fits_in (map named_seen tables.now) (found_seen one.now) ≡ true }
     ensures { OnOk result (list.new.items ≡ list.old.items ++ written_in (map named_seen tables.now) (found_seen one.now)) }
@@ -69,7 +69,7 @@ fn written_all(
     alloc: Global,
     tables: &[NamedTable],
     found: &[Found],
-) -> Result<Vec<Violation>, AllocError>
+) -> Result<Vec<ListedViolation>, AllocError>
     requires { list_all (fits_in (map named_seen tables.now)) (map found_seen found.now) ≡ true }
     ensures { IfOk result (λ list. list.items ≡ flat_map (written_in (map named_seen tables.now)) (map found_seen found.now)) }
 {
@@ -84,8 +84,8 @@ fn written_all(
 fn violations_among<D: Digester>(
     alloc: Global,
     draft: &Draft<D>,
-    entries: &[Entry],
-) -> Result<Vec<Violation>, AllocError>
+    entries: &[TableEntry],
+) -> Result<Vec<ListedViolation>, AllocError>
     requires { (contents : PlainDatabase) × AreThere D.address (chunks_of draft.now.chunks) contents entries.now × IsDatabase contents }
     ensures { (contents : PlainDatabase) → AreThere D.address (chunks_of draft.now.chunks) contents entries.now → IsDatabase contents
         → IfOk result (λ list. list.items ≡ flat_map (written_in contents) (violations checks contents)) }
@@ -104,7 +104,7 @@ pub fn violations<D: Digester>(
     alloc: Global,
     draft: &Draft<D>,
     database: &Address,
-) -> Result<Vec<Violation>, AllocError>
+) -> Result<Vec<ListedViolation>, AllocError>
     requires { CanRead D.address (chunks_of draft.now.chunks) database.now.0 }
     ensures { (contents : PlainDatabase) → IsReadAt D.address (chunks_of draft.now.chunks) database.now.0 contents
         → IfOk result (λ list. list.items ≡ flat_map (written_in contents) (violations checks contents)) }

@@ -6,21 +6,20 @@ ghost use Rattle.tuple_codec.specs.Rows.{Cells};
 ghost use Rattle.schema_model.specs.PlainTables.{NamedTable, PlainDatabase, PlainTable, is_row};
 ghost use Rattle.schema_model.specs.Schemas.{is_schema};
 ghost use Rattle.chunk_store.specs.Drafts.{chunks_of};
-ghost use Rattle.table_root.specs.Standing.{IsTableAt, IsTableOf};
+ghost use Rattle.table_root.specs.Standing.{AreThere, CanRead, IsReadAt, IsTableAt, IsTableOf};
 ghost use Rattle.table_rows.specs.Rows.{AreRowsAt, HasRowsAt};
 ghost use Rattle.constraint_scan.specs.Pairs.{ArePairs, HasRoot, IsPair, come_of, come_pairs, row_pairs};
-ghost use Rattle.constraint_scan.specs.Recording.{IsEntry};
-ghost use Rattle.constraint_scan.specs.Scanning.{AreThere, CanRead, IsReadAt};
+ghost use Rattle.constraint_scan.specs.Recording.{IsEntryOf};
 
 use chunk_store::Draft;
-use pair_walk::{Reads, changes};
+use pair_walk::{ReadCount, changes};
 use schema_model::{Schema, is_same_schema, law_of_sameness};
 use std::alloc::{AllocError, Global};
 use table_root::{
-    NamedTable as Entry, Table, law_of_databases, law_of_tables, read_database, read_table,
+    StoredTable, TableEntry, law_of_databases, law_of_tables, read_database, read_table,
 };
 use table_rows::{law_of_row_items, row_of};
-use tuple_codec::{Address, Change, Digester, Row, Sequence, Text};
+use tuple_codec::{Address, Digester, ItemChange, Row, Sequence, Text};
 
 /// A table that both databases have, with one schema.
 #[derive(Drop)]
@@ -28,7 +27,7 @@ pub struct Pair {
     pub name: Text,
     /// The root of the old rows.
     pub old: Address,
-    pub new: Table,
+    pub new: StoredTable,
     /// The rows that the old table hasn't just so.
     pub come: Sequence<Row>,
 }
@@ -37,7 +36,7 @@ pub struct Pair {
 fn rows_of_changes(
     alloc: Global,
     schema: &Schema,
-    list: &[Change],
+    list: &[ItemChange],
 ) -> Result<Sequence<Row>, AllocError>
     requires schema { is_schema schema.now ≡ true }
     requires rows { (rows : List Cells) × (list_all (is_row schema.now) rows ≡ true) × (come_pairs list.now ≡ row_pairs schema.now rows) }
@@ -68,7 +67,7 @@ pub(crate) fn rows_that_came<D: Digester>(
         → AreRowsAt D.address (chunks_of draft.now.chunks) new.now.0 schema.now after → IfOk result (λ rows. rows ≡ come_of before after) }
 {
     law_of_row_items();
-    let mut reads = Reads::new();
+    let mut reads = ReadCount::new();
     let list = changes(alloc, draft, old, new, &mut reads)?;
     rows_of_changes(alloc, schema, list.as_slice())
 }
@@ -97,7 +96,7 @@ fn pair_of<D: Digester>(
     draft: &Draft<D>,
     name: &[u8],
     old: Address,
-    new: Table,
+    new: StoredTable,
 ) -> Result<Pair, AllocError>
     requires old { HasRowsAt D.address (chunks_of draft.now.chunks) old.0 new.schema }
     requires new { (contents : PlainTable) × IsTableOf D.address (chunks_of draft.now.chunks) new contents }
@@ -118,12 +117,12 @@ fn pair_of<D: Digester>(
 fn paired_tables<D: Digester>(
     alloc: Global,
     draft: &Draft<D>,
-    old: &Entry,
-    new: &Entry,
+    old: &TableEntry,
+    new: &TableEntry,
 ) -> Result<Option<Pair>, AllocError>
     requires old { (contents : PlainTable) × IsTableAt D.address (chunks_of draft.now.chunks) old.now.table.0 contents }
     requires new { (contents : PlainTable) × IsTableAt D.address (chunks_of draft.now.chunks) new.now.table.0 contents }
-    ensures { (before after : NamedTable) → old.now.name ≡ new.now.name → IsEntry D.address (chunks_of draft.now.chunks) old.now before → IsEntry D.address (chunks_of draft.now.chunks) new.now after
+    ensures { (before after : NamedTable) → old.now.name ≡ new.now.name → IsEntryOf D.address (chunks_of draft.now.chunks) old.now before → IsEntryOf D.address (chunks_of draft.now.chunks) new.now after
         → IfOk result (λ found. IfSome found (λ pair. IsPair D.address (chunks_of draft.now.chunks) pair before after)) }
 {
     law_of_tables();
@@ -141,12 +140,12 @@ fn paired_tables<D: Digester>(
 fn paired<D: Digester>(
     alloc: Global,
     draft: &Draft<D>,
-    old: &Entry,
-    new: &Entry,
+    old: &TableEntry,
+    new: &TableEntry,
 ) -> Result<Option<Pair>, AllocError>
     requires old { (contents : PlainTable) × IsTableAt D.address (chunks_of draft.now.chunks) old.now.table.0 contents }
     requires new { (contents : PlainTable) × IsTableAt D.address (chunks_of draft.now.chunks) new.now.table.0 contents }
-    ensures { (before after : NamedTable) → IsEntry D.address (chunks_of draft.now.chunks) old.now before → IsEntry D.address (chunks_of draft.now.chunks) new.now after
+    ensures { (before after : NamedTable) → IsEntryOf D.address (chunks_of draft.now.chunks) old.now before → IsEntryOf D.address (chunks_of draft.now.chunks) new.now after
         → IfOk result (λ found. IfSome found (λ pair. IsPair D.address (chunks_of draft.now.chunks) pair before after)) }
 {
     let same = old.name.is(new.name.as_slice());
@@ -161,14 +160,14 @@ fn paired<D: Digester>(
 fn push_paired<D: Digester>(
     alloc: Global,
     draft: &Draft<D>,
-    old: &Entry,
-    new: &Entry,
+    old: &TableEntry,
+    new: &TableEntry,
     pairs: &mut Sequence<Pair>,
 ) -> Result<bool, AllocError>
     requires old { (contents : PlainTable) × IsTableAt D.address (chunks_of draft.now.chunks) old.now.table.0 contents }
     requires new { (contents : PlainTable) × IsTableAt D.address (chunks_of draft.now.chunks) new.now.table.0 contents }
     ensures { (done made : PlainDatabase) (before after : NamedTable) → ArePairs D.address (chunks_of draft.now.chunks) pairs.old done made
-        → IsEntry D.address (chunks_of draft.now.chunks) old.now before → IsEntry D.address (chunks_of draft.now.chunks) new.now after
+        → IsEntryOf D.address (chunks_of draft.now.chunks) old.now before → IsEntryOf D.address (chunks_of draft.now.chunks) new.now after
         → IfOk result (λ same. same ≡ true → ArePairs D.address (chunks_of draft.now.chunks) pairs.new (done ++ before ∷ []) (made ++ after ∷ [])) }
 {
     match paired(alloc, draft, old, new)? {
@@ -185,8 +184,8 @@ fn push_paired<D: Digester>(
 fn push_pairs<D: Digester>(
     alloc: Global,
     draft: &Draft<D>,
-    olds: &[Entry],
-    news: &[Entry],
+    olds: &[TableEntry],
+    news: &[TableEntry],
     pairs: &mut Sequence<Pair>,
 ) -> Result<bool, AllocError>
     requires olds { (database : PlainDatabase) × AreThere D.address (chunks_of draft.now.chunks) database olds.now }

@@ -3,19 +3,18 @@
 ghost use Rattle.std.specs.Prelude.{◌≡◌, IfOk};
 ghost use Rattle.schema_model.specs.PlainTables.{PlainDatabase, PlainTable};
 ghost use Rattle.chunk_store.specs.Drafts.{chunks_of};
-ghost use Rattle.table_root.specs.Standing.{IsTableAt, IsTableOf};
-ghost use Rattle.constraint_scan.specs.Scanning.{AreThere};
+ghost use Rattle.table_root.specs.Standing.{AreThere, IsTableAt, IsTableOf};
 ghost use Rattle.constraint_scan.specs.Thinned.{are_quiet, is_quiet};
 
 use crate::thinning::is_judged;
 use chunk_store::Draft;
 use prolly_tree::get;
 use std::alloc::{AllocError, Global};
-use table_root::{NamedTable as Entry, Table, law_of_tables, read_table};
+use table_root::{StoredTable, TableEntry, law_of_tables, read_table};
 use tuple_codec::{Address, Digester};
 
 /// Whether no row of the table breaks a constraint: none but that of key NULL may, and it isn't there. NULL is spelled as a zero byte.
-fn is_quiet<D: Digester>(draft: &Draft<D>, table: &Table) -> bool
+fn is_quiet<D: Digester>(draft: &Draft<D>, table: &StoredTable) -> bool
     requires { (contents : PlainTable) × IsTableOf D.address (chunks_of draft.now.chunks) table.now contents }
     ensures { (contents : PlainTable) → IsTableOf D.address (chunks_of draft.now.chunks) table.now contents → result ≡ is_quiet contents }
 {
@@ -41,7 +40,7 @@ fn is_quiet_at<D: Digester>(
 pub(crate) fn are_quiet<D: Digester>(
     alloc: Global,
     draft: &Draft<D>,
-    entries: &[Entry],
+    entries: &[TableEntry],
 ) -> Result<bool, AllocError>
     requires { (database : PlainDatabase) × AreThere D.address (chunks_of draft.now.chunks) database entries.now }
     ensures { (database : PlainDatabase) → AreThere D.address (chunks_of draft.now.chunks) database entries.now

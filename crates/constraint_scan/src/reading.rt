@@ -4,14 +4,14 @@ ghost use Rattle.std.specs.Prelude.{◌≡◌, ◌++◌, [], IfOk, OnOk, map};
 ghost use Rattle.schema_model.specs.PlainTables.{PlainDatabase, PlainTable};
 ghost use Rattle.chunk_store.specs.Drafts.{chunks_of};
 ghost use Rattle.plain_writes.specs.Seen.{named_seen, table_seen};
-ghost use Rattle.table_root.specs.Standing.{IsTableAt};
-ghost use Rattle.constraint_scan.specs.Scanning.{AreThere, CanRead, IsReadAt, bare, bare_table, empty_table, skeleton};
+ghost use Rattle.table_root.specs.Standing.{AreThere, CanRead, IsReadAt, IsTableAt};
+ghost use Rattle.constraint_scan.specs.Scanning.{bare, bare_table, empty_table, skeleton};
 
 use chunk_store::Draft;
 use plain_writes::{NamedTable, Table};
 use schema_model::Schema;
 use std::alloc::{AllocError, Global};
-use table_root::{NamedTable as Entry, law_of_databases, law_of_tables, read_database, read_table};
+use table_root::{TableEntry, law_of_databases, law_of_tables, read_database, read_table};
 use table_rows::read_rows;
 use tuple_codec::{Address, Digester, Row, Sequence, Text};
 
@@ -62,7 +62,7 @@ fn schema_read<D: Digester>(
 fn named_read<D: Digester>(
     alloc: Global,
     draft: &Draft<D>,
-    entry: &Entry,
+    entry: &TableEntry,
 ) -> Result<NamedTable, AllocError>
     requires { (contents : PlainTable) × IsTableAt D.address (chunks_of draft.now.chunks) entry.now.table.0 contents }
     ensures { (contents : PlainTable) → IsTableAt D.address (chunks_of draft.now.chunks) entry.now.table.0 contents
@@ -79,7 +79,7 @@ fn named_read<D: Digester>(
 fn named_schema<D: Digester>(
     alloc: Global,
     draft: &Draft<D>,
-    entry: &Entry,
+    entry: &TableEntry,
 ) -> Result<NamedTable, AllocError>
     requires { (contents : PlainTable) × IsTableAt D.address (chunks_of draft.now.chunks) entry.now.table.0 contents }
     ensures { (contents : PlainTable) → IsTableAt D.address (chunks_of draft.now.chunks) entry.now.table.0 contents
@@ -96,7 +96,7 @@ fn named_schema<D: Digester>(
 fn push_tables<D: Digester>(
     alloc: Global,
     draft: &Draft<D>,
-    entries: &[Entry],
+    entries: &[TableEntry],
     tables: &mut Sequence<NamedTable>,
 ) -> Result<(), AllocError>
     requires { (database : PlainDatabase) × AreThere D.address (chunks_of draft.now.chunks) database entries.now }
@@ -114,7 +114,7 @@ fn push_tables<D: Digester>(
 pub(crate) fn push_schemas<D: Digester>(
     alloc: Global,
     draft: &Draft<D>,
-    entries: &[Entry],
+    entries: &[TableEntry],
     tables: &mut Sequence<NamedTable>,
 ) -> Result<(), AllocError>
     requires { (database : PlainDatabase) × AreThere D.address (chunks_of draft.now.chunks) database entries.now }

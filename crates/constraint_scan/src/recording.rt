@@ -11,20 +11,21 @@ ghost use Rattle.schema_model.specs.PlainTables.{PlainDatabase, PlainTable};
 ghost use Rattle.schema_model.specs.Schemas.{is_name};
 ghost use Rattle.chunk_store.specs.Clashes.{IsReason};
 ghost use Rattle.chunk_store.specs.Drafts.{Grows, chunks_of};
+ghost use Rattle.chunk_store.specs.Kinds.{is_data};
 ghost use Rattle.chunk_store.specs.Standing.{IsTree};
-ghost use Rattle.table_root.specs.Standing.{IsTableAt};
+ghost use Rattle.table_root.specs.Standing.{AreThere, IsTableAt};
 ghost use Rattle.plain_writes.specs.Violations.{Found};
-ghost use Rattle.constraint_scan.specs.Scanning.{AreThere, IsKeptAt};
-ghost use Rattle.constraint_scan.specs.Recording.{AreRising, CanRecord, CanRecordEach, CanRecordTable, IsEntry, MayBeWritten, MayStand, has_name, is_data, is_listed, listed_if, listed_item, listed_items, recorded_as, with_list};
+ghost use Rattle.constraint_scan.specs.Scanning.{IsKeptAt};
+ghost use Rattle.constraint_scan.specs.Recording.{AreRising, CanRecord, CanRecordEach, CanRecordTable, IsEntryOf, MayBeWritten, MayStand, has_name, is_listed, listed_if, listed_item, listed_items, recorded_as, with_list};
 
 use crate::laws::laws_of_growth;
-use crate::listing::Violation;
+use crate::listing::ListedViolation;
 use chunk_store::{Draft, PutFault};
 use node_chunker::build;
 use node_format::LeafItem;
 use prolly_tree::count;
 use std::alloc::{AllocError, Global};
-use table_root::{NamedTable, Table, read_database, read_table, write_database, write_table};
+use table_root::{StoredTable, TableEntry, read_database, read_table, write_database, write_table};
 use tuple_codec::{
     Address, Blob, Digester, Sequence, SqlType, Text, Value, encode_key, keys_keep_order,
 };
@@ -39,7 +40,7 @@ fn name_key(alloc: Global, name: &[u8]) -> Result<Blob, AllocError>
     encode_key(alloc, &[SqlType::Varchar(255)], &cells)
 }
 
-fn listed_key(alloc: Global, one: &Violation) -> Result<Blob, AllocError>
+fn listed_key(alloc: Global, one: &ListedViolation) -> Result<Blob, AllocError>
     requires { has_name one.now ≡ true }
     ensures { IfOk result (λ bytes. bytes ≡ one.now.kind ∷ (key_cell (cell.Text one.now.constraint) ++ one.now.key)) }
 {
@@ -52,7 +53,7 @@ fn listed_key(alloc: Global, one: &Violation) -> Result<Blob, AllocError>
 }
 
 /// The item of a violation in its table's list.
-fn listed_item(alloc: Global, one: &Violation) -> Result<LeafItem, AllocError>
+fn listed_item(alloc: Global, one: &ListedViolation) -> Result<LeafItem, AllocError>
     requires { has_name one.now ≡ true }
     ensures { IfOk result (λ item. leaf_of item ≡ listed_item one.now) }
 {
@@ -66,7 +67,7 @@ fn listed_item(alloc: Global, one: &Violation) -> Result<LeafItem, AllocError>
 fn push_listed(
     alloc: Global,
     name: &[u8],
-    one: &Violation,
+    one: &ListedViolation,
     items: &mut Vec<LeafItem>,
 ) -> Result<(), AllocError>
     requires { has_name one.now ≡ true }
@@ -79,7 +80,11 @@ fn push_listed(
 }
 
 /// The items of the violations of the table of this name.
-fn listed_items(alloc: Global, name: &[u8], list: &[Violation]) -> Result<Vec<LeafItem>, AllocError>
+fn listed_items(
+    alloc: Global,
+    name: &[u8],
+    list: &[ListedViolation],
+) -> Result<Vec<LeafItem>, AllocError>
     requires { list_all has_name list.now ≡ true }
     ensures { IfOk result (λ items. map leaf_of items.items ≡ listed_items name.now list.now) }
 {
@@ -95,7 +100,7 @@ fn build_list<D: Digester>(
     alloc: Global,
     draft: &mut Draft<D>,
     name: &[u8],
-    list: &[Violation],
+    list: &[ListedViolation],
 ) -> Result<Address, PutFault>
     requires names { list_all has_name list.now ≡ true }
     requires rising { AreRising (listed_items name.now list.now) }
@@ -113,7 +118,7 @@ fn build_list<D: Digester>(
 fn keep_table<D: Digester>(
     alloc: Global,
     draft: &mut Draft<D>,
-    table: &Table,
+    table: &StoredTable,
 ) -> Result<Address, PutFault>
     requires { (contents : PlainTable) × MayStand D.address (chunks_of draft.old.chunks) table.now contents }
     ensures stands { (contents : PlainTable) → MayStand D.address (chunks_of draft.old.chunks) table.now contents
@@ -130,7 +135,7 @@ fn keep_table<D: Digester>(
 fn keep_database<D: Digester>(
     alloc: Global,
     draft: &mut Draft<D>,
-    tables: &[NamedTable],
+    tables: &[TableEntry],
 ) -> Result<Address, PutFault>
     requires { (database : PlainDatabase) × MayBeWritten D.address (chunks_of draft.old.chunks) tables.now database }
     ensures stands { (database : PlainDatabase) → MayBeWritten D.address (chunks_of draft.old.chunks) tables.now database
@@ -144,7 +149,7 @@ fn keep_database<D: Digester>(
 }
 
 /// Whether the list has a violation of the table of this name.
-fn is_listed(name: &[u8], list: &[Violation]) -> bool
+fn is_listed(name: &[u8], list: &[ListedViolation]) -> bool
     ensures { result ≡ list_any (is_listed name.now) list.now }
 {
     list.iter().any(|one| one.table.as_slice() == name)
@@ -165,7 +170,7 @@ fn record_table<D: Digester>(
     draft: &mut Draft<D>,
     address: &Address,
     name: &[u8],
-    list: &[Violation],
+    list: &[ListedViolation],
 ) -> Result<Address, PutFault>
     requires { (contents : PlainTable) × (found : List plain.Violation) × CanRecordTable D.address (chunks_of draft.old.chunks) address.now.0 name.now list.now contents found }
     ensures stands { (contents : PlainTable) (found : List plain.Violation)
@@ -181,7 +186,7 @@ fn record_table<D: Digester>(
         return Ok(*address);
     }
     let violations = build_list(alloc, draft, name, list)?;
-    let recorded = Table {
+    let recorded = StoredTable {
         schema: table.schema,
         rows: table.rows,
         indexes: table.indexes,
@@ -195,19 +200,19 @@ fn record_table<D: Digester>(
 fn record_named<D: Digester>(
     alloc: Global,
     draft: &mut Draft<D>,
-    entry: &NamedTable,
-    list: &[Violation],
-) -> Result<NamedTable, PutFault>
+    entry: &TableEntry,
+    list: &[ListedViolation],
+) -> Result<TableEntry, PutFault>
     requires { (contents : PlainTable) × (found : List plain.Violation) × CanRecordTable D.address (chunks_of draft.old.chunks) entry.now.table.0 entry.now.name list.now contents found }
     ensures stands { (contents : PlainTable) (found : List plain.Violation)
         → CanRecordTable D.address (chunks_of draft.old.chunks) entry.now.table.0 entry.now.name list.now contents found
-        → IfOk result (λ made. IsEntry D.address (chunks_of draft.new.chunks) made (record { name = entry.now.name; table = with_list contents found })) }
+        → IfOk result (λ made. IsEntryOf D.address (chunks_of draft.new.chunks) made (record { name = entry.now.name; table = with_list contents found })) }
     ensures grows { Grows is_data draft.old draft.new }
     ensures cause { IfErr result (IsReason D.address (chunks_of draft.new.chunks)) }
 {
     let name = entry.name.as_slice();
     let table = record_table(alloc, draft, &entry.table, name, list)?;
-    Ok(NamedTable {
+    Ok(TableEntry {
         name: Text::from_slice(alloc, name)?,
         table,
     })
@@ -217,9 +222,9 @@ fn record_named<D: Digester>(
 fn record_each<D: Digester>(
     alloc: Global,
     draft: &mut Draft<D>,
-    entries: &[NamedTable],
-    list: &[Violation],
-    made: &mut Sequence<NamedTable>,
+    entries: &[TableEntry],
+    list: &[ListedViolation],
+    made: &mut Sequence<TableEntry>,
 ) -> Result<(), PutFault>
     requires { (database : PlainDatabase) × (found : List Found) × CanRecordEach D.address (chunks_of draft.old.chunks) entries.now list.now database found }
     ensures stands { (database : PlainDatabase) (found : List Found) → CanRecordEach D.address (chunks_of draft.old.chunks) entries.now list.now database found
@@ -242,7 +247,7 @@ pub fn record_violations<D: Digester>(
     alloc: Global,
     draft: &mut Draft<D>,
     database: &Address,
-    list: &[Violation],
+    list: &[ListedViolation],
 ) -> Result<Address, PutFault>
     requires { (contents : PlainDatabase) × (found : List Found) × CanRecord D.address (chunks_of draft.old.chunks) database.now.0 list.now contents found }
     ensures stands { (contents : PlainDatabase) (found : List Found) → CanRecord D.address (chunks_of draft.old.chunks) database.now.0 list.now contents found

@@ -17,7 +17,7 @@ use chunk_store::Draft;
 use plain_writes::same_types;
 use schema_model::{ForeignKey, IndexDef, Schema};
 use std::alloc::{AllocError, Global};
-use table_root::Table;
+use table_root::StoredTable;
 use table_rows::read_rows;
 use tuple_codec::{Address, Digester, Row, Sequence, Value, copy_row, key_of};
 
@@ -25,7 +25,7 @@ use tuple_codec::{Address, Digester, Row, Sequence, Value, copy_row, key_of};
 fn rows_of<D: Digester>(
     alloc: Global,
     draft: &Draft<D>,
-    table: &Table,
+    table: &StoredTable,
 ) -> Result<Sequence<Row>, AllocError>
     requires { (contents : PlainTable) × IsTableOf D.address (chunks_of draft.now.chunks) table.now contents }
     ensures { (contents : PlainTable) → IsTableOf D.address (chunks_of draft.now.chunks) table.now contents
@@ -38,7 +38,7 @@ fn rows_of<D: Digester>(
 fn is_repeated_in_rows<D: Digester>(
     alloc: Global,
     draft: &Draft<D>,
-    table: &Table,
+    table: &StoredTable,
     places: &[u8],
     row: &[Value],
 ) -> Result<bool, AllocError>
@@ -67,7 +67,7 @@ fn is_repeated_in_rows<D: Digester>(
 fn has_key_in_rows<D: Digester>(
     alloc: Global,
     draft: &Draft<D>,
-    table: &Table,
+    table: &StoredTable,
     places: &[usize],
     key: &[Value],
 ) -> Result<bool, AllocError>
@@ -84,7 +84,7 @@ fn has_key_in_rows<D: Digester>(
 fn has_key_by_bytes<D: Digester>(
     alloc: Global,
     draft: &Draft<D>,
-    table: &Table,
+    table: &StoredTable,
     places: &[usize],
     key: &[Value],
     bytes: &[u8],
@@ -111,7 +111,7 @@ fn has_key_by_bytes<D: Digester>(
 fn has_key<D: Digester>(
     alloc: Global,
     draft: &Draft<D>,
-    table: &Table,
+    table: &StoredTable,
     places: &[usize],
     key: &Row,
 ) -> Result<bool, AllocError>
@@ -136,7 +136,7 @@ fn has_key<D: Digester>(
 fn is_repeated_in_tree<D: Digester>(
     alloc: Global,
     draft: &Draft<D>,
-    table: &Table,
+    table: &StoredTable,
     index: &IndexDef,
     root: &Address,
     row: &[Value],
@@ -162,7 +162,7 @@ fn is_repeated_in_tree<D: Digester>(
 fn is_repeated_in_index<D: Digester>(
     alloc: Global,
     draft: &Draft<D>,
-    table: &Table,
+    table: &StoredTable,
     index: &IndexDef,
     root: &Address,
     row: &[Value],
@@ -184,7 +184,7 @@ fn is_repeated_in_index<D: Digester>(
 pub fn is_repeated<D: Digester>(
     alloc: Global,
     draft: &Draft<D>,
-    table: &Table,
+    table: &StoredTable,
     place: usize,
     row: &[Value],
 ) -> Result<bool, AllocError>
@@ -205,7 +205,7 @@ pub fn is_repeated<D: Digester>(
 fn has_parent_at<D: Digester>(
     alloc: Global,
     draft: &Draft<D>,
-    parent: &Table,
+    parent: &StoredTable,
     schema: &Schema,
     foreign: &ForeignKey,
     places: &[usize],
@@ -229,7 +229,7 @@ fn has_parent_at<D: Digester>(
 pub(crate) fn has_parent_key<D: Digester>(
     alloc: Global,
     draft: &Draft<D>,
-    parent: &Table,
+    parent: &StoredTable,
     schema: &Schema,
     foreign: &ForeignKey,
     key: &Row,
@@ -257,7 +257,7 @@ pub(crate) fn has_parent_key<D: Digester>(
 pub fn has_parent<D: Digester>(
     alloc: Global,
     draft: &Draft<D>,
-    parent: &Table,
+    parent: &StoredTable,
     schema: &Schema,
     foreign: &ForeignKey,
     row: &[Value],
@@ -274,7 +274,7 @@ pub fn has_parent<D: Digester>(
 pub fn has_child<D: Digester>(
     alloc: Global,
     draft: &Draft<D>,
-    child: &Table,
+    child: &StoredTable,
     foreign: &ForeignKey,
     key: &[Value],
 ) -> Result<bool, AllocError>

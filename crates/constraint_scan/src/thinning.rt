@@ -7,9 +7,8 @@ ghost use Rattle.schema_model.specs.PlainTables.{PlainDatabase, PlainTable};
 ghost use Rattle.schema_model.specs.Schemas.{is_schema};
 ghost use Rattle.chunk_store.specs.Drafts.{chunks_of};
 ghost use Rattle.plain_writes.specs.Seen.{named_seen};
-ghost use Rattle.table_root.specs.Standing.{IsTableAt};
+ghost use Rattle.table_root.specs.Standing.{AreThere, IsTableAt};
 ghost use Rattle.table_rows.specs.Rows.{AreRowsAt, HasRowsAt};
-ghost use Rattle.constraint_scan.specs.Scanning.{AreThere};
 ghost use Rattle.constraint_scan.specs.Thinned.{has_null_key, is_guarded, is_judged, is_parent, is_sole, looks_for, thin_named, thinned};
 
 use crate::judging::is_constrained;
@@ -19,7 +18,7 @@ use plain_writes::NamedTable;
 use prolly_tree::get;
 use schema_model::{Column, Schema};
 use std::alloc::{AllocError, Global};
-use table_root::{NamedTable as Entry, law_of_tables, read_table};
+use table_root::{TableEntry, law_of_tables, read_table};
 use table_rows::{read_rows, row_of};
 use tuple_codec::{Address, Digester, Row, Sequence, Text};
 
@@ -135,7 +134,7 @@ fn thin_read<D: Digester>(
     alloc: Global,
     draft: &Draft<D>,
     schemas: &[NamedTable],
-    entry: &Entry,
+    entry: &TableEntry,
 ) -> Result<NamedTable, AllocError>
     requires { (contents : PlainTable) × IsTableAt D.address (chunks_of draft.now.chunks) entry.now.table.0 contents }
     ensures { (contents : PlainTable) → IsTableAt D.address (chunks_of draft.now.chunks) entry.now.table.0 contents
@@ -157,7 +156,7 @@ fn push_thin<D: Digester>(
     alloc: Global,
     draft: &Draft<D>,
     schemas: &[NamedTable],
-    entries: &[Entry],
+    entries: &[TableEntry],
     tables: &mut Sequence<NamedTable>,
 ) -> Result<(), AllocError>
     requires { (database : PlainDatabase) × AreThere D.address (chunks_of draft.now.chunks) database entries.now }
@@ -175,7 +174,7 @@ fn push_thin<D: Digester>(
 pub(crate) fn read_thinned<D: Digester>(
     alloc: Global,
     draft: &Draft<D>,
-    entries: &[Entry],
+    entries: &[TableEntry],
 ) -> Result<Sequence<NamedTable>, AllocError>
     requires { (database : PlainDatabase) × AreThere D.address (chunks_of draft.now.chunks) database entries.now }
     ensures { (database : PlainDatabase) → AreThere D.address (chunks_of draft.now.chunks) database entries.now

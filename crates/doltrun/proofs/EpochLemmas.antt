@@ -7,7 +7,7 @@ use Rattle.clap.specs.Words.{Text, fault_of, first_of, matches_of}
 use Rattle.script_text.specs.Numerals.{number}
 use Rattle.plain_sessions.specs.StateLimits.{is_date}
 use Rattle.doltrun.specs.Words.{epoch_of, form, form_in, form_of, line, mode_named, seed_of, task_asked, task_epoch, task_of}
-use Rattle.doltrun.specs.declared.words.Form.{Form}
+use Rattle.doltrun.specs.declared.words.Invocation.{Invocation}
 use Rattle.doltrun.specs.declared.words.Mode.{Mode}
 use Rattle.doltrun.specs.declared.words.Mode.TheVariants.{Ordered, Threads, Replay, Load}
 use Rattle.doltrun.specs.declared.words.Task.{Task}
@@ -31,24 +31,24 @@ epoch_dated : (text : Option Text) → IfSome (epoch_of text) IsDate
 epoch_dated None = refl
 epoch_dated (Some text) = named (number text)
 
-with_seed : (mode : Mode) (epoch : ℤ) (seed : Option (Option ℕ)) → IsDate epoch → IfSome (option_map (λ given. record { mode = mode; epoch = epoch; seed = given }) seed) (λ (asked : Form). IsDate asked.epoch)
+with_seed : (mode : Mode) (epoch : ℤ) (seed : Option (Option ℕ)) → IsDate epoch → IfSome (option_map (λ given. record { mode = mode; epoch = epoch; seed = given }) seed) (λ (asked : Invocation). IsDate asked.epoch)
 with_seed mode epoch None date = tt
 with_seed mode epoch (Some given) date = date
 
 with_epoch : (mode : Mode) (epoch : Option ℤ) (seed : Option Text) → IfSome epoch IsDate
-    → IfSome (option_and_then (λ date. option_map (λ given. record { mode = mode; epoch = date; seed = given }) (seed_of mode seed)) epoch) (λ (asked : Form). IsDate asked.epoch)
+    → IfSome (option_and_then (λ date. option_map (λ given. record { mode = mode; epoch = date; seed = given }) (seed_of mode seed)) epoch) (λ (asked : Invocation). IsDate asked.epoch)
 with_epoch mode None seed date = tt
 with_epoch mode (Some epoch) seed date = with_seed mode epoch (seed_of mode seed) date
 
-with_mode : (mode : Option Mode) (epoch seed : Option Text) → IfSome (option_and_then (λ named. form_of named epoch seed) mode) (λ (asked : Form). IsDate asked.epoch)
+with_mode : (mode : Option Mode) (epoch seed : Option Text) → IfSome (option_and_then (λ named. form_of named epoch seed) mode) (λ (asked : Invocation). IsDate asked.epoch)
 with_mode None epoch seed = tt
 with_mode (Some mode) epoch seed = with_epoch mode (epoch_of epoch) seed (epoch_dated epoch)
 
-taken : (asked : Option Form) (test : Bool) → IfSome asked (λ (asked : Form). IsDate asked.epoch) → IfSome (if test then asked else None) (λ (asked : Form). IsDate asked.epoch)
+taken : (asked : Option Invocation) (test : Bool) → IfSome asked (λ (asked : Invocation). IsDate asked.epoch) → IfSome (if test then asked else None) (λ (asked : Invocation). IsDate asked.epoch)
 taken asked true date = date
 taken asked false date = tt
 
-form_dated : (words : List Text) → IfSome (form words) (λ (asked : Form). IsDate asked.epoch)
+form_dated : (words : List Text) → IfSome (form words) (λ (asked : Invocation). IsDate asked.epoch)
 form_dated words =
     let rows = matches_of line words in
     taken (form_in rows) (is_empty (fault_of line words)) (with_mode (option_and_then mode_named (first_of (codes "mode") rows)) (first_of (codes "epoch") rows) (first_of (codes "seed") rows))
@@ -66,8 +66,8 @@ in_mode Threads epoch seed date = date
 in_mode Replay epoch seed date = date
 in_mode Load epoch seed date = with_given epoch seed date
 
-of_form : (asked : Option Form) → IfSome asked (λ (asked : Form). IsDate asked.epoch)
-    → IfSome (option_and_then (λ (asked : Form). task_of asked.mode asked.epoch asked.seed) asked) IsDated
+of_form : (asked : Option Invocation) → IfSome asked (λ (asked : Invocation). IsDate asked.epoch)
+    → IfSome (option_and_then (λ (asked : Invocation). task_of asked.mode asked.epoch asked.seed) asked) IsDated
 of_form None date = tt
 of_form (Some asked) date = in_mode asked.mode asked.epoch asked.seed date
 

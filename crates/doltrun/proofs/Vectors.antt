@@ -3,12 +3,12 @@ use Rattle.std.proofs.Common.{◌≡◌, refl, codes, ℤ, pos, [], ◌∷◌, �
 use Rattle.clap.specs.Words.{Text}
 use Rattle.clap.proofs.OnLiterals.{clap_on_literals}
 use Rattle.doltrun.specs.Words.{form, form_of, task_asked}
-use Rattle.doltrun.specs.declared.words.Form.{Form}
+use Rattle.doltrun.specs.declared.words.Invocation.{Invocation}
 use Rattle.doltrun.specs.declared.words.Mode.TheVariants.{Ordered, Threads, Replay, Load}
 use Rattle.doltrun.specs.declared.words.MomentOrder.TheVariants.{Given, OfLines, OfThreads}
 use Rattle.doltrun.specs.declared.words.Task.TheVariants as task
 
-abbrev ordered : ℤ → Option Form
+abbrev ordered : ℤ → Option Invocation
 ordered epoch = Some (record { mode = Ordered; epoch = epoch; seed = None })
 
 alone : form (codes "ordered" ∷ []) ≡ ordered (pos 0)

@@ -5,7 +5,7 @@ use Rattle.clap.specs.Words.{App, Row, Rule, Text, fault_of, first_of, matches_o
 use Rattle.clap.specs.Simple.{new_shape}
 use Rattle.clap.specs.Walk.{is_empty}
 use Rattle.script_text.specs.Numerals.{number}
-use Rattle.doltrun.specs.declared.words.Form.{Form}
+use Rattle.doltrun.specs.declared.words.Invocation.{Invocation}
 use Rattle.doltrun.specs.declared.words.Mode.{Mode}
 use Rattle.doltrun.specs.declared.words.Mode.TheVariants.{Ordered, Threads, Replay, Load}
 use Rattle.doltrun.specs.declared.words.MomentOrder.{MomentOrder}
@@ -59,18 +59,18 @@ seed_of Load (Some text) = option_map (λ seed. Some seed) (number text)
 seed_of _ None = Some None
 seed_of _ (Some text) = None
 
-abbrev pub form_of : Mode → Option Text → Option Text → Option Form
+abbrev pub form_of : Mode → Option Text → Option Text → Option Invocation
 form_of mode epoch seed = option_and_then (λ date. option_map (λ given. record { mode = mode; epoch = date; seed = given }) (seed_of mode seed)) (epoch_of epoch)
 
 -- of the mode's word, and the values of the two options
-abbrev pub form_named : Option Text → Option Text → Option Text → Option Form
+abbrev pub form_named : Option Text → Option Text → Option Text → Option Invocation
 form_named mode epoch seed = option_and_then (λ named. form_of named epoch seed) (option_and_then mode_named mode)
 
-abbrev pub form_in : List Row → Option Form
+abbrev pub form_in : List Row → Option Invocation
 form_in rows = form_named (first_of (codes "mode") rows) (first_of (codes "epoch") rows) (first_of (codes "seed") rows)
 
 -- the form that the words are, if the command takes them
-abbrev pub form : List Text → Option Form
+abbrev pub form : List Text → Option Invocation
 form words = if is_empty (fault_of line words) then form_in (matches_of line words) else None
 
 -- whether the script gives the order of its moments
@@ -93,4 +93,4 @@ task_epoch (task.Load asked) = asked.epoch
 
 -- what the words ask to be run
 abbrev pub task_asked : List Text → Option Task
-task_asked words = option_and_then (λ (asked : Form). task_of asked.mode asked.epoch asked.seed) (form words)
+task_asked words = option_and_then (λ (asked : Invocation). task_of asked.mode asked.epoch asked.seed) (form words)

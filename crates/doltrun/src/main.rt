@@ -23,7 +23,7 @@ use std::process::ExitCode;
 use std::rt::Env;
 pub use top::{run, run_with};
 use wire_io::{NoPace, StdSink, StdSource};
-pub use words::{Form, LoadRun, Mode, MomentOrder, ScriptRun, Task};
+pub use words::{Invocation, LoadRun, Mode, MomentOrder, ScriptRun, Task};
 
 fn main(rt: HostRuntime) -> ExitCode {
     let Ok(words) = given_words(&rt) else {

@@ -28,7 +28,7 @@ pub enum Mode {
 
 /// What the words ask for.
 #[derive(Clone, Copy, Debug, PartialEq, Eq)]
-pub struct Form {
+pub struct Invocation {
     pub mode: Mode,
     /// The date of every commit.
     pub epoch: i64,
@@ -102,7 +102,7 @@ fn task_in(mode: Mode, epoch: i64, seed: Option<u64>) -> Option<Task>
 }
 
 /// What the words, without the program's name, ask for; `None` where they are none of the program's forms.
-pub fn read_words<'a>(alloc: Global, words: &'a [String]) -> Result<Option<Form>, AllocError>
+pub fn read_words<'a>(alloc: Global, words: &'a [String]) -> Result<Option<Invocation>, AllocError>
     ensures { IfOk result (λ read. read ≡ form (spelled words.entry.now)) }
 {
     match command(alloc)?.try_get_matches_from(words) {
@@ -129,7 +129,7 @@ fn command<'a>(alloc: Global) -> Result<Command<'a>, AllocError>
         .arg(seed)
 }
 
-fn form_in(matches: &ArgMatches) -> Option<Form>
+fn form_in(matches: &ArgMatches) -> Option<Invocation>
     ensures { result ≡ form_named (first_value (found_of matches.now) (codes "mode"))
         (first_value (found_of matches.now) (codes "epoch"))
         (first_value (found_of matches.now) (codes "seed")) }
@@ -138,12 +138,12 @@ fn form_in(matches: &ArgMatches) -> Option<Form>
     form_for(mode, matches.get_str("epoch"), matches.get_str("seed"))
 }
 
-fn form_for(mode: Mode, epoch: Option<&str>, seed: Option<&str>) -> Option<Form>
+fn form_for(mode: Mode, epoch: Option<&str>, seed: Option<&str>) -> Option<Invocation>
     ensures { result ≡ form_of mode (option_map (λ text. text.now) epoch.entry) (option_map (λ text. text.now) seed.entry) }
 {
     let epoch = epoch_or_zero(epoch)?;
     let seed = seed_for(mode, seed)?;
-    Some(Form { mode, epoch, seed })
+    Some(Invocation { mode, epoch, seed })
 }
 
 fn mode_in(text: &str) -> Option<Mode>

@@ -8,8 +8,8 @@ use Rattle.std.specs.declared.cmp.Ordering.TheVariants.{Less, Equal, Greater}
 use Rattle.basic_laws.proofs.Orderings.{less_is}
 use Rattle.tuple_codec.specs.Nodes.{Item, RiseAfter, is_after, leaf_item}
 use Rattle.tuple_codec.specs.Edits.{EditsRiseAfter, added, against, all_added, changed, edited, edits_at, order, putting, puts, removed, replaced}
-use Rattle.tuple_codec.specs.declared.edits.Change.{Change}
 use Rattle.tuple_codec.specs.declared.edits.Edit.{Edit}
+use Rattle.tuple_codec.specs.declared.edits.ItemChange.{ItemChange}
 use Rattle.edit_laws.specs.ByKey.{as_edits}
 use Rattle.edit_laws.proofs.Orders.{less_trans, same_key, turned}
 
@@ -61,7 +61,7 @@ added_rise : (before : Option (List ℕ)) (others : List Item) → RiseAfter bef
 added_rise before [] rise = tt
 added_rise before (other ∷ others) rise = (rise.0, added_rise (Some other.key) others rise.1)
 
-replaced_rise : (before : Option (List ℕ)) (row other : Item) (changes : List Change) (same : Bool) → is_after before row.key ≡ true → EditsRiseAfter (Some row.key) (as_edits changes)
+replaced_rise : (before : Option (List ℕ)) (row other : Item) (changes : List ItemChange) (same : Bool) → is_after before row.key ≡ true → EditsRiseAfter (Some row.key) (as_edits changes)
     → EditsRiseAfter before (as_edits (if same then changes else replaced row other ∷ changes))
 replaced_rise before row other changes true after rise = edits_lower before row.key (as_edits changes) after rise
 replaced_rise before row other changes false after rise = (after, rise)

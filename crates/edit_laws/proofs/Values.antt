@@ -9,8 +9,8 @@ use Rattle.basic_laws.proofs.Orderings.{less_is}
 use Rattle.basic_laws.proofs.Options.{some_is as some_same}
 use Rattle.tuple_codec.specs.Nodes.{Item, Rise, RiseAfter}
 use Rattle.tuple_codec.specs.Edits.{EditsRiseAfter, added, against, all_added, changed, edited, edits_at, order, putting, puts, removed, replaced, value_at}
-use Rattle.tuple_codec.specs.declared.edits.Change.{Change}
 use Rattle.tuple_codec.specs.declared.edits.Edit.{Edit}
+use Rattle.tuple_codec.specs.declared.edits.ItemChange.{ItemChange}
 use Rattle.edit_laws.specs.ByKey.{AreLeafRows, as_edits, between, change_at, edit_at, over}
 use Rattle.edit_laws.proofs.Orders.{apart, same_key, turned}
 use Rattle.edit_laws.proofs.Rising.{changed_rise, edited_all, edited_rise, edits_lower, puts_rise, rows_lower}
@@ -123,7 +123,7 @@ both_ones false false false one two old later rest is s gone none e = e
 both_ones true true true one two old later rest is s gone none e = rw is (e ∙ ap (λ x. between x later) (gone refl) ∙ ap (λ x. between None x) (none refl))
 both_ones true true false one two old later rest is s gone none e = rw is refl
 
-change_if : (key : List ℕ) (t : Bool) (change : Change) (changes : List Change)
+change_if : (key : List ℕ) (t : Bool) (change : ItemChange) (changes : List ItemChange)
     → change_at key (if t then changes else change ∷ changes) ≡ (if t then change_at key changes else change_at key (change ∷ changes))
 change_if key true change changes = refl
 change_if key false change changes = refl
@@ -205,7 +205,7 @@ unfolding value_of
 value_if true old new edits rest e = refl
 value_if false old new edits rest e = e
 
-edit_found : (key : List ℕ) (changes : List Change) → edit_at key (as_edits changes) ≡ value_of (change_at key changes)
+edit_found : (key : List ℕ) (changes : List ItemChange) → edit_at key (as_edits changes) ≡ value_of (change_at key changes)
 unfolding value_of
 edit_found key [] = refl
 edit_found key (change ∷ changes) = value_if (bytes_eq change.key key) change.old change.new (edit_at key (as_edits changes)) (change_at key changes) (edit_found key changes)
@@ -222,7 +222,7 @@ over_between None (Some new) = refl
 over_between (Some old) None = refl
 over_between (Some old) (Some new) = over_both (bytes_eq new old) old new refl
 
-edit_of_change : (key : List ℕ) (changes : List Change) (old new : Option (List ℕ)) → change_at key changes ≡ between old new → over (edit_at key (as_edits changes)) old ≡ new
+edit_of_change : (key : List ℕ) (changes : List ItemChange) (old new : Option (List ℕ)) → change_at key changes ≡ between old new → over (edit_at key (as_edits changes)) old ≡ new
 edit_of_change key changes old new e = ap (λ x. over x old) (edit_found key changes ∙ ap value_of e) ∙ over_between old new
 
 pub changes_back : (rows others : List Item) → Rise rows → Rise others → AreLeafRows rows → AreLeafRows others → edited rows (as_edits (changed rows others)) ≡ others

@@ -4,7 +4,7 @@ use Rattle.std.specs.List.{AllByRecursion}
 use Rattle.tuple_codec.specs.Nodes.{Item, Rise}
 use Rattle.tuple_codec.specs.Edits.{EditsRiseAfter, changed, edited, value_at}
 use Rattle.tuple_codec.specs.declared.edits.Edit.{Edit}
-use Rattle.tuple_codec.specs.declared.edits.Change.{Change}
+use Rattle.tuple_codec.specs.declared.edits.ItemChange.{ItemChange}
 
 -- what an edit puts at the key, none being removal, if there is an edit of it
 abbrev pub edit_at : List ℕ → List Edit → Option (Option (List ℕ))
@@ -17,7 +17,7 @@ over None old = old
 over (Some new) old = new
 
 -- both values, old and new, of the change at the key, if there is one
-abbrev pub change_at : List ℕ → List Change → Option (Option (List ℕ) × Option (List ℕ))
+abbrev pub change_at : List ℕ → List ItemChange → Option (Option (List ℕ) × Option (List ℕ))
 change_at key [] = None
 change_at key (change ∷ changes) = if bytes_eq change.key key then Some (change.old, change.new) else change_at key changes
 
@@ -29,10 +29,10 @@ between (Some old) None = Some (Some old, None)
 between (Some old) (Some new) = if bytes_eq new old then None else Some (Some old, Some new)
 
 -- changes as the edits that make them
-abbrev pub as_edit : Change → Edit
+abbrev pub as_edit : ItemChange → Edit
 as_edit change = record { key = change.key; value = change.new }
 
-abbrev pub as_edits : List Change → List Edit
+abbrev pub as_edits : List ItemChange → List Edit
 as_edits changes = map as_edit changes
 
 -- rows of a leaf, each of which counts as one

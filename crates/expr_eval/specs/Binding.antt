@@ -11,9 +11,9 @@ use Rattle.tuple_codec.specs.declared.values.Value.TheVariants as cell
 use Rattle.sql_values.specs.declared.kinds.Kind.{Kind}
 use Rattle.sql_values.specs.declared.kinds.Kind.TheVariants as kind
 use Rattle.sql_values.specs.Kinds.{is_bool, are_comparable, sum_kind, product_kind, negative_kind, kind_of, decimal}
-use Rattle.expr_eval.specs.declared.bound.Node.{Node, out-Node}
-use Rattle.expr_eval.specs.declared.bound.Node.TheOpen.{Node-F}
-use Rattle.expr_eval.specs.declared.bound.Node.TheVariants as node
+use Rattle.expr_eval.specs.declared.bound.BoundNode.{BoundNode, out-BoundNode}
+use Rattle.expr_eval.specs.declared.bound.BoundNode.TheOpen.{BoundNode-F}
+use Rattle.expr_eval.specs.declared.bound.BoundNode.TheVariants as node
 use Rattle.expr_eval.specs.declared.bound.BoundExpr.{BoundExpr}
 use Rattle.expr_eval.specs.declared.binding.Meeting.{Meeting}
 use Rattle.expr_eval.specs.declared.binding.Meeting.TheVariants as meeting
@@ -37,11 +37,11 @@ and_then (Err number) f = Err number
 abbrev pub mismatch : {A : Type 0} → Outcome A
 mismatch = Err 9001
 
-abbrev pub typed : Option Kind → Node → Outcome BoundExpr
+abbrev pub typed : Option Kind → BoundNode → Outcome BoundExpr
 typed (Some kind) made = Ok (record { kind = kind; node = made })
 typed None made = mismatch
 
-abbrev pub truth_if : Bool → Node → Outcome BoundExpr
+abbrev pub truth_if : Bool → BoundNode → Outcome BoundExpr
 truth_if fitting made = if fitting then Ok (record { kind = kind.Bool; node = made }) else mismatch
 
 abbrev pub bound_not : BoundExpr → Outcome BoundExpr
@@ -57,12 +57,12 @@ abbrev pub bound_compare : Comparison → BoundExpr → BoundExpr → Outcome Bo
 bound_compare op a b = truth_if (are_comparable a.kind b.kind) (node.Compare a.node op b.node)
 
 -- a minus brings the literal 2^63 into range
-abbrev pub minus_of : Node-F Node → Node → Node
-minus_of Node-F.MinusOnly operand = node.Constant kind.Int (cell.Int (negsuc (2 ^ 63 - 1)))
+abbrev pub minus_of : BoundNode-F BoundNode → BoundNode → BoundNode
+minus_of BoundNode-F.MinusOnly operand = node.Constant kind.Int (cell.Int (negsuc (2 ^ 63 - 1)))
 minus_of opened operand = node.Negate operand
 
 abbrev pub bound_negate : BoundExpr → Outcome BoundExpr
-bound_negate a = typed (negative_kind a.kind) (minus_of (out-Node a.node) a.node)
+bound_negate a = typed (negative_kind a.kind) (minus_of (out-BoundNode a.node) a.node)
 
 -- an operation right after its last operand
 abbrev pub two : {A B C : Type 0} → (A → B → Outcome C) → Outcome A → Outcome B → Outcome C
@@ -85,7 +85,7 @@ chain_kind meeting.Comparison = compared_kind
 abbrev pub opened_chain : BoundExpr → Chain
 opened_chain first = record { kind = first.kind; first = first.node; rest = [] }
 
-abbrev pub longer_if : Option Kind → Chain → Node → Outcome Chain
+abbrev pub longer_if : Option Kind → Chain → BoundNode → Outcome Chain
 longer_if (Some kind) chain operand = Ok (record { kind = kind; first = chain.first; rest = chain.rest ++ operand ∷ [] })
 longer_if None chain operand = mismatch
 
@@ -116,7 +116,7 @@ bound_in elements value = and_then (bound_chain compared_kind elements value) in
 abbrev pub opened_sum : BoundExpr → Sum
 opened_sum first = record { kind = first.kind; first = first.node; rest = [] }
 
-abbrev pub longer_sum_if : Option Kind → Sum → Term × Node → Outcome Sum
+abbrev pub longer_sum_if : Option Kind → Sum → Term × BoundNode → Outcome Sum
 longer_sum_if (Some kind) sum operand = Ok (record { kind = kind; first = sum.first; rest = sum.rest ++ operand ∷ [] })
 longer_sum_if None sum operand = mismatch
 
@@ -142,10 +142,10 @@ abbrev pub bound_between : Outcome BoundExpr → Outcome BoundExpr → BoundExpr
 bound_between low high value = and_then (and_then low (low_end value)) (λ ends. and_then high (high_end ends))
 
 -- a whole literal is at most 2^63 - 1, but for 2^63 under a minus
-abbrev pub whole_node : ℕ → Node
+abbrev pub whole_node : ℕ → BoundNode
 whole_node n = if nat_lt n (2 ^ 63) then node.Constant kind.Int (cell.Int (pos n)) else (if n == 2 ^ 63 then node.MinusOnly else node.OutOfRange)
 
-abbrev pub decimal_node : Kind → ℕ → Node
+abbrev pub decimal_node : Kind → ℕ → BoundNode
 decimal_node kind n = if nat_lt n (10 ^ 18) then node.Constant kind (cell.Decimal (pos n)) else node.OutOfRange
 
 abbrev pub decimal_typed : Option Kind → ℕ → Outcome BoundExpr

@@ -18,8 +18,8 @@ use Rattle.expr_eval.specs.declared.faults.EvalFault.{EvalFault}
 use Rattle.expr_eval.specs.declared.faults.EvalFault.TheVariants.{Memory, OutOfRange}
 use Rattle.expr_eval.specs.declared.valuing.Operation.{Operation}
 use Rattle.expr_eval.specs.declared.valuing.Operation.TheVariants as operation
-use Rattle.expr_eval.specs.declared.bound.Node.{Node, fold-Node}
-use Rattle.expr_eval.specs.declared.bound.Node.TheOpen.{Node-F}
+use Rattle.expr_eval.specs.declared.bound.BoundNode.{BoundNode, fold-BoundNode}
+use Rattle.expr_eval.specs.declared.bound.BoundNode.TheOpen.{BoundNode-F}
 
 -- None: out of range
 abbrev pub Worthy : Type 0
@@ -101,28 +101,28 @@ joined operation.And = conjunction
 joined operation.Times = times
 
 -- what a node is worth on a row, given what its parts are worth
-abbrev pub step : Cells → Node-F Worthy → Worthy
-step row (Node-F.Or first rest) = chained disjunction first rest
-step row (Node-F.And first rest) = chained conjunction first rest
-step row (Node-F.Not a) = one negation a
-step row (Node-F.Compare a op b) = two (comparison op) a b
-step row (Node-F.IsNull a) = one (λ x. Some (Truth (is_unknown x))) a
-step row (Node-F.IsNotNull a) = one (λ x. Some (Truth (not (is_unknown x)))) a
-step row (Node-F.In value elements) = one (among elements) value
-step row (Node-F.Between a low high) = between a low high
-step row (Node-F.Terms first rest) = total first rest
-step row (Node-F.Factors first rest) = chained times first rest
-step row (Node-F.Negate a) = one negated a
-step row (Node-F.Constant kind value) = Some (worth_of kind value)
-step row Node-F.MinusOnly = None
-step row Node-F.OutOfRange = None
-step row (Node-F.Column kind place) = Some (worth_of kind (slice_index_or row place cell.Null))
+abbrev pub step : Cells → BoundNode-F Worthy → Worthy
+step row (BoundNode-F.Or first rest) = chained disjunction first rest
+step row (BoundNode-F.And first rest) = chained conjunction first rest
+step row (BoundNode-F.Not a) = one negation a
+step row (BoundNode-F.Compare a op b) = two (comparison op) a b
+step row (BoundNode-F.IsNull a) = one (λ x. Some (Truth (is_unknown x))) a
+step row (BoundNode-F.IsNotNull a) = one (λ x. Some (Truth (not (is_unknown x)))) a
+step row (BoundNode-F.In value elements) = one (among elements) value
+step row (BoundNode-F.Between a low high) = between a low high
+step row (BoundNode-F.Terms first rest) = total first rest
+step row (BoundNode-F.Factors first rest) = chained times first rest
+step row (BoundNode-F.Negate a) = one negated a
+step row (BoundNode-F.Constant kind value) = Some (worth_of kind value)
+step row BoundNode-F.MinusOnly = None
+step row BoundNode-F.OutOfRange = None
+step row (BoundNode-F.Column kind place) = Some (worth_of kind (slice_index_or row place cell.Null))
 
 -- None: out of range
-abbrev pub worth : Cells → Node → Worthy
-worth row node = fold-Node Worthy (step row) node
+abbrev pub worth : Cells → BoundNode → Worthy
+worth row node = fold-BoundNode Worthy (step row) node
 
-abbrev pub value : Cells → Node → Option Value
+abbrev pub value : Cells → BoundNode → Option Value
 value row node = option_map cell_of (worth row node)
 
 -- what evaluation answers: want of memory is the one answer that isn't given here

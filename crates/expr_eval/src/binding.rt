@@ -1,7 +1,7 @@
 //! Names turned into places in a scope, and the kinds of operations, or the first refusal.
 
 ghost use Rattle.std.specs.Prelude.{◌≡◌, map, fold, Ok, IfOk};
-ghost use Rattle.expr_eval.specs.declared.bound.Node.{out-Node};
+ghost use Rattle.expr_eval.specs.declared.bound.BoundNode.{out-BoundNode};
 ghost use Rattle.expr_eval.specs.Binding.{
   Gives,
   and_then,
@@ -31,7 +31,7 @@ ghost use Rattle.expr_eval.specs.Binding.{
   whole_node,
 };
 
-use crate::bound::{BoundExpr, Chain, Ends, Node, Sum};
+use crate::bound::{BoundExpr, BoundNode, Chain, Ends, Sum};
 use crate::faults::BindFault;
 use crate::scopes::{ScopeColumn, place_named, place_qualified};
 use sql_ast::{Comparison, Expr, Literal, Term};
@@ -70,7 +70,7 @@ pub fn bind(alloc: Global, expr: &Expr, scope: &[ScopeColumn]) -> Result<BoundEx
             let chain = chain(alloc, Meeting::Logic, first, rest.as_slice(), scope)?;
             Ok(BoundExpr {
                 kind: chain.kind,
-                node: Node::Or(chain.first, chain.rest),
+                node: BoundNode::Or(chain.first, chain.rest),
             })
         }
         Expr::And(first, rest) => {
@@ -78,7 +78,7 @@ pub fn bind(alloc: Global, expr: &Expr, scope: &[ScopeColumn]) -> Result<BoundEx
             let chain = chain(alloc, Meeting::Logic, first, rest.as_slice(), scope)?;
             Ok(BoundExpr {
                 kind: chain.kind,
-                node: Node::And(chain.first, chain.rest),
+                node: BoundNode::And(chain.first, chain.rest),
             })
         }
         Expr::Not(a) => bound_not(alloc, bind(alloc, a.get(), scope)?),
@@ -111,7 +111,7 @@ pub fn bind(alloc: Global, expr: &Expr, scope: &[ScopeColumn]) -> Result<BoundEx
             let sum = sum(alloc, first, rest.as_slice(), scope)?;
             Ok(BoundExpr {
                 kind: sum.kind,
-                node: Node::Terms(sum.first, sum.rest),
+                node: BoundNode::Terms(sum.first, sum.rest),
             })
         }
         Expr::Factors(first, rest) => {
@@ -119,7 +119,7 @@ pub fn bind(alloc: Global, expr: &Expr, scope: &[ScopeColumn]) -> Result<BoundEx
             let chain = chain(alloc, Meeting::Product, first, rest.as_slice(), scope)?;
             Ok(BoundExpr {
                 kind: chain.kind,
-                node: Node::Factors(chain.first, chain.rest),
+                node: BoundNode::Factors(chain.first, chain.rest),
             })
         }
         Expr::Negate(a) => bound_negate(alloc, bind(alloc, a.get(), scope)?),
@@ -206,7 +206,7 @@ fn listed(
     let chain = chain(alloc, Meeting::Comparison, value, elements, scope)?;
     Ok(BoundExpr {
         kind: Kind::Bool,
-        node: Node::In(chain.first, chain.rest),
+        node: BoundNode::In(chain.first, chain.rest),
     })
 }
 
@@ -329,7 +329,7 @@ fn bound_not(alloc: Global, a: BoundExpr) -> Result<BoundExpr, BindFault>
     let a = Boxed::new(alloc, a.node)?;
     Ok(BoundExpr {
         kind: Kind::Bool,
-        node: Node::Not(a),
+        node: BoundNode::Not(a),
     })
 }
 
@@ -348,7 +348,7 @@ fn bound_compare(
     let b = Boxed::new(alloc, b.node)?;
     Ok(BoundExpr {
         kind: Kind::Bool,
-        node: Node::Compare(a, comparison, b),
+        node: BoundNode::Compare(a, comparison, b),
     })
 }
 
@@ -358,7 +358,7 @@ fn bound_is_null(alloc: Global, a: BoundExpr) -> Result<BoundExpr, BindFault>
     let a = Boxed::new(alloc, a.node)?;
     Ok(BoundExpr {
         kind: Kind::Bool,
-        node: Node::IsNull(a),
+        node: BoundNode::IsNull(a),
     })
 }
 
@@ -368,7 +368,7 @@ fn bound_is_not_null(alloc: Global, a: BoundExpr) -> Result<BoundExpr, BindFault
     let a = Boxed::new(alloc, a.node)?;
     Ok(BoundExpr {
         kind: Kind::Bool,
-        node: Node::IsNotNull(a),
+        node: BoundNode::IsNotNull(a),
     })
 }
 
@@ -393,7 +393,7 @@ fn high_end(alloc: Global, ends: Ends, high: BoundExpr) -> Result<BoundExpr, Bin
     let high = Boxed::new(alloc, high.node)?;
     Ok(BoundExpr {
         kind: Kind::Bool,
-        node: Node::Between(ends.value, ends.low, high),
+        node: BoundNode::Between(ends.value, ends.low, high),
     })
 }
 
@@ -410,12 +410,12 @@ fn bound_negate(alloc: Global, a: BoundExpr) -> Result<BoundExpr, BindFault>
 }
 
 /// A node under a minus, which brings the literal 2^63 into range.
-fn minus_of(alloc: Global, operand: Node) -> Result<Node, AllocError>
-    ensures { IfOk result (λ node. node ≡ minus_of (out-Node operand) operand) }
+fn minus_of(alloc: Global, operand: BoundNode) -> Result<BoundNode, AllocError>
+    ensures { IfOk result (λ node. node ≡ minus_of (out-BoundNode operand) operand) }
 {
     match operand {
-        Node::MinusOnly => Ok(Node::Constant(Kind::Int, Value::Int(i64::MIN))),
-        operand => Ok(Node::Negate(Boxed::new(alloc, operand)?)),
+        BoundNode::MinusOnly => Ok(BoundNode::Constant(Kind::Int, Value::Int(i64::MIN))),
+        operand => Ok(BoundNode::Negate(Boxed::new(alloc, operand)?)),
     }
 }
 
@@ -442,23 +442,23 @@ fn bound_literal(alloc: Global, literal: &Literal) -> Result<BoundExpr, BindFaul
 }
 
 fn constant(kind: Kind, value: Value) -> BoundExpr
-    ensures { result ≡ record { kind = kind; node = Node.Constant kind value } }
+    ensures { result ≡ record { kind = kind; node = BoundNode.Constant kind value } }
 {
     BoundExpr {
         kind: kind.copied(),
-        node: Node::Constant(kind, value),
+        node: BoundNode::Constant(kind, value),
     }
 }
 
-fn whole_node(number: u64) -> Node
+fn whole_node(number: u64) -> BoundNode
     ensures { result ≡ whole_node number }
 {
     if number < 1 << 63 {
-        Node::Constant(Kind::Int, Value::Int(number as i64))
+        BoundNode::Constant(Kind::Int, Value::Int(number as i64))
     } else if number == 1 << 63 {
-        Node::MinusOnly
+        BoundNode::MinusOnly
     } else {
-        Node::OutOfRange
+        BoundNode::OutOfRange
     }
 }
 
@@ -474,13 +474,13 @@ fn bound_decimal(number: u64, kind: Option<Kind>) -> Result<BoundExpr, BindFault
     }
 }
 
-fn decimal_node(kind: Kind, number: u64) -> Node
+fn decimal_node(kind: Kind, number: u64) -> BoundNode
     ensures { result ≡ decimal_node kind number }
 {
     if number < 1_000_000_000_000_000_000 {
-        Node::Constant(kind, Value::Decimal(number as i64))
+        BoundNode::Constant(kind, Value::Decimal(number as i64))
     } else {
-        Node::OutOfRange
+        BoundNode::OutOfRange
     }
 }
 
@@ -502,7 +502,7 @@ fn column_at(scope: &[ScopeColumn], place: usize) -> Result<BoundExpr, BindFault
             None => Err(MISMATCH),
             Some(kind) => Ok(BoundExpr {
                 kind: kind.copied(),
-                node: Node::Column(kind, place),
+                node: BoundNode::Column(kind, place),
             }),
         },
     }

@@ -8,31 +8,31 @@ use tuple_codec::{Boxed, Sequence, Value};
 #[derive(Debug, Drop)]
 pub struct BoundExpr {
     pub kind: Kind,
-    pub node: Node,
+    pub node: BoundNode,
 }
 
 /// An operation with its operands, whose kinds fit it. Columns and literals carry their kinds; every value that is made
 /// of theirs knows its own.
 #[derive(Debug, Drop)]
-pub enum Node {
+pub enum BoundNode {
     /// The first operand and the others from the left. So a chain is one node, however long it is.
-    Or(Boxed<Node>, Sequence<Node>),
+    Or(Boxed<BoundNode>, Sequence<BoundNode>),
     /// As `Or`.
-    And(Boxed<Node>, Sequence<Node>),
-    Not(Boxed<Node>),
-    Compare(Boxed<Node>, Comparison, Boxed<Node>),
-    IsNull(Boxed<Node>),
-    IsNotNull(Boxed<Node>),
+    And(Boxed<BoundNode>, Sequence<BoundNode>),
+    Not(Boxed<BoundNode>),
+    Compare(Boxed<BoundNode>, Comparison, Boxed<BoundNode>),
+    IsNull(Boxed<BoundNode>),
+    IsNotNull(Boxed<BoundNode>),
     /// The value and the list's elements.
-    In(Boxed<Node>, Sequence<Node>),
+    In(Boxed<BoundNode>, Sequence<BoundNode>),
     /// The value, the low end and the high end.
-    Between(Boxed<Node>, Boxed<Node>, Boxed<Node>),
+    Between(Boxed<BoundNode>, Boxed<BoundNode>, Boxed<BoundNode>),
     /// A sum: the first operand and what is added to it or subtracted, from the left.
-    Terms(Boxed<Node>, Sequence<(Term, Node)>),
+    Terms(Boxed<BoundNode>, Sequence<(Term, BoundNode)>),
     /// A product: as `Or`.
-    Factors(Boxed<Node>, Sequence<Node>),
+    Factors(Boxed<BoundNode>, Sequence<BoundNode>),
     /// A unary minus.
-    Negate(Boxed<Node>),
+    Negate(Boxed<BoundNode>),
     /// A literal.
     Constant(Kind, Value),
     /// The literal 2^63, which is in range only under a unary minus.
@@ -47,22 +47,22 @@ pub enum Node {
 #[derive(Drop)]
 pub struct Chain {
     pub kind: Kind,
-    pub first: Boxed<Node>,
-    pub rest: Sequence<Node>,
+    pub first: Boxed<BoundNode>,
+    pub rest: Sequence<BoundNode>,
 }
 
 /// A sum's operands so far and their kind.
 #[derive(Drop)]
 pub struct Sum {
     pub kind: Kind,
-    pub first: Boxed<Node>,
-    pub rest: Sequence<(Term, Node)>,
+    pub first: Boxed<BoundNode>,
+    pub rest: Sequence<(Term, BoundNode)>,
 }
 
 /// The value and the low end of a BETWEEN, and the value's kind.
 #[derive(Drop)]
 pub struct Ends {
     pub kind: Kind,
-    pub value: Boxed<Node>,
-    pub low: Boxed<Node>,
+    pub value: Boxed<BoundNode>,
+    pub low: Boxed<BoundNode>,
 }

@@ -8,7 +8,7 @@ mod scopes;
 mod valuing;
 
 pub use binding::{bind, bind_condition};
-pub use bound::{BoundExpr, Node};
+pub use bound::{BoundExpr, BoundNode};
 pub use faults::{BindFault, EvalFault};
 pub use scopes::{ScopeColumn, place_named, place_qualified};
 pub use valuing::{eval, eval_cells};

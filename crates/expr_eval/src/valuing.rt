@@ -6,7 +6,7 @@ ghost use Rattle.sql_values.specs.Views.{seen};
 ghost use Rattle.sql_values.specs.Worths.{of_truth};
 ghost use Rattle.expr_eval.specs.Valuing.{Evaluates, added, among, chained, compared, comparison, conjunction, disjunction, holds, joined, negation, total, within, worth, value};
 
-use crate::bound::{BoundExpr, Node};
+use crate::bound::{BoundExpr, BoundNode};
 use crate::faults::EvalFault;
 use sql_ast::{Comparison, Term};
 use sql_values::{Worth, add, and, compare, multiply, negate, not, or, subtract};
@@ -34,25 +34,25 @@ pub fn eval_cells(alloc: Global, expr: &BoundExpr, cells: &[Value]) -> Result<Va
 
 /// What a node is worth on a row, or None where it is out of range.
 #[cycle(worth)]
-fn worth<'a>(node: &'a Node, row: &'a [Value]) -> Option<Worth<'a>>
+fn worth<'a>(node: &'a BoundNode, row: &'a [Value]) -> Option<Worth<'a>>
     ensures { option_map seen result ≡ worth row.now node.now }
 {
     match node {
-        Node::Or(first, rest) => match worth(first.get(), row) {
+        BoundNode::Or(first, rest) => match worth(first.get(), row) {
             Some(first) => chained(Operation::Or, &first, rest.as_slice(), row),
             None => None,
         },
-        Node::And(first, rest) => match worth(first.get(), row) {
+        BoundNode::And(first, rest) => match worth(first.get(), row) {
             Some(first) => chained(Operation::And, &first, rest.as_slice(), row),
             None => None,
         },
-        Node::Not(a) => {
+        BoundNode::Not(a) => {
             let Some(a) = worth(a.get(), row) else {
                 return None;
             };
             Some(negation(&a))
         }
-        Node::Compare(a, comparison, b) => {
+        BoundNode::Compare(a, comparison, b) => {
             let Some(a) = worth(a.get(), row) else {
                 return None;
             };
@@ -61,23 +61,23 @@ fn worth<'a>(node: &'a Node, row: &'a [Value]) -> Option<Worth<'a>>
             };
             Some(Worth::of_truth(compared(*comparison, &a, &b)))
         }
-        Node::IsNull(a) => {
+        BoundNode::IsNull(a) => {
             let Some(a) = worth(a.get(), row) else {
                 return None;
             };
             Some(Worth::Bool(a.is_null()))
         }
-        Node::IsNotNull(a) => {
+        BoundNode::IsNotNull(a) => {
             let Some(a) = worth(a.get(), row) else {
                 return None;
             };
             Some(Worth::Bool(!a.is_null()))
         }
-        Node::In(value, elements) => match worth(value.get(), row) {
+        BoundNode::In(value, elements) => match worth(value.get(), row) {
             Some(value) => among(&value, elements.as_slice(), row),
             None => None,
         },
-        Node::Between(a, low, high) => {
+        BoundNode::Between(a, low, high) => {
             let Some(a) = worth(a.get(), row) else {
                 return None;
             };
@@ -89,23 +89,23 @@ fn worth<'a>(node: &'a Node, row: &'a [Value]) -> Option<Worth<'a>>
             };
             Some(within(&a, &low, &high))
         }
-        Node::Terms(first, rest) => match worth(first.get(), row) {
+        BoundNode::Terms(first, rest) => match worth(first.get(), row) {
             Some(first) => total(&first, rest.as_slice(), row),
             None => None,
         },
-        Node::Factors(first, rest) => match worth(first.get(), row) {
+        BoundNode::Factors(first, rest) => match worth(first.get(), row) {
             Some(first) => chained(Operation::Times, &first, rest.as_slice(), row),
             None => None,
         },
-        Node::Negate(a) => {
+        BoundNode::Negate(a) => {
             let Some(a) = worth(a.get(), row) else {
                 return None;
             };
             negate(&a)
         }
-        Node::Constant(kind, value) => Some(Worth::of(kind, value)),
-        Node::MinusOnly | Node::OutOfRange => None,
-        Node::Column(kind, place) => match row.get(*place) {
+        BoundNode::Constant(kind, value) => Some(Worth::of(kind, value)),
+        BoundNode::MinusOnly | BoundNode::OutOfRange => None,
+        BoundNode::Column(kind, place) => match row.get(*place) {
             Some(value) => Some(Worth::of(kind, value)),
             None => Some(Worth::Null),
         },
@@ -117,7 +117,7 @@ fn worth<'a>(node: &'a Node, row: &'a [Value]) -> Option<Worth<'a>>
 fn chained<'a>(
     operation: Operation,
     first: &Worth<'a>,
-    rest: &'a [Node],
+    rest: &'a [BoundNode],
     row: &'a [Value],
 ) -> Option<Worth<'a>>
     ensures { option_map seen result ≡ chained (joined operation) (Some (seen first.now)) (map (worth row.now) rest.now) }
@@ -137,7 +137,11 @@ fn chained<'a>(
 
 /// A sum's worth, from that of its first operand.
 #[cycle(worth)]
-fn total<'a>(first: &Worth<'a>, rest: &'a [(Term, Node)], row: &'a [Value]) -> Option<Worth<'a>>
+fn total<'a>(
+    first: &Worth<'a>,
+    rest: &'a [(Term, BoundNode)],
+    row: &'a [Value],
+) -> Option<Worth<'a>>
     ensures { option_map seen result ≡ total (Some (seen first.now)) (map (λ x. (x.0, worth row.now x.1)) rest.now) }
 {
     let mut so_far = copied(first);
@@ -155,7 +159,7 @@ fn total<'a>(first: &Worth<'a>, rest: &'a [(Term, Node)], row: &'a [Value]) -> O
 
 /// Whether a value equals an element.
 #[cycle(worth)]
-fn among<'a>(value: &Worth<'a>, elements: &'a [Node], row: &'a [Value]) -> Option<Worth<'a>>
+fn among<'a>(value: &Worth<'a>, elements: &'a [BoundNode], row: &'a [Value]) -> Option<Worth<'a>>
     ensures { option_map seen result ≡ among (map (worth row.now) elements.now) (seen value.now) }
 {
     let mut found = Some(false);

@@ -18,7 +18,7 @@ use Rattle.tree_laws.proofs.Growing.{tree_later}
 use Rattle.edit_laws.proofs.Rising.{edited_rise}
 use Rattle.prolly_edit.specs.Editing.{CanEdit}
 use Rattle.table_root.specs.Standing.{IsTableOf, table_of_lists}
-use Rattle.table_root.specs.declared.records.Table.{Table}
+use Rattle.table_root.specs.declared.records.StoredTable.{StoredTable}
 use Rattle.table_rows.specs.Rows.{RowItemsFollow}
 use Rattle.index_keep.specs.Entries.{changes_at, keys_of, row_change, row_key}
 use Rattle.index_keep.specs.Keeping.{AreIndexes, CanEditTable, CanIndex, table_of_rows, with_rows}
@@ -28,7 +28,7 @@ use Rattle.index_keep.proofs.ChangeLemmas.{changes_come, rows_change, rows_come}
 use Rattle.index_keep.proofs.StandLemmas.{indexes_in, keys_rise, puts_rows, short_in, as_address, stand_at, stand_roots, stand_trees}
 
 -- the table of these roots, where its lists of conflicts and violations stay
-abbrev table_with : (List ℕ → List ℕ) → PlainTable → Address → List Address → Table
+abbrev table_with : (List ℕ → List ℕ) → PlainTable → Address → List Address → StoredTable
 table_with address contents k roots = record {
   schema = contents.schema;
   rows = k;
@@ -50,19 +50,19 @@ none_at : (address : List ℕ → List ℕ) (chunks : Chunks) (schema : Schema) 
 none_at address chunks schema rows [] all P here = here
 none_at address chunks schema rows (index ∷ indexes) all P here = absurd all
 
-module _ (address : List ℕ → List ℕ) (chunks : Chunks) (table : Table) (edits : List Edit) (contents : PlainTable) (rows : List Cells) (can : CanEditTable address chunks table edits contents rows) where
+module _ (address : List ℕ → List ℕ) (chunks : Chunks) (table : StoredTable) (edits : List Edit) (contents : PlainTable) (rows : List Cells) (can : CanEditTable address chunks table edits contents rows) where
   pub schema_is : table.schema ≡ contents.schema
-  schema_is = ap (λ (t : Table). t.schema) can.stands.value
+  schema_is = ap (λ (t : StoredTable). t.schema) can.stands.value
 
   pub is_schema_of : is_schema table.schema ≡ true
   is_schema_of = subst (λ (s : Schema). is_schema s ≡ true) (sym schema_is) can.rows_of.valid
 
   pub rows_edit : IsRowsEdit address chunks table.rows.0 table.schema edits contents.rows rows
-  rows_edit = subst (λ (t : Table). IsRowsEdit address chunks t.rows.0 t.schema edits contents.rows rows) (sym can.stands.value)
+  rows_edit = subst (λ (t : StoredTable). IsRowsEdit address chunks t.rows.0 t.schema edits contents.rows rows) (sym can.stands.value)
       (record { tree = can.stands.trees.rows; fit = can.stands.is_table.rows; rise = can.rise; items = can.items; others_fit = can.rows_of.fit })
 
   pub rows_can : CanEdit address chunks table.rows.0 edits (row_items contents)
-  rows_can = subst (λ (t : Table). CanEdit address chunks t.rows.0 edits (row_items contents)) (sym can.stands.value) (record {
+  rows_can = subst (λ (t : StoredTable). CanEdit address chunks t.rows.0 edits (row_items contents)) (sym can.stands.value) (record {
     tree = can.stands.trees.rows;
     are_edits = record { each = puts_rows contents.schema (row_items contents) edits rows can.rows_of.limits can.items; rise = can.rise };
     few = subst (λ (l : List Item). length l < 2 ^ 63) can.items (subst (λ (n : ℕ). n < 2 ^ 63) (sym (length-map rows (row_item contents.schema))) can.rows_of.few);
@@ -74,7 +74,7 @@ module _ (address : List ℕ → List ℕ) (chunks : Chunks) (table : Table) (ed
   pub indexes_can : RowItemsFollow → (later : Chunks) → Extends chunks later → (changes : List RowChange) → changes ≡ changes_at table.schema contents.rows rows (keys_of edits)
       → CanEditIndexes address later table.schema table.schema.indexes table.indexes changes contents.rows rows (keys_of edits)
   indexes_can follow later more changes are =
-      subst (λ (t : Table). changes ≡ changes_at t.schema contents.rows rows (keys_of edits) → CanEditIndexes address later t.schema t.schema.indexes t.indexes changes contents.rows rows (keys_of edits))
+      subst (λ (t : StoredTable). changes ≡ changes_at t.schema contents.rows rows (keys_of edits) → CanEditIndexes address later t.schema t.schema.indexes t.indexes changes contents.rows rows (keys_of edits))
       (sym can.stands.value)
       (λ are_changes. record {
         stand = stand_later address chunks later more contents.schema contents.rows contents.schema.indexes (table_of_lists address contents).indexes
@@ -91,7 +91,7 @@ module _ (address : List ℕ → List ℕ) (chunks : Chunks) (table : Table) (ed
       → (roots : List Address) → StandAt address last table.schema rows table.schema.indexes roots
       → IsTableOf address last (record { schema = table.schema; rows = k; indexes = roots; conflicts = table.conflicts; violations = table.violations }) (with_rows contents rows)
   table_after follow last more k tree roots stand =
-      subst (λ (t : Table). StandAt address last t.schema rows t.schema.indexes roots
+      subst (λ (t : StoredTable). StandAt address last t.schema rows t.schema.indexes roots
       → IsTableOf address last (record { schema = t.schema; rows = k; indexes = roots; conflicts = t.conflicts; violations = t.violations }) (with_rows contents rows)) (sym can.stands.value)
       (λ all.
       let items = row_items (with_rows contents rows) in

@@ -13,7 +13,7 @@ use Rattle.schema_model.specs.declared.schemas.Schema.{Schema}
 use Rattle.chunk_store.specs.Chunks.{Chunks}
 use Rattle.chunk_store.specs.Standing.{IsTree}
 use Rattle.table_root.specs.Standing.{IsTableOf}
-use Rattle.table_root.specs.declared.records.Table.{Table}
+use Rattle.table_root.specs.declared.records.StoredTable.{StoredTable}
 
 -- rows of a schema, each within the limits, and fewer than 2^63
 pub record AreRowsOf (schema : Schema) (rows : List Cells) : Type 0 where
@@ -41,7 +41,7 @@ pub record AreIndexes (address : List ℕ → List ℕ) (chunks : Chunks) (table
   pub stand : AllByRecursion (λ index. IsTree address chunks (root address (index_items table index)) (index_items table index)) table.schema.indexes
 
 -- the table stands, the edits come by rising key, and the items of these rows, which keep the limits, are those of its own after the edits
-pub record CanEditTable (address : List ℕ → List ℕ) (chunks : Chunks) (table : Table) (edits : List Edit) (contents : PlainTable) (rows : List Cells) : Type 0 where
+pub record CanEditTable (address : List ℕ → List ℕ) (chunks : Chunks) (table : StoredTable) (edits : List Edit) (contents : PlainTable) (rows : List Cells) : Type 0 where
   pub stands : IsTableOf address chunks table contents
   pub rise : EditsRiseAfter None edits
   pub items : map (row_item contents.schema) rows ≡ edited (row_items contents) edits

@@ -15,7 +15,7 @@ use crate::indexes::edit_indexes;
 use chunk_store::{Draft, PutFault};
 use prolly_edit::apply;
 use std::alloc::Global;
-use table_root::Table;
+use table_root::StoredTable;
 use table_rows::law_of_row_items;
 use tuple_codec::{Digester, Edit, Sequence};
 
@@ -26,9 +26,9 @@ use tuple_codec::{Digester, Edit, Sequence};
 pub fn apply_with_indexes<D: Digester>(
     alloc: Global,
     draft: &mut Draft<D>,
-    table: &Table,
+    table: &StoredTable,
     edits: &[Edit],
-) -> Result<Table, PutFault>
+) -> Result<StoredTable, PutFault>
     requires { (contents : PlainTable) × (rows : List Cells) × CanEditTable D.address (chunks_of draft.old.chunks) table.now edits.now contents rows }
     ensures ok { (contents : PlainTable) (rows : List Cells) → CanEditTable D.address (chunks_of draft.old.chunks) table.now edits.now contents rows
         → IfOk result (λ made. IsTableOf D.address (chunks_of draft.new.chunks) made (with_rows contents rows)) }
@@ -48,7 +48,7 @@ pub fn apply_with_indexes<D: Digester>(
         table.indexes.as_slice(),
         changes.as_slice(),
     )?;
-    Ok(Table {
+    Ok(StoredTable {
         schema: copy_schema(alloc, &table.schema)?,
         rows,
         indexes,
@@ -61,9 +61,9 @@ pub fn apply_with_indexes<D: Digester>(
 fn apply_to_rows<D: Digester>(
     alloc: Global,
     draft: &mut Draft<D>,
-    table: &Table,
+    table: &StoredTable,
     edits: &[Edit],
-) -> Result<Table, PutFault>
+) -> Result<StoredTable, PutFault>
     requires none { table.now.indexes ≡ [] }
     requires can { (contents : PlainTable) × (rows : List Cells) × CanEditTable D.address (chunks_of draft.old.chunks) table.now edits.now contents rows }
     ensures ok { (contents : PlainTable) (rows : List Cells) → CanEditTable D.address (chunks_of draft.old.chunks) table.now edits.now contents rows
@@ -73,7 +73,7 @@ fn apply_to_rows<D: Digester>(
 {
     law_of_row_items();
     let rows = apply(alloc, draft, &table.rows, edits)?;
-    Ok(Table {
+    Ok(StoredTable {
         schema: copy_schema(alloc, &table.schema)?,
         rows,
         indexes: Sequence::new(alloc),

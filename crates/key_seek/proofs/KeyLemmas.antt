@@ -17,8 +17,8 @@ use Rattle.schema_model.specs.PlainTables.{is_row, kinds}
 use Rattle.schema_model.specs.declared.schemas.Column.{Column}
 use Rattle.schema_model.specs.declared.schemas.Schema.{Schema}
 use Rattle.expr_eval.specs.declared.bound.BoundExpr.{BoundExpr}
-use Rattle.expr_eval.specs.declared.bound.Node.{Node}
-use Rattle.expr_eval.specs.declared.bound.Node.TheVariants as n
+use Rattle.expr_eval.specs.declared.bound.BoundNode.{BoundNode}
+use Rattle.expr_eval.specs.declared.bound.BoundNode.TheVariants as n
 use Rattle.expr_eval.specs.Valuing.{chained, conjunction, holds, worth}
 use Rattle.expr_eval.proofs.WorthNodes.{worth_and}
 use Rattle.plain_sql.specs.Passing.{IsCalm, IsMissed, IsPassedOver}
@@ -32,7 +32,7 @@ use Rattle.key_seek.specs.declared.choosing.Seek.{Seek}
 use Rattle.key_seek.specs.declared.entries.Entries.{Entries}
 use Rattle.key_seek.specs.declared.spans.End.{End}
 use Rattle.key_seek.specs.declared.spans.End.TheVariants as end
-use Rattle.key_seek.specs.declared.spans.Span.{Span}
+use Rattle.key_seek.specs.declared.spans.KeySpan.{KeySpan}
 
 -- ---- a row's cell
 
@@ -50,14 +50,14 @@ cell_fits (first ∷ columns) (value ∷ row) (suc place) column fit there =
 
 -- ---- a row outside
 
-abbrev Said : Cells → Node → List Node → Type 0
-Said row first rest = IsMissed (worth row first) ⊎ ((part : Node) × Contains rest part × IsMissed (worth row part))
+abbrev Said : Cells → BoundNode → List BoundNode → Type 0
+Said row first rest = IsMissed (worth row first) ⊎ ((part : BoundNode) × Contains rest part × IsMissed (worth row part))
 
-told_missed : (row : Cells) (t : SqlType) (place : ℕ) (comparison : Comparison) (v : Value) (part : Node) → IsCalm part → fits t (cell_at row place) ≡ true
+told_missed : (row : Cells) (t : SqlType) (place : ℕ) (comparison : Comparison) (v : Value) (part : BoundNode) → IsCalm part → fits t (cell_at row place) ≡ true
     → holds comparison (value_cmp (cell_at row place) v) ≡ false → Tells t place comparison v part → IsMissed (worth row part)
 told_missed row t place comparison v part calm fit h tells = let known = calm row in (known.0, known.1, tells.1 row known.0 fit h known.1)
 
-module _ (schema : Schema) (row : Cells) (first : Node) (rest : List Node) (first_calm : IsCalm first) (rest_calm : All IsCalm rest) (fit : is_row schema row ≡ true) where
+module _ (schema : Schema) (row : Cells) (first : BoundNode) (rest : List BoundNode) (first_calm : IsCalm first) (rest_calm : All IsCalm rest) (fit : is_row schema row ≡ true) where
   said_missed : (t : SqlType) (place : ℕ) (comparison : Comparison) (v : Value) → fits t (cell_at row place) ≡ true → holds comparison (value_cmp (cell_at row place) v) ≡ false
       → IsSaid t place comparison v first rest → Said row first rest
   said_missed t place comparison v fits h (inl is) = inl (told_missed row t place comparison v first first_calm fits h is)
@@ -127,7 +127,7 @@ module _ (schema : Schema) (row : Cells) (first : Node) (rest : List Node) (firs
         | false ↦ λ e. fixed_missed place op.Equal v (holds_not (value_cmp (cell_at row place) v) e) fixed.0
       ] refl
 
-parts_missed : (row : Cells) (first : Node) (rest : List Node) → IsCalm first → All IsCalm rest → Said row first rest → IsMissed (chained conjunction (worth row first) (map (worth row) rest))
+parts_missed : (row : Cells) (first : BoundNode) (rest : List BoundNode) → IsCalm first → All IsCalm rest → Said row first rest → IsMissed (chained conjunction (worth row first) (map (worth row) rest))
 parts_missed row first rest first_calm rest_calm (inl missed) = missed_first row (worth row first) rest missed rest_calm
 parts_missed row first rest first_calm rest_calm (inr there) =
     let at = there.1 in missed_at row (worth row first) rest there.0 at.0 (first_calm row) rest_calm at.1 at.2 there.2
@@ -137,20 +137,20 @@ parts_missed row first rest first_calm rest_calm (inr there) =
 over_one : (test : BoundExpr) (row : Cells) → IsCalm test.node → All IsCalm [] → Said row test.node [] → IsPassedOver test row
 over_one test row calm none said = passed_over test row (parts_missed row test.node [] calm none said)
 
-over_parts : (test : BoundExpr) (row : Cells) (first : Node) (rest : List Node) → test.node ≡ n.And first rest → IsCalm first → All IsCalm rest → Said row first rest → IsPassedOver test row
+over_parts : (test : BoundExpr) (row : Cells) (first : BoundNode) (rest : List BoundNode) → test.node ≡ n.And first rest → IsCalm first → All IsCalm rest → Said row first rest → IsPassedOver test row
 over_parts test row first rest e first_calm rest_calm said =
     let missed = parts_missed row first rest first_calm rest_calm said in
     passed_over test row (missed.0, ap (worth row) e ∙ worth_and row first rest ∙ missed.1, missed.2)
 
 -- the parts of an AND as they were read
-read_and : (test : BoundExpr) (first a : Node) (rest xs : List Node) → test.node ≡ n.And first rest → a ≡ first → xs ≡ rest → test.node ≡ n.And a xs
+read_and : (test : BoundExpr) (first a : BoundNode) (rest xs : List BoundNode) → test.node ≡ n.And first rest → a ≡ first → xs ≡ rest → test.node ≡ n.And a xs
 read_and test first a rest xs e same others = e ∙ ap (λ x. n.And x rest) (sym same) ∙ ap (λ l. n.And a l) (sym others)
 
-pub seeks_one : (schema : Schema) (test : BoundExpr) (span : Span) → IsSpanIn schema test.node [] span → Seeks schema test (is_sought schema span)
+pub seeks_one : (schema : Schema) (test : BoundExpr) (span : KeySpan) → IsSpanIn schema test.node [] span → Seeks schema test (is_sought schema span)
 seeks_one schema test span is = λ row fit h.
     over_one test row is.first_calm is.rest_calm (span_missed schema row test.node [] is.first_calm is.rest_calm fit schema.key span.fixed span.low span.high is.told h)
 
-pub seeks_and : (schema : Schema) (test : BoundExpr) (first a : Node) (rest xs : List Node) (span : Span) → test.node ≡ n.And first rest → a ≡ first → xs ≡ rest → IsSpanIn schema a xs span → Seeks schema test (is_sought schema span)
+pub seeks_and : (schema : Schema) (test : BoundExpr) (first a : BoundNode) (rest xs : List BoundNode) (span : KeySpan) → test.node ≡ n.And first rest → a ≡ first → xs ≡ rest → IsSpanIn schema a xs span → Seeks schema test (is_sought schema span)
 seeks_and schema test first a rest xs span e same others is = λ row fit h.
     over_parts test row a xs (read_and test first a rest xs e same others) is.first_calm is.rest_calm
     (span_missed schema row a xs is.first_calm is.rest_calm fit schema.key span.fixed span.low span.high is.told h)
@@ -163,7 +163,7 @@ same_false a b h = by (same_cells b a) refl where
   by true e = absurd (cc (sym h ∙ (cells_told a b).1 (sym ((cells_told b a).0 e))))
   by false e = refl
 
-others_missed : (schema : Schema) (row : Cells) (first : Node) (rest : List Node) (entries : Entries) → AreEntriesIn schema first rest entries → is_row schema row ≡ true → is_entered schema entries row ≡ false → Said row first rest
+others_missed : (schema : Schema) (row : Cells) (first : BoundNode) (rest : List BoundNode) (entries : Entries) → AreEntriesIn schema first rest entries → is_row schema row ≡ true → is_entered schema entries row ≡ false → Said row first rest
 others_missed schema row first rest entries is fit h =
     cells_missed schema row first rest is.first_calm is.rest_calm fit is.index.columns entries.cells is.fixed
     (same_false entries.cells (key_of is.index.columns row) (ap (λ o. has_cells_in o entries.cells row) (sym is.there) ∙ h))
@@ -171,17 +171,17 @@ others_missed schema row first rest entries is fit h =
 pub entries_one : (schema : Schema) (test : BoundExpr) (entries : Entries) → AreEntriesIn schema test.node [] entries → Seeks schema test (is_entered schema entries)
 entries_one schema test entries is = λ row fit h. over_one test row is.first_calm is.rest_calm (others_missed schema row test.node [] entries is fit h)
 
-pub entries_and : (schema : Schema) (test : BoundExpr) (first a : Node) (rest xs : List Node) (entries : Entries) → test.node ≡ n.And first rest → a ≡ first → xs ≡ rest → AreEntriesIn schema a xs entries → Seeks schema test (is_entered schema entries)
+pub entries_and : (schema : Schema) (test : BoundExpr) (first a : BoundNode) (rest xs : List BoundNode) (entries : Entries) → test.node ≡ n.And first rest → a ≡ first → xs ≡ rest → AreEntriesIn schema a xs entries → Seeks schema test (is_entered schema entries)
 entries_and schema test first a rest xs entries e same others is = λ row fit h.
     over_parts test row a xs (read_and test first a rest xs e same others) is.first_calm is.rest_calm (others_missed schema row a xs entries is fit h)
 
 -- ---- it fits
 
-said_fits : (t : SqlType) (place : ℕ) (comparison : Comparison) (v : Value) (first : Node) (rest : List Node) → IsSaid t place comparison v first rest → fits t v ≡ true
+said_fits : (t : SqlType) (place : ℕ) (comparison : Comparison) (v : Value) (first : BoundNode) (rest : List BoundNode) → IsSaid t place comparison v first rest → fits t v ≡ true
 said_fits t place comparison v first rest (inl is) = is.0
 said_fits t place comparison v first rest (inr is) = is.2.0
 
-module _ (schema : Schema) (first : Node) (rest : List Node) where
+module _ (schema : Schema) (first : BoundNode) (rest : List BoundNode) where
   key_types_at : List ℕ → List SqlType
   key_types_at places = flat_map (λ place. kinds (slice_get schema.columns place)) places
 
@@ -203,7 +203,7 @@ module _ (schema : Schema) (first : Node) (rest : List Node) where
   all_fit (place ∷ places) [] (end.Without v) high told = one_more place places op.Greater v [] told.0 refl
   all_fit (place ∷ places) (v ∷ fixed) low high told = one_more place places op.Equal v (fixed ++ value_at low) told.0 (all_fit places fixed low high told.1)
 
-pub span_fits : (schema : Schema) (first : Node) (rest : List Node) (span : Span) → IsSpanIn schema first rest span → IsSpanOf schema span
+pub span_fits : (schema : Schema) (first : BoundNode) (rest : List BoundNode) (span : KeySpan) → IsSpanIn schema first rest span → IsSpanOf schema span
 unfolding key_types_at
 span_fits schema first rest span is = all_fit schema first rest schema.key span.fixed span.low span.high is.told
 
@@ -224,7 +224,7 @@ types_of schema places read is = types_alike schema places ∙ ap (flat_map (λ 
 pub places_of : (schema : Schema) (places read : List ℕ) → read ≡ places → list_all (λ place. ltb place (length schema.columns)) places ≡ true → list_all (λ place. ltb place (length schema.columns)) read ≡ true
 places_of schema places read is h = subst (λ l. list_all (λ place. ltb place (length schema.columns)) l ≡ true) (sym is) h
 
-cells_told_fit : (schema : Schema) (first : Node) (rest : List Node) (places : List ℕ) (cells : Cells) → AllZip (IsFixed schema first rest op.Equal) places cells → fits_all (types_at schema places) cells ≡ true
+cells_told_fit : (schema : Schema) (first : BoundNode) (rest : List BoundNode) (places : List ℕ) (cells : Cells) → AllZip (IsFixed schema first rest op.Equal) places cells → fits_all (types_at schema places) cells ≡ true
 cells_told_fit schema first rest [] [] fixed = refl
 cells_told_fit schema first rest [] (v ∷ cells) fixed = absurd (fixed)
 cells_told_fit schema first rest (place ∷ places) [] fixed = absurd (fixed)
@@ -233,7 +233,7 @@ cells_told_fit schema first rest (place ∷ places) (v ∷ cells) fixed =
     subst (λ (o : Option Column). fits_all (map (λ (column : Column). column.kind) (option_to_list o) ++ types_at schema places) (v ∷ cells) ≡ true) (sym is.1)
     (and_from (fits is.0.kind v) (fits_all (types_at schema places) cells) (said_fits is.0.kind place op.Equal v first rest is.2) (cells_told_fit schema first rest places cells fixed.1))
 
-pub entries_fit : (schema : Schema) (first : Node) (rest : List Node) (entries : Entries) → AreEntriesIn schema first rest entries → AreEntriesOf schema entries
+pub entries_fit : (schema : Schema) (first : BoundNode) (rest : List BoundNode) (entries : Entries) → AreEntriesIn schema first rest entries → AreEntriesOf schema entries
 entries_fit schema first rest entries is = (is.index, is.there, cells_told_fit schema first rest is.index.columns entries.cells is.fixed)
 
 -- one more column
@@ -249,7 +249,7 @@ same_cells_found a b e = cc
 pub same_entries : (a b : Entries) → Some a ≡ Some b → a ≡ b
 same_entries a b e = cc
 
-pub same_span : (a b : Span) → Some a ≡ Some b → a ≡ b
+pub same_span : (a b : KeySpan) → Some a ≡ Some b → a ≡ b
 same_span a b e = cc
 
 pub same_seek : (a b : Seek) → Some a ≡ Some b → a ≡ b
@@ -257,7 +257,7 @@ same_seek a b e = cc
 
 -- ---- going over a key
 
-module _ (schema : Schema) (first : Node) (rest : List Node) (items : List ℕ) (at : ℕ) where
+module _ (schema : Schema) (first : BoundNode) (rest : List BoundNode) (items : List ℕ) (at : ℕ) where
   -- what the cells so far leave to be told
   abbrev pub IsLeft : Cells → Type 0
   IsLeft fixed = (more : Cells) (low high : End) → AreTold schema first rest (drop at items) more low high → AreTold schema first rest items (fixed ++ more) low high

@@ -17,18 +17,18 @@ use Rattle.table_rows.specs.Rows.{IsRowOf}
 use Rattle.table_rows.proofs.ReadingLemmas.{pairs_of}
 use Rattle.key_seek.specs.Seeking.{IsSpanOf, is_sought}
 use Rattle.key_seek.specs.Spans.{start_of}
-use Rattle.key_seek.specs.declared.spans.Span.{Span}
+use Rattle.key_seek.specs.declared.spans.KeySpan.{KeySpan}
 use Rattle.key_seek.proofs.SpanLemmas.{Rises, all_behind, early, none_sought, rest_rises, row_place}
 
 -- these were read, and of those that are left the sought ones come behind them
-pub record IsSeeking (schema : Schema) (span : Span) (done : List Cells) (rest : List (List ℕ × List ℕ)) (rows : List Cells) : Type 0 where
+pub record IsSeeking (schema : Schema) (span : KeySpan) (done : List Cells) (rest : List (List ℕ × List ℕ)) (rows : List Cells) : Type 0 where
   pub left : List Cells
   pub fit : list_all (is_row schema) left ≡ true
   pub rise : Rises schema left
   pub whole : done ++ filter (is_sought schema span) left ≡ filter (is_sought schema span) rows
   pub follow : rest ≡ pairs_of schema left
 
-pub begins : KeepsOrderBefore → (schema : Schema) (span : Span) (rows : List Cells) (rest : List (List ℕ × List ℕ)) → is_schema schema ≡ true → IsSpanOf schema span → list_all (is_row schema) rows ≡ true
+pub begins : KeepsOrderBefore → (schema : Schema) (span : KeySpan) (rows : List Cells) (rest : List (List ℕ × List ℕ)) → is_schema schema ≡ true → IsSpanOf schema span → list_all (is_row schema) rows ≡ true
     → Rises schema rows → rest ≡ map pair_of (from_key (key_bytes (start_of span)) (map (row_item schema) rows)) → IsSeeking schema span [] rest rows
 begins ordered schema span [] rest valid starts fit rise e = record { left = []; fit = refl; rise = refl; whole = refl; follow = e }
 begins ordered schema span (row ∷ rows) rest valid starts fit rise e =
@@ -53,14 +53,14 @@ begins ordered schema span (row ∷ rows) rest valid starts fit rise e =
     by false at e rest_so out = record { left = row ∷ rows; fit = fit; rise = rise; whole = refl; follow = e }
 
 -- the row of the first pair that is left, and what is known behind it, by where it stands
-pub record IsNext (schema : Schema) (span : Span) (done : List Cells) (pair : List ℕ × List ℕ) (rest : List (List ℕ × List ℕ)) (rows : List Cells) : Type 0 where
+pub record IsNext (schema : Schema) (span : KeySpan) (done : List Cells) (pair : List ℕ × List ℕ) (rest : List (List ℕ × List ℕ)) (rows : List Cells) : Type 0 where
   pub row : Cells
   pub is : IsRowOf schema pair.0 pair.1 row
   pub before : row_place schema span row ≡ Less → IsSeeking schema span done rest rows
   pub within : row_place schema span row ≡ Equal → IsSeeking schema span (done ++ row ∷ []) rest rows
   pub behind : row_place schema span row ≡ Greater → done ≡ filter (is_sought schema span) rows
 
-next_of : (schema : Schema) (span : Span) (done rows left : List Cells) (pair : List ℕ × List ℕ) (rest : List (List ℕ × List ℕ)) → list_all (is_row schema) left ≡ true → Rises schema left
+next_of : (schema : Schema) (span : KeySpan) (done rows left : List Cells) (pair : List ℕ × List ℕ) (rest : List (List ℕ × List ℕ)) → list_all (is_row schema) left ≡ true → Rises schema left
     → done ++ filter (is_sought schema span) left ≡ filter (is_sought schema span) rows → (pair ∷ rest) ≡ pairs_of schema left → IsNext schema span done pair rest rows
 next_of schema span done rows [] pair rest fit rise whole e = absurd (cc)
 next_of schema span done rows (row ∷ left) pair rest fit rise whole e =
@@ -83,14 +83,14 @@ next_of schema span done rows (row ∷ left) pair rest fit rise whole e =
       behind = λ f. sym (append-nil done) ∙ ap (λ l. done ++ l) (sym (none_sought schema span (row ∷ left) (all_behind schema span row left rise f))) ∙ whole;
     }
 
-pub next : (schema : Schema) (span : Span) (done rows : List Cells) (all rest : List (List ℕ × List ℕ)) (pair : List ℕ × List ℕ) → IsSeeking schema span done all rows → all ≡ pair ∷ rest
+pub next : (schema : Schema) (span : KeySpan) (done rows : List Cells) (all rest : List (List ℕ × List ℕ)) (pair : List ℕ × List ℕ) → IsSeeking schema span done all rows → all ≡ pair ∷ rest
     → IsNext schema span done pair rest rows
 next schema span done rows all rest pair seeking e = next_of schema span done rows seeking.left pair rest seeking.fit seeking.rise seeking.whole (sym e ∙ seeking.follow)
 
-over_by : (schema : Schema) (span : Span) (done rows left : List Cells) → done ++ filter (is_sought schema span) left ≡ filter (is_sought schema span) rows → [] ≡ pairs_of schema left
+over_by : (schema : Schema) (span : KeySpan) (done rows left : List Cells) → done ++ filter (is_sought schema span) left ≡ filter (is_sought schema span) rows → [] ≡ pairs_of schema left
     → done ≡ filter (is_sought schema span) rows
 over_by schema span done rows [] whole e = sym (append-nil done) ∙ whole
 over_by schema span done rows (row ∷ left) whole e = absurd (cc)
 
-pub over : (schema : Schema) (span : Span) (done rows : List Cells) (all : List (List ℕ × List ℕ)) → IsSeeking schema span done all rows → all ≡ [] → done ≡ filter (is_sought schema span) rows
+pub over : (schema : Schema) (span : KeySpan) (done rows : List Cells) (all : List (List ℕ × List ℕ)) → IsSeeking schema span done all rows → all ≡ [] → done ≡ filter (is_sought schema span) rows
 over schema span done rows all seeking e = over_by schema span done rows seeking.left seeking.whole (sym e ∙ seeking.follow)

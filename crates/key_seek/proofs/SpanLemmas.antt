@@ -20,7 +20,7 @@ use Rattle.key_seek.specs.Seeking.{is_sought}
 use Rattle.key_seek.specs.Spans.{is_before, is_beyond, is_in, place_of, side_of, start_of, value_at}
 use Rattle.key_seek.specs.declared.spans.End.{End}
 use Rattle.key_seek.specs.declared.spans.End.TheVariants as end
-use Rattle.key_seek.specs.declared.spans.Span.{Span}
+use Rattle.key_seek.specs.declared.spans.KeySpan.{KeySpan}
 
 -- ---- two values, the first the lesser
 
@@ -214,7 +214,7 @@ none_less : (bytes : List ℕ) → slice_cmp nat_cmp bytes [] ≡ Less → ⊥
 none_less [] e = never e
 none_less (b ∷ bytes) e = cc
 
-pub early : KeepsOrderBefore → (types : List SqlType) (span : Span) (key : Cells) → are_types types ≡ true → fits_all types key ≡ true
+pub early : KeepsOrderBefore → (types : List SqlType) (span : KeySpan) (key : Cells) → are_types types ≡ true → fits_all types key ≡ true
     → fits_all (take (length (start_of span)) types) (start_of span) ≡ true → is_lt (slice_cmp nat_cmp (key_bytes key) (key_bytes (start_of span))) ≡ true → is_in span key ≡ false
 early ordered types span key valid fit starts below =
     let n = length (start_of span) in
@@ -240,18 +240,18 @@ next_less schema row next rows rise =
     less_is _ (and_parts (is_lt (key_cmp (primary_key schema row) (primary_key schema next))) (rises (λ a b. key_cmp (primary_key schema a) (primary_key schema b)) (next ∷ rows)) rise).0
 
 -- where a row stands
-abbrev pub row_place : Schema → Span → Cells → Ordering
+abbrev pub row_place : Schema → KeySpan → Cells → Ordering
 row_place schema span row = place_of span.fixed span.low span.high (primary_key schema row)
 
 -- none of these is sought
-abbrev pub AreOut : Schema → Span → List Cells → Type 0
+abbrev pub AreOut : Schema → KeySpan → List Cells → Type 0
 AreOut schema span rows = AllByRecursion (λ row. is_sought schema span row ≡ false) rows
 
-pub none_sought : (schema : Schema) (span : Span) (rows : List Cells) → AreOut schema span rows → filter (is_sought schema span) rows ≡ []
+pub none_sought : (schema : Schema) (span : KeySpan) (rows : List Cells) → AreOut schema span rows → filter (is_sought schema span) rows ≡ []
 none_sought schema span [] out = refl
 none_sought schema span (row ∷ rows) out = ap (λ b. cond b (row ∷ filter (is_sought schema span) rows) (filter (is_sought schema span) rows)) out.0 ∙ none_sought schema span rows out.1
 
-pub all_behind : (schema : Schema) (span : Span) (row : Cells) (rows : List Cells) → Rises schema (row ∷ rows) → row_place schema span row ≡ Greater → AreOut schema span (row ∷ rows)
+pub all_behind : (schema : Schema) (span : KeySpan) (row : Cells) (rows : List Cells) → Rises schema (row ∷ rows) → row_place schema span row ≡ Greater → AreOut schema span (row ∷ rows)
 all_behind schema span row [] rise e = (ap is_eq e, tt)
 all_behind schema span row (next ∷ rows) rise e = (
   ap is_eq e,
@@ -260,7 +260,7 @@ all_behind schema span row (next ∷ rows) rise e = (
 )
 
 -- rows of a span among those before and behind it
-pub record IsSplit (schema : Schema) (span : Span) (rows : List Cells) : Type 0 where
+pub record IsSplit (schema : Schema) (span : KeySpan) (rows : List Cells) : Type 0 where
   pub front : List Cells
   pub back : List Cells
   pub split : rows ≡ front ++ (filter (is_sought schema span) rows ++ back)
@@ -268,7 +268,7 @@ pub record IsSplit (schema : Schema) (span : Span) (rows : List Cells) : Type 0 
   pub back_out : AreOut schema span back
 
 -- those behind it, where no row is before it
-record IsFollowed (schema : Schema) (span : Span) (rows : List Cells) : Type 0 where
+record IsFollowed (schema : Schema) (span : KeySpan) (rows : List Cells) : Type 0 where
   back : List Cells
   split : rows ≡ filter (is_sought schema span) rows ++ back
   out : AreOut schema span back
@@ -277,23 +277,23 @@ as_many : (keys : List ℕ) (a b : Cells) → length (key_of keys a) ≡ length 
 as_many [] a b = refl
 as_many (key ∷ keys) a b = ap suc (as_many keys a b)
 
-sought_first : (schema : Schema) (span : Span) (row : Cells) (rows : List Cells) → is_sought schema span row ≡ true → filter (is_sought schema span) (row ∷ rows) ≡ row ∷ filter (is_sought schema span) rows
+sought_first : (schema : Schema) (span : KeySpan) (row : Cells) (rows : List Cells) → is_sought schema span row ≡ true → filter (is_sought schema span) (row ∷ rows) ≡ row ∷ filter (is_sought schema span) rows
 sought_first schema span row rows e = ap (λ b. cond b (row ∷ filter (is_sought schema span) rows) (filter (is_sought schema span) rows)) e
 
-out_first : (schema : Schema) (span : Span) (row : Cells) (rows : List Cells) → is_sought schema span row ≡ false → filter (is_sought schema span) (row ∷ rows) ≡ filter (is_sought schema span) rows
+out_first : (schema : Schema) (span : KeySpan) (row : Cells) (rows : List Cells) → is_sought schema span row ≡ false → filter (is_sought schema span) (row ∷ rows) ≡ filter (is_sought schema span) rows
 out_first schema span row rows e = ap (λ b. cond b (row ∷ filter (is_sought schema span) rows) (filter (is_sought schema span) rows)) e
 
-within : (schema : Schema) (span : Span) (row : Cells) (rows : List Cells) → is_sought schema span row ≡ true → IsFollowed schema span rows → IsFollowed schema span (row ∷ rows)
+within : (schema : Schema) (span : KeySpan) (row : Cells) (rows : List Cells) → is_sought schema span row ≡ true → IsFollowed schema span rows → IsFollowed schema span (row ∷ rows)
 within schema span row rows e more = record {
   back = more.back;
   split = ap (λ l. row ∷ l) more.split ∙ ap (λ l. l ++ more.back) (sym (sought_first schema span row rows e));
   out = more.out;
 }
 
-past : (schema : Schema) (span : Span) (rows : List Cells) → AreOut schema span rows → IsFollowed schema span rows
+past : (schema : Schema) (span : KeySpan) (rows : List Cells) → AreOut schema span rows → IsFollowed schema span rows
 past schema span rows out = record { back = rows; split = ap (λ l. l ++ rows) (sym (none_sought schema span rows out)); out = out }
 
-followed : (schema : Schema) (span : Span) (row : Cells) (rows : List Cells) → Rises schema (row ∷ rows) → (row_place schema span row ≡ Less → ⊥) → IsFollowed schema span (row ∷ rows)
+followed : (schema : Schema) (span : KeySpan) (row : Cells) (rows : List Cells) → Rises schema (row ∷ rows) → (row_place schema span row ≡ Less → ⊥) → IsFollowed schema span (row ∷ rows)
 followed schema span row [] rise not_before = by (row_place schema span row) refl where
   by : (o : Ordering) → row_place schema span row ≡ o → IsFollowed schema span (row ∷ [])
   by Less e = absurd (not_before e)
@@ -319,7 +319,7 @@ greater_less o e f = clash (sym e ∙ f)
     clash e = cc
 
 -- the rows of a span stand together
-pub split_of : (schema : Schema) (span : Span) (rows : List Cells) → Rises schema rows → IsSplit schema span rows
+pub split_of : (schema : Schema) (span : KeySpan) (rows : List Cells) → Rises schema rows → IsSplit schema span rows
 split_of schema span [] rise = record { front = []; back = []; split = refl; front_out = tt; back_out = tt }
 split_of schema span (row ∷ rows) rise = by (row_place schema span row) refl (split_of schema span rows (rest_rises schema row rows rise)) where
   from_here : (row_place schema span row ≡ Less → ⊥) → IsSplit schema span (row ∷ rows)

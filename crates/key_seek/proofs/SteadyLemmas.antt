@@ -15,16 +15,16 @@ use Rattle.sql_values.specs.Worths.{Worth, Unknown, Whole, Scaled, Truth, Letter
 use Rattle.sql_values.specs.declared.kinds.Kind.{Kind}
 use Rattle.sql_values.specs.declared.worths.Worth as borrowed
 use Rattle.sql_values.specs.declared.worths.Worth.TheVariants as w
-use Rattle.expr_eval.specs.declared.bound.Node.{Node}
-use Rattle.expr_eval.specs.declared.bound.Node.TheVariants as n
+use Rattle.expr_eval.specs.declared.bound.BoundNode.{BoundNode}
+use Rattle.expr_eval.specs.declared.bound.BoundNode.TheVariants as n
 use Rattle.expr_eval.specs.Valuing.{one, worth}
 use Rattle.expr_eval.proofs.WorthNodes.{worth_constant, worth_negate}
 use Rattle.plain_sql.specs.Passing.{IsCalm}
 
-pub turned_worth : (row : Cells) (kind : Kind) (value : Value) (operand : Node) → operand ≡ n.Constant kind value → worth row (n.Negate operand) ≡ negated (worth_of kind value)
+pub turned_worth : (row : Cells) (kind : Kind) (value : Value) (operand : BoundNode) → operand ≡ n.Constant kind value → worth row (n.Negate operand) ≡ negated (worth_of kind value)
 turned_worth row kind value operand is = worth_negate row operand ∙ ap (one negated) (ap (worth row) is ∙ worth_constant row kind value)
 
-pub turned_calm : (kind : Kind) (value : Value) (operand : Node) (of : borrowed.Worth) (turned : Option borrowed.Worth) → operand ≡ n.Constant kind value
+pub turned_calm : (kind : Kind) (value : Value) (operand : BoundNode) (of : borrowed.Worth) (turned : Option borrowed.Worth) → operand ≡ n.Constant kind value
     → seen of ≡ worth_of kind value → option_map seen turned ≡ negated (seen of) → is_some turned ≡ true → IsCalm (n.Negate operand)
 turned_calm kind value operand of None is of_is turned_is there = absurd (cc)
 turned_calm kind value operand of (Some x) is of_is turned_is there = λ row. (seen x, turned_worth row kind value operand is ∙ ap negated (sym of_is) ∙ sym turned_is)

@@ -11,7 +11,7 @@ use Rattle.schema_model.specs.declared.schemas.IndexDef.{IndexDef}
 use Rattle.schema_model.specs.declared.schemas.Schema.{Schema}
 use Rattle.constraint_scan.specs.Roots.{IsIndexedAt}
 use Rattle.table_root.specs.Standing.{IsTableOf}
-use Rattle.table_root.specs.declared.records.Table.{Table}
+use Rattle.table_root.specs.declared.records.StoredTable.{StoredTable}
 use Rattle.basic_laws.proofs.Options.{some_is}
 use Rattle.tuple_codec.specs.Trees.{root}
 use Rattle.tuple_codec.specs.Rows.{Cells, fits_all}
@@ -23,30 +23,30 @@ use Rattle.key_seek.specs.declared.entries.Entries.{Entries}
 use Rattle.key_seek.proofs.EntryLemmas.{places_within}
 use Rattle.key_seek.proofs.SpanLemmas.{Rises}
 
-pub record HasRows (address : List ℕ → List ℕ) (chunks : Chunks) (table : Table) (rows : List Cells) : Type 0 where
+pub record HasRows (address : List ℕ → List ℕ) (chunks : Chunks) (table : StoredTable) (rows : List Cells) : Type 0 where
   pub valid : is_schema table.schema ≡ true
   pub fit : list_all (is_row table.schema) rows ≡ true
   pub rise : Rises table.schema rows
   pub tree : IsTree address chunks table.rows.0 (map (row_item table.schema) rows)
 
-pub has_rows : (address : List ℕ → List ℕ) (chunks : Chunks) (table : Table) (contents : PlainTable) → IsTableOf address chunks table contents → HasRows address chunks table contents.rows
+pub has_rows : (address : List ℕ → List ℕ) (chunks : Chunks) (table : StoredTable) (contents : PlainTable) → IsTableOf address chunks table contents → HasRows address chunks table contents.rows
 has_rows address chunks table contents of =
-    let same : contents.schema ≡ table.schema = sym (ap (λ (t : Table). t.schema) of.value) in
+    let same : contents.schema ≡ table.schema = sym (ap (λ (t : StoredTable). t.schema) of.value) in
     let trees = of.trees in
     record {
       valid = subst (λ (s : Schema). is_schema s ≡ true) same of.is_table.schema;
       fit = subst (λ (s : Schema). list_all (is_row s) contents.rows ≡ true) same of.is_table.rows;
       rise = subst (λ (s : Schema). Rises s contents.rows) same of.is_table.keys;
-      tree = subst (λ k. IsTree address chunks k (map (row_item table.schema) contents.rows)) (sym (ap (λ (t : Table). t.rows.0) of.value))
+      tree = subst (λ k. IsTree address chunks k (map (row_item table.schema) contents.rows)) (sym (ap (λ (t : StoredTable). t.rows.0) of.value))
           (subst (λ (s : Schema). IsTree address chunks (root address (row_items contents)) (map (row_item s) contents.rows)) same trees.rows);
     }
 
 -- the entries of an index, by the table's own schema
-pub index_tree : (address : List ℕ → List ℕ) (chunks : Chunks) (table : Table) (index : IndexDef) (k : List ℕ) (contents : PlainTable) → IsIndexedAt address chunks table index k contents
+pub index_tree : (address : List ℕ → List ℕ) (chunks : Chunks) (table : StoredTable) (index : IndexDef) (k : List ℕ) (contents : PlainTable) → IsIndexedAt address chunks table index k contents
     → IsTree address chunks k (sorted (map (index_item table.schema index) contents.rows))
 index_tree address chunks table index k contents at =
     let stands = at.stands in
-    subst (λ (s : Schema). IsTree address chunks k (sorted (map (index_item s index) contents.rows))) (sym (ap (λ (t : Table). t.schema) stands.value)) at.tree
+    subst (λ (s : Schema). IsTree address chunks k (sorted (map (index_item s index) contents.rows))) (sym (ap (λ (t : StoredTable). t.schema) stands.value)) at.tree
 
 -- ---- the index of entries, and its root
 
@@ -57,12 +57,12 @@ none_past xs place x over there = clash (sym (slice_get_past xs place over) ∙ 
     clash e = cc
 
 -- as it was read
-pub no_root : (address : List ℕ → List ℕ) (chunks : Chunks) (table : Table) (contents : PlainTable) (entries : Entries) (read : List Address) → IsTableOf address chunks table contents → read ≡ table.indexes
+pub no_root : (address : List ℕ → List ℕ) (chunks : Chunks) (table : StoredTable) (contents : PlainTable) (entries : Entries) (read : List Address) → IsTableOf address chunks table contents → read ≡ table.indexes
     → AreEntriesOf table.schema entries → length read ≤ entries.place → ⊥
 no_root address chunks table contents entries read stands is of over =
     none_past contents.schema.indexes entries.place of.0
-    (subst (λ n. n ≤ entries.place) (ap length is ∙ ap (λ (t : Table). length t.indexes) stands.value ∙ length-map contents.schema.indexes (λ (index : IndexDef). record { 0 = root address (index_items contents index) })) over)
-    (ap (λ (t : Table). slice_get t.schema.indexes entries.place) (sym stands.value) ∙ of.1)
+    (subst (λ n. n ≤ entries.place) (ap length is ∙ ap (λ (t : StoredTable). length t.indexes) stands.value ∙ length-map contents.schema.indexes (λ (index : IndexDef). record { 0 = root address (index_items contents index) })) over)
+    (ap (λ (t : StoredTable). slice_get t.schema.indexes entries.place) (sym stands.value) ∙ of.1)
 
 -- the index that was read is that of the entries
 pub record IsAt (schema : Schema) (entries : Entries) (index : IndexDef) : Type 0 where
@@ -80,7 +80,7 @@ is_at schema entries read index valid of is below found =
       fits = subst (λ (i : IndexDef). fits_all (types_at schema i.columns) entries.cells ≡ true) (some_is of.0 index (sym of.1 ∙ there)) of.2;
     }
 
-pub indexed : (address : List ℕ → List ℕ) (chunks : Chunks) (table : Table) (contents : PlainTable) (entries : Entries) (index : IndexDef) (roots : List Address) (root : Address) → IsTableOf address chunks table contents
+pub indexed : (address : List ℕ → List ℕ) (chunks : Chunks) (table : StoredTable) (contents : PlainTable) (entries : Entries) (index : IndexDef) (roots : List Address) (root : Address) → IsTableOf address chunks table contents
     → IsAt table.schema entries index → roots ≡ table.indexes → entries.place < length roots → root ≡ get_or roots entries.place root → IsIndexedAt address chunks table index root.0 contents
 indexed address chunks table contents entries index roots root stands at is below found =
     indexed_at address chunks table contents stands entries.place index root at.there

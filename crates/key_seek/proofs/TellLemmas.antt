@@ -14,8 +14,8 @@ use Rattle.tuple_codec.proofs.Orders.{value_cmp_total}
 use Rattle.sql_values.specs.declared.kinds.Kind.{Kind}
 use Rattle.sql_values.specs.Logic.{Truth3, and3}
 use Rattle.sql_values.specs.Worths.{Worth, of_truth, worth_of}
-use Rattle.expr_eval.specs.declared.bound.Node.{Node}
-use Rattle.expr_eval.specs.declared.bound.Node.TheVariants as n
+use Rattle.expr_eval.specs.declared.bound.BoundNode.{BoundNode}
+use Rattle.expr_eval.specs.declared.bound.BoundNode.TheVariants as n
 use Rattle.expr_eval.specs.Valuing.{Worthy, between, compared, comparison, holds, two, worth}
 use Rattle.expr_eval.proofs.WorthNodes.{worth_between, worth_column, worth_compare}
 use Rattle.plain_sql.specs.Passing.{is_so}
@@ -129,23 +129,23 @@ turned_off wanted operator a b is h =
 
 -- ---- a part of the test
 
-worth_is : (row : Cells) (part : Node) (v w : Worth) → worth row part ≡ Some v → worth row part ≡ Some w → is_so v ≡ false → is_so w ≡ false
+worth_is : (row : Cells) (part : BoundNode) (v w : Worth) → worth row part ≡ Some v → worth row part ≡ Some w → is_so v ≡ false → is_so w ≡ false
 worth_is row part v w is e h = subst (λ x. is_so x ≡ false) (same (sym is ∙ e)) h
   where
     same : Some v ≡ Some w → v ≡ w
     same e = cc
 
-column_worth : (row : Cells) (place : ℕ) (part : Node) (column : IsColumn place part) → worth row part ≡ Some (worth_of column.0 (cell_at row place))
+column_worth : (row : Cells) (place : ℕ) (part : BoundNode) (column : IsColumn place part) → worth row part ≡ Some (worth_of column.0 (cell_at row place))
 column_worth row place part column = ap (worth row) column.1 ∙ worth_column row column.0 place
 
-literal_worth : (row : Cells) (t : SqlType) (value : Value) (part : Node) (literal : IsLiteral t value part) → worth row part ≡ Some (worth_of literal.0 value)
+literal_worth : (row : Cells) (t : SqlType) (value : Value) (part : BoundNode) (literal : IsLiteral t value part) → worth row part ≡ Some (worth_of literal.0 value)
 literal_worth row t value part literal = literal.1 row
 
 two_are : (f : Worth → Worth → Worthy) (a b : Worthy) (v w : Worth) → a ≡ Some v → b ≡ Some w → two f a b ≡ f v w
 two_are f a b v w p q = ap (λ x. two f x b) p ∙ ap (two f (Some v)) q
 
 -- the column and then the literal
-pub tells_left : (t : SqlType) (place : ℕ) (wanted operator : Comparison) (value : Value) (a b : Node) → operator ≡ wanted → IsColumn place a → IsLiteral t value b → Tells t place wanted value (n.Compare a operator b)
+pub tells_left : (t : SqlType) (place : ℕ) (wanted operator : Comparison) (value : Value) (a b : BoundNode) → operator ≡ wanted → IsColumn place a → IsLiteral t value b → Tells t place wanted value (n.Compare a operator b)
 tells_left t place wanted operator value a b is column literal = (
   literal.2,
   λ row w fit h e.
@@ -156,7 +156,7 @@ tells_left t place wanted operator value a b is column literal = (
 )
 
 -- the literal and then the column
-pub tells_right : (t : SqlType) (place : ℕ) (wanted operator : Comparison) (value : Value) (a b : Node) → turned operator ≡ wanted → IsColumn place b → IsLiteral t value a → Tells t place wanted value (n.Compare a operator b)
+pub tells_right : (t : SqlType) (place : ℕ) (wanted operator : Comparison) (value : Value) (a b : BoundNode) → turned operator ≡ wanted → IsColumn place b → IsLiteral t value a → Tells t place wanted value (n.Compare a operator b)
 tells_right t place wanted operator value a b is column literal = (
   literal.2,
   λ row w fit h e.
@@ -196,7 +196,7 @@ high_so x u w (Some l) h e = subst (λ y. is_so y ≡ false) (same e) (second_of
     same : Some (of_truth (and3 (compared op.AtLeast x l) (compared op.AtMost x u))) ≡ Some w → of_truth (and3 (compared op.AtLeast x l) (compared op.AtMost x u)) ≡ w
     same e = cc
 
-pub tells_low : (t : SqlType) (place : ℕ) (wanted : Comparison) (value : Value) (a low high : Node) → op.AtLeast ≡ wanted → IsColumn place a → IsLiteral t value low → Tells t place wanted value (n.Between a low high)
+pub tells_low : (t : SqlType) (place : ℕ) (wanted : Comparison) (value : Value) (a low high : BoundNode) → op.AtLeast ≡ wanted → IsColumn place a → IsLiteral t value low → Tells t place wanted value (n.Between a low high)
 tells_low t place wanted value a low high is column literal = (
   literal.2,
   λ row w fit h e.
@@ -206,7 +206,7 @@ tells_low t place wanted value a low high is column literal = (
       ∙ sym (worth_between row a low high) ∙ e),
 )
 
-pub tells_high : (t : SqlType) (place : ℕ) (wanted : Comparison) (value : Value) (a low high : Node) → op.AtMost ≡ wanted → IsColumn place a → IsLiteral t value high → Tells t place wanted value (n.Between a low high)
+pub tells_high : (t : SqlType) (place : ℕ) (wanted : Comparison) (value : Value) (a low high : BoundNode) → op.AtMost ≡ wanted → IsColumn place a → IsLiteral t value high → Tells t place wanted value (n.Between a low high)
 tells_high t place wanted value a low high is column literal = (
   literal.2,
   λ row w fit h e.

@@ -7,10 +7,10 @@ use Rattle.schema_model.specs.declared.schemas.Schema.{Schema}
 use Rattle.expr_eval.specs.declared.bound.BoundExpr.{BoundExpr}
 use Rattle.plain_sql.specs.Passing.{IsPassedOver}
 use Rattle.key_seek.specs.Spans.{is_in, start_of}
-use Rattle.key_seek.specs.declared.spans.Span.{Span}
+use Rattle.key_seek.specs.declared.spans.KeySpan.{KeySpan}
 
 -- the row's primary key lies in the span
-abbrev pub is_sought : Schema → Span → Cells → Bool
+abbrev pub is_sought : Schema → KeySpan → Cells → Bool
 is_sought schema span row = is_in span (primary_key schema row)
 
 -- each row of the schema that isn't wanted is passed over, without a refusal
@@ -18,7 +18,7 @@ abbrev pub Seeks : Schema → BoundExpr → (Cells → Bool) → Type 0
 Seeks schema test wanted = (row : Cells) → is_row schema row ≡ true → wanted row ≡ false → IsPassedOver test row
 
 -- the cells that it begins with fit the first columns of the key
-abbrev pub IsSpanOf : Schema → Span → Type 0
+abbrev pub IsSpanOf : Schema → KeySpan → Type 0
 IsSpanOf schema span = fits_all (take (length (start_of span)) (key_types schema)) (start_of span) ≡ true
 
 -- the row of this primary key, if there is one

@@ -7,7 +7,7 @@ use Rattle.tuple_codec.specs.Rows.{Cells, value_cmp}
 use Rattle.tuple_codec.specs.declared.values.Value.{Value}
 use Rattle.key_seek.specs.declared.spans.End.{End}
 use Rattle.key_seek.specs.declared.spans.End.TheVariants as end
-use Rattle.key_seek.specs.declared.spans.Span.{Span}
+use Rattle.key_seek.specs.declared.spans.KeySpan.{KeySpan}
 
 -- a value lies before the low end, or beyond the high one
 abbrev pub is_before : End → Value → Bool
@@ -30,7 +30,7 @@ place_of [] low high (value ∷ key) = side_of low high value
 place_of (cell ∷ fixed) low high [] = Less
 place_of (cell ∷ fixed) low high (value ∷ key) = ordering_then (value_cmp value cell) (place_of fixed low high key)
 
-abbrev pub is_in : Span → Cells → Bool
+abbrev pub is_in : KeySpan → Cells → Bool
 is_in span key = is_eq (place_of span.fixed span.low span.high key)
 
 abbrev pub value_at : End → Cells
@@ -39,5 +39,5 @@ value_at (end.With value) = value ∷ []
 value_at (end.Without value) = value ∷ []
 
 -- no key of the span comes before these cells
-abbrev pub start_of : Span → Cells
+abbrev pub start_of : KeySpan → Cells
 start_of span = span.fixed ++ value_at span.low

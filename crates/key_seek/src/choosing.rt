@@ -11,18 +11,18 @@ ghost use Rattle.key_seek.specs.declared.choosing.Seek as seeks;
 use crate::entries::{Entries, rows_entered, sought_entries};
 use crate::reading::rows_in_span;
 use crate::seeking::sought_keys;
-use crate::spans::Span;
+use crate::spans::KeySpan;
 use chunk_store::Draft;
 use expr_eval::BoundExpr;
 use schema_model::Schema;
 use std::alloc::{AllocError, Global};
-use table_root::Table;
+use table_root::StoredTable;
 use tuple_codec::{Digester, Row, Sequence};
 
 /// What is sought in place of all rows.
 #[derive(Debug, Drop)]
 pub enum Seek {
-    Keys(Span),
+    Keys(KeySpan),
     Entries(Entries),
 }
 
@@ -52,7 +52,7 @@ fn entries_of(alloc: Global, schema: &Schema, test: &BoundExpr) -> Result<Option
 pub fn rows_sought<D: Digester>(
     alloc: Global,
     draft: &Draft<D>,
-    table: &Table,
+    table: &StoredTable,
     seek: &Seek,
 ) -> Result<Sequence<Row>, AllocError>
     requires table { (contents : PlainTable) × IsTableOf D.address (chunks_of draft.now.chunks) table.now contents }

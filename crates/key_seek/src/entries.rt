@@ -21,12 +21,12 @@ use crate::naming::fixed_value;
 use crate::reading::types_at;
 use crate::steady::{are_steady, is_steady};
 use chunk_store::Draft;
-use expr_eval::{BoundExpr, Node};
+use expr_eval::{BoundExpr, BoundNode};
 use prolly_tree::{get, scan_from};
 use schema_model::{IndexDef, Schema};
 use sql_ast::Comparison;
 use std::alloc::{AllocError, Global};
-use table_root::Table;
+use table_root::StoredTable;
 use table_rows::row_of;
 use tuple_codec::{Address, Blob, Digester, Row, Sequence, encode_key, keys_keep_order};
 
@@ -48,7 +48,7 @@ pub(crate) fn sought_entries(
     ensures fits { (entries : sets.Entries) → IfOk result (λ found. found ≡ Some entries → AreEntriesOf schema.now entries) }
 {
     match &test.node {
-        Node::And(first, rest) => entries_in(alloc, schema, first.get(), rest.as_slice()),
+        BoundNode::And(first, rest) => entries_in(alloc, schema, first.get(), rest.as_slice()),
         _ => entries_in(alloc, schema, &test.node, &[]),
     }
 }
@@ -57,8 +57,8 @@ pub(crate) fn sought_entries(
 fn entries_in(
     alloc: Global,
     schema: &Schema,
-    first: &Node,
-    rest: &[Node],
+    first: &BoundNode,
+    rest: &[BoundNode],
 ) -> Result<Option<Entries>, AllocError>
     ensures { (entries : sets.Entries) → IfOk result (λ found. found ≡ Some entries → AreEntriesIn schema.now first.now rest.now entries) }
 {
@@ -74,8 +74,8 @@ fn entries_in(
 fn told_entries(
     alloc: Global,
     schema: &Schema,
-    first: &Node,
-    rest: &[Node],
+    first: &BoundNode,
+    rest: &[BoundNode],
 ) -> Result<Option<Entries>, AllocError>
     ensures { (entries : sets.Entries) → IfOk result (λ found. found ≡ Some entries
         → (index : defs.IndexDef) × (slice_get schema.now.indexes entries.place ≡ Some index) × AllZip (IsFixed schema.now first.now rest.now op.Equal) index.columns entries.cells) }
@@ -94,8 +94,8 @@ fn fixed_cells(
     alloc: Global,
     schema: &Schema,
     places: &[u8],
-    first: &Node,
-    rest: &[Node],
+    first: &BoundNode,
+    rest: &[BoundNode],
 ) -> Result<Option<Row>, AllocError>
     ensures { (cells : Cells) → IfOk result (λ found. found ≡ Some cells → AllZip (IsFixed schema.now first.now rest.now op.Equal) places.now cells) }
 {
@@ -121,7 +121,7 @@ fn fixed_cells(
 pub(crate) fn rows_entered<D: Digester>(
     alloc: Global,
     draft: &Draft<D>,
-    table: &Table,
+    table: &StoredTable,
     entries: &Entries,
 ) -> Result<Sequence<Row>, AllocError>
     requires table { (contents : PlainTable) × IsTableOf D.address (chunks_of draft.now.chunks) table.now contents }
@@ -141,7 +141,7 @@ pub(crate) fn rows_entered<D: Digester>(
 fn rows_by_index<D: Digester>(
     alloc: Global,
     draft: &Draft<D>,
-    table: &Table,
+    table: &StoredTable,
     index: &IndexDef,
     root: &Address,
     cells: &Row,
@@ -180,7 +180,7 @@ fn behind<'a>(prefix: &[u8], key: &'a [u8]) -> Option<&'a [u8]>
 fn row_under<D: Digester>(
     alloc: Global,
     draft: &Draft<D>,
-    table: &Table,
+    table: &StoredTable,
     bytes: &[u8],
 ) -> Result<Row, AllocError>
     requires { (contents : PlainTable) × (row : Cells) × IsTableOf D.address (chunks_of draft.now.chunks) table.now contents × IsUnder table.now.schema contents.rows bytes.now row }

@@ -14,4 +14,4 @@ mod steady;
 
 pub use choosing::{Seek, rows_sought, sought};
 pub use entries::Entries;
-pub use spans::{End, Span};
+pub use spans::{End, KeySpan};

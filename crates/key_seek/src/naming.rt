@@ -2,13 +2,13 @@
 
 ghost use Rattle.std.specs.Prelude.{◌≡◌, true, Some, IfOk};
 ghost use Rattle.std.specs.List.{Contains};
-ghost use Rattle.expr_eval.specs.declared.bound.Node.TheVariants as node;
+ghost use Rattle.expr_eval.specs.declared.bound.BoundNode.TheVariants as node;
 ghost use Rattle.tuple_codec.specs.Rows.{fits};
 ghost use Rattle.tuple_codec.specs.declared.values.Value.{Value};
 ghost use Rattle.tuple_codec.specs.declared.values.Value.TheVariants as cell;
 ghost use Rattle.key_seek.specs.Parts.{IsColumn, IsFixed, IsLiteral, IsSaid, Tells, is_exact, turned};
 
-use expr_eval::Node;
+use expr_eval::BoundNode;
 use schema_model::Schema;
 use sql_ast::Comparison;
 use sql_values::{Worth, negate};
@@ -21,8 +21,8 @@ pub(crate) fn fixed_value(
     schema: &Schema,
     place: usize,
     wanted: Comparison,
-    first: &Node,
-    rest: &[Node],
+    first: &BoundNode,
+    rest: &[BoundNode],
 ) -> Result<Option<Value>, AllocError>
     ensures { (value : Value) → IfOk result (λ found. found ≡ Some value → IsFixed schema.now first.now rest.now wanted place value) }
 {
@@ -37,8 +37,8 @@ fn said_value(
     kind: &SqlType,
     place: usize,
     wanted: Comparison,
-    first: &Node,
-    rest: &[Node],
+    first: &BoundNode,
+    rest: &[BoundNode],
 ) -> Result<Option<Value>, AllocError>
     ensures { (value : Value) → IfOk result (λ found. found ≡ Some value → IsSaid kind.now place wanted value first.now rest.now) }
 {
@@ -53,9 +53,9 @@ fn value_among(
     kind: &SqlType,
     place: usize,
     wanted: Comparison,
-    parts: &[Node],
+    parts: &[BoundNode],
 ) -> Result<Option<Value>, AllocError>
-    ensures { (value : Value) → IfOk result (λ found. found ≡ Some value → (part : Node) × Contains parts.now part × Tells kind.now place wanted value part) }
+    ensures { (value : Value) → IfOk result (λ found. found ≡ Some value → (part : BoundNode) × Contains parts.now part × Tells kind.now place wanted value part) }
 {
     for part in parts {
         match told_value(alloc, kind, place, wanted, part)? {
@@ -72,15 +72,15 @@ fn told_value(
     kind: &SqlType,
     place: usize,
     wanted: Comparison,
-    part: &Node,
+    part: &BoundNode,
 ) -> Result<Option<Value>, AllocError>
     ensures { (value : Value) → IfOk result (λ found. found ≡ Some value → Tells kind.now place wanted value part.now) }
 {
     match part {
-        Node::Compare(a, comparison, b) => {
+        BoundNode::Compare(a, comparison, b) => {
             compared_value(alloc, kind, place, wanted, a.get(), *comparison, b.get())
         }
-        Node::Between(a, low, high) => {
+        BoundNode::Between(a, low, high) => {
             end_value(alloc, kind, place, wanted, a.get(), low.get(), high.get())
         }
         _ => Ok(None),
@@ -92,9 +92,9 @@ fn compared_value(
     kind: &SqlType,
     place: usize,
     wanted: Comparison,
-    a: &Node,
+    a: &BoundNode,
     comparison: Comparison,
-    b: &Node,
+    b: &BoundNode,
 ) -> Result<Option<Value>, AllocError>
     ensures { (value : Value) → IfOk result (λ found. found ≡ Some value → Tells kind.now place wanted value (node.Compare a.now comparison b.now)) }
 {
@@ -113,9 +113,9 @@ fn end_value(
     kind: &SqlType,
     place: usize,
     wanted: Comparison,
-    a: &Node,
-    low: &Node,
-    high: &Node,
+    a: &BoundNode,
+    low: &BoundNode,
+    high: &BoundNode,
 ) -> Result<Option<Value>, AllocError>
     ensures { (value : Value) → IfOk result (λ found. found ≡ Some value → Tells kind.now place wanted value (node.Between a.now low.now high.now)) }
 {
@@ -143,29 +143,33 @@ fn turned(comparison: Comparison) -> Comparison
 }
 
 /// Whether the part is the column at a place, and the comparison is the wanted one.
-fn is_column_so(place: usize, wanted: Comparison, part: &Node, comparison: Comparison) -> bool
+fn is_column_so(place: usize, wanted: Comparison, part: &BoundNode, comparison: Comparison) -> bool
     ensures column { result ≡ true → IsColumn place part.now }
     ensures wanted { result ≡ true → comparison ≡ wanted }
 {
     is_column(place, part) && comparison == wanted
 }
 
-fn is_column(place: usize, part: &Node) -> bool
+fn is_column(place: usize, part: &BoundNode) -> bool
     ensures { result ≡ true → IsColumn place part.now }
 {
     match part {
-        Node::Column(_, other) => *other == place,
+        BoundNode::Column(_, other) => *other == place,
         _ => false,
     }
 }
 
 /// The value of a literal, or of one behind a minus, where it is of the type's own kind.
-fn literal_value(alloc: Global, kind: &SqlType, part: &Node) -> Result<Option<Value>, AllocError>
+fn literal_value(
+    alloc: Global,
+    kind: &SqlType,
+    part: &BoundNode,
+) -> Result<Option<Value>, AllocError>
     ensures { (value : Value) → IfOk result (λ found. found ≡ Some value → IsLiteral kind.now value part.now) }
 {
     match part {
-        Node::Constant(_, value) => exact_value(alloc, kind, value),
-        Node::Negate(a) => turned_literal(alloc, kind, a.get()),
+        BoundNode::Constant(_, value) => exact_value(alloc, kind, value),
+        BoundNode::Negate(a) => turned_literal(alloc, kind, a.get()),
         _ => Ok(None),
     }
 }
@@ -174,12 +178,12 @@ fn literal_value(alloc: Global, kind: &SqlType, part: &Node) -> Result<Option<Va
 fn turned_literal(
     alloc: Global,
     kind: &SqlType,
-    operand: &Node,
+    operand: &BoundNode,
 ) -> Result<Option<Value>, AllocError>
     ensures { (value : Value) → IfOk result (λ found. found ≡ Some value → IsLiteral kind.now value (node.Negate operand.now)) }
 {
     match operand {
-        Node::Constant(own, value) => match negate(&Worth::of(own, value)) {
+        BoundNode::Constant(own, value) => match negate(&Worth::of(own, value)) {
             Some(turned) => match turned {
                 Worth::Int(number) => exact_value(alloc, kind, &Value::Int(number)),
                 _ => Ok(None),

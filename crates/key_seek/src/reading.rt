@@ -10,13 +10,13 @@ ghost use Rattle.table_root.specs.Standing.{IsTableOf};
 ghost use Rattle.key_seek.specs.Seeking.{IsSpanOf, is_sought};
 ghost use Rattle.key_seek.specs.Spans.{place_of, start_of};
 
-use crate::spans::{Span, place_of, start_of};
+use crate::spans::{KeySpan, place_of, start_of};
 use chunk_store::Draft;
 use prolly_tree::scan_from;
 use schema_model::Schema;
 use std::alloc::{AllocError, Global};
 use std::cmp::Ordering;
-use table_root::Table;
+use table_root::StoredTable;
 use table_rows::row_of;
 use tuple_codec::{
     Blob, Digester, Row, Sequence, SqlType, Value, encode_key, key_of, keys_keep_order,
@@ -27,8 +27,8 @@ use tuple_codec::{
 pub(crate) fn rows_in_span<D: Digester>(
     alloc: Global,
     draft: &Draft<D>,
-    table: &Table,
-    span: &Span,
+    table: &StoredTable,
+    span: &KeySpan,
 ) -> Result<Sequence<Row>, AllocError>
     requires table { (contents : PlainTable) × IsTableOf D.address (chunks_of draft.now.chunks) table.now contents }
     requires span { IsSpanOf table.now.schema span.now }
@@ -54,7 +54,7 @@ pub(crate) fn rows_in_span<D: Digester>(
 fn side_of_row(
     alloc: Global,
     schema: &Schema,
-    span: &Span,
+    span: &KeySpan,
     row: &[Value],
 ) -> Result<Ordering, AllocError>
     ensures { IfOk result (λ side. side ≡ place_of span.now.fixed span.now.low span.now.high (primary_key schema.now row.now)) }
@@ -64,7 +64,7 @@ fn side_of_row(
 }
 
 /// The bytes of the cells with which a span begins.
-fn start_bytes(alloc: Global, schema: &Schema, span: &Span) -> Result<Blob, AllocError>
+fn start_bytes(alloc: Global, schema: &Schema, span: &KeySpan) -> Result<Blob, AllocError>
     requires schema { is_schema schema.now ≡ true }
     requires span { IsSpanOf schema.now span.now }
     ensures { IfOk result (λ bytes. bytes ≡ key_bytes (start_of span.now)) }

@@ -3,12 +3,12 @@
 ghost use Rattle.std.specs.Prelude.{◌≡◌, Some, IfOk};
 ghost use Rattle.key_seek.specs.Parts.{AreTold, IsHigh, IsLow, IsSpanIn};
 ghost use Rattle.key_seek.specs.Seeking.{IsSpanOf, Seeks, is_sought};
-ghost use Rattle.key_seek.specs.declared.spans.Span as spans;
+ghost use Rattle.key_seek.specs.declared.spans.KeySpan as spans;
 
 use crate::naming::fixed_value;
-use crate::spans::{End, Span};
+use crate::spans::{End, KeySpan};
 use crate::steady::{are_steady, is_steady};
-use expr_eval::{BoundExpr, Node};
+use expr_eval::{BoundExpr, BoundNode};
 use schema_model::Schema;
 use sql_ast::Comparison;
 use std::alloc::{AllocError, Global};
@@ -20,12 +20,12 @@ pub(crate) fn sought_keys(
     alloc: Global,
     schema: &Schema,
     test: &BoundExpr,
-) -> Result<Option<Span>, AllocError>
-    ensures seeks { (span : spans.Span) → IfOk result (λ found. found ≡ Some span → Seeks schema.now test.now (is_sought schema.now span)) }
-    ensures fits { (span : spans.Span) → IfOk result (λ found. found ≡ Some span → IsSpanOf schema.now span) }
+) -> Result<Option<KeySpan>, AllocError>
+    ensures seeks { (span : spans.KeySpan) → IfOk result (λ found. found ≡ Some span → Seeks schema.now test.now (is_sought schema.now span)) }
+    ensures fits { (span : spans.KeySpan) → IfOk result (λ found. found ≡ Some span → IsSpanOf schema.now span) }
 {
     match &test.node {
-        Node::And(first, rest) => span_in(alloc, schema, first.get(), rest.as_slice()),
+        BoundNode::And(first, rest) => span_in(alloc, schema, first.get(), rest.as_slice()),
         _ => span_in(alloc, schema, &test.node, &[]),
     }
 }
@@ -34,10 +34,10 @@ pub(crate) fn sought_keys(
 fn span_in(
     alloc: Global,
     schema: &Schema,
-    first: &Node,
-    rest: &[Node],
-) -> Result<Option<Span>, AllocError>
-    ensures { (span : spans.Span) → IfOk result (λ found. found ≡ Some span → IsSpanIn schema.now first.now rest.now span) }
+    first: &BoundNode,
+    rest: &[BoundNode],
+) -> Result<Option<KeySpan>, AllocError>
+    ensures { (span : spans.KeySpan) → IfOk result (λ found. found ≡ Some span → IsSpanIn schema.now first.now rest.now span) }
 {
     if !is_steady(first) {
         return Ok(None);
@@ -54,7 +54,7 @@ fn span_in(
 }
 
 /// Whether it leaves out any key.
-fn is_bounded(span: &Span) -> bool {
+fn is_bounded(span: &KeySpan) -> bool {
     !(span.fixed.as_slice().is_empty()
         && matches!(&span.low, End::Open)
         && matches!(&span.high, End::Open))
@@ -63,9 +63,9 @@ fn is_bounded(span: &Span) -> bool {
 fn told_span(
     alloc: Global,
     schema: &Schema,
-    first: &Node,
-    rest: &[Node],
-) -> Result<Span, AllocError>
+    first: &BoundNode,
+    rest: &[BoundNode],
+) -> Result<KeySpan, AllocError>
     ensures { IfOk result (λ span. AreTold schema.now first.now rest.now schema.now.key span.fixed span.low span.high) }
 {
     let mut fixed = Row::new(alloc);
@@ -76,11 +76,11 @@ fn told_span(
             None => {
                 let low = low_end(alloc, schema, place, first, rest)?;
                 let high = high_end(alloc, schema, place, first, rest)?;
-                return Ok(Span { fixed, low, high });
+                return Ok(KeySpan { fixed, low, high });
             }
         }
     }
-    Ok(Span {
+    Ok(KeySpan {
         fixed,
         low: End::Open,
         high: End::Open,
@@ -91,8 +91,8 @@ fn low_end(
     alloc: Global,
     schema: &Schema,
     place: usize,
-    first: &Node,
-    rest: &[Node],
+    first: &BoundNode,
+    rest: &[BoundNode],
 ) -> Result<End, AllocError>
     ensures { IfOk result (λ low. IsLow schema.now first.now rest.now place low) }
 {
@@ -106,8 +106,8 @@ fn low_end_with(
     alloc: Global,
     schema: &Schema,
     place: usize,
-    first: &Node,
-    rest: &[Node],
+    first: &BoundNode,
+    rest: &[BoundNode],
 ) -> Result<End, AllocError>
     ensures { IfOk result (λ low. IsLow schema.now first.now rest.now place low) }
 {
@@ -121,8 +121,8 @@ fn high_end(
     alloc: Global,
     schema: &Schema,
     place: usize,
-    first: &Node,
-    rest: &[Node],
+    first: &BoundNode,
+    rest: &[BoundNode],
 ) -> Result<End, AllocError>
     ensures { IfOk result (λ high. IsHigh schema.now first.now rest.now place high) }
 {
@@ -136,8 +136,8 @@ fn high_end_with(
     alloc: Global,
     schema: &Schema,
     place: usize,
-    first: &Node,
-    rest: &[Node],
+    first: &BoundNode,
+    rest: &[BoundNode],
 ) -> Result<End, AllocError>
     ensures { IfOk result (λ high. IsHigh schema.now first.now rest.now place high) }
 {

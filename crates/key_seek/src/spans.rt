@@ -19,7 +19,7 @@ pub enum End {
 
 /// The primary keys that begin with these cells, and whose next cell, if they have one, lies between the ends.
 #[derive(Debug, Drop)]
-pub struct Span {
+pub struct KeySpan {
     pub fixed: Row,
     pub low: End,
     pub high: End,
@@ -86,7 +86,7 @@ fn push_value(alloc: Global, end: &End, cells: &mut Row) -> Result<(), AllocErro
 }
 
 /// The cells that no key of the span comes before.
-pub(crate) fn start_of(alloc: Global, span: &Span) -> Result<Row, AllocError>
+pub(crate) fn start_of(alloc: Global, span: &KeySpan) -> Result<Row, AllocError>
     ensures { IfOk result (λ cells. cells ≡ start_of span.now) }
 {
     let mut cells = copy_row(alloc, span.fixed.as_slice())?;

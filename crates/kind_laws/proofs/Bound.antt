@@ -30,10 +30,10 @@ use Rattle.expr_eval.specs.declared.bound.BoundExpr.{BoundExpr}
 use Rattle.expr_eval.specs.declared.bound.Chain.{Chain}
 use Rattle.expr_eval.specs.declared.bound.Ends.{Ends}
 use Rattle.expr_eval.specs.declared.bound.Sum.{Sum}
-use Rattle.expr_eval.specs.declared.bound.Node.{Node, out-Node}
-use Rattle.expr_eval.specs.declared.bound.Node.TheOpen.{Node-F}
-use Rattle.expr_eval.specs.declared.bound.Node.TheVariants as n
-use Rattle.expr_eval.specs.declared.bound.Node.TheVariants.{outs-And, outs-Between, outs-Column, outs-Compare, outs-Constant, outs-Factors, outs-In, outs-IsNotNull, outs-IsNull, outs-MinusOnly, outs-Negate, outs-Not, outs-Or, outs-OutOfRange, outs-Terms, rolls-Between, rolls-Column, rolls-Compare, rolls-Constant, rolls-IsNotNull, rolls-IsNull, rolls-MinusOnly, rolls-Negate, rolls-Not, rolls-OutOfRange}
+use Rattle.expr_eval.specs.declared.bound.BoundNode.{BoundNode, out-BoundNode}
+use Rattle.expr_eval.specs.declared.bound.BoundNode.TheOpen.{BoundNode-F}
+use Rattle.expr_eval.specs.declared.bound.BoundNode.TheVariants as n
+use Rattle.expr_eval.specs.declared.bound.BoundNode.TheVariants.{outs-And, outs-Between, outs-Column, outs-Compare, outs-Constant, outs-Factors, outs-In, outs-IsNotNull, outs-IsNull, outs-MinusOnly, outs-Negate, outs-Not, outs-Or, outs-OutOfRange, outs-Terms, rolls-Between, rolls-Column, rolls-Compare, rolls-Constant, rolls-IsNotNull, rolls-IsNull, rolls-MinusOnly, rolls-Negate, rolls-Not, rolls-OutOfRange}
 use Rattle.expr_eval.specs.declared.scopes.ScopeColumn.{ScopeColumn}
 use Rattle.expr_eval.proofs.WorthNodes.{worth_and, worth_between, worth_column, worth_compare, worth_constant, worth_factors, worth_in, worth_is_not_null, worth_is_null, worth_minus_only, worth_negate, worth_not, worth_or, worth_out_of_range, worth_terms}
 use Rattle.grammar_laws.specs.Spelling.{operands}
@@ -48,19 +48,19 @@ module _ (row : Cells) where
   -- what it is worth has its kind; and the literal that only a minus brings into range is whole
   pub record Kinded (b : BoundExpr) : Type 0 where
     pub worth_is : IsOf b.kind (worth row b.node)
-    pub whole_is : out-Node b.node ≡ Node-F.MinusOnly → b.kind ≡ kind.Int
+    pub whole_is : out-BoundNode b.node ≡ BoundNode-F.MinusOnly → b.kind ≡ kind.Int
 
   abbrev pub HasKind : Outcome BoundExpr → Type 0
   HasKind (Ok b) = Kinded b
   HasKind (Err number) = Unit {0}
 
-  abbrev NotMinusOnly : Node → Type 0
-  NotMinusOnly node = out-Node node ≡ Node-F.MinusOnly → ⊥
+  abbrev NotMinusOnly : BoundNode → Type 0
+  NotMinusOnly node = out-BoundNode node ≡ BoundNode-F.MinusOnly → ⊥
 
-  kinded : (k : Kind) (node : Node) (w : Worthy) → worth row node ≡ w → IsOf k w → NotMinusOnly node → Kinded (record { kind = k; node = node })
+  kinded : (k : Kind) (node : BoundNode) (w : Worthy) → worth row node ≡ w → IsOf k w → NotMinusOnly node → Kinded (record { kind = k; node = node })
   kinded k node w is of not_ = record { worth_is = subst (IsOf k) (sym is) of; whole_is = λ e. absurd (not_ e) }
 
-  truths : (fit : Bool) (node : Node) (w : Worthy) → worth row node ≡ w → IsOf kind.Bool w → NotMinusOnly node → HasKind (truth_if fit node)
+  truths : (fit : Bool) (node : BoundNode) (w : Worthy) → worth row node ≡ w → IsOf kind.Bool w → NotMinusOnly node → HasKind (truth_if fit node)
   truths true node w is of not_ = kinded kind.Bool node w is of not_
   truths false node w is of not_ = tt
 
@@ -79,7 +79,7 @@ module _ (row : Cells) where
   not_kinded (Err m) has = tt
 
   -- sums
-  abbrev worth_term : Term × Node → Term × Worthy
+  abbrev worth_term : Term × BoundNode → Term × Worthy
   worth_term y = (y.0, worth row y.1)
 
   abbrev SumOf : Outcome Sum → Type 0
@@ -146,7 +146,7 @@ module _ (row : Cells) where
     chain_of [] c so_far all = so_far
     chain_of (x ∷ xs) c so_far all = chain_of xs (binding.two (extended meet) c x) (extended_of c x so_far all.0) all.1
 
-    module _ (node : Node → List Node → Node) (worth_of_node : (a : Node) (xs : List Node) → worth row (node a xs) ≡ chained f (worth row a) (map (worth row) xs)) (not_ : (a : Node) (xs : List Node) → NotMinusOnly (node a xs)) where
+    module _ (node : BoundNode → List BoundNode → BoundNode) (worth_of_node : (a : BoundNode) (xs : List BoundNode) → worth row (node a xs) ≡ chained f (worth row a) (map (worth row) xs)) (not_ : (a : BoundNode) (xs : List BoundNode) → NotMinusOnly (node a xs)) where
       pub closed_chain : Chain → Outcome BoundExpr
       closed_chain c = Ok (record { kind = c.kind; node = node c.first c.rest })
 
@@ -190,8 +190,8 @@ module _ (row : Cells) where
   one_negated k (Some a) counted_ is = negated_of k a counted_ is
   one_negated k None counted_ is = tt
 
-  behind_minus : (b : BoundExpr) (y : Node-F Node) → is_counted b.kind ≡ true → (y ≡ Node-F.MinusOnly → b.kind ≡ kind.Int) → Kinded b → Kinded (record { kind = b.kind; node = binding.minus_of y b.node })
-  behind_minus b Node-F.MinusOnly counted_ whole_ has =
+  behind_minus : (b : BoundExpr) (y : BoundNode-F BoundNode) → is_counted b.kind ≡ true → (y ≡ BoundNode-F.MinusOnly → b.kind ≡ kind.Int) → Kinded b → Kinded (record { kind = b.kind; node = binding.minus_of y b.node })
+  behind_minus b BoundNode-F.MinusOnly counted_ whole_ has =
       kinded b.kind (n.Constant kind.Int (cell.Int (negsuc (2 ^ 63 - 1)))) _ (worth_constant row kind.Int (cell.Int (negsuc (2 ^ 63 - 1))))
       (subst (λ k. IsOf k (Some (worth_of kind.Int (cell.Int (negsuc (2 ^ 63 - 1)))))) (sym (whole_ refl)) refl) (constant_plain kind.Int (cell.Int (negsuc (2 ^ 63 - 1))))
   behind_minus b y counted_ whole_ has =
@@ -199,8 +199,8 @@ module _ (row : Cells) where
 
   negate_kinded : (o : Outcome BoundExpr) → HasKind o → HasKind (and_then o bound_negate)
   negate_kinded (Ok b) has =
-      elim (is_counted b.kind) as (λ c. is_counted b.kind ≡ c → HasKind (typed (cond c (Some b.kind) None) (binding.minus_of (out-Node b.node) b.node))) [
-        | true ↦ λ is. behind_minus b (out-Node b.node) is has.whole_is has
+      elim (is_counted b.kind) as (λ c. is_counted b.kind ≡ c → HasKind (typed (cond c (Some b.kind) None) (binding.minus_of (out-BoundNode b.node) b.node))) [
+        | true ↦ λ is. behind_minus b (out-BoundNode b.node) is has.whole_is has
         | false ↦ λ is. tt
       ] refl
   negate_kinded (Err m) has = tt

@@ -7,18 +7,18 @@ use Rattle.std.proofs.lemmas.Option.{same_Some}
 use Rattle.schema_model.specs.PlainCommits.{Commits}
 use Rattle.schema_model.specs.PlainTables.{NamedTable, PlainDatabase, PlainTable, row_item, row_items}
 use Rattle.schema_model.proofs.SizeLemmas.{few_tables}
-use Rattle.chunk_store.specs.Chunks.{Chunk, Chunks, bytes_at}
+use Rattle.chunk_store.specs.Chunks.{Chunk, Chunks, chunk_bytes}
 use Rattle.chunk_store.specs.Drafts.{DraftParts, chunks_of}
 use Rattle.chunk_store.specs.Standing.{IsTree}
 use Rattle.chunk_store.specs.Stores.{all_chunks}
 use Rattle.script_text.specs.declared.outputs.BranchLine.{BranchLine}
 use Rattle.table_root.specs.Databases.{HasDatabase, IsDatabaseFound}
-use Rattle.table_root.specs.Standing.{DatabasesStand, IsTableAt, TablesStand, named_tables}
+use Rattle.table_root.specs.Standing.{AreThere, DatabasesStand, IsTableAt, TablesStand, named_tables}
 use Rattle.table_root.specs.Tables.{IsTableFound}
 use Rattle.table_root.specs.declared.heads.Look.{Look}
-use Rattle.table_root.specs.declared.records.NamedTable as entries
-use Rattle.table_root.specs.declared.records.Table.{Table}
-use Rattle.constraint_scan.specs.Scanning.{AreThere, HasKeptAt, IsKeptAt}
+use Rattle.table_root.specs.declared.records.StoredTable.{StoredTable}
+use Rattle.table_root.specs.declared.records.TableEntry as entries
+use Rattle.constraint_scan.specs.Scanning.{HasKeptAt, IsKeptAt}
 use Rattle.plain_sessions.specs.Records.{Branch, BranchState, Shared, is_branch, state_of}
 use Rattle.session_laws.specs.Changes.{BranchStands, Paired, Parts, StateStands}
 use Rattle.session_laws.specs.Laws.{StatesFollow, head_in}
@@ -31,9 +31,9 @@ main = codes "main"
 
 -- ---- a table
 
-module _ (address : List ℕ → List ℕ) (chunks : Chunks) (k : List ℕ) (stand : TablesStand) (contents : PlainTable) (at : IsTableAt address chunks k contents) (read : Table) (found : IsTableFound chunks k read) where
+module _ (address : List ℕ → List ℕ) (chunks : Chunks) (k : List ℕ) (stand : TablesStand) (contents : PlainTable) (at : IsTableAt address chunks k contents) (read : StoredTable) (found : IsTableFound chunks k read) where
   pub rows_tree : IsTree address chunks read.rows.0 (row_items contents)
-  rows_tree = subst (λ (t : Table). IsTree address chunks t.rows.0 (row_items contents)) (sym (stand.same address chunks k contents read at found)) (let trees = at.trees in trees.rows)
+  rows_tree = subst (λ (t : StoredTable). IsTree address chunks t.rows.0 (row_items contents)) (sym (stand.same address chunks k contents read at found)) (let trees = at.trees in trees.rows)
 
 pub rows_counted : (contents : PlainTable) (n : ℕ) → n ≡ length (row_items contents) → n ≡ length contents.rows
 rows_counted contents n is = is ∙ length-map contents.rows (row_item contents.schema)
@@ -55,13 +55,13 @@ module _ (name : List ℕ) (named : NamedTable) (others database : PlainDatabase
   pub further : bytes_eq name (codes "load_rows") ≡ false → n ≡ load_rows_in others → n ≡ load_rows_in database
   further test is = is ∙ sym (tested false test)
 
-none_there : (address : List ℕ → List ℕ) (chunks : Chunks) (database : PlainDatabase) (tables : List entries.NamedTable) → AreThere address chunks database tables → length tables < 1 → database ≡ []
+none_there : (address : List ℕ → List ℕ) (chunks : Chunks) (database : PlainDatabase) (tables : List entries.TableEntry) → AreThere address chunks database tables → length tables < 1 → database ≡ []
 none_there address chunks [] tables there none = refl
 none_there address chunks (named ∷ others) tables there none = absurd (too_many (length tables) (length (named_tables address others)) none (ap length there.listed)) where
   too_many : (n m : ℕ) → n < 1 → n ≡ suc m → ⊥
   too_many n m none many = omega arith
 
-pub no_rows : (address : List ℕ → List ℕ) (chunks : Chunks) (database : PlainDatabase) (tables : List entries.NamedTable) → AreThere address chunks database tables → length tables < 1 → 0 ≡ load_rows_in database
+pub no_rows : (address : List ℕ → List ℕ) (chunks : Chunks) (database : PlainDatabase) (tables : List entries.TableEntry) → AreThere address chunks database tables → length tables < 1 → 0 ≡ load_rows_in database
 no_rows address chunks database tables there none = sym (ap (λ (d : PlainDatabase). load_rows_in d) (none_there address chunks database tables there none))
 
 -- ---- a database
@@ -70,7 +70,7 @@ module _ (address : List ℕ → List ℕ) (chunks : Chunks) (k : List ℕ) (sta
   pub database_there : HasDatabase chunks k
   database_there = (named_tables address contents, stand.found address chunks k contents kept.stands (few_tables contents kept.within))
 
-  pub tables_there : (tables : List entries.NamedTable) → IsDatabaseFound chunks k tables → AreThere address chunks contents tables
+  pub tables_there : (tables : List entries.TableEntry) → IsDatabaseFound chunks k tables → AreThere address chunks contents tables
   tables_there tables found = record {
     stand = let stands = kept.stands in stands.tables;
     listed = stand.same address chunks k contents tables kept.stands (few_tables contents kept.within) found;
@@ -78,9 +78,9 @@ module _ (address : List ℕ → List ℕ) (chunks : Chunks) (k : List ℕ) (sta
 
 -- a draft that has nothing of its own has its store's chunks
 pub kept_in_draft : (address : List ℕ → List ℕ) (draft : DraftParts) (chunks : List Chunk) (k : List ℕ) (contents : PlainDatabase) → draft ≡ record { base = chunks; own = [] }
-    → IsKeptAt address (bytes_at chunks) k contents → IsKeptAt address (chunks_of draft) k contents
+    → IsKeptAt address (chunk_bytes chunks) k contents → IsKeptAt address (chunks_of draft) k contents
 kept_in_draft address draft chunks k contents is kept =
-    subst (λ (found : Chunks). IsKeptAt address found k contents) (sym (ap chunks_of is ∙ ap bytes_at (append-nil chunks))) kept
+    subst (λ (found : Chunks). IsKeptAt address found k contents) (sym (ap chunks_of is ∙ ap chunk_bytes (append-nil chunks))) kept
 
 -- ---- the shared state
 
@@ -111,7 +111,7 @@ module _ (address : List ℕ → List ℕ) (parts : Parts) (shared : Shared) (st
       by None found is = absurd (cc)
       by (Some line) found is = follow.looked address parts shared look line stands found (sym (same_Some _ _ is)) heads chunks
 
-    pub kept_seen : HasKeptAt address (bytes_at (all_chunks look.store)) look.rec.working.0
+    pub kept_seen : HasKeptAt address (chunk_bytes (all_chunks look.store)) look.rec.working.0
     kept_seen = let looks = looks_at in let state = looks.state in let record_stands = looks.stands in (state.working, record_stands.working)
 
     pub rows_are : (n : ℕ) → n ≡ load_rows_in kept_seen.0 → n ≡ rows_in shared

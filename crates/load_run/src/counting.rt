@@ -3,11 +3,11 @@
 ghost use Rattle.std.specs.Prelude.{◌≡◌, IfOk, bytes_eq, codes, is_some, length, true};
 ghost use Rattle.std.specs.List.{find};
 ghost use Rattle.schema_model.specs.PlainTables.{PlainDatabase, PlainTable};
-ghost use Rattle.chunk_store.specs.Chunks.{bytes_at};
+ghost use Rattle.chunk_store.specs.Chunks.{chunk_bytes};
 ghost use Rattle.chunk_store.specs.Drafts.{chunks_of};
 ghost use Rattle.chunk_store.specs.Stores.{all_chunks};
-ghost use Rattle.table_root.specs.Standing.{IsTableAt};
-ghost use Rattle.constraint_scan.specs.Scanning.{AreThere, HasKeptAt, IsKeptAt};
+ghost use Rattle.table_root.specs.Standing.{AreThere, IsTableAt};
+ghost use Rattle.constraint_scan.specs.Scanning.{HasKeptAt, IsKeptAt};
 ghost use Rattle.plain_sessions.specs.Records.{Shared};
 ghost use Rattle.session_laws.specs.Changes.{StateStands};
 ghost use Rattle.load_run.specs.Loading.{is_main, load_rows_in, rows_in};
@@ -20,7 +20,7 @@ use session_laws::law_of_states;
 use shared_db::SharedDb;
 use std::alloc::{AllocError, Global};
 use table_root::{
-    BranchName, Look, NamedTable, law_of_databases, law_of_tables, read_database, read_table,
+    BranchName, Look, TableEntry, law_of_databases, law_of_tables, read_database, read_table,
 };
 use tuple_codec::{Address, Digester};
 
@@ -68,8 +68,8 @@ fn main_name() -> BranchName
 
 /// How many rows the table has in what a look's branch is working on.
 fn rows_seen<D: Digester>(alloc: Global, look: Look) -> Result<u64, AllocError>
-    requires { HasKeptAt D.address (bytes_at (all_chunks look.store)) look.rec.working.0 }
-    ensures { (contents : PlainDatabase) → IsKeptAt D.address (bytes_at (all_chunks look.store)) look.rec.working.0 contents
+    requires { HasKeptAt D.address (chunk_bytes (all_chunks look.store)) look.rec.working.0 }
+    ensures { (contents : PlainDatabase) → IsKeptAt D.address (chunk_bytes (all_chunks look.store)) look.rec.working.0 contents
         → IfOk result (λ rows. rows ≡ load_rows_in contents) }
 {
     let pool = PagePool::with_pages(alloc, 0)?;
@@ -96,7 +96,7 @@ fn rows_at<D: Digester>(
 fn rows_among<D: Digester>(
     alloc: Global,
     draft: &Draft<D>,
-    tables: &[NamedTable],
+    tables: &[TableEntry],
 ) -> Result<u64, AllocError>
     requires { (database : PlainDatabase) × AreThere D.address (chunks_of draft.now.chunks) database tables.now }
     ensures { (database : PlainDatabase) → AreThere D.address (chunks_of draft.now.chunks) database tables.now
@@ -113,7 +113,7 @@ fn rows_among<D: Digester>(
 }
 
 /// Whether this is the workload's table.
-fn is_load_table(named: &NamedTable) -> bool
+fn is_load_table(named: &TableEntry) -> bool
     ensures { result ≡ bytes_eq named.now.name (codes "load_rows") }
 {
     named.name.as_slice() == b"load_rows".as_slice()

@@ -11,7 +11,7 @@ use Rattle.basic_laws.proofs.Options.{some_is}
 use Rattle.schema_model.specs.PlainTables.{rises}
 use Rattle.schema_model.specs.PlainCommits.{AncestorsFollow, AreGrown, Commits, IsBaseOrNone, ancestors, base, commit_cmp, first_in, has_address, is_known}
 use Rattle.schema_model.proofs.AncestorLemmas.{alike, before_all, not_before, not_itself, turned, known_here as known_by}
-use Rattle.commit_graph.specs.Walks.{AreRanks, Begins, Steps, address_in, left, weight_of}
+use Rattle.commit_graph.specs.Walks.{AreRanks, Steps, WalksAncestors, address_in, left, weight_of}
 use Rattle.commit_graph.specs.declared.walks.Rank.{Rank}
 use Rattle.tuple_codec.specs.declared.addresses.Address.{Address}
 use Rattle.commit_graph.proofs.OrderLemmas.{true_false}
@@ -79,7 +79,7 @@ known_a commits a b common = known_by commits common.1.0 a common.0 common.1.1
 pub known_b : (commits : Commits) (a b : List ℕ) → HasCommon commits a b → is_known commits b ≡ true
 known_b commits a b common = known_by commits common.2.0 b common.0 common.2.1
 
-pub begin : (commits : Commits) (a b : List ℕ) (ours theirs : List Rank) → Begins commits a ours → Begins commits b theirs → Meets commits a b ours theirs
+pub begin : (commits : Commits) (a b : List ℕ) (ours theirs : List Rank) → WalksAncestors commits a ours → WalksAncestors commits b theirs → Meets commits a b ours theirs
 begin commits a b ours theirs first second = record {
   ours_are = first.ranks;
   theirs_are = second.ranks;

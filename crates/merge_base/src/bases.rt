@@ -7,7 +7,7 @@ ghost use Rattle.commit_graph.specs.Standing.{CommitsStand};
 ghost use Rattle.merge_base.specs.Common.{HasCommon};
 
 use chunk_store::Draft;
-use commit_graph::Walk;
+use commit_graph::AncestorWalk;
 use schema_model::law_of_ancestors;
 use std::alloc::{AllocError, Global};
 use std::cmp::Ordering;
@@ -26,8 +26,8 @@ pub fn merge_base<D: Digester>(
         → IfOk result (λ k. base commits a.now.0 b.now.0 ≡ Some k.0) }
 {
     law_of_ancestors();
-    let mut ours = Walk::new(alloc, draft, a)?;
-    let mut theirs = Walk::new(alloc, draft, b)?;
+    let mut ours = AncestorWalk::new(alloc, draft, a)?;
+    let mut theirs = AncestorWalk::new(alloc, draft, b)?;
     'walks: while let Some(our) = ours.first() {
         let Some(their) = theirs.first() else {
             unreachable!()

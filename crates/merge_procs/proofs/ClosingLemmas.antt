@@ -4,6 +4,7 @@ use Rattle.tuple_codec.specs.declared.addresses.Address.{Address}
 use Rattle.chunk_store.specs.Chunks.{Chunks}
 use Rattle.chunk_store.specs.Clashes.{IsReason}
 use Rattle.chunk_store.specs.Drafts.{Drafting, DraftParts, Grows, IsNamed, IsSound, chunks_of, cut_to}
+use Rattle.chunk_store.specs.Kinds.{is_data}
 use Rattle.chunk_store.specs.Laws.{ChunksFollow, DraftsFollow, DraftsGrow}
 use Rattle.chunk_store.specs.declared.faults.PutFault.{PutFault}
 use Rattle.chunk_store.specs.declared.faults.PutFault.TheVariants.{Memory, Collision}
@@ -16,7 +17,7 @@ use Rattle.plain_sessions.specs.Sessions.{Transaction, own_root}
 use Rattle.plain_sessions.specs.Statements.{worked}
 use Rattle.plain_sessions.specs.declared.commands.Work.TheVariants as work
 use Rattle.plain_sql.specs.Lists.{unless}
-use Rattle.root_merge.specs.Merging.{AreRoots, is_data}
+use Rattle.root_merge.specs.Merging.{AreRoots}
 use Rattle.script_text.specs.Collisions.{IsFault}
 use Rattle.script_text.specs.declared.replies.Reply.{Reply}
 use Rattle.session_laws.specs.Commits.{HasNoCommit}

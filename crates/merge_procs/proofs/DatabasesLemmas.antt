@@ -8,19 +8,20 @@ use Rattle.chunk_store.specs.Chunks.{Chunks}
 use Rattle.constraint_scan.specs.Recorded.{AllAreRecorded}
 use Rattle.constraint_scan.specs.Recording as recording
 use Rattle.constraint_scan.specs.Recording.{may_stand, may_stand_in}
-use Rattle.constraint_scan.specs.Scanning.{IsKeptAt, IsReadAt}
+use Rattle.constraint_scan.specs.Scanning.{IsKeptAt}
 use Rattle.constraint_scan.specs.Written.{written, written_in}
-use Rattle.constraint_scan.specs.declared.listing.Violation.{Violation}
+use Rattle.constraint_scan.specs.declared.listing.ListedViolation.{ListedViolation}
 use Rattle.expr_eval.specs.Binding.{Outcome, and_then}
 use Rattle.schema_model.specs.PlainTables.{PlainDatabase, PlainTable}
 use Rattle.schema_model.proofs.SizeLemmas.{few_tables}
+use Rattle.table_root.specs.Standing.{IsReadAt}
 use Rattle.plain_merge.specs.RootMerge.{MergedDatabase, SchemaConflict}
 use Rattle.plain_schemas.specs.Statements.{checks}
 use Rattle.plain_sessions.specs.CommitRule.{is_none}
 use Rattle.plain_sessions.specs.Merging.{if_within_limits, or_schema_conflict}
 use Rattle.plain_sql.specs.Lists.{unless}
 use Rattle.plain_writes.specs.Violations.{Found, table_in, violations}
-use Rattle.root_merge.specs.Merging.{IsFaultOf, IsMerged, PassesLimit}
+use Rattle.root_merge.specs.Merging.{IsFaultOf, IsMergedDatabase, PassesLimit}
 use Rattle.root_merge.specs.declared.merging.Merged.{Merged}
 use Rattle.table_merge.specs.declared.faults.MergeFault.{MergeFault}
 use Rattle.table_merge.specs.declared.faults.MergeFault.TheVariants as fault
@@ -31,11 +32,11 @@ use Rattle.merge_procs.specs.Databases.{AreAllIn}
 pub read_kept : (address : List ℕ → List ℕ) (chunks : Chunks) (k : List ℕ) (database : PlainDatabase) → IsKeptAt address chunks k database → IsReadAt address chunks k database
 read_kept address chunks k database kept = record { stands = kept.stands; few = few_tables database kept.within }
 
-pub can_record : (address : List ℕ → List ℕ) (chunks : Chunks) (k : List ℕ) (list : List Violation) (database : PlainDatabase) → AllAreRecorded → AreAllIn address chunks k list database
+pub can_record : (address : List ℕ → List ℕ) (chunks : Chunks) (k : List ℕ) (list : List ListedViolation) (database : PlainDatabase) → AllAreRecorded → AreAllIn address chunks k list database
     → recording.CanRecord address chunks k list database (violations checks database)
 can_record address chunks k list database laws all = record {
   kept = all.kept;
-  recordable = subst (λ (l : List Violation). recording.IsRecordable database l (violations checks database)) (sym all.all) (laws.recordable address chunks k database all.kept);
+  recordable = subst (λ (l : List ListedViolation). recording.IsRecordable database l (violations checks database)) (sym all.all) (laws.recordable address chunks k database all.kept);
 }
 
 -- one whose table is there is written
@@ -54,11 +55,11 @@ none_written database (one ∷ more) all =
     let here = and_parts (may_stand_in database one) (list_all (may_stand_in database) more) all in
     some (written_in database one) (flat_map (written_in database) more) (one_written (table_in database one.table) one here.0) ∙ sym (never (length more))
   where
-    some : (xs ys : List Violation) → length xs ≡ 1 → is_none (xs ++ ys) ≡ false
+    some : (xs ys : List ListedViolation) → length xs ≡ 1 → is_none (xs ++ ys) ≡ false
     some [] ys e = absurd cc
     some (x ∷ xs) ys e = never (length (xs ++ ys))
 
-pub none_listed : (address : List ℕ → List ℕ) (chunks : Chunks) (k : List ℕ) (list : List Violation) (database : PlainDatabase) → AllAreRecorded → IsKeptAt address chunks k database
+pub none_listed : (address : List ℕ → List ℕ) (chunks : Chunks) (k : List ℕ) (list : List ListedViolation) (database : PlainDatabase) → AllAreRecorded → IsKeptAt address chunks k database
     → list ≡ flat_map (written_in database) (violations checks database) → is_none list ≡ is_none (violations checks database)
 none_listed address chunks k list database laws kept is =
     let may = laws.recordable address chunks k database kept in
@@ -84,7 +85,7 @@ limit_refused wanted why is of =
     ap within_limits passes.is ∙ ap (λ (b : Bool). unless (not b) 9010 (Ok passes.merged)) passes.limits
 
 -- a merged database that stands keeps the limits
-pub within_merged : (address : List ℕ → List ℕ) (chunks : Chunks) (result : Merged) (wanted : Result MergedDatabase SchemaConflict) (is : IsMerged address chunks result wanted)
+pub within_merged : (address : List ℕ → List ℕ) (chunks : Chunks) (result : Merged) (wanted : Result MergedDatabase SchemaConflict) (is : IsMergedDatabase address chunks result wanted)
     → and_then (or_schema_conflict wanted) if_within_limits ≡ Ok is.merged
 unfolding within_limits
 within_merged address chunks result wanted is = ap within_limits is.is ∙ ap (λ (b : Bool). unless (not b) 9010 (Ok is.merged)) is.made.root.within

@@ -16,13 +16,13 @@ use Rattle.schema_model.specs.WrittenForms.{table_address}
 use Rattle.schema_model.proofs.SizeLemmas.{kept_few}
 use Rattle.chunk_store.specs.Chunks.{Chunks, Extends}
 use Rattle.chunk_store.specs.Drafts.{Drafting, Grows}
-use Rattle.chunk_store.specs.Kinds.{is_database, is_either, is_node, is_table}
+use Rattle.chunk_store.specs.Kinds.{is_data, is_database, is_either, is_node, is_table}
 use Rattle.chunk_store.specs.Laws.{DraftsGrow}
-use Rattle.constraint_scan.specs.Scanning.{AreThere, IsKeptAt, IsReadAt}
+use Rattle.constraint_scan.specs.Scanning.{IsKeptAt}
 use Rattle.constraint_scan.proofs.RecordLemmas.{there_later}
 use Rattle.expr_eval.specs.Binding.{Outcome, and_then}
-use Rattle.table_root.specs.Standing.{IsTableAt, TablesStand, named_tables}
-use Rattle.table_root.specs.declared.records.NamedTable as entries
+use Rattle.table_root.specs.Standing.{AreThere, IsReadAt, IsTableAt, TablesStand, named_tables}
+use Rattle.table_root.specs.declared.records.TableEntry as entries
 use Rattle.plain_schemas.specs.Statements.{checks}
 use Rattle.plain_sql.specs.Lists.{each, unless}
 use Rattle.plain_writes.specs.Violations.{first_violation, is_called}
@@ -30,7 +30,6 @@ use Rattle.plain_sessions.specs.Branching.{is_in}
 use Rattle.plain_sessions.specs.Merging.{Answers, breaks_index, breaks_null, database_after, has_too_many_rows, may_settle, names_meant, resolve, table_after, takes_bad_row, unless_violated}
 use Rattle.plain_sessions.specs.Records.{BranchState}
 use Rattle.plain_sessions.specs.Statements.{resolve_worked}
-use Rattle.root_merge.specs.Merging.{is_data}
 use Rattle.root_merge.proofs.MergedLemmas.{within_named as all_within}
 use Rattle.script_text.specs.declared.replies.Reply.{Reply}
 use Rattle.session_laws.specs.Laws.{RecordsFollow}
@@ -72,10 +71,10 @@ absent_is address database (name ∷ names) =
       by true more = more ∙ then_refusal (each (may_settle database) names) (λ ys. name ∷ ys)
       by false more = refl
 
-pub absent_told : (address : List ℕ → List ℕ) (tables : List entries.NamedTable) (request : Resolution) (database : PlainDatabase) (absent : Option ℕ) → tables ≡ named_tables address database
+pub absent_told : (address : List ℕ → List ℕ) (tables : List entries.TableEntry) (request : Resolution) (database : PlainDatabase) (absent : Option ℕ) → tables ≡ named_tables address database
     → absent ≡ first_absent tables (names_meant request.tables) → absent ≡ refusal_of (each (may_settle database) (names_meant request.tables))
 absent_told address tables request database absent listed told =
-    told ∙ ap (λ (l : List entries.NamedTable). first_absent l (names_meant request.tables)) listed ∙ absent_is address database (names_meant request.tables)
+    told ∙ ap (λ (l : List entries.TableEntry). first_absent l (names_meant request.tables)) listed ∙ absent_is address database (names_meant request.tables)
 
 -- ---- what refuses it before
 
@@ -140,7 +139,7 @@ fine_so request database e =
 
 -- ---- the tables that may be settled, and the database that they are then
 
-pub can_settle : (address : List ℕ → List ℕ) (chunks : Chunks) (commits : Commits) (own : BranchRecord) (tables : List entries.NamedTable) (request : Resolution) (state : BranchState)
+pub can_settle : (address : List ℕ → List ℕ) (chunks : Chunks) (commits : Commits) (own : BranchRecord) (tables : List entries.TableEntry) (request : Resolution) (state : BranchState)
     → CanResolve address chunks commits own tables request state → CanSettleEach address chunks tables request state.working
 can_settle address chunks commits own tables request state can =
     let is = can.is in
@@ -167,7 +166,7 @@ tables_of : (address : List ℕ → List ℕ) (chunks : Chunks) (database : Plai
 tables_of address chunks [] h = tt
 tables_of address chunks (named ∷ database) h = ((let at = h.0 in at.is_table), tables_of address chunks database h.1)
 
-pub listed_after : (address : List ℕ → List ℕ) (old new : Chunks) (k : List ℕ) (made : List entries.NamedTable) (request : Resolution) (database : PlainDatabase) → IsKeptAt address old k database
+pub listed_after : (address : List ℕ → List ℕ) (old new : Chunks) (k : List ℕ) (made : List entries.TableEntry) (request : Resolution) (database : PlainDatabase) → IsKeptAt address old k database
     → AreThere address new (database_after request database) made → AreListed address new made (database_after request database)
 listed_after address old new k made request database kept there =
     let at = kept.stands in
@@ -185,7 +184,7 @@ listed_after address old new k made request database kept there =
       listed = there.listed;
     }
 
-pub can_judge : (address : List ℕ → List ℕ) (old mid new : Chunks) (commits : Commits) (own : BranchRecord) (tables made : List entries.NamedTable) (root : Address) (request : Resolution) (state : BranchState)
+pub can_judge : (address : List ℕ → List ℕ) (old mid new : Chunks) (commits : Commits) (own : BranchRecord) (tables made : List entries.TableEntry) (root : Address) (request : Resolution) (state : BranchState)
     → Extends mid new → Extends old new → TablesStand → RecordsFollow → CanResolve address old commits own tables request state → AreThere address mid (database_after request state.working) made
     → IsReadAt address new root.0 (database_after request state.working) → CanJudge address new commits own made root request state (database_after request state.working)
 can_judge address old mid new commits own tables made root request state later more laws records can there at = record {
@@ -199,11 +198,11 @@ pub grown : DraftsGrow → (old mid new : Drafting) → Grows is_data old mid �
 grown growth old mid new first later =
     growth.in_steps is_data old mid new first (growth.either_right is_node (is_either is_table is_database) mid new (growth.either_right is_table is_database mid new later))
 
-pub there_of : (address : List ℕ → List ℕ) (chunks : Chunks) (k : List ℕ) (tables : List entries.NamedTable) (database : PlainDatabase) → IsKeptAt address chunks k database → tables ≡ named_tables address database
+pub there_of : (address : List ℕ → List ℕ) (chunks : Chunks) (k : List ℕ) (tables : List entries.TableEntry) (database : PlainDatabase) → IsKeptAt address chunks k database → tables ≡ named_tables address database
     → AreThere address chunks database tables
 there_of address chunks k tables database kept listed = record { stand = (let at = kept.stands in at.tables); listed = listed }
 
-pub fine_found : (address : List ℕ → List ℕ) (chunks : Chunks) (commits : Commits) (own : BranchRecord) (tables : List entries.NamedTable) (request : Resolution) (state : BranchState) (refusal : Option ℕ)
+pub fine_found : (address : List ℕ → List ℕ) (chunks : Chunks) (commits : Commits) (own : BranchRecord) (tables : List entries.TableEntry) (request : Resolution) (state : BranchState) (refusal : Option ℕ)
     → RecordStands address chunks commits own state → tables ≡ named_tables address state.working → refusal ≡ first_refusal request state.working → refusal ≡ None
     → CanResolve address chunks commits own tables request state
 fine_found address chunks commits own tables request state refusal stands listed told none = record { is = record { stands = stands; listed = listed }; fine = sym told ∙ none }
@@ -213,7 +212,7 @@ fine_found address chunks commits own tables request state refusal stands listed
 pub count_rows : (contents : PlainTable) (count : ℕ) → count ≡ length (row_items contents) → nat_lt most_rows count ≡ nat_lt most_rows (length contents.rows)
 count_rows contents count is = ap (λ (n : ℕ). nat_lt most_rows n) (is ∙ length-map contents.rows (row_item contents.schema))
 
-module _ (address : List ℕ → List ℕ) (chunks : Chunks) (commits : Commits) (own : BranchRecord) (made : List entries.NamedTable) (root : Address) (request : Resolution) (state : BranchState) (after : PlainDatabase)
+module _ (address : List ℕ → List ℕ) (chunks : Chunks) (commits : Commits) (own : BranchRecord) (made : List entries.TableEntry) (root : Address) (request : Resolution) (state : BranchState) (after : PlainDatabase)
     (can : CanJudge address chunks commits own made root request state after) where
   pub before_at : IsReadAt address chunks own.working.0 state.working
   before_at = let stands = can.stands in kept_read address chunks own.working.0 state.working stands.working

@@ -8,9 +8,9 @@ use Rattle.basic_laws.proofs.Bytes.{bytes_same}
 use Rattle.basic_laws.proofs.Truths.{alike_truths as one_test}
 use Rattle.tuple_codec.specs.declared.addresses.Address.{Address}
 use Rattle.tuple_codec.specs.declared.records.BranchRecord.{BranchRecord}
-use Rattle.chunk_store.specs.Chunks.{AreNamed, Chunk, Chunks, Extends, IsSingle, Lists, bytes_at}
+use Rattle.chunk_store.specs.Chunks.{AreNamed, Chunk, Chunks, Extends, IsSingle, Lists, chunk_bytes}
 use Rattle.chunk_store.specs.Drafts.{Drafting, DraftParts, Grows, IsSound, Longer, chunks_of}
-use Rattle.chunk_store.specs.Kinds.{is_commit}
+use Rattle.chunk_store.specs.Kinds.{is_commit, is_data}
 use Rattle.chunk_store.specs.Laws.{ChunksFollow, DraftsFollow}
 use Rattle.chunk_store.specs.Standing.{IsThere}
 use Rattle.chunk_store.specs.Stores.{IsBrought, all_chunks, joined}
@@ -37,7 +37,6 @@ use Rattle.plain_sessions.specs.Sessions as plain
 use Rattle.plain_sessions.specs.Sessions.{Transaction, own_root}
 use Rattle.plain_sessions.specs.Statements.{worked}
 use Rattle.plain_sessions.specs.declared.commands.Work.TheVariants as call
-use Rattle.root_merge.specs.Merging.{is_data}
 use Rattle.session_laws.specs.Commits.{AreAmong, CommitsAreThere, HasNoCommit}
 use Rattle.session_laws.specs.Laws.{CommitsFollow, RecordsFollow}
 use Rattle.session_laws.specs.Records.{RecordStands}
@@ -49,12 +48,12 @@ use Rattle.session_txn.specs.Committing.{IsWorkOf}
 use Rattle.session_txn.proofs.CommitLemmas as decisions
 use Rattle.session_txn.proofs.CommitLemmas.{ok_same}
 use Rattle.shared_db.specs.Plans.{IsPlannedAs, IsRefusedBy, PlanIs, brought}
-use Rattle.shared_db.specs.declared.changes.Plan.{Plan}
-use Rattle.branch_procs.specs.Committing.{CanCommit, IsPlannedOf, IsWritten}
+use Rattle.shared_db.specs.declared.changes.DecisionPlan.{DecisionPlan}
+use Rattle.branch_procs.specs.Committing.{CanCommit, IsCommitWritten, IsPlannedOf}
 use Rattle.branch_procs.proofs.CommittingLemmas.{one_put}
 use Rattle.branch_procs.proofs.StageLemmas.{kept_later}
 use Rattle.merge_procs.specs.Databases.{IsMet}
-use Rattle.merge_procs.specs.Planning.{CanMerge, IsForwarded, IsJoined, IsMerged, clean_record, joining_record, success}
+use Rattle.merge_procs.specs.Planning.{CanMergeRoots, IsForwarded, IsJoined, IsMergeCommitted, clean_record, joining_record, success}
 use Rattle.merge_procs.specs.Ways.{IsThree, IsWay}
 use Rattle.merge_procs.specs.declared.databases.Met.TheVariants as meeting
 use Rattle.merge_procs.specs.declared.ways.Three.{Three}
@@ -135,10 +134,10 @@ module _ (address : List ℕ → List ℕ) (look : Look) (t : Transaction) (shar
   decided_as : (b : Bool) → moved ≡ b → unless_moved t present change ≡ unless b 1213 (Ok change)
   decided_as b is = ap (λ (wrong : Bool). unless wrong 1213 (Ok change)) (sym told ∙ is)
 
-  pub refuses : (plan : Plan) → moved ≡ true → IsRefusedBy 1213 plan → PlanIs address look shared.commits plan (unless_moved t present change)
+  pub refuses : (plan : DecisionPlan) → moved ≡ true → IsRefusedBy 1213 plan → PlanIs address look shared.commits plan (unless_moved t present change)
   refuses plan is refused = subst (PlanIs address look shared.commits plan) (sym (decided_as true is)) refused
 
-  pub goes_on : (plan : Plan) → moved ≡ false → IsPlannedAs address look shared.commits plan change → PlanIs address look shared.commits plan (unless_moved t present change)
+  pub goes_on : (plan : DecisionPlan) → moved ≡ false → IsPlannedAs address look shared.commits plan change → PlanIs address look shared.commits plan (unless_moved t present change)
   goes_on plan is planned = subst (PlanIs address look shared.commits plan) (sym (decided_as false is)) planned
 
 -- ---- what was sealed
@@ -149,8 +148,8 @@ module _ (address : List ℕ → List ℕ) (chunks : ChunksFollow) (drafts : Dra
   abbrev beside : List Chunk
   beside = store ++ after.chunks.own
 
-  pub at_after : chunks_of after.chunks ≡ bytes_at beside
-  at_after = λ i. bytes_at (base i ++ after.chunks.own)
+  pub at_after : chunks_of after.chunks ≡ chunk_bytes beside
+  at_after = λ i. chunk_bytes (base i ++ after.chunks.own)
 
   single : IsSingle beside
   single = subst (λ (below : List Chunk). IsSingle (below ++ after.chunks.own)) base sound.single
@@ -159,7 +158,7 @@ module _ (address : List ℕ → List ℕ) (chunks : ChunksFollow) (drafts : Dra
   only = subst (λ (below : List Chunk). Lists sealed (below ++ after.chunks.own)) of is.only
 
   -- the same is found of what was sealed as of the draft's own
-  pub same_sealed : bytes_at beside ≡ bytes_at (store ++ sealed)
+  pub same_sealed : chunk_bytes beside ≡ chunk_bytes (store ++ sealed)
   same_sealed = decisions.sealed_found chunks store after.chunks.own sealed single is.all only
 
   pub named_sealed : AreNamed address sealed
@@ -178,24 +177,24 @@ module _ {D : Type 0} (address : List ℕ → List ℕ) (chunks : ChunksFollow) 
   stands : TransactionStands address session.draft.chunks start session.own t
   stands = decisions.stands address chunks records session look start started work w p t shared present d
 
-  base_extends : Extends (bytes_at session.draft.chunks.base) (bytes_at store_of)
+  base_extends : Extends (chunk_bytes session.draft.chunks.base) (chunk_bytes store_of)
   base_extends = decisions.base_extends address chunks records session look start started work w p t shared present d
 
-  at_work : bytes_at (store_of ++ session.draft.chunks.own) ≡ chunks_of work.chunks
-  at_work = λ i. bytes_at (sym w.base i ++ sym w.own i)
+  at_work : chunk_bytes (store_of ++ session.draft.chunks.own) ≡ chunks_of work.chunks
+  at_work = λ i. chunk_bytes (sym w.base i ++ sym w.own i)
 
   -- what stood in the session's draft stands in the work
   more : Extends (chunks_of session.draft.chunks) (chunks_of work.chunks)
   more = subst (Extends (chunks_of session.draft.chunks)) at_work (chunks.joined_extends session.draft.chunks.base store_of session.draft.chunks.own base_extends w.agree)
 
-  more_seen : Extends (bytes_at store_of) (chunks_of work.chunks)
-  more_seen = subst (Extends (bytes_at store_of)) at_work (chunks.extends_left store_of session.draft.chunks.own)
+  more_seen : Extends (chunk_bytes store_of) (chunks_of work.chunks)
+  more_seen = subst (Extends (chunk_bytes store_of)) at_work (chunks.extends_left store_of session.draft.chunks.own)
 
   start_at : RecordStands address (chunks_of work.chunks) t.commits start.rec t.start
   start_at = records.later address (chunks_of session.draft.chunks) (chunks_of work.chunks) t.commits t.commits start.rec t.start more (λ k known. known) stands.start
 
   present_at : RecordStands address (chunks_of work.chunks) shared.commits look.rec present
-  present_at = records.later address (bytes_at store_of) (chunks_of work.chunks) shared.commits shared.commits look.rec present more_seen (λ k known. known)
+  present_at = records.later address (chunk_bytes store_of) (chunks_of work.chunks) shared.commits shared.commits look.rec present more_seen (λ k known. known)
       (decisions.present_stands address chunks records session look start started work w p t shared present d)
 
   -- records are compared as states are
@@ -214,16 +213,16 @@ module _ {D : Type 0} (address : List ℕ → List ℕ) (chunks : ChunksFollow) 
   -- ---- what the work has
 
   pub among : AreAmong t.commits shared.commits
-  among = commits.among address (bytes_at session.draft.chunks.base) (bytes_at store_of) t.commits shared.commits base_extends stands.commits d.look_is.commits
+  among = commits.among address (chunk_bytes session.draft.chunks.base) (chunk_bytes store_of) t.commits shared.commits base_extends stands.commits d.look_is.commits
 
   pub known_now : (k : List ℕ) → is_known t.commits k ≡ true → is_known shared.commits k ≡ true
   known_now k known = decisions.known_more (t.commits k) (shared.commits k) (among k) known
 
-  pub all_there : CommitsAreThere address (bytes_at work.chunks.base) shared.commits
-  all_there = subst (λ (base : List Chunk). CommitsAreThere address (bytes_at base) shared.commits) (sym w.base) d.look_is.commits
+  pub all_there : CommitsAreThere address (chunk_bytes work.chunks.base) shared.commits
+  all_there = subst (λ (base : List Chunk). CommitsAreThere address (chunk_bytes base) shared.commits) (sym w.base) d.look_is.commits
 
   pub can_merge : DatabasesStand → (request : MergeOf) (three : Three) → IsThree address (chunks_of session.draft.chunks) t request three
-      → CanMerge address work.chunks session.own.head three shared.commits (base_root t three.other.0) (own_root t) (root_of t.commits three.other.0)
+      → CanMergeRoots address work.chunks session.own.head three shared.commits (base_root t three.other.0) (own_root t) (root_of t.commits three.other.0)
   can_merge databases request three is = record {
     roots = record {
       base_root = kept_later address (chunks_of session.draft.chunks) (chunks_of work.chunks) more databases three.base.0 (base_root t three.other.0) is.base;
@@ -241,19 +240,19 @@ module _ {D : Type 0} (address : List ℕ → List ℕ) (chunks : ChunksFollow) 
 
     -- ---- a fast-forward
 
-    module _ (sound : IsSound address work.chunks) (other : Address) (known : is_known shared.commits other.0 ≡ true) (plan : Plan)
+    module _ (sound : IsSound address work.chunks) (other : Address) (known : is_known shared.commits other.0 ≡ true) (plan : DecisionPlan)
         (made : IsForwarded address work other (root_of shared.commits other.0) plan) where
       abbrev is_sealed : IsBrought work.segments work.chunks.own (brought plan)
       is_sealed = let planned = made.planned in planned.sealed
 
-      found : chunks_of work.chunks ≡ bytes_at (store_of ++ brought plan)
+      found : chunks_of work.chunks ≡ chunk_bytes (store_of ++ brought plan)
       found = at_after address chunks drafts store_of d.look_is.named work w.base (of_store work w.segments) sound (brought plan) is_sealed
           ∙ same_sealed address chunks drafts store_of d.look_is.named work w.base (of_store work w.segments) sound (brought plan) is_sealed
 
       no_commit : HasNoCommit work.chunks.own
       no_commit = let own = d.session_stands in subst HasNoCommit (sym w.own) own.plain_own
 
-      kept : IsKeptAt address (bytes_at (store_of ++ brought plan)) (let root = made.root in root.0) (root_of shared.commits other.0)
+      kept : IsKeptAt address (chunk_bytes (store_of ++ brought plan)) (let root = made.root in root.0) (root_of shared.commits other.0)
       kept = subst (λ (c : Chunks). IsKeptAt address c (let root = made.root in root.0) (root_of shared.commits other.0)) found made.kept
 
       pub forwards : IsPlannedAs address look shared.commits plan (forwarded shared.commits other.0)
@@ -293,7 +292,7 @@ module _ {D : Type 0} (address : List ℕ → List ℕ) (chunks : ChunksFollow) 
       own_known : is_known shared.commits t.own.head ≡ true
       own_known = let own = stands.own_stands in known_now t.own.head own.head_known
 
-      module _ (plan : Plan) (made : IsMerged address work commit plan) where
+      module _ (plan : DecisionPlan) (made : IsMergeCommitted address work commit plan) where
         abbrev met : Drafting
         met = made.met
 
@@ -325,16 +324,16 @@ module _ {D : Type 0} (address : List ℕ → List ℕ) (chunks : ChunksFollow) 
         now_of = let grown = made.grown in of_store now (joining.segments ∙ grown.segments ∙ w.segments)
 
         abbrev at_now : Chunks
-        at_now = bytes_at (store_of ++ now.chunks.own)
+        at_now = chunk_bytes (store_of ++ now.chunks.own)
 
         is_at_now : chunks_of now.chunks ≡ at_now
-        is_at_now = λ i. bytes_at (now_base i ++ now.chunks.own)
+        is_at_now = λ i. chunk_bytes (now_base i ++ now.chunks.own)
 
-        only_one : (j bytes : List ℕ) → bytes_at now.chunks.own j ≡ Some bytes → is_commit bytes ≡ true → j ≡ k
+        only_one : (j bytes : List ℕ) → chunk_bytes now.chunks.own j ≡ Some bytes → is_commit bytes ≡ true → j ≡ k
         only_one j bytes there is =
             let written = joining.written in
             one_put (is_some (chunks_of met.chunks k)) met.chunks k (plain_commit_bytes address commit) j bytes no_commit_met
-            (subst (λ (parts : DraftParts). bytes_at parts.own j ≡ Some bytes) written.chunks there) is
+            (subst (λ (parts : DraftParts). chunk_bytes parts.own j ≡ Some bytes) written.chunks there) is
 
         root_kept : IsKeptAt address at_now (let root = made.root in root.0) database
         root_kept = subst (λ (c : Chunks). IsKeptAt address c (let root = made.root in root.0) database) is_at_now
@@ -372,10 +371,10 @@ module _ {D : Type 0} (address : List ℕ → List ℕ) (chunks : ChunksFollow) 
         abbrev sealed_so : IsBrought now.segments now.chunks.own (brought plan)
         sealed_so = let planned = joining.planned in planned.sealed
 
-        same_now : at_now ≡ bytes_at (store_of ++ brought plan)
+        same_now : at_now ≡ chunk_bytes (store_of ++ brought plan)
         same_now = same_sealed address chunks drafts store_of d.look_is.named now now_base now_of joining.sound (brought plan) sealed_so
 
-        root_sealed : IsKeptAt address (bytes_at (store_of ++ brought plan)) (let root = made.root in root.0) database
+        root_sealed : IsKeptAt address (chunk_bytes (store_of ++ brought plan)) (let root = made.root in root.0) database
         root_sealed = subst (λ (c : Chunks). IsKeptAt address c (let root = made.root in root.0) database) same_now root_kept
 
         pub joins : IsPlannedAs address look shared.commits plan (merged_as address commit)
@@ -403,21 +402,21 @@ module _ {D : Type 0} (address : List ℕ → List ℕ) (chunks : ChunksFollow) 
               };
             }
 
-      pub joins_written : (plan : Plan) → IsMerged address work written_as plan → IsPlannedAs address look shared.commits plan (merged_as address commit)
-      joins_written plan made = joins plan (subst (λ (c : PlainCommit). IsMerged address work c plan) same_commit made)
+      pub joins_written : (plan : DecisionPlan) → IsMergeCommitted address work written_as plan → IsPlannedAs address look shared.commits plan (merged_as address commit)
+      joins_written plan made = joins plan (subst (λ (c : PlainCommit). IsMergeCommitted address work c plan) same_commit made)
 
     -- ---- the plans
 
     pub plans_forward : (sound : IsSound address work.chunks) (other : Address) (known : is_known t.commits other.0 ≡ true) (moved : Bool) → moved ≡ not (is_same_state present t.start) → moved ≡ false
-        → (result : Result Plan PutFault) → IfOk result (λ plan. IsForwarded address work other (root_of shared.commits other.0) plan)
+        → (result : Result DecisionPlan PutFault) → IfOk result (λ plan. IsForwarded address work other (root_of shared.commits other.0) plan)
         → IfOk result (λ plan. PlanIs address look shared.commits plan (unless_moved t present (forwarded shared.commits other.0)))
     plans_forward sound other known moved told is (Err fault) made = tt
     plans_forward sound other known moved told is (Ok plan) made =
         goes_on address look t shared present moved told (forwarded shared.commits other.0) plan is (forwards sound other (known_now other.0 known) plan made)
 
     pub plans_joined : (databases : DatabasesStand) (three : Three) (known : is_known t.commits three.other.0 ≡ true) (request : MergeOf) (epoch : ℤ) (message : List ℕ) (database : PlainDatabase)
-        → message ≡ merge_message p request → (moved : Bool) → moved ≡ not (is_same_state present t.start) → moved ≡ false → (result : Result Plan PutFault)
-        → IfOk result (λ plan. IsMerged address work (commit_on shared.commits epoch session.name database (session.own.head.0 ∷ three.other.0 ∷ []) message) plan)
+        → message ≡ merge_message p request → (moved : Bool) → moved ≡ not (is_same_state present t.start) → moved ≡ false → (result : Result DecisionPlan PutFault)
+        → IfOk result (λ plan. IsMergeCommitted address work (commit_on shared.commits epoch session.name database (session.own.head.0 ∷ three.other.0 ∷ []) message) plan)
         → IfOk result (λ plan. PlanIs address look shared.commits plan (closed address epoch shared.commits p t present (Joining database three.other.0 (merge_message p request))))
     plans_joined databases three known request epoch message database says moved told is (Err fault) made = tt
     plans_joined databases three known request epoch message database says moved told is (Ok plan) made =
@@ -427,8 +426,8 @@ module _ {D : Type 0} (address : List ℕ → List ℕ) (chunks : ChunksFollow) 
 
 -- ---- what was written
 
-pub joined_told : (address : List ℕ → List ℕ) (work after : Drafting) (wanted : PlainCommit) (root : Address) (at : BranchRecord) (k : Address) (reply : Reply) (result : Result Plan PutFault)
-    → IsWritten address work.chunks after.chunks wanted k → after.segments ≡ work.segments → IsSound address after.chunks → at ≡ clean_record k root → reply ≡ success k.0 0
+pub joined_told : (address : List ℕ → List ℕ) (work after : Drafting) (wanted : PlainCommit) (root : Address) (at : BranchRecord) (k : Address) (reply : Reply) (result : Result DecisionPlan PutFault)
+    → IsCommitWritten address work.chunks after.chunks wanted k → after.segments ≡ work.segments → IsSound address after.chunks → at ≡ clean_record k root → reply ≡ success k.0 0
     → IfOk result (λ plan. IsPlannedOf after at reply plan) → IfOk result (λ plan. IsJoined address work wanted root plan)
 joined_told address work after wanted root at k reply (Err fault) written segments sound at_is told is = tt
 joined_told address work after wanted root at k reply (Ok plan) written segments sound at_is told is = record {
@@ -442,14 +441,14 @@ joined_told address work after wanted root at k reply (Ok plan) written segments
 
 -- a commit of the merged database can be written
 module _ (address : List ℕ → List ℕ) (work met : Drafting) (grown : Grows is_data work met) (head root : Address) (three : Three) (commits : Commits) (b o t : PlainDatabase)
-    (can : CanMerge address work.chunks head three commits b o t) (database : PlainDatabase) (kept : IsKeptAt address (chunks_of met.chunks) root.0 database) where
+    (can : CanMergeRoots address work.chunks head three commits b o t) (database : PlainDatabase) (kept : IsKeptAt address (chunks_of met.chunks) root.0 database) where
   abbrev pub joining_state : BranchState
   joining_state = record { head = head.0; working = database; staged = database; merging = Some three.other.0 }
 
   pub can_commit : CanCommit address met.chunks (joining_record head root three.other) head commits joining_state
   can_commit = record {
     stands = record { head = refl; working = kept; staged = kept; merging = refl };
-    all_there = subst (λ (base : List Chunk). CommitsAreThere address (bytes_at base) commits) (sym grown.base) can.all_there;
+    all_there = subst (λ (base : List Chunk). CommitsAreThere address (chunk_bytes base) commits) (sym grown.base) can.all_there;
     present_known = can.head_known;
     merging_known = can.other_known;
   }
@@ -462,7 +461,7 @@ pub is_met_clean : (address : List ℕ → List ℕ) (found : Chunks) (root : Ad
 is_met_clean address found root wanted is merged wanted_is =
     subst (λ (m : MergedDatabase). IsKeptAt address found root.0 m.database) (ok_same is.0 merged (sym is.1 ∙ wanted_is)) is.3
 
-pub merged_told : (address : List ℕ → List ℕ) (work after : Drafting) (grown : Grows is_data work after) (root : Address) (wanted : PlainCommit) (result : Result Plan PutFault)
-    → IsKeptAt address (chunks_of after.chunks) root.0 wanted.database → IfOk result (λ plan. IsJoined address after wanted root plan) → IfOk result (λ plan. IsMerged address work wanted plan)
+pub merged_told : (address : List ℕ → List ℕ) (work after : Drafting) (grown : Grows is_data work after) (root : Address) (wanted : PlainCommit) (result : Result DecisionPlan PutFault)
+    → IsKeptAt address (chunks_of after.chunks) root.0 wanted.database → IfOk result (λ plan. IsJoined address after wanted root plan) → IfOk result (λ plan. IsMergeCommitted address work wanted plan)
 merged_told address work after grown root wanted (Err fault) at_root joined = tt
 merged_told address work after grown root wanted (Ok plan) at_root joined = record { met = after; grown = grown; root = root; kept = at_root; joined = joined }

@@ -8,14 +8,13 @@ use Rattle.schema_model.specs.PlainTables as plain
 use Rattle.schema_model.specs.PlainTables.{PlainDatabase, PlainTable}
 use Rattle.chunk_store.specs.Chunks.{Chunks, Extends}
 use Rattle.chunk_store.specs.Standing.{IsTree}
-use Rattle.constraint_scan.specs.Recording.{IsEntry, MayStand}
-use Rattle.constraint_scan.specs.Scanning.{AreThere}
+use Rattle.constraint_scan.specs.Recording.{IsEntryOf, MayStand}
 use Rattle.constraint_scan.proofs.RecordLemmas.{there_later}
 use Rattle.constraint_scan.proofs.StandLemmas.{Parts}
-use Rattle.table_root.specs.Standing.{IsTableAt, IsTableOf, TableValuesStand, TablesStand}
+use Rattle.table_root.specs.Standing.{AreThere, IsTableAt, IsTableOf, TableValuesStand, TablesStand}
 use Rattle.table_root.specs.Tables.{IsTableFound}
-use Rattle.table_root.specs.declared.records.NamedTable as entries
-use Rattle.table_root.specs.declared.records.Table.{Table}
+use Rattle.table_root.specs.declared.records.StoredTable.{StoredTable}
+use Rattle.table_root.specs.declared.records.TableEntry as entries
 use Rattle.plain_sessions.specs.Merging.{breaks_index, database_after, is_meant, is_theirs, settled_table, table_after, takes_bad_row, their_rows}
 use Rattle.root_merge.specs.Merging.{are_within}
 use Rattle.sql_procedures.specs.declared.requests.Resolution.{Resolution}
@@ -27,7 +26,7 @@ use Rattle.merge_procs.specs.declared.takings.Flaw.TheVariants as flaw
 
 -- ---- one table
 
-pub takes_so : (address : List ℕ → List ℕ) (chunks : Chunks) (table : Table) (which : Side) (contents : PlainTable) → CanTakeSide address chunks table which contents → which ≡ side.Theirs
+pub takes_so : (address : List ℕ → List ℕ) (chunks : Chunks) (table : StoredTable) (which : Side) (contents : PlainTable) → CanTakeSide address chunks table which contents → which ≡ side.Theirs
     → CanTake address chunks table contents
 takes_so address chunks table which contents can e = record {
   stands = can.stands;
@@ -35,7 +34,7 @@ takes_so address chunks table which contents can e = record {
   short = sym (ap (λ (w : Side). is_theirs w && list_any (breaks_index contents.schema) (their_rows contents)) e) ∙ can.short;
 }
 
-pub bare_stands : (address : List ℕ → List ℕ) (chunks : Chunks) (table : Table) (contents : PlainTable) (k : Address) → IsTableOf address chunks table contents → IsTree address chunks k.0 []
+pub bare_stands : (address : List ℕ → List ℕ) (chunks : Chunks) (table : StoredTable) (contents : PlainTable) (k : Address) → IsTableOf address chunks table contents → IsTree address chunks k.0 []
     → IsTableOf address chunks (record { schema = table.schema; rows = table.rows; indexes = table.indexes; conflicts = k; violations = table.violations }) (without_conflicts contents)
 bare_stands address chunks table contents k stands tree =
     let is = stands.is_table in
@@ -66,7 +65,7 @@ bare_stands address chunks table contents k stands tree =
     }
 
 -- a table that was read may take a side's rows
-pub may_take : (address : List ℕ → List ℕ) (chunks : Chunks) → TableValuesStand → (k : List ℕ) (which : Side) (contents : PlainTable) (table : Table) → CanSettle address chunks k which contents
+pub may_take : (address : List ℕ → List ℕ) (chunks : Chunks) → TableValuesStand → (k : List ℕ) (which : Side) (contents : PlainTable) (table : StoredTable) → CanSettle address chunks k which contents
     → IsTableFound chunks k table → CanTakeSide address chunks table which contents
 may_take address chunks values k which contents table can found = record {
   stands = values.read address chunks k contents table can.at found;
@@ -75,13 +74,13 @@ may_take address chunks values k which contents table can found = record {
 }
 
 -- and may be written once it has
-pub may_keep : (address : List ℕ → List ℕ) (old new : Chunks) (k : List ℕ) (which : Side) (contents : PlainTable) (made : Table) → CanSettle address old k which contents
+pub may_keep : (address : List ℕ → List ℕ) (old new : Chunks) (k : List ℕ) (which : Side) (contents : PlainTable) (made : StoredTable) → CanSettle address old k which contents
     → IsTableOf address new made (settled which contents) → MayStand address new made (settled which contents)
 may_keep address old new k which contents made can stands = record { stands = stands; limits = (limits_so contents can.within).0 }
 
 -- ---- a table of a database
 
-pub meant_so : (address : List ℕ → List ℕ) (chunks : Chunks) (entry : entries.NamedTable) (request : Resolution) (named : plain.NamedTable) (meant : Bool) → CanSettleNamed address chunks entry request named
+pub meant_so : (address : List ℕ → List ℕ) (chunks : Chunks) (entry : entries.TableEntry) (request : Resolution) (named : plain.NamedTable) (meant : Bool) → CanSettleNamed address chunks entry request named
     → meant ≡ is_meant request.tables entry.name → meant ≡ true → CanSettle address chunks entry.table.0 request.side named.table
 meant_so address chunks entry request named meant can told holds =
     let is : is_meant request.tables named.name ≡ true = ap (is_meant request.tables) (sym can.name) ∙ sym told ∙ holds in
@@ -95,14 +94,14 @@ meant_so address chunks entry request named meant can told holds =
     and_true true b c e h = sym (ap (λ t. t && c) e) ∙ h
     and_true false b c e h = h
 
-pub settled_after : (address : List ℕ → List ℕ) (chunks new : Chunks) (entry : entries.NamedTable) (request : Resolution) (named : plain.NamedTable) (meant : Bool) (k : List ℕ)
+pub settled_after : (address : List ℕ → List ℕ) (chunks new : Chunks) (entry : entries.TableEntry) (request : Resolution) (named : plain.NamedTable) (meant : Bool) (k : List ℕ)
     → CanSettleNamed address chunks entry request named → meant ≡ is_meant request.tables entry.name → meant ≡ true
     → IsTableAt address new k (settled request.side named.table) → IsTableAt address new k (let after = table_after request named in after.table)
 settled_after address chunks new entry request named meant k can told holds at =
     let is : is_meant request.tables named.name ≡ true = ap (is_meant request.tables) (sym can.name) ∙ sym told ∙ holds in
     subst (λ (t : plain.NamedTable). IsTableAt address new k t.table) (sym (ap (λ b. cond b (settled_table request named) named) is)) at
 
-pub left_after : (address : List ℕ → List ℕ) (chunks : Chunks) (entry : entries.NamedTable) (request : Resolution) (named : plain.NamedTable) (meant : Bool)
+pub left_after : (address : List ℕ → List ℕ) (chunks : Chunks) (entry : entries.TableEntry) (request : Resolution) (named : plain.NamedTable) (meant : Bool)
     → CanSettleNamed address chunks entry request named → meant ≡ is_meant request.tables entry.name → meant ≡ false
     → IsTableAt address chunks entry.table.0 (let after = table_after request named in after.table)
 left_after address chunks entry request named meant can told fails =
@@ -115,13 +114,13 @@ same_name request named = by (is_meant request.tables named.name) where
   by true = refl
   by false = refl
 
-pub entry_after : (address : List ℕ → List ℕ) (old new : Chunks) (entry made : entries.NamedTable) (request : Resolution) (named : plain.NamedTable) → CanSettleNamed address old entry request named
-    → made.name ≡ entry.name → IsTableAt address new made.table.0 (let after = table_after request named in after.table) → IsEntry address new made (table_after request named)
+pub entry_after : (address : List ℕ → List ℕ) (old new : Chunks) (entry made : entries.TableEntry) (request : Resolution) (named : plain.NamedTable) → CanSettleNamed address old entry request named
+    → made.name ≡ entry.name → IsTableAt address new made.table.0 (let after = table_after request named in after.table) → IsEntryOf address new made (table_after request named)
 entry_after address old new entry made request named can name at = record { name = name ∙ can.name ∙ sym (same_name request named); at = at }
 
 -- ---- the tables of a database
 
-module _ (address : List ℕ → List ℕ) (old : Chunks) (tables rest : List entries.NamedTable) (request : Resolution) (database : PlainDatabase) (first : entries.NamedTable)
+module _ (address : List ℕ → List ℕ) (old : Chunks) (tables rest : List entries.TableEntry) (request : Resolution) (database : PlainDatabase) (first : entries.TableEntry)
     (can : CanSettleEach address old tables request database) (parts : Parts address old database first rest) where
   abbrev named : plain.NamedTable
   named = parts.named
@@ -144,7 +143,7 @@ module _ (address : List ℕ → List ℕ) (old : Chunks) (tables rest : List en
   pub joined : (done : PlainDatabase) → (done ++ table_after request named ∷ []) ++ database_after request others ≡ done ++ database_after request database
   joined done = append_assoc done (table_after request named ∷ []) (database_after request others) ∙ ap (λ (d : PlainDatabase). done ++ database_after request d) (sym parts.both)
 
-pub settled_none : (address : List ℕ → List ℕ) (chunks : Chunks) (request : Resolution) (done database : PlainDatabase) (made : List entries.NamedTable) → database ≡ [] → AreThere address chunks done made
+pub settled_none : (address : List ℕ → List ℕ) (chunks : Chunks) (request : Resolution) (done database : PlainDatabase) (made : List entries.TableEntry) → database ≡ [] → AreThere address chunks done made
     → AreThere address chunks (done ++ database_after request database) made
 settled_none address chunks request done database made none there =
     subst (λ (d : PlainDatabase). AreThere address chunks d made) (sym (ap (λ (d : PlainDatabase). done ++ database_after request d) none ∙ append-nil done)) there

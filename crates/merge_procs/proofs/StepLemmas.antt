@@ -4,7 +4,7 @@ use Rattle.std.specs.Option.{option_map}
 use Rattle.basic_laws.proofs.Options.{some_there as has_one}
 use Rattle.tuple_codec.specs.declared.addresses.Address.{Address}
 use Rattle.tuple_codec.specs.declared.records.BranchRecord.{BranchRecord}
-use Rattle.chunk_store.specs.Chunks.{Chunk, Chunks, bytes_at}
+use Rattle.chunk_store.specs.Chunks.{Chunk, Chunks, chunk_bytes}
 use Rattle.chunk_store.specs.Clashes.{IsReason}
 use Rattle.chunk_store.specs.Drafts.{AreOfKind, Drafting, DraftParts, Grows, IsNamed, IsSound, chunks_of, cut_to}
 use Rattle.chunk_store.specs.Laws.{ChunksFollow, DraftsFollow, DraftsGrow}
@@ -12,6 +12,7 @@ use Rattle.chunk_store.specs.declared.faults.Clash.{Clash}
 use Rattle.chunk_store.specs.declared.faults.PutFault.{PutFault}
 use Rattle.chunk_store.specs.declared.faults.PutFault.TheVariants.{Memory, Collision}
 use Rattle.chunk_store.proofs.ChunkLemmas.{at_join, either_some}
+use Rattle.chunk_store.specs.Kinds.{is_data}
 use Rattle.constraint_scan.specs.Scanning.{IsKeptAt}
 use Rattle.expr_eval.specs.Binding.{Outcome, and_then}
 use Rattle.plain_sql.specs.Lists.{unless}
@@ -32,7 +33,7 @@ use Rattle.plain_sessions.specs.Sessions.{Transaction, own_root, with_own, withi
 use Rattle.plain_sessions.specs.Statements.{worked}
 use Rattle.plain_sessions.specs.declared.commands.Command.TheVariants as command
 use Rattle.plain_sessions.specs.declared.commands.Work.{Work}
-use Rattle.root_merge.specs.Merging.{AreRoots, is_data}
+use Rattle.root_merge.specs.Merging.{AreRoots}
 use Rattle.session_laws.specs.Commits.{CommitsAreThere, HasNoCommit}
 use Rattle.session_laws.specs.Laws.{RecordsFollow, TransactionsFollow}
 use Rattle.session_laws.specs.Records.{RecordStands}
@@ -79,7 +80,7 @@ has_own address session (p, t, stands, there) = (t.commits, t.own, own_stands ad
 
 -- what is needed to read the head's database
 pub has_head : {D : Type 0} (address : List ℕ → List ℕ) (session : Session D) → IsInTransaction address session
-    → (commits : Commits) × CommitsAreThere address (bytes_at session.draft.chunks.base) commits × (is_known commits session.own.head.0 ≡ true)
+    → (commits : Commits) × CommitsAreThere address (chunk_bytes session.draft.chunks.base) commits × (is_known commits session.own.head.0 ≡ true)
 has_head address session (p, t, stands, there) =
     let own = own_in address session p t stands there in
     let kept = own.stands in
@@ -91,7 +92,7 @@ some_there (Some k) h = refl
 
 pub aborts : {D : Type 0} (address : List ℕ → List ℕ) (session : Session D) (p : plain.Session) (t : Transaction) (root : Address) (made : Step) → SessionStands address session p
     → p.transaction ≡ Some t → is_some session.own.merging ≡ true
-    → ((commits : Commits) → CommitsAreThere address (bytes_at session.draft.chunks.base) commits → is_known commits session.own.head.0 ≡ true
+    → ((commits : Commits) → CommitsAreThere address (chunk_bytes session.draft.chunks.base) commits → is_known commits session.own.head.0 ≡ true
     → IsKeptAt address (chunks_of session.draft.chunks) root.0 (root_of commits session.own.head.0))
     → made ≡ step.Made (record { rec = record { head = session.own.head; working = root; staged = root; merging = None }; reply = merge_reply [] 0 0 (codes "merge aborted") })
     → IsStep address (chunks_of session.draft.chunks) t.commits made (merge p t merging.Abort)
@@ -144,7 +145,7 @@ opens address old new own p t request three working made drafts growth records s
 -- data more are no commits
 no_commit_more : ChunksFollow → (own more : List Chunk) → HasNoCommit own → AreOfKind is_data more → HasNoCommit (own ++ more)
 no_commit_more laws own more none all k bytes there is =
-    elim (either_some (bytes_at own k) (bytes_at more k) bytes (sym (at_join own more k) ∙ there)) [
+    elim (either_some (chunk_bytes own k) (chunk_bytes more k) bytes (sym (at_join own more k) ∙ there)) [
       | inl here ↦ none k bytes here is
       | inr here ↦ data_apart bytes (of_kind is_data more k bytes all (laws.is_listed more k bytes here)) is
     ]

@@ -13,7 +13,7 @@ use Rattle.schema_model.specs.declared.schemas.Schema.{Schema}
 use Rattle.chunk_store.specs.Chunks.{Chunks}
 use Rattle.conflict_tables.specs.Conflicts.{theirs_edit, theirs_edits}
 use Rattle.table_root.specs.Standing.{IsTableOf}
-use Rattle.table_root.specs.declared.records.Table.{Table}
+use Rattle.table_root.specs.declared.records.StoredTable.{StoredTable}
 use Rattle.table_rows.specs.Rows.{IsRowOf}
 use Rattle.sql_write.proofs.PlaceLemmas.{schema_same}
 use Rattle.merge_procs.specs.Resolving.{AreTakings, IsTaking, theirs_of}
@@ -95,7 +95,7 @@ none_left schema edits conflicts are = ap (λ (l : List Edit). drop (length l) c
 
 -- ---- of a table
 
-pub takings_of : (address : List ℕ → List ℕ) (chunks : Chunks) (table : Table) (contents : PlainTable) (edits : List Edit) → IsTableOf address chunks table contents → edits ≡ theirs_edits contents
+pub takings_of : (address : List ℕ → List ℕ) (chunks : Chunks) (table : StoredTable) (contents : PlainTable) (edits : List Edit) → IsTableOf address chunks table contents → edits ≡ theirs_edits contents
     → AreTakings table.schema edits contents.conflicts
 takings_of address chunks table contents edits stands is =
     let of = stands.is_table in

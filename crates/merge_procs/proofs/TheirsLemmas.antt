@@ -30,7 +30,7 @@ use Rattle.edit_laws.proofs.Rising.{edited_all, edited_rise, edits_lower, rows_l
 use Rattle.edit_laws.proofs.Values.{edited_value, edits_above, same_rows}
 use Rattle.index_keep.specs.Entries.{comes_before}
 use Rattle.index_keep.specs.Keeping.{CanEditTable}
-use Rattle.table_root.specs.declared.records.Table.{Table}
+use Rattle.table_root.specs.declared.records.StoredTable.{StoredTable}
 use Rattle.table_rows.specs.Rows.{RowItemsFollow}
 use Rattle.plain_sql.specs.Lists.{in_order, repeats}
 use Rattle.plain_writes.specs.Writes.{keyed_cmp}
@@ -256,7 +256,7 @@ module _ (schema : Schema) where
 
 -- ---- a table that takes them
 
-module _ (follow : RowItemsFollow) (spelling : IsOneSpelling key_bytes) (address : List ℕ → List ℕ) (chunks : Chunks) (table : Table) (contents : PlainTable) (can : CanTake address chunks table contents) where
+module _ (follow : RowItemsFollow) (spelling : IsOneSpelling key_bytes) (address : List ℕ → List ℕ) (chunks : Chunks) (table : StoredTable) (contents : PlainTable) (can : CanTake address chunks table contents) where
   kept : IsKeptTable contents
   kept = record { is_table = let stands = can.stands in stands.is_table; within = can.within }
 

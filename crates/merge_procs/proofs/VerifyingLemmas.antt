@@ -4,7 +4,7 @@ use Rattle.tuple_codec.specs.declared.addresses.Address.{Address}
 use Rattle.tuple_codec.specs.declared.records.BranchRecord.{BranchRecord}
 use Rattle.chunk_store.specs.Chunks.{Chunks, Extends}
 use Rattle.constraint_scan.specs.Scanning.{IsKeptAt}
-use Rattle.constraint_scan.specs.declared.listing.Violation.{Violation}
+use Rattle.constraint_scan.specs.declared.listing.ListedViolation.{ListedViolation}
 use Rattle.expr_eval.specs.Binding.{Outcome}
 use Rattle.schema_model.specs.PlainCommits.{Commits}
 use Rattle.schema_model.specs.PlainTables.{PlainDatabase}
@@ -28,14 +28,14 @@ found_plain : (found : Bool) → is_plain_reply (one_row (number_field (codes "v
 found_plain true = refl
 found_plain false = refl
 
-found_as : (list : List Violation) (database : PlainDatabase) → is_none list ≡ is_none (violations checks database) → ◌≡◌ {A = ℕ} (cond (not (is_none list)) 1 0) (found_in database)
+found_as : (list : List ListedViolation) (database : PlainDatabase) → is_none list ≡ is_none (violations checks database) → ◌≡◌ {A = ℕ} (cond (not (is_none list)) 1 0) (found_in database)
 found_as list database same = ap (λ (b : Bool). let n : ℕ = cond (not b) 1 0 in n) same ∙ turned (is_none (violations checks database)) where
   turned : (b : Bool) → ◌≡◌ {A = ℕ} (cond (not b) 1 0) (cond b 0 1)
   turned true = refl
   turned false = refl
 
 -- the step of a verification
-pub verified_so : (address : List ℕ → List ℕ) (old new : Chunks) (commits : Commits) (own : BranchRecord) (state : BranchState) (working : Address) (way : Verification) (list : List Violation) (reply : Reply)
+pub verified_so : (address : List ℕ → List ℕ) (old new : Chunks) (commits : Commits) (own : BranchRecord) (state : BranchState) (working : Address) (way : Verification) (list : List ListedViolation) (reply : Reply)
     → Extends old new → DatabasesStand → RecordStands address old commits own state
     → is_none list ≡ is_none (violations checks state.working) → reply ≡ one_row (number_field (codes "violations") (cond (not (is_none list)) 1 0) ∷ [])
     → IsKeptAt address new working.0 (verified way state.working)

@@ -8,7 +8,7 @@ use Rattle.std.proofs.lemmas.Result.{IfOk-weaker}
 use Rattle.basic_laws.proofs.Bytes.{bytes_itself as itself}
 use Rattle.tuple_codec.specs.declared.addresses.Address.{Address}
 use Rattle.tuple_codec.specs.declared.records.BranchRecord.{BranchRecord}
-use Rattle.chunk_store.specs.Chunks.{Chunks, bytes_at}
+use Rattle.chunk_store.specs.Chunks.{Chunks, chunk_bytes}
 use Rattle.chunk_store.specs.Drafts.{DraftParts, chunks_of}
 use Rattle.chunk_store.specs.Laws.{ChunksFollow}
 use Rattle.commit_graph.specs.Standing as graph
@@ -36,7 +36,7 @@ use Rattle.session_laws.specs.Records.{RecordStands}
 use Rattle.session_laws.specs.Transactions.{StartStands, TransactionStands, head_seen}
 use Rattle.session_state.specs.Standing.{SessionStands}
 use Rattle.session_state.specs.declared.sessions.Session.{Session}
-use Rattle.table_root.specs.declared.heads.Head as seen
+use Rattle.table_root.specs.declared.heads.BranchHead as seen
 use Rattle.table_root.specs.declared.heads.Look.{Look}
 use Rattle.merge_procs.specs.Ways.{AreDatabases, IsApart, IsOver, IsThree, IsWay, Leads, is_changed}
 use Rattle.merge_procs.specs.declared.ways.Three.{Three}
@@ -102,17 +102,17 @@ pub have_common : (address : List ℕ → List ℕ) (chunks : Chunks) (commits :
 have_common address chunks commits there a b first second = let one = there.first in (one.0, one.1 a first, one.1 b second)
 
 module _ (address : List ℕ → List ℕ) (chunks : ChunksFollow) (follow : graph.CommitsFollow) (laws : AncestorsFollow) (d : DraftParts) (head root other : Address) (t : Transaction) (over : IsOver address d head root other t) where
-  there : CommitsAreThere address (bytes_at d.base) t.commits
+  there : CommitsAreThere address (chunk_bytes d.base) t.commits
   there = over.commits
 
   grown : AreGrown t.commits
   grown = let stand = there.stand in stand.grown
 
   pub all_stand : CommitsStand address (chunks_of d) t.commits
-  all_stand = follow.later address (bytes_at d.base) (chunks_of d) t.commits (chunks.extends_left d.base d.own) there.stand
+  all_stand = follow.later address (chunk_bytes d.base) (chunks_of d) t.commits (chunks.extends_left d.base d.own) there.stand
 
   pub common : HasCommon t.commits head.0 other.0
-  common = have_common address (bytes_at d.base) t.commits there head.0 other.0 over.head_known over.other_known
+  common = have_common address (chunk_bytes d.base) t.commits there head.0 other.0 over.head_known over.other_known
 
   module _ (k : Address) (is : base t.commits head.0 other.0 ≡ Some k.0) where
     pub known : is_known t.commits k.0 ≡ true
@@ -227,7 +227,7 @@ module _ {D : Type 0} (address : List ℕ → List ℕ) (session : Session D) (l
   pub all_there : CommitsFollow → CommitsAreThere address all t.commits
   all_there follow = follow.beside address session.draft.chunks.base session.draft.chunks.own t.commits session_stands.plain_own stands.commits
 
-  module _ (heads : List seen.Head) (name : List ℕ) (heads_are : heads ≡ look.heads) (request : MergeOf) (name_is : name ≡ request.name) where
+  module _ (heads : List seen.BranchHead) (name : List ℕ) (heads_are : heads ≡ look.heads) (request : MergeOf) (name_is : name ≡ request.name) where
     name_told : resolved (map head_seen heads) t.commits name ≡ resolved t.heads t.commits request.name
     name_told = (λ i. resolved ((ap (map head_seen) heads_are ∙ stands.heads) i) t.commits (name_is i))
 
@@ -241,7 +241,7 @@ module _ {D : Type 0} (address : List ℕ → List ℕ) (session : Session D) (l
       other_known : is_known t.commits other.0 ≡ true
       other_known = known_told t.commits request.name other.0 t.heads stands.heads_known told
 
-      module _ (kept : (commits : Commits) → CommitsAreThere address (bytes_at session.draft.chunks.base) commits → is_known commits session.own.head.0 ≡ true
+      module _ (kept : (commits : Commits) → CommitsAreThere address (chunk_bytes session.draft.chunks.base) commits → is_known commits session.own.head.0 ≡ true
           → IsKeptAt address all root.0 (root_of commits session.own.head.0)) where
         root_stands : IsKeptAt address all root.0 (own_root t)
         root_stands = subst (λ (k : List ℕ). IsKeptAt address all root.0 (root_of t.commits k)) own_stands.head (kept t.commits stands.commits head_known)

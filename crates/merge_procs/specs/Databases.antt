@@ -4,7 +4,7 @@ use Rattle.std.specs.List.{flat_map}
 use Rattle.chunk_store.specs.Chunks.{Chunks}
 use Rattle.constraint_scan.specs.Scanning.{IsKeptAt}
 use Rattle.constraint_scan.specs.Written.{written_in}
-use Rattle.constraint_scan.specs.declared.listing.Violation.{Violation}
+use Rattle.constraint_scan.specs.declared.listing.ListedViolation.{ListedViolation}
 use Rattle.expr_eval.specs.Binding.{Outcome, and_then}
 use Rattle.schema_model.specs.PlainTables.{PlainDatabase}
 use Rattle.plain_merge.specs.RootMerge.{MergedDatabase, root3}
@@ -20,7 +20,7 @@ abbrev pub merged_of : (b o t : PlainDatabase) → Outcome MergedDatabase
 merged_of b o t = and_then (or_schema_conflict (root3 b o t)) if_within_limits
 
 -- the list has all violations of the database, which the address stands for
-pub record AreAllIn (address : List ℕ → List ℕ) (chunks : Chunks) (k : List ℕ) (list : List Violation) (contents : PlainDatabase) : Type 0 where
+pub record AreAllIn (address : List ℕ → List ℕ) (chunks : Chunks) (k : List ℕ) (list : List ListedViolation) (contents : PlainDatabase) : Type 0 where
   pub kept : IsKeptAt address chunks k contents
   pub all : list ≡ flat_map (written_in contents) (violations checks contents)
 

@@ -13,10 +13,9 @@ use Rattle.schema_model.specs.PlainTables.{Conflict, PlainDatabase, PlainTable, 
 use Rattle.schema_model.specs.declared.schemas.Schema.{Schema}
 use Rattle.chunk_store.specs.Chunks.{Chunks}
 use Rattle.conflict_tables.specs.Conflicts.{theirs_edit}
-use Rattle.constraint_scan.specs.Scanning.{AreThere, IsReadAt}
-use Rattle.table_root.specs.Standing.{IsTableAt, IsTableOf, named_tables}
-use Rattle.table_root.specs.declared.records.NamedTable as entries
-use Rattle.table_root.specs.declared.records.Table.{Table}
+use Rattle.table_root.specs.Standing.{AreThere, IsReadAt, IsTableAt, IsTableOf, named_tables}
+use Rattle.table_root.specs.declared.records.StoredTable.{StoredTable}
+use Rattle.table_root.specs.declared.records.TableEntry as entries
 use Rattle.plain_schemas.specs.Statements.{checks}
 use Rattle.plain_sql.specs.Lists.{each}
 use Rattle.plain_writes.specs.Violations.{first_violation}
@@ -55,13 +54,13 @@ pub record AreTakings (schema : Schema) (edits : List Edit) (conflicts : List Co
 -- ---- tables
 
 -- a table that keeps the limits, and no row that it would take is too long for an index
-pub record CanTake (address : List ℕ → List ℕ) (chunks : Chunks) (table : Table) (contents : PlainTable) : Type 0 where
+pub record CanTake (address : List ℕ → List ℕ) (chunks : Chunks) (table : StoredTable) (contents : PlainTable) : Type 0 where
   pub stands : IsTableOf address chunks table contents
   pub within : is_table_within_limits contents ≡ true
   pub short : list_any (breaks_index contents.schema) (their_rows contents) ≡ false
 
 -- the same where this side's rows are kept or taken
-pub record CanTakeSide (address : List ℕ → List ℕ) (chunks : Chunks) (table : Table) (side : Side) (contents : PlainTable) : Type 0 where
+pub record CanTakeSide (address : List ℕ → List ℕ) (chunks : Chunks) (table : StoredTable) (side : Side) (contents : PlainTable) : Type 0 where
   pub stands : IsTableOf address chunks table contents
   pub within : is_table_within_limits contents ≡ true
   pub short : (is_theirs side && list_any (breaks_index contents.schema) (their_rows contents)) ≡ false
@@ -81,13 +80,13 @@ settled side table = record table { rows = rows_after side table; conflicts = []
 
 -- ---- the tables of a database
 
-pub record CanSettleNamed (address : List ℕ → List ℕ) (chunks : Chunks) (entry : entries.NamedTable) (request : Resolution) (named : plain.NamedTable) : Type 0 where
+pub record CanSettleNamed (address : List ℕ → List ℕ) (chunks : Chunks) (entry : entries.TableEntry) (request : Resolution) (named : plain.NamedTable) : Type 0 where
   pub name : entry.name ≡ named.name
   pub at : IsTableAt address chunks entry.table.0 named.table
   pub within : is_table_within_limits named.table ≡ true
   pub short : takes_flawed flaw.Long request named ≡ false
 
-pub record CanSettleEach (address : List ℕ → List ℕ) (chunks : Chunks) (tables : List entries.NamedTable) (request : Resolution) (database : PlainDatabase) : Type 0 where
+pub record CanSettleEach (address : List ℕ → List ℕ) (chunks : Chunks) (tables : List entries.TableEntry) (request : Resolution) (database : PlainDatabase) : Type 0 where
   pub there : AreThere address chunks database tables
   pub within : are_within database ≡ true
   pub short : takes_bad_row breaks_index request database ≡ false
@@ -95,10 +94,10 @@ pub record CanSettleEach (address : List ℕ → List ℕ) (chunks : Chunks) (ta
 -- ---- what a call comes to
 
 -- whether a list of tables has this name, and why one of these names can't be settled
-abbrev pub has_name : List entries.NamedTable → List ℕ → Bool
+abbrev pub has_name : List entries.TableEntry → List ℕ → Bool
 has_name tables name = list_any (λ entry. bytes_eq entry.name name) tables
 
-abbrev pub first_absent : List entries.NamedTable → List (List ℕ) → Option ℕ
+abbrev pub first_absent : List entries.TableEntry → List (List ℕ) → Option ℕ
 first_absent tables [] = None
 first_absent tables (name ∷ names) = if has_name tables name then first_absent tables names else Some 1146
 
@@ -109,17 +108,17 @@ first_refusal request database =
     (if takes_bad_row breaks_null request database then Some 1048 else (if takes_bad_row breaks_index request database then Some 9010 else None))
 
 -- a record that stands for a state, whose working tables these are
-pub record IsListedIn (address : List ℕ → List ℕ) (chunks : Chunks) (commits : Commits) (own : BranchRecord) (tables : List entries.NamedTable) (state : BranchState) : Type 0 where
+pub record IsListedIn (address : List ℕ → List ℕ) (chunks : Chunks) (commits : Commits) (own : BranchRecord) (tables : List entries.TableEntry) (state : BranchState) : Type 0 where
   pub stands : RecordStands address chunks commits own state
   pub listed : tables ≡ named_tables address state.working
 
 -- nothing refuses it before the tables are settled
-pub record CanResolve (address : List ℕ → List ℕ) (chunks : Chunks) (commits : Commits) (own : BranchRecord) (tables : List entries.NamedTable) (request : Resolution) (state : BranchState) : Type 0 where
+pub record CanResolve (address : List ℕ → List ℕ) (chunks : Chunks) (commits : Commits) (own : BranchRecord) (tables : List entries.TableEntry) (request : Resolution) (state : BranchState) : Type 0 where
   pub is : IsListedIn address chunks commits own tables state
   pub fine : first_refusal request state.working ≡ None
 
 -- the settled tables, which stand at an address as a database
-pub record CanJudge (address : List ℕ → List ℕ) (chunks : Chunks) (commits : Commits) (own : BranchRecord) (made : List entries.NamedTable) (root : Address) (request : Resolution) (state : BranchState) (after : PlainDatabase) : Type 0 where
+pub record CanJudge (address : List ℕ → List ℕ) (chunks : Chunks) (commits : Commits) (own : BranchRecord) (made : List entries.TableEntry) (root : Address) (request : Resolution) (state : BranchState) (after : PlainDatabase) : Type 0 where
   pub stands : RecordStands address chunks commits own state
   pub there : AreThere address chunks after made
   pub at : IsReadAt address chunks root.0 after

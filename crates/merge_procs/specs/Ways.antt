@@ -2,7 +2,7 @@
 use Rattle.std.specs.Prelude.{◌≡◌, ℕ, Bool, true, false, ◌&&◌, ◌||◌, not, is_some, [], List, Option, codes, Ok, Err, bytes_eq}
 use Rattle.std.specs.List.{find}
 use Rattle.std.specs.Option.{option_map}
-use Rattle.chunk_store.specs.Chunks.{Chunks, bytes_at}
+use Rattle.chunk_store.specs.Chunks.{Chunks, chunk_bytes}
 use Rattle.chunk_store.specs.Drafts.{DraftParts, chunks_of}
 use Rattle.constraint_scan.specs.Scanning.{IsKeptAt}
 use Rattle.expr_eval.specs.Binding.{and_then}
@@ -49,7 +49,7 @@ is_changed state database = not (is_same_database state.working database) || not
 
 -- the commits are those of the store below the draft; the head and the other commit are among them, and the head's database stands
 pub record IsOver (address : List ℕ → List ℕ) (d : DraftParts) (head root other : Address) (t : Transaction) : Type 0 where
-  pub commits : CommitsAreThere address (bytes_at d.base) t.commits
+  pub commits : CommitsAreThere address (chunk_bytes d.base) t.commits
   pub head_is : head.0 ≡ t.own.head
   pub head_known : is_known t.commits head.0 ≡ true
   pub other_known : is_known t.commits other.0 ≡ true

@@ -3,6 +3,7 @@
 ghost use Rattle.std.specs.Prelude.{◌≡◌, IfErr, IfOk, Ok};
 ghost use Rattle.chunk_store.specs.Clashes.{IsReason};
 ghost use Rattle.chunk_store.specs.Drafts.{Grows, chunks_of};
+ghost use Rattle.chunk_store.specs.Kinds.{is_data};
 ghost use Rattle.chunk_store.specs.Laws.{DraftsFollow, DraftsGrow};
 ghost use Rattle.constraint_scan.specs.Scanning.{HasKeptAt, IsKeptAt};
 ghost use Rattle.schema_model.specs.PlainTables.{PlainDatabase};
@@ -10,11 +11,11 @@ ghost use Rattle.plain_merge.specs.RootMerge.{MergedDatabase};
 ghost use Rattle.plain_schemas.specs.Statements.{checks};
 ghost use Rattle.plain_sessions.specs.CommitRule.{is_none, recorded};
 ghost use Rattle.plain_writes.specs.Violations.{violations};
-ghost use Rattle.root_merge.specs.Merging.{AreRoots, IsMadeOf, is_data};
+ghost use Rattle.root_merge.specs.Merging.{AreRoots, IsMadeOf};
 ghost use Rattle.merge_procs.specs.Databases.{AreAllIn, IsMet, merged_of};
 
 use chunk_store::{Draft, PutFault, law_of_drafts, law_of_growth};
-use constraint_scan::{Violation, law_of_recording, record_violations, violations};
+use constraint_scan::{ListedViolation, law_of_recording, record_violations, violations};
 use root_merge::{Merged, merge_roots};
 use std::alloc::{AllocError, Global};
 use table_merge::MergeFault;
@@ -35,7 +36,7 @@ pub(crate) fn all_violations<D: Digester>(
     alloc: Global,
     draft: &Draft<D>,
     database: &Address,
-) -> Result<Vec<Violation>, AllocError>
+) -> Result<Vec<ListedViolation>, AllocError>
     requires { HasKeptAt D.address (chunks_of draft.now.chunks) database.now.0 }
     ensures all { (contents : PlainDatabase) → IsKeptAt D.address (chunks_of draft.now.chunks) database.now.0 contents
         → IfOk result (λ list. AreAllIn D.address (chunks_of draft.now.chunks) database.now.0 list.items contents) }
@@ -51,7 +52,7 @@ pub(crate) fn record_all<D: Digester>(
     alloc: Global,
     draft: &mut Draft<D>,
     database: &Address,
-    list: &[Violation],
+    list: &[ListedViolation],
 ) -> Result<Address, PutFault>
     requires { (contents : PlainDatabase) × AreAllIn D.address (chunks_of draft.old.chunks) database.now.0 list.now contents }
     ensures stands { (contents : PlainDatabase) → AreAllIn D.address (chunks_of draft.old.chunks) database.now.0 list.now contents

@@ -3,13 +3,13 @@
 ghost use Rattle.std.specs.Prelude.{◌≡◌, ◌≤◌, IfErr, IfOk, Some, [], true};
 ghost use Rattle.chunk_store.specs.Clashes.{IsReason};
 ghost use Rattle.chunk_store.specs.Drafts.{Grows, chunks_of, pages_in};
+ghost use Rattle.chunk_store.specs.Kinds.{is_data};
 ghost use Rattle.chunk_store.specs.Laws.{ChunksFollow, DraftsFollow, DraftsGrow};
 ghost use Rattle.plain_sessions.specs.Merging.{merge, merge_reply};
 ghost use Rattle.plain_sessions.specs.Moments.{is_in_transaction};
 ghost use Rattle.plain_sessions.specs.Sessions as plain;
 ghost use Rattle.plain_sessions.specs.Statements.{worked};
 ghost use Rattle.plain_sessions.specs.declared.commands.Command.TheVariants as command;
-ghost use Rattle.root_merge.specs.Merging.{is_data};
 ghost use Rattle.script_text.specs.Collisions.{TellsTruly};
 ghost use Rattle.session_laws.specs.Laws.{RecordsFollow, TransactionsFollow};
 ghost use Rattle.session_state.specs.Standing.{IsInTransaction, SessionStands};

@@ -2,7 +2,7 @@
 
 ghost use Rattle.std.specs.Prelude.{◌≡◌, ◌≤◌, ◌≤ℤ◌, ◌∷◌, ◌++◌, [], codes, IfErr, IfOk, Ok, length, not, pos, true};
 ghost use Rattle.std.specs.Option.{option_map_or};
-ghost use Rattle.chunk_store.specs.Chunks.{bytes_at};
+ghost use Rattle.chunk_store.specs.Chunks.{chunk_bytes};
 ghost use Rattle.chunk_store.specs.Drafts.{IsNamed, chunks_of};
 ghost use Rattle.chunk_store.specs.Laws.{ChunksFollow, DraftsFollow, DraftsGrow};
 ghost use Rattle.plain_merge.specs.RootMerge.{MergedDatabase};
@@ -26,7 +26,7 @@ ghost use Rattle.sql_procedures.specs.declared.requests.MergeRequest.TheVariants
 ghost use Rattle.table_root.specs.Standing.{DatabasesStand};
 ghost use Rattle.branch_procs.specs.Committing.{CanCommit, parents_on};
 ghost use Rattle.merge_procs.specs.Databases.{merged_of};
-ghost use Rattle.merge_procs.specs.Planning.{CanMerge, IsForwarded, IsJoined, IsMerged, clean_record, joining_record, message_on};
+ghost use Rattle.merge_procs.specs.Planning.{CanMergeRoots, IsForwarded, IsJoined, IsMergeCommitted, clean_record, joining_record, message_on};
 ghost use Rattle.merge_procs.specs.Ways.{IsThree};
 
 use crate::databases::{Met, meet};
@@ -36,7 +36,7 @@ use branch_procs::{head_root, refused, sealed, work_of, written};
 use chunk_store::{Draft, PutFault, law_of_chunks, law_of_drafts, law_of_growth};
 use session_laws::{law_of_records, law_of_standing_commits};
 use session_state::Session;
-use shared_db::Plan;
+use shared_db::DecisionPlan;
 use sql_procedures::{MergeOf, MergeRequest};
 use std::alloc::{AllocError, Global};
 use table_root::{BranchName, Look, law_of_databases};
@@ -50,7 +50,7 @@ pub fn plan_merge<D: Digester>(
     request: &MergeRequest,
     look: &Look,
     epoch: i64,
-) -> Result<Plan, PutFault>
+) -> Result<DecisionPlan, PutFault>
     requires decides { (p : plain.Session) × (t : plain.Transaction) × (shared : Shared) × (present : BranchState) × Decides D.address session.now look.now p t shared present }
     requires date { pos 0 ≤ℤ epoch }
     requires fit { is_fit_merge request.now ≡ true }
@@ -75,7 +75,7 @@ fn plan_forward<D: Digester>(
     session: &Session<D>,
     look: &Look,
     other: Address,
-) -> Result<Plan, PutFault>
+) -> Result<DecisionPlan, PutFault>
     requires decides { (p : plain.Session) × (t : plain.Transaction) × (shared : Shared) × (present : BranchState) × Decides D.address session.now look.now p t shared present × (is_known t.commits other.0 ≡ true) }
     ensures planned { (p : plain.Session) (t : plain.Transaction) (shared : Shared) (present : BranchState) → Decides D.address session.now look.now p t shared present → is_known t.commits other.0 ≡ true
         → IfOk result (λ plan. PlanIs D.address look.now shared.commits plan (unless_moved t present (forwarded shared.commits other.0))) }
@@ -98,7 +98,7 @@ fn plan_join<D: Digester>(
     three: &Three,
     merge: &MergeOf,
     epoch: i64,
-) -> Result<Plan, PutFault>
+) -> Result<DecisionPlan, PutFault>
     requires decides { (p : plain.Session) × (t : plain.Transaction) × (shared : Shared) × (present : BranchState) × Decides D.address session.now look.now p t shared present
         × IsThree D.address (chunks_of session.now.draft.chunks) t merge.now three.now }
     requires date { pos 0 ≤ℤ epoch }
@@ -139,9 +139,13 @@ fn is_moved<D: Digester>(session: &Session<D>, look: &Look, work: &Draft<D>) -> 
 }
 
 /// A fast-forward: the branch is at the other commit.
-fn forwarded<D: Digester>(alloc: Global, work: Draft<D>, other: Address) -> Result<Plan, PutFault>
-    requires known { (commits : Commits) × CommitsAreThere D.address (bytes_at work.chunks.base) commits × (is_known commits other.0 ≡ true) }
-    ensures planned { (commits : Commits) → CommitsAreThere D.address (bytes_at work.chunks.base) commits → is_known commits other.0 ≡ true
+fn forwarded<D: Digester>(
+    alloc: Global,
+    work: Draft<D>,
+    other: Address,
+) -> Result<DecisionPlan, PutFault>
+    requires known { (commits : Commits) × CommitsAreThere D.address (chunk_bytes work.chunks.base) commits × (is_known commits other.0 ≡ true) }
+    ensures planned { (commits : Commits) → CommitsAreThere D.address (chunk_bytes work.chunks.base) commits → is_known commits other.0 ≡ true
         → IfOk result (λ plan. IsForwarded D.address work other (root_of commits other.0) plan) }
     ensures fault { IfErr result (IsFault D.address) }
 {
@@ -159,14 +163,14 @@ fn merged<D: Digester>(
     committer: &Text,
     message: &Text,
     epoch: i64,
-) -> Result<Plan, PutFault>
-    requires can { (commits : Commits) × (b : PlainDatabase) × (o : PlainDatabase) × (t : PlainDatabase) × CanMerge D.address work.chunks head three.now commits b o t }
+) -> Result<DecisionPlan, PutFault>
+    requires can { (commits : Commits) × (b : PlainDatabase) × (o : PlainDatabase) × (t : PlainDatabase) × CanMergeRoots D.address work.chunks head three.now commits b o t }
     requires committer { length committer.now ≤ 32 }
     requires date { pos 0 ≤ℤ epoch }
     requires message { length message.now ≤ 8192 }
     requires named { IsNamed D.address work.chunks }
-    ensures planned { (commits : Commits) (b o t : PlainDatabase) (merged : MergedDatabase) → CanMerge D.address work.chunks head three.now commits b o t → merged_of b o t ≡ Ok merged
-        → IfOk result (λ plan. IsMerged D.address work (commit_on commits epoch committer.now merged.database (head.0 ∷ three.now.other.0 ∷ []) message.now) plan) }
+    ensures planned { (commits : Commits) (b o t : PlainDatabase) (merged : MergedDatabase) → CanMergeRoots D.address work.chunks head three.now commits b o t → merged_of b o t ≡ Ok merged
+        → IfOk result (λ plan. IsMergeCommitted D.address work (commit_on commits epoch committer.now merged.database (head.0 ∷ three.now.other.0 ∷ []) message.now) plan) }
     ensures fault { IfErr result (IsFault D.address) }
 {
     laws();
@@ -193,7 +197,7 @@ fn joined<D: Digester>(
     committer: &Text,
     message: &Text,
     epoch: i64,
-) -> Result<Plan, PutFault>
+) -> Result<DecisionPlan, PutFault>
     requires can { (commits : Commits) × (state : BranchState) × CanCommit D.address work.chunks rec.now rec.now.head commits state }
     requires committer { length committer.now ≤ 32 }
     requires date { pos 0 ≤ℤ epoch }

@@ -6,13 +6,12 @@ ghost use Rattle.schema_model.specs.Limits.{most_rows};
 ghost use Rattle.schema_model.specs.PlainTables.{PlainDatabase, PlainTable};
 ghost use Rattle.chunk_store.specs.Clashes.{IsReason};
 ghost use Rattle.chunk_store.specs.Drafts.{Grows, chunks_of};
-ghost use Rattle.chunk_store.specs.Kinds.{is_database};
-ghost use Rattle.constraint_scan.specs.Scanning.{AreThere, HasKeptAt, IsKeptAt, IsReadAt};
-ghost use Rattle.table_root.specs.Standing.{IsTableAt, named_tables};
+ghost use Rattle.chunk_store.specs.Kinds.{is_data, is_database};
+ghost use Rattle.constraint_scan.specs.Scanning.{HasKeptAt, IsKeptAt};
+ghost use Rattle.table_root.specs.Standing.{AreThere, IsReadAt, IsTableAt, named_tables};
 ghost use Rattle.plain_sessions.specs.Merging.{has_too_many_rows, names_meant, resolve};
 ghost use Rattle.plain_sessions.specs.Records.{BranchState};
 ghost use Rattle.plain_sessions.specs.Statements.{resolve_worked};
-ghost use Rattle.root_merge.specs.Merging.{is_data};
 ghost use Rattle.session_laws.specs.Records.{RecordStands};
 ghost use Rattle.sql_write.specs.Putting.{AreListed};
 ghost use Rattle.merge_procs.specs.Resolving.{CanJudge, CanResolve, first_absent, first_refusal, has_name};
@@ -29,7 +28,7 @@ use schema_model::limits::MOST_ROWS;
 use session_laws::law_of_records;
 use sql_procedures::{Resolution, Tables};
 use std::alloc::{AllocError, Global};
-use table_root::{NamedTable, read_database, read_table, write_database};
+use table_root::{TableEntry, read_database, read_table, write_database};
 use tuple_codec::{Address, BranchRecord, Digester, Sequence, Text};
 
 /// The names and addresses of the tables of the database at an address, by rising name.
@@ -37,7 +36,7 @@ fn read_tables<D: Digester>(
     alloc: Global,
     draft: &Draft<D>,
     database: &Address,
-) -> Result<Vec<NamedTable>, AllocError>
+) -> Result<Vec<TableEntry>, AllocError>
     requires { HasKeptAt D.address (chunks_of draft.now.chunks) database.now.0 }
     ensures { (contents : PlainDatabase) → IsKeptAt D.address (chunks_of draft.now.chunks) database.now.0 contents
         → IfOk result (λ tables. tables.items ≡ named_tables D.address contents) }
@@ -50,7 +49,7 @@ fn read_tables<D: Digester>(
 fn write_tables<D: Digester>(
     alloc: Global,
     draft: &mut Draft<D>,
-    tables: &[NamedTable],
+    tables: &[TableEntry],
 ) -> Result<Address, PutFault>
     requires { (database : PlainDatabase) × AreListed D.address (chunks_of draft.old.chunks) tables.now database }
     ensures stands { (database : PlainDatabase) → AreListed D.address (chunks_of draft.old.chunks) tables.now database
@@ -63,14 +62,14 @@ fn write_tables<D: Digester>(
     Ok(at)
 }
 
-fn has_name(tables: &[NamedTable], name: &[u8]) -> bool
+fn has_name(tables: &[TableEntry], name: &[u8]) -> bool
     ensures { result ≡ has_name tables.now name.now }
 {
     tables.iter().any(|entry| entry.name.as_slice() == name)
 }
 
 /// Why one of these tables can't be settled: the database hasn't got it.
-fn first_absent(tables: &[NamedTable], names: &[Text]) -> Option<u16>
+fn first_absent(tables: &[TableEntry], names: &[Text]) -> Option<u16>
     ensures { result ≡ first_absent tables.now names.now }
 {
     for name in names {
@@ -81,7 +80,7 @@ fn first_absent(tables: &[NamedTable], names: &[Text]) -> Option<u16>
     None
 }
 
-fn absence(tables: &[NamedTable], meant: &Tables) -> Option<u16>
+fn absence(tables: &[TableEntry], meant: &Tables) -> Option<u16>
     ensures { result ≡ first_absent tables.now (names_meant meant.now) }
 {
     match meant {
@@ -94,7 +93,7 @@ fn absence(tables: &[NamedTable], meant: &Tables) -> Option<u16>
 fn first_refusal<D: Digester>(
     alloc: Global,
     draft: &Draft<D>,
-    tables: &[NamedTable],
+    tables: &[TableEntry],
     request: &Resolution,
 ) -> Result<Option<u16>, AllocError>
     requires { (database : PlainDatabase) × AreThere D.address (chunks_of draft.now.chunks) database tables.now }
@@ -136,7 +135,7 @@ fn has_too_many<D: Digester>(
 fn have_too_many<D: Digester>(
     alloc: Global,
     draft: &Draft<D>,
-    tables: &[NamedTable],
+    tables: &[TableEntry],
 ) -> Result<bool, AllocError>
     requires { (database : PlainDatabase) × AreThere D.address (chunks_of draft.now.chunks) database tables.now }
     ensures { (database : PlainDatabase) → AreThere D.address (chunks_of draft.now.chunks) database tables.now
@@ -170,7 +169,7 @@ fn judged<D: Digester>(
     alloc: Global,
     draft: &Draft<D>,
     own: &BranchRecord,
-    made: &[NamedTable],
+    made: &[TableEntry],
     root: Address,
 ) -> Result<Step, AllocError>
     requires { (commits : Commits) × (request : Resolution) × (state : BranchState) × (after : PlainDatabase)
@@ -199,7 +198,7 @@ fn settled<D: Digester>(
     alloc: Global,
     draft: &mut Draft<D>,
     own: &BranchRecord,
-    tables: &[NamedTable],
+    tables: &[TableEntry],
     request: &Resolution,
 ) -> Result<Step, PutFault>
     requires { (commits : Commits) × (state : BranchState) × CanResolve D.address (chunks_of draft.old.chunks) commits own.now tables.now request.now state }

@@ -5,14 +5,12 @@ ghost use Rattle.schema_model.specs.PlainTables as plain;
 ghost use Rattle.schema_model.specs.PlainTables.{PlainDatabase, PlainTable};
 ghost use Rattle.chunk_store.specs.Clashes.{IsReason};
 ghost use Rattle.chunk_store.specs.Drafts.{Grows, chunks_of};
-ghost use Rattle.chunk_store.specs.Kinds.{is_node, is_table};
+ghost use Rattle.chunk_store.specs.Kinds.{is_data, is_node, is_table};
 ghost use Rattle.chunk_store.specs.Laws.{DraftsFollow, DraftsGrow};
-ghost use Rattle.constraint_scan.specs.Recording.{IsEntry, MayStand};
-ghost use Rattle.constraint_scan.specs.Scanning.{AreThere};
+ghost use Rattle.constraint_scan.specs.Recording.{IsEntryOf, MayStand};
 ghost use Rattle.index_keep.specs.Keeping.{with_rows};
-ghost use Rattle.table_root.specs.Standing.{DatabasesStand, IsTableAt, IsTableOf, TableValuesStand, TablesStand};
+ghost use Rattle.table_root.specs.Standing.{AreThere, DatabasesStand, IsTableAt, IsTableOf, TableValuesStand, TablesStand};
 ghost use Rattle.plain_sessions.specs.Merging.{database_after, rows_after, table_after};
-ghost use Rattle.root_merge.specs.Merging.{is_data};
 ghost use Rattle.sql_procedures.specs.declared.requests.Side.TheVariants as side;
 ghost use Rattle.merge_procs.specs.Resolving.{CanSettle, CanSettleEach, CanSettleNamed, CanTake, CanTakeSide, settled, without_conflicts};
 
@@ -23,7 +21,9 @@ use index_keep::apply_with_indexes;
 use node_chunker::build;
 use sql_procedures::{Resolution, Side};
 use std::alloc::Global;
-use table_root::{NamedTable, Table, law_of_databases, law_of_tables, read_table, write_table};
+use table_root::{
+    StoredTable, TableEntry, law_of_databases, law_of_tables, read_table, write_table,
+};
 use table_rows::law_of_row_items;
 use tuple_codec::{Address, Digester, Sequence, Text, keys_are_one_spelling};
 
@@ -45,8 +45,8 @@ pub(crate) fn laws_of_growth()
 fn with_theirs<D: Digester>(
     alloc: Global,
     draft: &mut Draft<D>,
-    table: &Table,
-) -> Result<Table, PutFault>
+    table: &StoredTable,
+) -> Result<StoredTable, PutFault>
     requires { (contents : PlainTable) × CanTake D.address (chunks_of draft.old.chunks) table.now contents }
     ensures stands { (contents : PlainTable) → CanTake D.address (chunks_of draft.old.chunks) table.now contents
         → IfOk result (λ made. IsTableOf D.address (chunks_of draft.new.chunks) made (with_rows contents (rows_after side.Theirs contents))) }
@@ -63,9 +63,9 @@ fn with_theirs<D: Digester>(
 fn with_side<D: Digester>(
     alloc: Global,
     draft: &mut Draft<D>,
-    table: Table,
+    table: StoredTable,
     side: Side,
-) -> Result<Table, PutFault>
+) -> Result<StoredTable, PutFault>
     requires { (contents : PlainTable) × CanTakeSide D.address (chunks_of draft.old.chunks) table side contents }
     ensures stands { (contents : PlainTable) → CanTakeSide D.address (chunks_of draft.old.chunks) table side contents
         → IfOk result (λ made. IsTableOf D.address (chunks_of draft.new.chunks) made (with_rows contents (rows_after side contents))) }
@@ -83,8 +83,8 @@ fn with_side<D: Digester>(
 fn without_conflicts<D: Digester>(
     alloc: Global,
     draft: &mut Draft<D>,
-    table: Table,
-) -> Result<Table, PutFault>
+    table: StoredTable,
+) -> Result<StoredTable, PutFault>
     ensures stands { (contents : PlainTable) → IsTableOf D.address (chunks_of draft.old.chunks) table contents
         → IfOk result (λ made. IsTableOf D.address (chunks_of draft.new.chunks) made (without_conflicts contents)) }
     ensures grows { Grows is_node draft.old draft.new }
@@ -92,7 +92,7 @@ fn without_conflicts<D: Digester>(
 {
     laws_of_growth();
     let conflicts = build(alloc, draft, &[])?;
-    Ok(Table {
+    Ok(StoredTable {
         schema: table.schema,
         rows: table.rows,
         indexes: table.indexes,
@@ -105,7 +105,7 @@ fn without_conflicts<D: Digester>(
 fn keep_table<D: Digester>(
     alloc: Global,
     draft: &mut Draft<D>,
-    table: &Table,
+    table: &StoredTable,
 ) -> Result<Address, PutFault>
     requires { (contents : PlainTable) × MayStand D.address (chunks_of draft.old.chunks) table.now contents }
     ensures stands { (contents : PlainTable) → MayStand D.address (chunks_of draft.old.chunks) table.now contents
@@ -122,9 +122,9 @@ fn keep_table<D: Digester>(
 fn settled_value<D: Digester>(
     alloc: Global,
     draft: &mut Draft<D>,
-    table: Table,
+    table: StoredTable,
     side: Side,
-) -> Result<Table, PutFault>
+) -> Result<StoredTable, PutFault>
     requires { (contents : PlainTable) × CanTakeSide D.address (chunks_of draft.old.chunks) table side contents }
     ensures stands { (contents : PlainTable) → CanTakeSide D.address (chunks_of draft.old.chunks) table side contents
         → IfOk result (λ made. IsTableOf D.address (chunks_of draft.new.chunks) made (settled side contents)) }
@@ -159,7 +159,7 @@ fn settled<D: Digester>(
 fn address_after<D: Digester>(
     alloc: Global,
     draft: &mut Draft<D>,
-    entry: &NamedTable,
+    entry: &TableEntry,
     request: &Resolution,
 ) -> Result<Address, PutFault>
     requires { (named : plain.NamedTable) × CanSettleNamed D.address (chunks_of draft.old.chunks) entry.now request.now named }
@@ -180,17 +180,17 @@ fn address_after<D: Digester>(
 fn entry_after<D: Digester>(
     alloc: Global,
     draft: &mut Draft<D>,
-    entry: &NamedTable,
+    entry: &TableEntry,
     request: &Resolution,
-) -> Result<NamedTable, PutFault>
+) -> Result<TableEntry, PutFault>
     requires { (named : plain.NamedTable) × CanSettleNamed D.address (chunks_of draft.old.chunks) entry.now request.now named }
     ensures stands { (named : plain.NamedTable) → CanSettleNamed D.address (chunks_of draft.old.chunks) entry.now request.now named
-        → IfOk result (λ made. IsEntry D.address (chunks_of draft.new.chunks) made (table_after request.now named)) }
+        → IfOk result (λ made. IsEntryOf D.address (chunks_of draft.new.chunks) made (table_after request.now named)) }
     ensures grows { Grows is_data draft.old draft.new }
     ensures cause { IfErr result (IsReason D.address (chunks_of draft.new.chunks)) }
 {
     let table = address_after(alloc, draft, entry, request)?;
-    Ok(NamedTable {
+    Ok(TableEntry {
         name: Text::from_slice(alloc, entry.name.as_slice())?,
         table,
     })
@@ -200,9 +200,9 @@ fn entry_after<D: Digester>(
 pub(crate) fn settle_each<D: Digester>(
     alloc: Global,
     draft: &mut Draft<D>,
-    entries: &[NamedTable],
+    entries: &[TableEntry],
     request: &Resolution,
-    made: &mut Sequence<NamedTable>,
+    made: &mut Sequence<TableEntry>,
 ) -> Result<(), PutFault>
     requires { (database : PlainDatabase) × CanSettleEach D.address (chunks_of draft.old.chunks) entries.now request.now database }
     ensures stands { (database : PlainDatabase) → CanSettleEach D.address (chunks_of draft.old.chunks) entries.now request.now database

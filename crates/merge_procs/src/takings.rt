@@ -9,9 +9,8 @@ ghost use Rattle.schema_model.specs.PlainTables as plain;
 ghost use Rattle.schema_model.specs.PlainTables.{Conflict, PlainDatabase, PlainTable};
 ghost use Rattle.schema_model.specs.Schemas.{is_schema};
 ghost use Rattle.chunk_store.specs.Drafts.{chunks_of};
-ghost use Rattle.constraint_scan.specs.Recording.{IsEntry};
-ghost use Rattle.constraint_scan.specs.Scanning.{AreThere};
-ghost use Rattle.table_root.specs.Standing.{IsTableAt};
+ghost use Rattle.constraint_scan.specs.Recording.{IsEntryOf};
+ghost use Rattle.table_root.specs.Standing.{AreThere, IsTableAt};
 ghost use Rattle.plain_sql.specs.Answers.{is_null};
 ghost use Rattle.plain_sessions.specs.Merging.{breaks_index, breaks_null, has_null_at, is_meant, is_theirs, takes_bad_row, their_rows};
 ghost use Rattle.merge_procs.specs.Resolving.{AreTakings, IsTaking, is_flawed, takes_flawed, theirs_of};
@@ -24,7 +23,7 @@ use schema_model::limits::MOST_INDEX_BYTES;
 use schema_model::{Column, IndexDef, Schema};
 use sql_procedures::{Resolution, Side, Tables};
 use std::alloc::{AllocError, Global};
-use table_root::{NamedTable, read_table};
+use table_root::{TableEntry, read_table};
 use table_rows::row_of;
 use tuple_codec::{Address, Digester, Edit, Row, Sequence, Text, Value, key_of, key_size};
 
@@ -203,11 +202,11 @@ fn named_takes_flawed<D: Digester>(
     alloc: Global,
     draft: &Draft<D>,
     flaw: Flaw,
-    entry: &NamedTable,
+    entry: &TableEntry,
     request: &Resolution,
 ) -> Result<bool, AllocError>
-    requires { (named : plain.NamedTable) × IsEntry D.address (chunks_of draft.now.chunks) entry.now named }
-    ensures { (named : plain.NamedTable) → IsEntry D.address (chunks_of draft.now.chunks) entry.now named
+    requires { (named : plain.NamedTable) × IsEntryOf D.address (chunks_of draft.now.chunks) entry.now named }
+    ensures { (named : plain.NamedTable) → IsEntryOf D.address (chunks_of draft.now.chunks) entry.now named
         → IfOk result (λ found. found ≡ takes_flawed flaw request.now named) }
 {
     if takes_theirs(request, entry.name.as_slice()) {
@@ -222,7 +221,7 @@ pub(crate) fn take_flawed<D: Digester>(
     alloc: Global,
     draft: &Draft<D>,
     flaw: Flaw,
-    entries: &[NamedTable],
+    entries: &[TableEntry],
     request: &Resolution,
 ) -> Result<bool, AllocError>
     requires { (database : PlainDatabase) × AreThere D.address (chunks_of draft.now.chunks) database entries.now }

@@ -4,11 +4,11 @@ ghost use Rattle.std.specs.Prelude.{◌≡◌, ◌∷◌, [], codes, pos, if◌t
 ghost use Rattle.chunk_store.specs.Clashes.{IsReason};
 ghost use Rattle.chunk_store.specs.Drafts.{Grows, chunks_of};
 ghost use Rattle.chunk_store.specs.Laws.{DraftsFollow, DraftsGrow};
-ghost use Rattle.root_merge.specs.Merging.{is_data};
 ghost use Rattle.schema_model.specs.PlainCommits.{Commits};
 ghost use Rattle.schema_model.specs.PlainTables.{PlainDatabase};
 ghost use Rattle.table_root.specs.Standing.{DatabasesStand};
 ghost use Rattle.tuple_codec.specs.declared.values.Value.TheVariants as cell;
+ghost use Rattle.chunk_store.specs.Kinds.{is_data};
 ghost use Rattle.constraint_scan.specs.Scanning.{IsKeptAt};
 ghost use Rattle.plain_sessions.specs.Merging.{verified, verify};
 ghost use Rattle.plain_sessions.specs.Records.{BranchState};
@@ -20,7 +20,7 @@ ghost use Rattle.merge_procs.specs.Steps.{IsStep};
 use crate::databases::{all_violations, record_all};
 use crate::steps::{Made, Step};
 use chunk_store::{Draft, PutFault, law_of_drafts, law_of_growth};
-use constraint_scan::Violation;
+use constraint_scan::ListedViolation;
 use script_text::Reply;
 use sql_procedures::Verification;
 use std::alloc::{AllocError, Global};
@@ -53,7 +53,7 @@ fn verified_root<D: Digester>(
     alloc: Global,
     draft: &mut Draft<D>,
     working: &Address,
-    list: &[Violation],
+    list: &[ListedViolation],
     way: Verification,
 ) -> Result<Address, PutFault>
     requires { (contents : PlainDatabase) × AreAllIn D.address (chunks_of draft.old.chunks) working.now.0 list.now contents }

@@ -2,7 +2,7 @@
 
 ghost use Rattle.std.specs.Prelude.{◌≡◌, ℕ, IfOk, List, Some, map, true};
 ghost use Rattle.std.specs.Option.{option_map};
-ghost use Rattle.chunk_store.specs.Chunks.{Chunks, bytes_at};
+ghost use Rattle.chunk_store.specs.Chunks.{Chunks, chunk_bytes};
 ghost use Rattle.chunk_store.specs.Drafts.{chunks_of};
 ghost use Rattle.commit_graph.specs.Commits.{is_commit_found};
 ghost use Rattle.constraint_scan.specs.Scanning.{IsKeptAt};
@@ -26,7 +26,7 @@ use schema_model::{law_of_ancestors, law_of_sameness};
 use session_state::Session;
 use sql_procedures::MergeOf;
 use std::alloc::{AllocError, Global};
-use table_root::{Head, law_of_databases};
+use table_root::{BranchHead, law_of_databases};
 use tuple_codec::{Address, BranchRecord, Digester};
 
 /// Three databases to merge, and the commit that is merged.
@@ -51,7 +51,7 @@ pub(crate) enum Way {
 // ---- the name
 
 /// The head of the branch of this name.
-fn head_at(heads: &[Head], name: &[u8]) -> Option<Address>
+fn head_at(heads: &[BranchHead], name: &[u8]) -> Option<Address>
     ensures { option_map (λ k. k.0) result ≡ head_at name.now (map head_seen heads.now) }
 {
     for head in heads {
@@ -89,7 +89,7 @@ fn commit_named<D: Digester>(draft: &Draft<D>, name: &[u8]) -> Option<Address>
 }
 
 /// The commit that a name tells: the head of the branch of that name, and else the commit that has it as its address's text.
-fn commit_at<D: Digester>(heads: &[Head], draft: &Draft<D>, name: &[u8]) -> Option<Address>
+fn commit_at<D: Digester>(heads: &[BranchHead], draft: &Draft<D>, name: &[u8]) -> Option<Address>
     ensures { (commits : Commits) → CommitsAreThere D.address (chunks_of draft.now.chunks) commits
         → option_map (λ k. k.0) result ≡ resolved (map head_seen heads.now) commits name.now }
 {
@@ -121,8 +121,8 @@ fn databases<D: Digester>(
     ours: &Address,
     other: &Address,
 ) -> Result<Three, AllocError>
-    requires { (commits : Commits) × CommitsAreThere D.address (bytes_at draft.now.chunks.base) commits × (is_known commits base.now.0 ≡ true) × (is_known commits other.now.0 ≡ true) }
-    ensures { (commits : Commits) → CommitsAreThere D.address (bytes_at draft.now.chunks.base) commits → is_known commits base.now.0 ≡ true → is_known commits other.now.0 ≡ true
+    requires { (commits : Commits) × CommitsAreThere D.address (chunk_bytes draft.now.chunks.base) commits × (is_known commits base.now.0 ≡ true) × (is_known commits other.now.0 ≡ true) }
+    ensures { (commits : Commits) → CommitsAreThere D.address (chunk_bytes draft.now.chunks.base) commits → is_known commits base.now.0 ≡ true → is_known commits other.now.0 ≡ true
         → IfOk result (AreDatabases D.address (chunks_of draft.now.chunks) commits base.now ours.now other.now) }
 {
     let base = head_root(alloc, draft, base)?;

@@ -14,7 +14,7 @@ use Rattle.chunk_store.specs.Kinds.{is_node}
 use Rattle.chunk_store.proofs.FollowLemmas.{drafts_follow}
 use Rattle.chunk_store.proofs.GrowthLemmas.{drafts_grow}
 use Rattle.node_chunker.specs.Towers.{pushes, ended_chunks}
-use Rattle.node_chunker.specs.Growth.{CanPush, Fits, IsTower, IsWritable, spread}
+use Rattle.node_chunker.specs.Growth.{CanPush, FitsLevel, IsTower, IsWritable, spread}
 use Rattle.chunk_store.specs.Standing.{AreHeld}
 use Rattle.node_chunker.specs.Steps.{IsClimbing, IsNamed, IsPushedAt}
 use Rattle.node_chunker.proofs.TowerLemmas.{all_split, extends_both}
@@ -37,7 +37,7 @@ take_set [] i v within = absurd (omega arith)
 take_set (x ∷ xs) zero v within = refl
 take_set (x ∷ xs) (suc i) v within = ap (λ l. x ∷ l) (take_set xs i v (omega arith))
 
-pub climb_begins : (a : List ℕ → List ℕ) (chunks : Chunks) (nodes : List (List Item)) (at : ℕ) (item : Item) → Fits a (suc at) (drop at nodes) item
+pub climb_begins : (a : List ℕ → List ℕ) (chunks : Chunks) (nodes : List (List Item)) (at : ℕ) (item : Item) → FitsLevel a (suc at) (drop at nodes) item
     → IsClimbing a chunks (take at nodes ++ pushes a (suc at) (drop at nodes) item) (ended_chunks a (suc at) (drop at nodes) item) nodes at item
 climb_begins a chunks nodes at item fits = record { fits = fits; comes = refl; kept = λ later extends put. put }
 
@@ -53,9 +53,9 @@ module _ (a : List ℕ → List ℕ) (made : List (List Item)) (written : List (
   here nodes at item held within is = drop-cons nodes at held within ∙ ap (λ h. h ∷ drop (suc at) nodes) (sym is)
 
   fits_here : (chunks : Chunks) (nodes : List (List Item)) (at : ℕ) (item : Item) (held : List Item) → IsClimbing a chunks made written nodes at item
-      → at < length nodes → held ≡ get_or nodes at held → Fits a (suc at) (held ∷ drop (suc at) nodes) item
+      → at < length nodes → held ≡ get_or nodes at held → FitsLevel a (suc at) (held ∷ drop (suc at) nodes) item
   fits_here chunks nodes at item held climbing within is =
-      let P : List (List Item) → Type 0 = λ l. Fits a (suc at) l item in
+      let P : List (List Item) → Type 0 = λ l. FitsLevel a (suc at) l item in
       subst P (here nodes at item held within is) climbing.fits
 
   pub climb_ready : (chunks : Chunks) (nodes : List (List Item)) (at : ℕ) (item : Item) (held : List Item) → IsClimbing a chunks made written nodes at item
@@ -115,8 +115,8 @@ module _ (a : List ℕ → List ℕ) (made : List (List Item)) (written : List (
           ∙ ap (λ b. cond b (bytes_of (suc at) node ∷ ended_chunks a (suc (suc at)) above (name a (suc at) node)) []) over
           ∙ ap (λ n. bytes_of (suc at) node ∷ ended_chunks a (suc (suc at)) above n) (sym mine.named_is) in
           let up = fits_up a (suc at) held above item (fits_here old nodes at item held climbing within is) over mine.put.0.1 in
-          let F : Item → Type 0 = λ n. Fits a (suc (suc at)) above n in
-          let G : List (List Item) → Type 0 = λ l. Fits a (suc (suc at)) l next in
+          let F : Item → Type 0 = λ n. FitsLevel a (suc (suc at)) above n in
+          let G : List (List Item) → Type 0 = λ l. FitsLevel a (suc (suc at)) l next in
           let P : ℕ → Type 0 = λ n. IsClimbing a new made written after n next in
           subst P (sym e) (record {
             fits = subst G (sym dropped) (subst F (sym mine.named_is) up);
@@ -163,7 +163,7 @@ extended d e grows = drafts_follow.longer_extends d.chunks e.chunks (drafts_grow
 module _ (a : List ℕ → List ℕ) where
   -- the row stays in the leaf
   pub row_stays : (old new : Chunks) (leaf now : List Item) (above : List (List Item)) (rows : List Item) (x : Item) → IsTower a old (leaf ∷ above) rows
-      → Fits a 0 (leaf ∷ above) x → Extends old new → (closes a 0 (leaf ++ x ∷ []) ≡ false) × (now ≡ leaf ++ x ∷ []) → IsTower a new (now ∷ above) (rows ++ x ∷ [])
+      → FitsLevel a 0 (leaf ∷ above) x → Extends old new → (closes a 0 (leaf ++ x ∷ []) ≡ false) × (now ≡ leaf ++ x ∷ []) → IsTower a new (now ∷ above) (rows ++ x ∷ [])
   row_stays old new leaf now above rows x tower fits grow stays =
       let n = name a 0 (leaf ++ x ∷ []) in
       let pushed : pushes a 0 (leaf ∷ above) x ≡ now ∷ above =
@@ -175,7 +175,7 @@ module _ (a : List ℕ → List ℕ) where
 
   -- the row ends the leaf, whose name climbs
   pub row_climbs : (old mid new : Chunks) (leaf now : List Item) (above after : List (List Item)) (rows : List Item) (x named : Item) → IsTower a old (leaf ∷ above) rows
-      → Fits a 0 (leaf ∷ above) x → Extends old mid → Extends mid new
+      → FitsLevel a 0 (leaf ∷ above) x → Extends old mid → Extends mid new
       → (closes a 0 (leaf ++ x ∷ []) ≡ true) × IsNamed a mid 0 (leaf ++ x ∷ []) now named
       → after ≡ pushes a 1 above named → AreHeld a new (ended_chunks a 1 above named) → IsTower a new (now ∷ after) (rows ++ x ∷ [])
   row_climbs old mid new leaf now above after rows x named tower fits grow more ended after_is put =
@@ -193,14 +193,14 @@ module _ (a : List ℕ → List ℕ) where
       subst P pushed (tower_push a old new leaf above rows x tower fits (extends_both old mid new grow more)
       (subst Q (sym chunks) ((more (a here) here mine.put.0.0, mine.put.0.1), put)))
 
-  pub name_fits : (old mid : Chunks) (leaf now : List Item) (above : List (List Item)) (x named : Item) → Fits a 0 (leaf ∷ above) x
-      → (closes a 0 (leaf ++ x ∷ []) ≡ true) × IsNamed a mid 0 (leaf ++ x ∷ []) now named → Fits a 1 above named
+  pub name_fits : (old mid : Chunks) (leaf now : List Item) (above : List (List Item)) (x named : Item) → FitsLevel a 0 (leaf ∷ above) x
+      → (closes a 0 (leaf ++ x ∷ []) ≡ true) × IsNamed a mid 0 (leaf ++ x ∷ []) now named → FitsLevel a 1 above named
   name_fits old mid leaf now above x named fits ended =
-      let P : Item → Type 0 = λ i. Fits a 1 above i in
+      let P : Item → Type 0 = λ i. FitsLevel a 1 above i in
       subst P (sym ended.1.named_is) (fits_up a 0 leaf above x fits ended.0 ended.1.put.0.1)
 
   pub row_fits : (chunks : Chunks) (nodes : List (List Item)) (leaf : List Item) (above : List (List Item)) (row x : Item) → leaf ∷ above ≡ nodes → x ≡ row
-      → CanPush a chunks nodes row → Fits a 0 (leaf ∷ above) x
+      → CanPush a chunks nodes row → FitsLevel a 0 (leaf ∷ above) x
   row_fits chunks nodes leaf above row x nodes_are x_is can =
       let P : List (List Item) → Type 0 = λ l. IsTower a chunks l can.0 in
       let Q : Item → Type 0 = λ i. AreRows (can.0 ++ i ∷ []) in

@@ -21,7 +21,7 @@ use Rattle.tree_laws.proofs.StandingNodes.{items_cons as items_first, items_one 
 use Rattle.tree_laws.proofs.StandingLists.{name_key}
 use Rattle.node_chunker.specs.Towers.{is_empty, pushes, ended_chunks}
 use Rattle.chunk_store.specs.Chunks.{Chunks, Extends}
-use Rattle.node_chunker.specs.Growth.{IsEntry, IsGrown, AreOpen, IsTopped, above_of, spread, last_after, IsWritable, Fits, IsTower}
+use Rattle.node_chunker.specs.Growth.{IsEntry, IsGrown, AreOpen, IsTopped, above_of, spread, last_after, IsWritable, FitsLevel, IsTower}
 use Rattle.chunk_store.specs.Standing.{AreHeld}
 use Rattle.node_chunker.proofs.TowerLemmas.{all_join, all_split, never_empty, continues_push, kept_push}
 
@@ -194,7 +194,7 @@ module _ (a : List ℕ → List ℕ) where
       let two = grown.1 in
       omega (arith, rows_join held (x ∷ []), pow_more 2 level)
 
-  pub writable_here : (level : ℕ) (held : List Item) (above : List (List Item)) (x : Item) → Fits a level (held ∷ above) x → IsWritable level (held ++ x ∷ [])
+  pub writable_here : (level : ℕ) (held : List Item) (above : List (List Item)) (x : Item) → FitsLevel a level (held ∷ above) x → IsWritable level (held ++ x ∷ [])
   writable_here level held above x fits =
       let parts = rise_split None (spread above) (held ++ x ∷ []) (subst Rise (append_assoc (spread above) held (x ∷ [])) fits.rises) in
       let few = fits.few in
@@ -215,9 +215,9 @@ module _ (a : List ℕ → List ℕ) where
       let P : List ℕ → Type 0 = λ k. length k ≤ 4096 in
       ((subst P (sym (name_key a level node ∙ last_is held x)) (entry_key level x grown.0), ap length (name_body a level node) ∙ named, omega arith), omega arith)
 
-  pub fits_up : (level : ℕ) (held : List Item) (above : List (List Item)) (x : Item) → Fits a level (held ∷ above) x
+  pub fits_up : (level : ℕ) (held : List Item) (above : List (List Item)) (x : Item) → FitsLevel a level (held ∷ above) x
       → closes a level (held ++ x ∷ []) ≡ true → length (a (bytes_of level (held ++ x ∷ []))) ≡ 20
-      → Fits a (suc level) above (name a level (held ++ x ∷ []))
+      → FitsLevel a (suc level) above (name a level (held ++ x ∷ []))
   fits_up level held above x fits over named =
       let P : ℕ → Type 0 = λ n. n < 2 ^ 63 in
       record {
@@ -231,7 +231,7 @@ module _ (a : List ℕ → List ℕ) where
   abbrev pub AreNamed : List (List ℕ) → Type 0
   AreNamed list = AllByRecursion (λ bytes. length (a bytes) ≡ 20) list
 
-  pub open_push : (level : ℕ) (nodes : List (List Item)) (x : Item) → Fits a level nodes x → AreNamed (ended_chunks a level nodes x)
+  pub open_push : (level : ℕ) (nodes : List (List Item)) (x : Item) → FitsLevel a level nodes x → AreNamed (ended_chunks a level nodes x)
       → AreOpen a level (pushes a level nodes x)
   open_push level [] x fits named = ((fits.grown, tt), closes_one a level x, tt)
   open_push level (held ∷ above) x fits named =
@@ -296,7 +296,7 @@ module _ (a : List ℕ → List ℕ) where
   -- ---- a tower
 
   pub fits_row : (chunks : Chunks) (held : List Item) (above : List (List Item)) (rows : List Item) (x : Item) → IsTower a chunks (held ∷ above) rows
-      → AreRows (rows ++ x ∷ []) → Fits a 0 (held ∷ above) x
+      → AreRows (rows ++ x ∷ []) → FitsLevel a 0 (held ∷ above) x
   fits_row chunks held above rows x tower are =
       let row = (all_split IsRow rows (x ∷ []) are.each).1.0 in
       let after = rise_split None rows (x ∷ []) are.rise in
@@ -312,7 +312,7 @@ module _ (a : List ℕ → List ℕ) where
       }
 
   rows_follow : (chunks : Chunks) (held : List Item) (above : List (List Item)) (rows : List Item) (x : Item) → IsTower a chunks (held ∷ above) rows
-      → Fits a 0 (held ∷ above) x → AreRows (rows ++ x ∷ [])
+      → FitsLevel a 0 (held ∷ above) x → AreRows (rows ++ x ∷ [])
   rows_follow chunks held above rows x tower fits =
       let after = rise_split None (spread (held ∷ above)) (x ∷ []) fits.rises in
       let P : Option (List ℕ) → Type 0 = λ k. is_after k x.key ≡ true in
@@ -338,7 +338,7 @@ module _ (a : List ℕ → List ℕ) where
   found_named chunks (bytes ∷ list) put = (put.0.1, found_named chunks list put.1)
 
   pub tower_push : (old new : Chunks) (held : List Item) (above : List (List Item)) (rows : List Item) (x : Item) → IsTower a old (held ∷ above) rows
-      → Fits a 0 (held ∷ above) x → Extends old new → AreHeld a new (ended_chunks a 0 (held ∷ above) x)
+      → FitsLevel a 0 (held ∷ above) x → Extends old new → AreHeld a new (ended_chunks a 0 (held ∷ above) x)
       → IsTower a new (pushes a 0 (held ∷ above) x) (rows ++ x ∷ [])
   tower_push old new held above rows x tower fits grows put =
       let found = found_named new (ended_chunks a 0 (held ∷ above) x) put in

@@ -12,8 +12,8 @@ use Rattle.tree_laws.proofs.Growing.{held_later}
 use Rattle.tree_laws.proofs.StandingLists.{name_key}
 use Rattle.chunk_store.specs.Chunks.{Chunks, Extends}
 use Rattle.chunk_store.specs.Standing.{AreHeld, IsThere}
-use Rattle.node_chunker.specs.Towers.{is_empty, is_single, after, chunks_after, row_top, row_chunks, chunks_after_rows, pushes, ended_chunks, Continues, IsKept}
-use Rattle.node_chunker.specs.Growth.{IsGrown, AreOpen, IsTopped, spread, last_after, Fits, IsTower}
+use Rattle.node_chunker.specs.Towers.{is_empty, is_single, after, chunks_after, row_top, row_chunks, chunks_after_rows, pushes, ended_chunks, Continues, KeepsNodes}
+use Rattle.node_chunker.specs.Growth.{IsGrown, AreOpen, IsTopped, spread, last_after, FitsLevel, IsTower}
 use Rattle.node_chunker.specs.Steps.{IsPushedAt}
 use Rattle.node_chunker.specs.Subtrees.{IsSubtree, is_clear, lift_chunks}
 use Rattle.node_chunker.proofs.TowerLemmas.{all_join, all_split, extends_both, held_push, never_empty, skip_left}
@@ -261,7 +261,7 @@ module _ (a : List ℕ → List ℕ) where
         let lifted : x.rows + 0 ≡ rows_in below = sym (ap rows_in sub.named) ∙ lift_rows (suc place) 0 below in
         omega (arith, rows_count below each.1)
 
-    pub ref_fits : (nodes : List (List Item)) → IsOver (suc place) nodes rows → Fits a (suc place) nodes x
+    pub ref_fits : (nodes : List (List Item)) → IsOver (suc place) nodes rows → FitsLevel a (suc place) nodes x
     ref_fits nodes over =
         let each = all_split IsRow rows below follow.each in
         let after = (rise_split None rows below follow.rise).1 in
@@ -304,7 +304,7 @@ module _ (a : List ℕ → List ℕ) where
           (held_later a c later (extends_both c new later grow extends) (lift_chunks a (suc place) 0 below) sub.held)
 
       kept_ref : (nodes : List (List Item)) → is_empty nodes ≡ false → AreHeld a new (ended_chunks a (suc place) nodes x)
-          → IsKept a c (under (suc place) nodes) rows → IsKept a new (under (suc place) (pushes a (suc place) nodes x)) (rows ++ below)
+          → KeepsNodes a c (under (suc place) nodes) rows → KeepsNodes a new (under (suc place) (pushes a (suc place) nodes x)) (rows ++ below)
       kept_ref nodes some put before later extends turns more rest =
           let names_below = names a 0 (cut a 0 below) in
           let names_more = names a 0 (cut a 0 more) in
@@ -321,7 +321,7 @@ module _ (a : List ℕ → List ℕ) where
           (held_ref a later place turns 1 nodes x names_below names_more some sub.ended.1 sub.named mine.1
           (subst Q e (held_later a new later extends (ended_chunks a (suc place) nodes x) put)) theirs.1)))
 
-      kept_first : IsKept a new (under (suc place) ((x ∷ []) ∷ [])) below
+      kept_first : KeepsNodes a new (under (suc place) ((x ∷ []) ∷ [])) below
       kept_first later extends turns more rest =
           let mine = sub_later later extends in
           let theirs = all_split (IsThere a later) (map (bytes_of 0) (cut a 0 more)) (chunks_after a turns 1 (under place ((x ∷ []) ∷ [])) (names a 0 (cut a 0 more))) rest in
@@ -330,7 +330,7 @@ module _ (a : List ℕ → List ℕ) where
 
       tower_over : (nodes : List (List Item)) → IsOver (suc place) nodes rows → AreHeld a new (ended_chunks a (suc place) nodes x)
           → Continues a (under (suc place) (pushes a (suc place) nodes x)) (rows ++ below)
-          → IsKept a new (under (suc place) (pushes a (suc place) nodes x)) (rows ++ below)
+          → KeepsNodes a new (under (suc place) (pushes a (suc place) nodes x)) (rows ++ below)
           → IsTower a new (under (suc place) (pushes a (suc place) nodes x)) (rows ++ below)
       tower_over nodes over put continues kept =
           let fits = ref_fits nodes over in
@@ -359,8 +359,8 @@ module _ (a : List ℕ → List ℕ) where
           let over = over_ground c place nodes rows (inr none) in
           let P : List (List Item) → Type 0 = λ n. Continues a (under (suc place) (pushes a (suc place) n x)) (rows ++ below) in
           let Q : List Item → Type 0 = λ r. Continues a (under (suc place) ((x ∷ []) ∷ [])) (r ++ below) in
-          let R : List (List Item) → Type 0 = λ n. IsKept a new (under (suc place) (pushes a (suc place) n x)) (rows ++ below) in
-          let S : List Item → Type 0 = λ r. IsKept a new (under (suc place) ((x ∷ []) ∷ [])) (r ++ below) in
+          let R : List (List Item) → Type 0 = λ n. KeepsNodes a new (under (suc place) (pushes a (suc place) n x)) (rows ++ below) in
+          let S : List Item → Type 0 = λ r. KeepsNodes a new (under (suc place) ((x ∷ []) ∷ [])) (r ++ below) in
           tower_over nodes over put (subst P (sym none.0) (subst Q (sym none.1) continues_first)) (subst R (sym none.0) (subst S (sym none.1) kept_first))
 
   -- ---- the levels that the code has opened
@@ -432,9 +432,9 @@ module _ (a : List ℕ → List ℕ) where
     pub place_within : place ≤ length now
     place_within = omega (arith, ap length here.are, under_length place here.nodes)
 
-    pub place_fits : Fits a (suc place) (drop place now) x
+    pub place_fits : FitsLevel a (suc place) (drop place now) x
     place_fits =
-        let P : List (List Item) → Type 0 = λ l. Fits a (suc place) l x in
+        let P : List (List Item) → Type 0 = λ l. FitsLevel a (suc place) l x in
         subst P (sym (ap (drop place) here.are ∙ drop_under place here.nodes))
         (ref_fits c place x rows below sub_here follow here.nodes (over_ground c place here.nodes rows here.ground))
 

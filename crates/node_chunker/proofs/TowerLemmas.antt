@@ -9,7 +9,7 @@ use Rattle.tree_laws.proofs.Cuts.{closes_one, some_before}
 use Rattle.tree_laws.proofs.Growing.{held_later}
 use Rattle.chunk_store.specs.Chunks.{Chunks, Extends}
 use Rattle.chunk_store.specs.Standing.{AreHeld, IsThere}
-use Rattle.node_chunker.specs.Towers.{is_empty, is_single, first_of, is_root, after, chunks_after, row_top, row_chunks, after_rows, chunks_after_rows, pushes, ended_chunks, Continues, IsKept}
+use Rattle.node_chunker.specs.Towers.{is_empty, is_single, first_of, is_root, after, chunks_after, row_top, row_chunks, after_rows, chunks_after_rows, pushes, ended_chunks, Continues, KeepsNodes}
 
 -- ---- choices
 
@@ -160,7 +160,7 @@ extends_both old now later one two k bytes found = two k bytes (one k bytes foun
 
 pub kept_push : (a : List ℕ → List ℕ) (old new : Chunks) (held : List Item) (above : List (List Item)) (rows : List Item) (x : Item)
     → Extends old new → AreHeld a new (ended_chunks a 0 (held ∷ above) x)
-    → IsKept a old (held ∷ above) rows → IsKept a new (pushes a 0 (held ∷ above) x) (rows ++ x ∷ [])
+    → KeepsNodes a old (held ∷ above) rows → KeepsNodes a new (pushes a 0 (held ∷ above) x) (rows ++ x ∷ [])
 kept_push a old new held above rows x grows ended before later extends turns more rest =
     let P : List Item → Type 0 = λ l. AreHeld a later (row_chunks a turns l) in
     subst P (sym (append_assoc rows (x ∷ []) more))

@@ -4,7 +4,7 @@ use Rattle.std.specs.List.{AllByRecursion}
 use Rattle.tuple_codec.specs.Nodes.{Item, IsNode, Rise}
 use Rattle.tuple_codec.specs.Trees.{AreRows, IsRow, bytes_of, closes, last_key, rows_in}
 use Rattle.chunk_store.specs.Chunks.{Chunks}
-use Rattle.node_chunker.specs.Towers.{Continues, IsKept, is_empty}
+use Rattle.node_chunker.specs.Towers.{Continues, KeepsNodes, is_empty}
 
 -- an item that may stand at a level
 abbrev pub IsEntry : ℕ → Item → Type 0
@@ -49,7 +49,7 @@ pub record IsWritable (level : ℕ) (items : List Item) : Type 0 where
   pub few : rows_in items < 2 ^ 63
 
 -- an item may be pushed at this level
-pub record Fits (address : List ℕ → List ℕ) (level : ℕ) (open_nodes : List (List Item)) (item : Item) : Type 0 where
+pub record FitsLevel (address : List ℕ → List ℕ) (level : ℕ) (open_nodes : List (List Item)) (item : Item) : Type 0 where
   pub are_open : AreOpen address level open_nodes
   pub grown : IsGrown level item
   pub rises : Rise (spread open_nodes ++ item ∷ [])
@@ -59,7 +59,7 @@ pub record Fits (address : List ℕ → List ℕ) (level : ℕ) (open_nodes : Li
 pub record IsTower (address : List ℕ → List ℕ) (chunks : Chunks) (open_nodes : List (List Item)) (rows : List Item) : Type 0 where
   pub are_rows : AreRows rows
   pub continues : Continues address open_nodes rows
-  pub kept : IsKept address chunks open_nodes rows
+  pub kept : KeepsNodes address chunks open_nodes rows
   pub are_open : AreOpen address 0 open_nodes
   pub topped : IsTopped (above_of open_nodes)
   pub rises : Rise (spread open_nodes)

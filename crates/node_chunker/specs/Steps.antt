@@ -4,7 +4,7 @@ use Rattle.tuple_codec.specs.Nodes.{Item}
 use Rattle.tuple_codec.specs.Trees.{bytes_of, closes, name}
 use Rattle.chunk_store.specs.Chunks.{Chunks, Extends}
 use Rattle.chunk_store.specs.Standing.{AreHeld}
-use Rattle.node_chunker.specs.Growth.{Fits}
+use Rattle.node_chunker.specs.Growth.{FitsLevel}
 use Rattle.node_chunker.specs.Towers.{ended_chunks, is_empty, pushes}
 
 -- a node was put and emptied, and has this name
@@ -28,7 +28,7 @@ IsClosed address chunks level held (Some named) =
 -- A name that was pushed has climbed to the node at this place among the inner levels; the push makes these nodes, and puts these
 -- chunks.
 pub record IsClimbing (address : List ℕ → List ℕ) (chunks : Chunks) (made : List (List Item)) (written : List (List ℕ)) (nodes : List (List Item)) (at : ℕ) (item : Item) : Type 0 where
-  pub fits : Fits address (suc at) (drop at nodes) item
+  pub fits : FitsLevel address (suc at) (drop at nodes) item
   pub comes : take at nodes ++ pushes address (suc at) (drop at nodes) item ≡ made
   pub kept : (later : Chunks) → Extends chunks later → AreHeld address later (ended_chunks address (suc at) (drop at nodes) item)
       → AreHeld address later written

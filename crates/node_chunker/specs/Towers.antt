@@ -75,6 +75,6 @@ abbrev pub Continues : (List ℕ → List ℕ) → List (List Item) → List Ite
 Continues address open_nodes rows = (turns : ℕ) (more : List Item) → after_rows address turns open_nodes more ≡ row_top address turns (rows ++ more)
 
 -- whatever follows, and however the chunks grow: once the nodes still to be made are held, all are
-abbrev pub IsKept : (List ℕ → List ℕ) → Chunks → List (List Item) → List Item → Type 0
-IsKept address chunks open_nodes rows = (later : Chunks) → Extends chunks later → (turns : ℕ) (more : List Item)
+abbrev pub KeepsNodes : (List ℕ → List ℕ) → Chunks → List (List Item) → List Item → Type 0
+KeepsNodes address chunks open_nodes rows = (later : Chunks) → Extends chunks later → (turns : ℕ) (more : List Item)
     → AreHeld address later (chunks_after_rows address turns open_nodes more) → AreHeld address later (row_chunks address turns (rows ++ more))

@@ -11,7 +11,7 @@ ghost use Rattle.chunk_store.specs.Drafts.{Grows, chunks_of};
 ghost use Rattle.chunk_store.specs.Kinds.{is_node};
 ghost use Rattle.chunk_store.specs.Standing.{IsTree};
 ghost use Rattle.chunk_store.specs.Clashes.{IsReason};
-ghost use Rattle.node_chunker.specs.Growth.{CanPush, Fits, IsTower, WasPushed};
+ghost use Rattle.node_chunker.specs.Growth.{CanPush, FitsLevel, IsTower, WasPushed};
 ghost use Rattle.node_chunker.specs.Steps.{IsPushedAt};
 ghost use Rattle.node_chunker.specs.Subtrees.{CanPushRef, IsSubtree, is_clear};
 ghost use Rattle.node_chunker.specs.Towers.{is_empty};
@@ -190,7 +190,7 @@ fn push_kept_name<D: Digester>(
     steps: u32,
 ) -> Result<(), PutFault>
     requires place { place ≤ length inner.old.items }
-    requires fits { Fits D.address (suc place) (drop place inner.old.items) (ref_of named.now) }
+    requires fits { FitsLevel D.address (suc place) (drop place inner.old.items) (ref_of named.now) }
     requires known { Outlasts D.address (place + 1) steps (ref_of named.now).key }
     ensures ok { OnOk result (IsPushedAt D.address (chunks_of draft.new.chunks) place inner.old.items (ref_of named.now) inner.new.items) }
     ensures grows { Grows is_node draft.old draft.new }
@@ -216,7 +216,7 @@ fn push_name<D: Digester>(
     named: RefItem,
 ) -> Result<(), PutFault>
     requires place { place ≤ length inner.old.items }
-    requires fits { Fits D.address (suc place) (drop place inner.old.items) (ref_of named) }
+    requires fits { FitsLevel D.address (suc place) (drop place inner.old.items) (ref_of named) }
     ensures ok { OnOk result (IsPushedAt D.address (chunks_of draft.new.chunks) place inner.old.items (ref_of named) inner.new.items) }
     ensures grows { Grows is_node draft.old draft.new }
     ensures cause { IfErr result (IsReason D.address (chunks_of draft.new.chunks)) }

@@ -7,7 +7,8 @@ use Rattle.std.proofs.lemmas.Nat.{be_bytes_2, be_bytes_8, from_be_bytes-to_be_by
 use Rattle.basic_laws.proofs.Options.{guard_some, some_is}
 use Rattle.tuple_codec.specs.Nodes.{Item, leaf_item, sized, item_bytes, IsItem}
 use Rattle.tuple_codec.proofs.FieldLemmas.{bytes_again}
-use Rattle.node_format.specs.Reading.{◌>>=◌, bytes_at, number_at, sized_at, leaf_at, inner_at, item_at}
+use Rattle.tuple_codec.specs.Fields.{bytes_at}
+use Rattle.node_format.specs.Reading.{◌>>=◌, number_at, sized_at, leaf_at, inner_at, item_at}
 
 abbrev pub IsBytes : List ℕ → Type 0
 IsBytes bytes = (i : ℕ) → get_or bytes i 0 < 256

@@ -29,8 +29,8 @@ pub record StopsAt (bytes : List ℕ) (at : ℕ) : Type 0 where
   pub place : at ≡ length (header_bytes level count ++ items_bytes level items)
 
 -- the bytes go wrong at this offset
-abbrev pub IsFault : List ℕ → ℕ → Type 0
-IsFault bytes at = (HasNoHeader bytes × (at ≡ 0)) ⊎ StopsAt bytes at
+abbrev pub IsFaultAt : List ℕ → ℕ → Type 0
+IsFaultAt bytes at = (HasNoHeader bytes × (at ≡ 0)) ⊎ StopsAt bytes at
 
 -- equal bytes are of one node
 abbrev pub HasOneSpelling : Type 0

@@ -3,9 +3,10 @@
 ghost use Rattle.std.specs.Prelude.{◌≡◌, ◌<◌, ◌≤◌, length, take, drop};
 ghost use Rattle.std.specs.Option.{option_map};
 ghost use Rattle.std.specs.Int.{w16, w64};
+ghost use Rattle.tuple_codec.specs.Fields.{bytes_at};
 ghost use Rattle.tuple_codec.specs.Nodes.{leaf_item};
 ghost use Rattle.node_format.specs.Views.{seen};
-ghost use Rattle.node_format.specs.Reading.{bytes_at, number_at, sized_at, leaf_at, inner_at, item_at};
+ghost use Rattle.node_format.specs.Reading.{number_at, sized_at, leaf_at, inner_at, item_at};
 
 /// An item that lies in a node's bytes.
 #[derive(Clone, Copy, Debug)]

@@ -6,7 +6,7 @@ ghost use Rattle.std.specs.List.{slice_get};
 ghost use Rattle.tuple_codec.specs.Nodes.{IsNode, leaf_item, node_bytes};
 ghost use Rattle.node_format.specs.Views.{seen};
 ghost use Rattle.node_format.specs.Reading.{item_at};
-ghost use Rattle.node_format.specs.Faults.{IsFault, IsNoNode};
+ghost use Rattle.node_format.specs.Faults.{IsFaultAt, IsNoNode};
 
 use crate::fields::{ItemRef, inner_at, leaf_at};
 use crate::marks::{Marks, after_items};
@@ -55,7 +55,7 @@ impl<'a> NodeRef<'a> {
         ensures node { IfOk result (λ node. IsNode node) }
         ensures bytes { IfOk result (λ node. bytes.now ≡ node_bytes node) }
         ensures malformed { OnErr result (IsNoNode bytes.now) }
-        ensures place { IfErr result (λ malformed. IsFault bytes.now malformed.at) }
+        ensures place { IfErr result (λ malformed. IsFaultAt bytes.now malformed.at) }
     {
         match header_at(bytes) {
             None => Err(Malformed { at: 0 }),

@@ -10,7 +10,7 @@ use Rattle.tuple_codec.specs.Nodes.{Item}
 use Rattle.tuple_codec.specs.Edits.{added, changed, order, removed, replaced}
 use Rattle.tree_laws.specs.Found.{Nodes, each_of, items_of, rows_at}
 use Rattle.prolly_tree.specs.Heads.{item_of, level_of}
-use Rattle.prolly_tree.specs.declared.steps.Head.{Head}
+use Rattle.prolly_tree.specs.declared.steps.WalkHead.{WalkHead}
 use Rattle.prolly_tree.specs.Fronts.{Front, nodes_of, rows_ahead, rows_of}
 use Rattle.pair_walk.specs.Counts.{counted}
 use Rattle.pair_walk.specs.Heads.{IsFirst, descended, skipped}
@@ -151,14 +151,14 @@ arm_new_higher c m level item other first second apart =
     turn_new_opened c level other second (unlike_levels (nodes_of c.old_walk.parts) c.old_walk.front c.new_walk.front m (suc level) item other first second apart)
 
 -- the same, by the heads themselves
-first_at : (front : Front) (head : Head) (n : ℕ) → IsFirst front head → level_of head ≡ n → front ≡ (n, item_of head) ∷ drop 1 front
+first_at : (front : Front) (head : WalkHead) (n : ℕ) → IsFirst front head → level_of head ≡ n → front ≡ (n, item_of head) ∷ drop 1 front
 first_at front head n first level = subst (λ (m : ℕ). front ≡ (m, item_of head) ∷ drop 1 front) level first
 
-pub head_old_last : (c : Compared) (level : ℕ) (head : Head) → IsFirst c.old_walk.front head → level_of head ≡ suc level → c.new_walk.front ≡ []
+pub head_old_last : (c : Compared) (level : ℕ) (head : WalkHead) → IsFirst c.old_walk.front head → level_of head ≡ suc level → c.new_walk.front ≡ []
     → IsTurn c (record { old_walk = descended c.old_walk; new_walk = c.new_walk; found = c.found; reads = counted c.reads 1 })
 head_old_last c level head first is over = arm_old_last c level (item_of head) (first_at c.old_walk.front head (suc level) first is) over
 
-pub head_new_last : (c : Compared) (level : ℕ) (head : Head) → c.old_walk.front ≡ [] → IsFirst c.new_walk.front head → level_of head ≡ suc level
+pub head_new_last : (c : Compared) (level : ℕ) (head : WalkHead) → c.old_walk.front ≡ [] → IsFirst c.new_walk.front head → level_of head ≡ suc level
     → IsTurn c (record { old_walk = c.old_walk; new_walk = descended c.new_walk; found = c.found; reads = counted c.reads 1 })
 head_new_last c level head over second is = arm_new_last c level (item_of head) over (first_at c.new_walk.front head (suc level) second is)
 
@@ -168,12 +168,12 @@ row_below level e = omega (arith, e)
 row_above : (level : ℕ) → suc level ≡ 0 → ⊥
 row_above level e = omega (arith, e)
 
-pub head_old_higher : (c : Compared) (level : ℕ) (head other : Head) → IsFirst c.old_walk.front head → IsFirst c.new_walk.front other → level_of head ≡ suc level → level_of other ≡ 0
+pub head_old_higher : (c : Compared) (level : ℕ) (head other : WalkHead) → IsFirst c.old_walk.front head → IsFirst c.new_walk.front other → level_of head ≡ suc level → level_of other ≡ 0
     → IsTurn c (record { old_walk = descended c.old_walk; new_walk = c.new_walk; found = c.found; reads = counted c.reads 1 })
 head_old_higher c level head other first second is row =
     arm_old_higher c level 0 (item_of head) (item_of other) (first_at c.old_walk.front head (suc level) first is) (first_at c.new_walk.front other 0 second row) (row_above level)
 
-pub head_new_higher : (c : Compared) (level : ℕ) (head other : Head) → IsFirst c.old_walk.front head → IsFirst c.new_walk.front other → level_of head ≡ 0 → level_of other ≡ suc level
+pub head_new_higher : (c : Compared) (level : ℕ) (head other : WalkHead) → IsFirst c.old_walk.front head → IsFirst c.new_walk.front other → level_of head ≡ 0 → level_of other ≡ suc level
     → IsTurn c (record { old_walk = c.old_walk; new_walk = descended c.new_walk; found = c.found; reads = counted c.reads 1 })
 head_new_higher c level head other first second row is =
     arm_new_higher c 0 level (item_of head) (item_of other) (first_at c.old_walk.front head 0 first row) (first_at c.new_walk.front other (suc level) second is) (row_below level)

@@ -2,16 +2,17 @@
 use Rattle.std.proofs.Common.{◌≡◌, ◌≤◌, ◌*◌, ◌+◌, ℕ, suc, List, [], ◌∷◌, ◌++◌, refl, sym, ap, ◌∙◌, subst, append-nil, arith}
 use Rattle.tuple_codec.specs.Nodes.{Item, Node}
 use Rattle.tuple_codec.specs.Edits.{changed}
-use Rattle.tuple_codec.specs.declared.edits.Change.{Change}
+use Rattle.tuple_codec.specs.declared.edits.ItemChange.{ItemChange}
+use Rattle.chunk_store.specs.Chunks.{Chunks}
 use Rattle.chunk_store.specs.Drafts.{DraftParts, chunks_of}
 use Rattle.chunk_store.specs.Standing.{IsTree}
 use Rattle.tree_laws.specs.Found.{Nodes}
-use Rattle.tree_laws.specs.Standing.{Chunks, IsStored, rows_below}
+use Rattle.tree_laws.specs.Standing.{IsStored, rows_below}
 use Rattle.tree_laws.proofs.Standing.{trees_lead}
 use Rattle.tree_laws.proofs.One.{one_node}
 use Rattle.prolly_tree.specs.Fronts.{Front, nodes_of, on_level, rows_ahead, rows_of}
 use Rattle.pair_walk.specs.Counts.{IsCount, counted}
-use Rattle.pair_walk.specs.Heads.{Begins}
+use Rattle.pair_walk.specs.Heads.{BeginsComparing}
 use Rattle.pair_walk.specs.Pairs.{AllPairs, AreAlike, AreAligned, HaveSameKeys, differing, differing_ahead, differing_from, pair_sum}
 use Rattle.pair_walk.specs.Turns.{AreAlikeAhead, Compared, IsTurn, all_changes, all_reads}
 use Rattle.pair_walk.proofs.ChangeLaws.{changed_itself}
@@ -51,12 +52,12 @@ begin_alike nodes reads front others node other first second alike =
       ap (λ (n : ℕ). counted (counted reads 2) (2 * n)) ahead ∙ both_roots reads (pair_sum (differing nodes node.level) node.items other.items),
     )
 
-pub begin_goes : (address : List ℕ → List ℕ) (parts : DraftParts) (old new : List ℕ) (reads : ℕ) (c : Compared) → Begins address parts old new reads c → IsGoing address parts old new reads c
+pub begin_goes : (address : List ℕ → List ℕ) (parts : DraftParts) (old new : List ℕ) (reads : ℕ) (c : Compared) → BeginsComparing address parts old new reads c → IsGoing address parts old new reads c
 begin_goes address parts old new reads c b = record {
   old_parts = b.old_parts;
   new_parts = b.new_parts;
   changes = λ rows others is_old is_new.
-      ap (λ (l : List Change). l ++ changed (rows_of c.old_walk) (rows_of c.new_walk)) b.found
+      ap (λ (l : List ItemChange). l ++ changed (rows_of c.old_walk) (rows_of c.new_walk)) b.found
       ∙ ap (λ (l : List Item). changed l (rows_of c.new_walk)) (b.old_rows rows is_old)
       ∙ ap (changed rows) (b.new_rows others is_new);
   alike = λ node other is_old is_new alike.

@@ -3,7 +3,7 @@ use Rattle.std.proofs.Common.{◌≡◌, ◌<◌, ◌≤◌, ◌+◌, ◌-◌, �
 use Rattle.std.specs.Str.{bytes_eq}
 use Rattle.tuple_codec.specs.Nodes.{Item}
 use Rattle.tuple_codec.specs.Edits.{added, changed, removed}
-use Rattle.tuple_codec.specs.declared.edits.Change.{Change}
+use Rattle.tuple_codec.specs.declared.edits.ItemChange.{ItemChange}
 use Rattle.tree_laws.specs.Found.{Nodes, items_of, rows_at}
 use Rattle.prolly_tree.specs.Fronts.{Front, nodes_of, on_level, opened, rows_ahead, rows_of, sum_of, weight}
 use Rattle.prolly_tree.proofs.FrontLemmas.{rows_on}
@@ -70,7 +70,7 @@ turn_removed c row first step unlike =
       old_parts = refl;
       new_parts = refl;
       changes = append_assoc c.found (removed row ∷ []) (changed (rows_of (skipped c.old_walk)) (rows_of c.new_walk))
-          ∙ ap (λ (l : List Change). c.found ++ l) (sym (ap (λ (l : List Item). changed l (rows_of c.new_walk)) rows ∙ step));
+          ∙ ap (λ (l : List ItemChange). c.found ++ l) (sym (ap (λ (l : List Item). changed l (rows_of c.new_walk)) rows ∙ step));
       less = omega (arith, weights);
       alike = λ a. absurd (unlike a);
       reads = λ a. absurd (unlike a);
@@ -89,7 +89,7 @@ turn_added c row first step unlike =
       old_parts = refl;
       new_parts = refl;
       changes = append_assoc c.found (added row ∷ []) (changed (rows_of c.old_walk) (rows_of (skipped c.new_walk)))
-          ∙ ap (λ (l : List Change). c.found ++ l) (sym (ap (changed (rows_of c.old_walk)) rows ∙ step));
+          ∙ ap (λ (l : List ItemChange). c.found ++ l) (sym (ap (changed (rows_of c.old_walk)) rows ∙ step));
       less = omega (arith, weights);
       alike = λ a. absurd (unlike a);
       reads = λ a. absurd (unlike a);
@@ -135,7 +135,7 @@ aligned_rest nodes (p ∷ front) [] a = absurd a
 aligned_rest nodes (p ∷ front) (q ∷ others) a = a.2
 
 -- both go past what comes first, where no pair of nodes differs there
-pub turn_passed : (c : Compared) (level : ℕ) (item other : Item) (more found : List Change) → c.new_walk.parts ≡ c.old_walk.parts
+pub turn_passed : (c : Compared) (level : ℕ) (item other : Item) (more found : List ItemChange) → c.new_walk.parts ≡ c.old_walk.parts
     → c.old_walk.front ≡ (level, item) ∷ drop 1 c.old_walk.front → c.new_walk.front ≡ (level, other) ∷ drop 1 c.new_walk.front
     → changed (rows_of c.old_walk) (rows_of c.new_walk) ≡ more ++ changed (rows_of (skipped c.old_walk)) (rows_of (skipped c.new_walk))
     → found ≡ c.found ++ more → differing (nodes_of c.old_walk.parts) level item other ≡ 0
@@ -151,9 +151,9 @@ turn_passed c level item other more found parts first other_first step is none =
     record {
       old_parts = refl;
       new_parts = refl;
-      changes = ap (λ (l : List Change). l ++ changed (rows_of (skipped c.old_walk)) (rows_of (skipped c.new_walk))) is
+      changes = ap (λ (l : List ItemChange). l ++ changed (rows_of (skipped c.old_walk)) (rows_of (skipped c.new_walk))) is
           ∙ append_assoc c.found more (changed (rows_of (skipped c.old_walk)) (rows_of (skipped c.new_walk)))
-          ∙ ap (λ (l : List Change). c.found ++ l) (sym step);
+          ∙ ap (λ (l : List ItemChange). c.found ++ l) (sym step);
       less = omega (arith, weights, others, some);
       alike = λ a. aligned_rest nodes c.old_walk.front c.new_walk.front a;
       reads = λ a. ap (λ (n : ℕ). counted c.reads (2 * n)) (sym ahead);

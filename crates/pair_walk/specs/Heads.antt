@@ -6,14 +6,14 @@ use Rattle.chunk_store.specs.Standing.{IsTree}
 use Rattle.tree_laws.specs.Standing.{IsStored}
 use Rattle.prolly_tree.specs.Fronts.{Front, Walking, nodes_of, on_level, opened, rows_of}
 use Rattle.prolly_tree.specs.Heads.{item_of, level_of}
-use Rattle.prolly_tree.specs.declared.steps.Head.{Head}
+use Rattle.prolly_tree.specs.declared.steps.WalkHead.{WalkHead}
 use Rattle.pair_walk.specs.Counts.{counted}
 use Rattle.pair_walk.specs.Turns.{Compared}
 use Rattle.pair_walk.specs.declared.comparing.Heads.{Heads}
 use Rattle.pair_walk.specs.declared.comparing.Heads.TheVariants as heads
 
 -- this comes first of what is left
-abbrev pub IsFirst : Front → Head → Type 0
+abbrev pub IsFirst : Front → WalkHead → Type 0
 IsFirst front head = front ≡ (level_of head, item_of head) ∷ drop 1 front
 
 abbrev pub AreHeads : Front → Front → Heads → Type 0
@@ -30,7 +30,7 @@ abbrev pub descended : Walking → Walking
 descended walk = record { parts = walk.parts; front = opened (nodes_of walk.parts) walk.front }
 
 -- both roots are read, and nothing is found yet
-pub record Begins (address : List ℕ → List ℕ) (parts : DraftParts) (old new : List ℕ) (reads : ℕ) (c : Compared) : Type 0 where
+pub record BeginsComparing (address : List ℕ → List ℕ) (parts : DraftParts) (old new : List ℕ) (reads : ℕ) (c : Compared) : Type 0 where
   pub old_parts : c.old_walk.parts ≡ parts
   pub new_parts : c.new_walk.parts ≡ parts
   pub found : c.found ≡ []

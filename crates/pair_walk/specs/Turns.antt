@@ -2,7 +2,7 @@
 use Rattle.std.specs.Prelude.{◌≡◌, ◌<◌, ◌≤◌, ◌+◌, ◌*◌, ℕ, List, [], ◌∷◌, ◌++◌}
 use Rattle.tuple_codec.specs.Nodes.{Item}
 use Rattle.tuple_codec.specs.Edits.{changed}
-use Rattle.tuple_codec.specs.declared.edits.Change.{Change}
+use Rattle.tuple_codec.specs.declared.edits.ItemChange.{ItemChange}
 use Rattle.tree_laws.specs.Found.{Nodes}
 use Rattle.prolly_tree.specs.Fronts.{Front, Walking, nodes_of, rows_of, weight}
 use Rattle.pair_walk.specs.Counts.{IsCount, counted}
@@ -16,14 +16,14 @@ load nodes (p ∷ front) = weight nodes p.0 p.1 + load nodes front
 pub record Compared : Type 0 where
   pub old_walk : Walking
   pub new_walk : Walking
-  pub found : List Change
+  pub found : List ItemChange
   pub reads : ℕ
 
 abbrev pub load_of : Walking → ℕ
 load_of walk = load (nodes_of walk.parts) walk.front
 
 -- all changes: those found, and those of what is left
-abbrev pub all_changes : Compared → List Change
+abbrev pub all_changes : Compared → List ItemChange
 all_changes c = c.found ++ changed (rows_of c.old_walk) (rows_of c.new_walk)
 
 -- what the count comes to on trees that are alike

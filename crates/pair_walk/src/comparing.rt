@@ -12,15 +12,15 @@ ghost use Rattle.prolly_tree.specs.Heads.{item_of, level_of};
 ghost use Rattle.pair_walk.specs.Counts.{counted};
 ghost use Rattle.pair_walk.specs.Pairs.{AreAlike, differing_from};
 ghost use Rattle.pair_walk.specs.Turns.{IsTurn};
-ghost use Rattle.pair_walk.specs.Heads.{AreHeads, Begins, IsFirst, descended, skipped};
+ghost use Rattle.pair_walk.specs.Heads.{AreHeads, BeginsComparing, IsFirst, descended, skipped};
 
-use crate::reads::Reads;
+use crate::reads::ReadCount;
 use chunk_store::Draft;
-use prolly_tree::{Head, Walk};
+use prolly_tree::{Walk, WalkHead};
 use std::alloc::{AllocError, Global};
 use std::cmp::Ordering;
 use std::marker::Model;
-use tuple_codec::{Address, Blob, Change, Digester};
+use tuple_codec::{Address, Blob, Digester, ItemChange};
 
 /// The keys, rising, at which the rows of two trees differ, with the value of each tree there.
 ///
@@ -32,8 +32,8 @@ pub fn changes<D: Digester>(
     draft: &Draft<D>,
     old: &Address,
     new: &Address,
-    reads: &mut Reads,
-) -> Result<Vec<Change>, AllocError>
+    reads: &mut ReadCount,
+) -> Result<Vec<ItemChange>, AllocError>
     requires old_tree { StandsForRows D.address (chunks_of draft.now.chunks) old.now.0 }
     requires new_tree { StandsForRows D.address (chunks_of draft.now.chunks) new.now.0 }
     ensures changes { (rows others : List Item) → IsTree D.address (chunks_of draft.now.chunks) old.now.0 rows
@@ -64,9 +64,9 @@ pub fn changes<D: Digester>(
 
 /// What two walks have first, where one has something left.
 enum Heads<'a> {
-    Old(Head<'a>),
-    New(Head<'a>),
-    Both(Head<'a>, Head<'a>),
+    Old(WalkHead<'a>),
+    New(WalkHead<'a>),
+    Both(WalkHead<'a>, WalkHead<'a>),
 }
 
 /// Two walks, what was found to differ before them, and how many nodes they have read.
@@ -75,8 +75,8 @@ struct Comparison<'a, D: Digester> {
     alloc: Global,
     old_walk: Walk<'a, D>,
     new_walk: Walk<'a, D>,
-    found: Vec<Change>,
-    reads: Reads,
+    found: Vec<ItemChange>,
+    reads: ReadCount,
 }
 
 impl<'a, D: Digester> Model for Comparison<'a, D> {
@@ -94,11 +94,11 @@ impl<'a, D: Digester> Comparison<'a, D> {
         draft: &'a Draft<D>,
         old: &Address,
         new: &Address,
-        reads: Reads,
+        reads: ReadCount,
     ) -> Result<Comparison<'a, D>, AllocError>
         requires old_tree { StandsForRows D.address (chunks_of draft.now.chunks) old.now.0 }
         requires new_tree { StandsForRows D.address (chunks_of draft.now.chunks) new.now.0 }
-        ensures begins { IfOk result (Begins D.address draft.now.chunks old.now.0 new.now.0 reads.0) }
+        ensures begins { IfOk result (BeginsComparing D.address draft.now.chunks old.now.0 new.now.0 reads.0) }
     {
         let mut reads = reads;
         reads.raise();
@@ -140,14 +140,14 @@ impl<'a, D: Digester> Comparison<'a, D> {
     }
 
     /// Goes on where only the old side has something left.
-    fn go_on_old(&mut self, head: Head<'a>) -> Result<(), AllocError>
+    fn go_on_old(&mut self, head: WalkHead<'a>) -> Result<(), AllocError>
         requires old { IsFirst self.old.old_walk.front head }
         requires new { self.old.new_walk.front ≡ [] }
         ensures { OnOk result (IsTurn self.old self.new) }
     {
         match head {
-            Head::Row { key, value } => self.remove(key, value),
-            Head::Below { .. } => {
+            WalkHead::Row { key, value } => self.remove(key, value),
+            WalkHead::Below { .. } => {
                 self.open_old();
                 Ok(())
             }
@@ -155,14 +155,14 @@ impl<'a, D: Digester> Comparison<'a, D> {
     }
 
     /// Goes on where only the new side has something left.
-    fn go_on_new(&mut self, head: Head<'a>) -> Result<(), AllocError>
+    fn go_on_new(&mut self, head: WalkHead<'a>) -> Result<(), AllocError>
         requires old { self.old.old_walk.front ≡ [] }
         requires new { IsFirst self.old.new_walk.front head }
         ensures { OnOk result (IsTurn self.old self.new) }
     {
         match head {
-            Head::Row { key, value } => self.add(key, value),
-            Head::Below { .. } => {
+            WalkHead::Row { key, value } => self.add(key, value),
+            WalkHead::Below { .. } => {
                 self.open_new();
                 Ok(())
             }
@@ -170,7 +170,7 @@ impl<'a, D: Digester> Comparison<'a, D> {
     }
 
     /// Goes on where both sides have something left: the higher is opened, and what stands at one level is compared.
-    fn compare(&mut self, old: Head<'a>, new: Head<'a>) -> Result<(), AllocError>
+    fn compare(&mut self, old: WalkHead<'a>, new: WalkHead<'a>) -> Result<(), AllocError>
         requires old { IsFirst self.old.old_walk.front old }
         requires new { IsFirst self.old.new_walk.front new }
         requires parts { self.old.new_walk.parts ≡ self.old.old_walk.parts }
@@ -178,15 +178,15 @@ impl<'a, D: Digester> Comparison<'a, D> {
     {
         match (old, new) {
             (
-                Head::Row { key, value },
-                Head::Row {
+                WalkHead::Row { key, value },
+                WalkHead::Row {
                     key: other,
                     value: new,
                 },
             ) => self.compare_rows(key, value, other, new),
             (
-                Head::Below { level, address, .. },
-                Head::Below {
+                WalkHead::Below { level, address, .. },
+                WalkHead::Below {
                     level: other,
                     address: new,
                     ..
@@ -195,11 +195,11 @@ impl<'a, D: Digester> Comparison<'a, D> {
                 self.compare_nodes((level, address), (other, new));
                 Ok(())
             }
-            (Head::Below { .. }, Head::Row { .. }) => {
+            (WalkHead::Below { .. }, WalkHead::Row { .. }) => {
                 self.open_old();
                 Ok(())
             }
-            (Head::Row { .. }, Head::Below { .. }) => {
+            (WalkHead::Row { .. }, WalkHead::Below { .. }) => {
                 self.open_new();
                 Ok(())
             }
@@ -252,7 +252,7 @@ impl<'a, D: Digester> Comparison<'a, D> {
     fn remove(&mut self, key: &[u8], value: &[u8]) -> Result<(), AllocError>
         ensures { OnOk result (self.new ≡ record self.old { old_walk = skipped self.old.old_walk; found = self.old.found ++ removed (leaf_item key.now value.now) ∷ [] }) }
     {
-        let change = Change {
+        let change = ItemChange {
             key: blob(self.alloc, key)?,
             old: Some(blob(self.alloc, value)?),
             new: None,
@@ -266,7 +266,7 @@ impl<'a, D: Digester> Comparison<'a, D> {
     fn add(&mut self, key: &[u8], value: &[u8]) -> Result<(), AllocError>
         ensures { OnOk result (self.new ≡ record self.old { new_walk = skipped self.old.new_walk; found = self.old.found ++ added (leaf_item key.now value.now) ∷ [] }) }
     {
-        let change = Change {
+        let change = ItemChange {
             key: blob(self.alloc, key)?,
             old: None,
             new: Some(blob(self.alloc, value)?),
@@ -284,7 +284,7 @@ impl<'a, D: Digester> Comparison<'a, D> {
           found = self.old.found ++ replaced (leaf_item key.now value.now) (leaf_item key.now new.now) ∷ [];
         }) }
     {
-        let change = Change {
+        let change = ItemChange {
             key: blob(self.alloc, key)?,
             old: Some(blob(self.alloc, value)?),
             new: Some(blob(self.alloc, new)?),

@@ -5,8 +5,8 @@ mod comparing;
 mod reads;
 
 pub use comparing::changes;
-pub use reads::Reads;
-pub use tuple_codec::Change;
+pub use reads::ReadCount;
+pub use tuple_codec::ItemChange;
 
 #[cfg(test)]
 mod tests;

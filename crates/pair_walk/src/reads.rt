@@ -5,14 +5,14 @@ ghost use Rattle.pair_walk.specs.Counts.{counted};
 
 /// How many nodes were read. At its last value, 2^64 - 1, the count stays.
 #[derive(Clone, Copy, Debug, PartialEq, Eq)]
-pub struct Reads(u64);
+pub struct ReadCount(u64);
 
-impl Reads {
+impl ReadCount {
     /// None yet.
-    pub fn new() -> Reads
+    pub fn new() -> ReadCount
         ensures { result.0 ≡ 0 }
     {
-        Reads(0)
+        ReadCount(0)
     }
 
     /// How many nodes were read.

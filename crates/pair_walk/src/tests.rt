@@ -102,7 +102,7 @@ fn root_of(alloc: Global, draft: &mut Draft<Sha512Cut>, sample: Sample) -> Resul
 }
 
 /// How many rows were added, removed and replaced.
-fn kinds_of(list: &[Change]) -> [usize; 3] {
+fn kinds_of(list: &[ItemChange]) -> [usize; 3] {
     let added = list.iter().filter(|change| change.old.is_none()).count();
     let removed = list.iter().filter(|change| change.new.is_none()).count();
     let replaced = list
@@ -117,7 +117,7 @@ fn compare(alloc: Global, old: Sample, new: Sample) -> Result<([usize; 3], u64),
     let mut draft = draft_of(alloc)?;
     let old = root_of(alloc, &mut draft, old)?;
     let new = root_of(alloc, &mut draft, new)?;
-    let mut reads = Reads::new();
+    let mut reads = ReadCount::new();
     let list = changes(alloc, &draft, &old, &new, &mut reads)?;
     Ok((kinds_of(&list), reads.count()))
 }

@@ -5,7 +5,7 @@ use Rattle.std.specs.Option.{option_map, option_and_then}
 use Rattle.basic_laws.proofs.Bytes.{same_bytes as eq_key}
 use Rattle.tuple_codec.specs.Nodes.{Item, Rise, RiseAfter, leaf_item}
 use Rattle.tuple_codec.specs.Edits.{EditsRiseAfter, changed, edited, order, value_at}
-use Rattle.tuple_codec.specs.declared.edits.Change.{Change}
+use Rattle.tuple_codec.specs.declared.edits.ItemChange.{ItemChange}
 use Rattle.edit_laws.specs.ByKey.{AreLeafRows, as_edits, between, change_at, edit_at, over}
 use Rattle.edit_laws.proofs.Rising.{changed_rise, edited_all, edited_rise, edits_lower, rows_lower}
 use Rattle.edit_laws.proofs.Values.{above, changed_value, edited_value, edits_above, same_rows}
@@ -69,14 +69,14 @@ merged_value rule is base ours theirs at one two three =
 abbrev decided : Rule → Option (List ℕ) → Option (Option (List ℕ) × Option (List ℕ)) → Option (Option (List ℕ))
 decided rule ours = option_and_then (λ both. rule both.0 ours both.1)
 
-edits_rise : (rule : Rule) (ours : List Item) (changes : List Change) (low : Option (List ℕ)) → EditsRiseAfter low (as_edits changes) → EditsRiseAfter low (edits_for rule ours changes)
+edits_rise : (rule : Rule) (ours : List Item) (changes : List ItemChange) (low : Option (List ℕ)) → EditsRiseAfter low (as_edits changes) → EditsRiseAfter low (edits_for rule ours changes)
 edits_rise rule ours [] low rise = tt
 edits_rise rule ours (change ∷ changes) low rise = by (rule change.old (value_at change.key ours) change.new) (edits_rise rule ours changes (Some change.key) rise.1) where
   by : (v : Option (Option (List ℕ))) → EditsRiseAfter (Some change.key) (edits_for rule ours changes) → EditsRiseAfter low (before (edit_if change.key v) (edits_for rule ours changes))
   by None more = edits_lower low change.key (edits_for rule ours changes) rise.0 more
   by (Some v) more = (rise.0, more)
 
-edits_value : (rule : Rule) (ours : List Item) (at : List ℕ) (changes : List Change) (low : Option (List ℕ)) → EditsRiseAfter low (as_edits changes)
+edits_value : (rule : Rule) (ours : List Item) (at : List ℕ) (changes : List ItemChange) (low : Option (List ℕ)) → EditsRiseAfter low (as_edits changes)
     → edit_at at (edits_for rule ours changes) ≡ decided rule (value_at at ours) (change_at at changes)
 edits_value rule ours at [] low rise = refl
 edits_value rule ours at (change ∷ changes) low rise =

@@ -3,8 +3,8 @@ use Rattle.std.specs.Prelude.{◌≡◌, ℕ, List, [], ◌∷◌, map, Option, 
 use Rattle.std.specs.Option.{option_map}
 use Rattle.tuple_codec.specs.Nodes.{Item, Rise, leaf_item}
 use Rattle.tuple_codec.specs.Edits.{changed, edited, order, value_at}
-use Rattle.tuple_codec.specs.declared.edits.Change.{Change}
 use Rattle.tuple_codec.specs.declared.edits.Edit.{Edit}
+use Rattle.tuple_codec.specs.declared.edits.ItemChange.{ItemChange}
 use Rattle.edit_laws.specs.ByKey.{AreLeafRows}
 use Rattle.plain_merge.specs.KeyByKey.{all_keys, before, gathered, kept}
 
@@ -37,10 +37,10 @@ abbrev pub edit_if : List ℕ → Option (Option (List ℕ)) → Option Edit
 edit_if key (Some value) = Some (record { key = key; value = value })
 edit_if key None = None
 
-abbrev pub edit_for : Rule → List Item → Change → Option Edit
+abbrev pub edit_for : Rule → List Item → ItemChange → Option Edit
 edit_for rule ours change = edit_if change.key (rule change.old (value_at change.key ours) change.new)
 
-abbrev pub edits_for : Rule → List Item → List Change → List Edit
+abbrev pub edits_for : Rule → List Item → List ItemChange → List Edit
 edits_for rule ours [] = []
 edits_for rule ours (change ∷ changes) = before (edit_for rule ours change) (edits_for rule ours changes)
 

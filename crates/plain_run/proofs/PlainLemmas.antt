@@ -28,6 +28,7 @@ use Rattle.plain_sessions.specs.Output.{shown}
 use Rattle.plain_sessions.specs.Runs.{Runner, Shortages, State, is_over, opened, plain_run, put_runner, runners_of, step, step_of, steps_along}
 use Rattle.plain_sessions.specs.Records.{Shared}
 use Rattle.plain_sessions.specs.declared.commands.Command.{Command}
+use Rattle.run_laws.proofs.HistoryLemmas.{as_many_runners}
 use Rattle.run_laws.specs.Orders.{asked_moment, asked_order}
 use Rattle.run_laws.specs.Replaying.{CantGoOn, IsStopped}
 use Rattle.script_run.specs.Following.{IsReplayed, IsStoppedAt, ReplaysAs}
@@ -163,10 +164,6 @@ module _ (address : List ℕ → List ℕ) (epoch : ℤ) (answers : Shortages) w
       = ap (λ (test : Bool). test && list_all (is_printable_moment (length state.runners)) order) (sym here.0) ∙ apart in
       none_of_others order next (ap (λ (n : ℕ). list_all (is_printable_moment n) order) here.1 ∙ later))
 
-as_many : (reads : List ℕ → Command) (answers : Shortages) (script : Script) (place : ℕ) (names : List (List ℕ)) → length (runners_of reads answers script.lines place names) ≡ length names
-as_many reads answers script place [] = refl
-as_many reads answers script place (name ∷ names) = ap suc (as_many reads answers script (place + 1) names)
-
 -- ---- the machine's text
 
 module _ (address : List ℕ → List ℕ) (epoch : ℤ) (script : Script) (order : List Moment) where
@@ -181,7 +178,7 @@ module _ (address : List ℕ → List ℕ) (epoch : ℤ) (script : Script) (orde
   unfolding plain_run
   others_unrun apart =
       let start : State = opened command address epoch nothing_refused script in
-      let many : length start.runners ≡ length script.names = as_many command nothing_refused script 0 script.names in
+      let many : length start.runners ≡ length script.names = as_many_runners command nothing_refused script 0 script.names in
       ap (λ (found : Option State). option_and_then (λ (last : State). if list_all is_over last.runners then Some last else None) found)
       (none_of_others address epoch nothing_refused order start (ap (λ (n : ℕ). list_all (is_printable_moment n) order) many ∙ apart))
 

@@ -26,8 +26,8 @@ use Rattle.plain_writes.specs.Violations.{Checks, column_place}
 use Rattle.plain_writes.specs.Writes.{Effect, assigned, if_small, replaced, on_table, standard}
 use Rattle.plain_schemas.specs.Made.{defined}
 use Rattle.plain_schemas.specs.Effects.{changed_to}
-use Rattle.plain_schemas.specs.declared.changing.Change.{Change}
-use Rattle.plain_schemas.specs.declared.changing.Change.TheVariants as change
+use Rattle.plain_schemas.specs.declared.changing.ColumnChange.{ColumnChange}
+use Rattle.plain_schemas.specs.declared.changing.ColumnChange.TheVariants as change
 
 -- ---- what a change makes of a schema and of a row
 
@@ -56,28 +56,28 @@ without_column schema gone =
       foreign = map (foreign_without gone) schema.foreign;
     }
 
-abbrev pub schema_after : Change → Schema → Schema
+abbrev pub schema_after : ColumnChange → Schema → Schema
 schema_after (change.Add column) schema = with_columns schema (schema.columns ++ column ∷ [])
 schema_after (change.Remove place) schema = without_column schema place
 schema_after (change.Redefine place kind column) schema = with_columns schema (set schema.columns place column)
 
 -- an added column has its default, else NULL; the cells of a column that is defined anew are assigned to it
-abbrev pub row_after : Change → Cells → Outcome Cells
+abbrev pub row_after : ColumnChange → Cells → Outcome Cells
 row_after (change.Add column) row = and_then (standard column) (λ value. Ok (row ++ value ∷ []))
 row_after (change.Remove place) row = Ok (remove row place)
 row_after (change.Redefine place kind column) row = and_then (assigned kind column (cell_at row place)) (λ value. Ok (set row place value))
 
-abbrev pub small_row_after : Schema → Change → Cells → Outcome Cells
+abbrev pub small_row_after : Schema → ColumnChange → Cells → Outcome Cells
 small_row_after schema change row = and_then (row_after change row) (if_small schema)
 
 -- a column that is added or defined anew has a type
-abbrev pub has_type : Change → Bool
+abbrev pub has_type : ColumnChange → Bool
 has_type (change.Add column) = is_type column.kind
 has_type (change.Remove place) = true
 has_type (change.Redefine place kind column) = is_type column.kind
 
 -- the table after a change, row by row; it has no conflicts and no violations
-abbrev pub table_after : PlainTable → Change → Outcome PlainTable
+abbrev pub table_after : PlainTable → ColumnChange → Outcome PlainTable
 table_after table change =
     let schema = schema_after change table.schema in
     and_then (each (small_row_after schema change) table.rows) (λ rows.
@@ -114,13 +114,13 @@ column_after column = defined column.name (altered_column column)
 abbrev pub kind_at : Schema → ℕ → Option Kind
 kind_at schema place = option_and_then (λ column. kind_of column.kind) (slice_get schema.columns place)
 
-abbrev pub redefined_from : ℕ → Column → Kind → Outcome Change
+abbrev pub redefined_from : ℕ → Column → Kind → Outcome ColumnChange
 redefined_from place column kind = if may_assign kind column.kind then Ok (change.Redefine place kind column) else mismatch
 
-abbrev pub redefined : Schema → ℕ → Column → Outcome Change
+abbrev pub redefined : Schema → ℕ → Column → Outcome ColumnChange
 redefined schema place column = and_then (or_refuse 9001 (kind_at schema place)) (redefined_from place column)
 
-abbrev pub change_of : Checks → PlainDatabase → List ℕ → Schema → AlterAction → Outcome Change
+abbrev pub change_of : Checks → PlainDatabase → List ℕ → Schema → AlterAction → Outcome ColumnChange
 change_of checks database name schema (action.Add column) =
     unless (is_some (column_place schema column.name)) 9013 (and_then (column_after column) (λ made. Ok (change.Add made)))
 change_of checks database name schema (action.Drop column) =

@@ -10,7 +10,7 @@ ghost use Rattle.plain_writes.specs.Seen.{effect_seen, named_seen, table_seen};
 ghost use Rattle.plain_writes.specs.Violations.{checks_by};
 ghost use Rattle.plain_schemas.specs.Altered.{alter_effect, altered, change_of, check_needs, column_after, free_place, has_type, is_open, is_used, kind_at, redefined, refers_to, without_column};
 
-use crate::changing::{Change, table_after, without_column};
+use crate::changing::{ColumnChange, table_after, without_column};
 use crate::columns::defined;
 use plain_sql::Refused;
 use plain_writes::{
@@ -183,7 +183,7 @@ fn kind_at(schema: &Schema, place: usize) -> Option<Kind>
     }
 }
 
-fn redefined(schema: &Schema, place: usize, column: Column) -> Result<Change, Refused>
+fn redefined(schema: &Schema, place: usize, column: Column) -> Result<ColumnChange, Refused>
     requires { is_type column.kind ≡ true }
     ensures same { Gives result (redefined schema.now place column) }
     ensures typed { IfOk result (λ change. has_type change ≡ true) }
@@ -191,7 +191,7 @@ fn redefined(schema: &Schema, place: usize, column: Column) -> Result<Change, Re
     match kind_at(schema, place) {
         Some(kind) => {
             if may_assign(&kind, &column.kind) {
-                Ok(Change::Redefine(place, kind, column))
+                Ok(ColumnChange::Redefine(place, kind, column))
             } else {
                 Err(Refused::By(9001))
             }
@@ -207,7 +207,7 @@ pub fn change_of<R: Reads>(
     name: &[u8],
     schema: &Schema,
     action: &AlterAction,
-) -> Result<Change, Refused>
+) -> Result<ColumnChange, Refused>
     ensures same { Gives result (change_of (checks_by R.reading) (map named_seen database.now) name.now schema.now action.now) }
     ensures typed { IfOk result (λ change. has_type change ≡ true) }
 {
@@ -216,11 +216,11 @@ pub fn change_of<R: Reads>(
             if column_place(schema, column.name.as_slice()).is_some() {
                 return Err(Refused::By(9013));
             }
-            Ok(Change::Add(column_after(alloc, column)?))
+            Ok(ColumnChange::Add(column_after(alloc, column)?))
         }
         AlterAction::Drop(column) => {
             let place = free_place::<R>(alloc, database, name, schema, column.as_slice())?;
-            Ok(Change::Remove(place))
+            Ok(ColumnChange::Remove(place))
         }
         AlterAction::Modify(column) => {
             let place = free_place::<R>(alloc, database, name, schema, column.name.as_slice())?;

@@ -18,7 +18,7 @@ use tuple_codec::{Row, Sequence, Text, cell_at, copy_row};
 
 /// What ALTER does to a table's columns, once it is allowed.
 #[derive(Drop)]
-pub enum Change {
+pub enum ColumnChange {
     /// A new last column.
     Add(Column),
     /// The column at this place goes.
@@ -158,29 +158,29 @@ fn with_column_at(
     })
 }
 
-fn schema_after(alloc: Global, change: &Change, schema: &Schema) -> Result<Schema, AllocError>
+fn schema_after(alloc: Global, change: &ColumnChange, schema: &Schema) -> Result<Schema, AllocError>
     ensures { IfOk result (λ after. after ≡ schema_after change.now schema.now) }
 {
     match change {
-        Change::Add(column) => with_column(alloc, schema, column),
-        Change::Remove(place) => without_column(alloc, schema, *place),
-        Change::Redefine(place, _, column) => with_column_at(alloc, schema, *place, column),
+        ColumnChange::Add(column) => with_column(alloc, schema, column),
+        ColumnChange::Remove(place) => without_column(alloc, schema, *place),
+        ColumnChange::Redefine(place, _, column) => with_column_at(alloc, schema, *place, column),
     }
 }
 
 /// The row with its new cell, lost cell or cell assigned anew.
-fn row_after(alloc: Global, change: &Change, row: &Row) -> Result<Row, Refused>
+fn row_after(alloc: Global, change: &ColumnChange, row: &Row) -> Result<Row, Refused>
     requires { has_type change.now ≡ true }
     ensures { Gives result (row_after change.now row.now) }
 {
     let mut after = copy_row(alloc, row.as_slice())?;
     match change {
-        Change::Add(column) => {
+        ColumnChange::Add(column) => {
             after.push(standard(alloc, column)?)?;
             Ok(after)
         }
-        Change::Remove(place) => Ok(without(after, *place)),
-        Change::Redefine(place, kind, column) => {
+        ColumnChange::Remove(place) => Ok(without(after, *place)),
+        ColumnChange::Redefine(place, kind, column) => {
             let value = cell_at(alloc, row.as_slice(), *place)?;
             let kept = assigned(kind, column, value)?;
             Ok(with(after, *place, kept))
@@ -191,7 +191,7 @@ fn row_after(alloc: Global, change: &Change, row: &Row) -> Result<Row, Refused>
 fn small_row_after(
     alloc: Global,
     schema: &Schema,
-    change: &Change,
+    change: &ColumnChange,
     row: &Row,
 ) -> Result<Row, Refused>
     requires { has_type change.now ≡ true }
@@ -207,7 +207,7 @@ fn small_row_after(
 fn rows_after(
     alloc: Global,
     schema: &Schema,
-    change: &Change,
+    change: &ColumnChange,
     rows: &[Row],
 ) -> Result<Sequence<Row>, Refused>
     requires { has_type change.now ≡ true }
@@ -221,7 +221,7 @@ fn rows_after(
 }
 
 /// The table after a change, or the first refusal of a row or of the schema.
-pub fn table_after(alloc: Global, table: &Table, change: &Change) -> Result<Table, Refused>
+pub fn table_after(alloc: Global, table: &Table, change: &ColumnChange) -> Result<Table, Refused>
     requires { has_type change.now ≡ true }
     ensures { GivesBy table_seen result (table_after (table_seen table.now) change.now) }
 {

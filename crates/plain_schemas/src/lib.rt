@@ -13,7 +13,7 @@ mod referring;
 mod sizes;
 
 pub use altering::{alter_effect, change_of};
-pub use changing::{Change, table_after};
+pub use changing::{ColumnChange, table_after};
 pub use creating::create_effect;
 pub use dropping::drop_effect;
 pub use naming::IndexPart;

@@ -1,5 +1,5 @@
 -- Staging, commits and branches: DOLT_ADD, DOLT_RESET, DOLT_COMMIT, DOLT_BRANCH, DOLT_CHECKOUT.
-use Rattle.std.specs.Prelude.{ℕ, Bool, false, ◌&&◌, ◌||◌, not, nat_le, nat_lt, is_some, if◌then◌else◌, List, [], ◌∷◌, ◌++◌, map, filter, fold, length, set, unwrap_or, codes, Option, None, Some, Ok, bytes_eq}
+use Rattle.std.specs.Prelude.{ℕ, Bool, false, ◌&&◌, ◌||◌, not, nat_le, nat_lt, is_some, if◌then◌else◌, List, [], ◌∷◌, ◌++◌, map, fold, length, set, unwrap_or, codes, Option, None, Some, Ok, bytes_eq}
 use Rattle.std.specs.List.{find, list_any}
 use Rattle.std.specs.Option.{option_map_or}
 use Rattle.std.specs.Ordering.{nat_cmp}
@@ -24,7 +24,8 @@ use Rattle.sql_procedures.specs.declared.requests.Tables.{Tables}
 use Rattle.sql_procedures.specs.declared.requests.Tables.TheVariants as tables
 use Rattle.expr_eval.specs.Binding.{Outcome, and_then}
 use Rattle.plain_sql.specs.Lists.{each, in_order, or_refuse, unless}
-use Rattle.plain_writes.specs.Violations.{is_called, table_in}
+use Rattle.plain_writes.specs.Violations.{table_in}
+use Rattle.plain_schemas.specs.Effects.{without_table}
 use Rattle.plain_sessions.specs.Records.{Branch, BranchState, Shared, clean_at, root_of, state_of, with_branch, without_branch}
 use Rattle.plain_sessions.specs.Sessions.{Head, Session}
 use Rattle.script_text.specs.declared.replies.Reply.{Reply}
@@ -38,9 +39,6 @@ status = number_field (codes "status") 0
 
 abbrev pub table_cmp : NamedTable → NamedTable → Ordering
 table_cmp a b = slice_cmp nat_cmp a.name b.name
-
-abbrev pub without_table : List ℕ → PlainDatabase → PlainDatabase
-without_table name database = filter (λ named. not (is_called name named)) database
 
 abbrev pub put_table : List ℕ → Option PlainTable → PlainDatabase → PlainDatabase
 put_table name None database = without_table name database

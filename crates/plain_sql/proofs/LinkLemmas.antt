@@ -19,12 +19,12 @@ use Rattle.sql_values.specs.declared.kinds.Kind.TheVariants as kind
 use Rattle.sql_values.specs.Worths.{Worth, Unknown, Whole, Truth, Letters, Octets, Scaled, cell_of, of_truth, scale_of, worth_of}
 use Rattle.expr_eval.specs.Binding.{and_then}
 use Rattle.expr_eval.specs.declared.bound.BoundExpr.{BoundExpr}
-use Rattle.expr_eval.specs.declared.bound.Node.{Node}
-use Rattle.expr_eval.specs.declared.bound.Node.TheVariants as n
+use Rattle.expr_eval.specs.declared.bound.BoundNode.{BoundNode}
+use Rattle.expr_eval.specs.declared.bound.BoundNode.TheVariants as n
 use Rattle.expr_eval.specs.Valuing.{chained, compared, comparison, conjunction, holds, two, worth}
 use Rattle.expr_eval.proofs.WorthNodes.{worth_and, worth_column, worth_compare}
 use Rattle.plain_sql.specs.Answers.{Meaning, given, is_true, kept_row, passes, row_if}
-use Rattle.plain_sql.specs.Links.{AreCalm, AreColumns, AreEnds, Misses, Parts, PartsOne, PassesOver, Skips, is_decimal, meets, suits}
+use Rattle.plain_sql.specs.Links.{AreCalm, AreColumns, AreEnds, Misses, NeedsLink, OneNeedsLink, PassesOver, Skips, is_decimal, meets, suits}
 use Rattle.plain_sql.specs.Lists.{or_refuse}
 use Rattle.plain_sql.specs.Passing.{IsCalm, IsMissed, IsPassedOver, is_so}
 use Rattle.plain_sql.specs.Plans.{meaning}
@@ -174,7 +174,7 @@ cell_behind (x ∷ row) more place = let at : suc (length row) + place ≡ suc (
 
 -- ---- the comparison
 
-met_columns : (whole : Cells) (a b : Node) (k l : Kind) (p q : ℕ) (u v : Value) → a ≡ n.Column k p → b ≡ n.Column l q → cell_at whole p ≡ u → cell_at whole q ≡ v
+met_columns : (whole : Cells) (a b : BoundNode) (k l : Kind) (p q : ℕ) (u v : Value) → a ≡ n.Column k p → b ≡ n.Column l q → cell_at whole p ≡ u → cell_at whole q ≡ v
     → Differs (worth_of k u) (worth_of l v) → IsMissed (two (comparison op.Equal) (worth whole a) (worth whole b))
 met_columns whole a b k l p q u v is other here there d =
     let left : worth whole a ≡ Some (worth_of k u) = ap (worth whole) is ∙ worth_column whole k p ∙ ap (λ c. Some (worth_of k c)) here in
@@ -200,7 +200,7 @@ far_cell width link row more behind far wide within is =
 within_of : (place : ℕ) (more : Cells) → nat_lt place (length more) ≡ true → place < length more
 within_of place more h = grind (arith, nat_tests)
 
-columns_missed : (width : ℕ) (link : Link) (a b : Node) → AreColumns width link a b → (row more behind : Cells) → Misses link width row more
+columns_missed : (width : ℕ) (link : Link) (a b : BoundNode) → AreColumns width link a b → (row more behind : Cells) → Misses link width row more
     → IsMissed (two (comparison op.Equal) (worth (row ++ more ++ behind) a) (worth (row ++ more ++ behind) b))
 columns_missed width link a b are row more behind miss = by_ends are.7
   where
@@ -226,30 +226,30 @@ columns_missed width link a b are row more behind miss = by_ends are.7
         (far_cell width link row more behind are.1 miss.wide within apart.2) (near_cell width link row more behind are.3 miss.wide apart.0 apart.1)
         (differ link.kind are.2 are.0 u v (sym are.6) miss.earlier later miss.apart).1
 
-pub part_missed : (width : ℕ) (link : Link) (part a b x y : Node) (operator : Comparison) → part ≡ n.Compare a operator b → operator ≡ op.Equal → x ≡ a → y ≡ b → AreColumns width link x y → Parts width link part
+pub part_missed : (width : ℕ) (link : Link) (part a b x y : BoundNode) (operator : Comparison) → part ≡ n.Compare a operator b → operator ≡ op.Equal → x ≡ a → y ≡ b → AreColumns width link x y → NeedsLink width link part
 part_missed width link part a b x y operator is equal same other are = λ row more behind miss.
     let missed = columns_missed width link a b (subst (λ z. AreColumns width link a z) other (subst (λ z. AreColumns width link z y) same are)) row more behind miss in
     (missed.0, ap (worth (row ++ more ++ behind)) (is ∙ ap (λ o. n.Compare a o b) equal) ∙ worth_compare (row ++ more ++ behind) a op.Equal b ∙ missed.1, missed.2)
 
 -- ---- the test
 
-all_missed : (width : ℕ) (link : Link) (first : Node) (rest : List Node) → AreCalm first rest → PartsOne width link first rest → (row more behind : Cells) → Misses link width row more
+all_missed : (width : ℕ) (link : Link) (first : BoundNode) (rest : List BoundNode) → AreCalm first rest → OneNeedsLink width link first rest → (row more behind : Cells) → Misses link width row more
     → IsMissed (chained conjunction (worth (row ++ more ++ behind) first) (map (worth (row ++ more ++ behind)) rest))
 all_missed width link first rest calm (inl parts) row more behind miss =
     missed_first (row ++ more ++ behind) (worth (row ++ more ++ behind) first) rest (parts row more behind miss) calm.1
 all_missed width link first rest calm (inr there) row more behind miss =
     missed_at (row ++ more ++ behind) (worth (row ++ more ++ behind) first) rest there.0 there.1.0 (calm.0 (row ++ more ++ behind)) calm.1 there.1.1 there.1.2 (there.2 row more behind miss)
 
-pub over_one : (width : ℕ) (link : Link) (test : BoundExpr) → AreCalm test.node [] × PartsOne width link test.node [] → PassesOver width link test
+pub over_one : (width : ℕ) (link : Link) (test : BoundExpr) → AreCalm test.node [] × OneNeedsLink width link test.node [] → PassesOver width link test
 over_one width link test is = λ row more behind miss. passed_over test (row ++ more ++ behind) (all_missed width link test.node [] is.0 is.1 row more behind miss)
 
-pub over_parts : (width : ℕ) (link : Link) (test : BoundExpr) (first : Node) (rest : List Node) → test.node ≡ n.And first rest → AreCalm first rest × PartsOne width link first rest → PassesOver width link test
+pub over_parts : (width : ℕ) (link : Link) (test : BoundExpr) (first : BoundNode) (rest : List BoundNode) → test.node ≡ n.And first rest → AreCalm first rest × OneNeedsLink width link first rest → PassesOver width link test
 over_parts width link test first rest e is = λ row more behind miss.
     let missed = all_missed width link first rest is.0 is.1 row more behind miss in
     passed_over test (row ++ more ++ behind) (missed.0, ap (worth (row ++ more ++ behind)) e ∙ worth_and (row ++ more ++ behind) first rest ∙ missed.1, missed.2)
 
-pub over_and : (width : ℕ) (link : Link) (test : BoundExpr) (first a : Node) (rest xs : List Node) → test.node ≡ n.And first rest → a ≡ first → xs ≡ rest
-    → AreCalm a xs × PartsOne width link a xs → PassesOver width link test
+pub over_and : (width : ℕ) (link : Link) (test : BoundExpr) (first a : BoundNode) (rest xs : List BoundNode) → test.node ≡ n.And first rest → a ≡ first → xs ≡ rest
+    → AreCalm a xs × OneNeedsLink width link a xs → PassesOver width link test
 over_and width link test first a rest xs e same others is =
     over_parts width link test a xs (e ∙ ap (λ x. n.And x rest) (sym same) ∙ ap (λ l. n.And a l) (sym others)) is
 

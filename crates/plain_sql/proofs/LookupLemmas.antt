@@ -18,7 +18,7 @@ use Rattle.tuple_codec.specs.declared.values.Value.TheVariants as cell
 use Rattle.tuple_codec.proofs.Orders.{value_cmp_total}
 use Rattle.expr_eval.specs.Binding.{Outcome, and_then}
 use Rattle.plain_sql.specs.Answers.{Meaning, combinations, is_null, kept_row}
-use Rattle.plain_sql.specs.Links.{AreServed, Serves, Skips, Sorts, cell_cmp, has_cell, meets, suits, suits_at, tried, tried_by, tried_with}
+use Rattle.plain_sql.specs.Links.{AreServed, ServesLookup, Skips, Sorts, cell_cmp, has_cell, meets, suits, suits_at, tried, tried_by, tried_with}
 use Rattle.plain_sql.specs.Lists.{all_of, behind, in_order}
 use Rattle.plain_sql.specs.Nesting.{kept_from}
 use Rattle.plain_sql.specs.declared.linking.Link.{Link}
@@ -199,7 +199,7 @@ parted_rest place key rows all from are =
 
 -- ---- a source's rows
 
-pub serves_by : (tests : List Meaning) (rows : List Cells) (link : Link) (width : ℕ) (lookup : Lookup) → Skips tests width link → Sorts link width rows lookup → Serves tests rows lookup
+pub serves_by : (tests : List Meaning) (rows : List Cells) (link : Link) (width : ℕ) (lookup : Lookup) → Skips tests width link → Sorts link width rows lookup → ServesLookup tests rows lookup
 serves_by tests rows link width lookup skips sorts = record {
   skips = subst (λ (l : Link). Skips tests lookup.width l) (sym sorts.link_is) (subst (λ w. Skips tests w link) (sym sorts.width_is) skips);
   rows_are = sorts.rows_are ∙ ap (λ (l : Link). in_order (cell_cmp l.place) rows) (sym sorts.link_is);
@@ -218,7 +218,7 @@ nothing_from tests sources row h = nested tests sources row ∙ nothing_of (λ m
 abbrev kept_behind : List Meaning → List (List Cells) → Cells → List Cells → Outcome (List Cells)
 kept_behind tests sources row rows = all_of (λ more. kept_from tests sources (row ++ more)) rows
 
-found_same : (tests : List Meaning) (sources : List (List Cells)) (rows : List Cells) (lookup : Lookup) (row : Cells) → Serves tests rows lookup → length row ≡ lookup.width
+found_same : (tests : List Meaning) (sources : List (List Cells)) (rows : List Cells) (lookup : Lookup) (row : Cells) → ServesLookup tests rows lookup → length row ≡ lookup.width
     → suits lookup.link.kind (cell_at row lookup.link.earlier) ≡ true
     → kept_behind tests sources row (filter (has_cell lookup.link.place (cell_at row lookup.link.earlier)) rows) ≡ kept_behind tests sources row rows
 found_same tests sources rows lookup row serves wide fit =
@@ -230,7 +230,7 @@ found_same tests sources rows lookup row serves wide fit =
 wide_of : (row : Cells) (width : ℕ) → nat_eq (length row) width ≡ true → length row ≡ width
 wide_of row width h = grind (arith, nat_tests)
 
-with_same : (tests : List Meaning) (sources : List (List Cells)) (rows : List Cells) (lookup : Lookup) (row : Cells) → Serves tests rows lookup → length row ≡ lookup.width
+with_same : (tests : List Meaning) (sources : List (List Cells)) (rows : List Cells) (lookup : Lookup) (row : Cells) → ServesLookup tests rows lookup → length row ≡ lookup.width
     → kept_behind tests sources row (tried_with rows lookup (cell_at row lookup.link.earlier)) ≡ kept_behind tests sources row rows
 with_same tests sources rows lookup row serves wide =
     let key = cell_at row lookup.link.earlier in
@@ -239,7 +239,7 @@ with_same tests sources rows lookup row serves wide =
     (λ e. ap choose e ∙ found_same tests sources rows lookup row serves wide e)
     (λ e. ap choose e)
 
-by_same : (tests : List Meaning) (sources : List (List Cells)) (rows : List Cells) (lookup : Lookup) (row : Cells) → Serves tests rows lookup
+by_same : (tests : List Meaning) (sources : List (List Cells)) (rows : List Cells) (lookup : Lookup) (row : Cells) → ServesLookup tests rows lookup
     → kept_behind tests sources row (tried_by rows lookup row) ≡ kept_behind tests sources row rows
 by_same tests sources rows lookup row serves =
     let choose : Bool → Outcome (List Cells) = λ b. kept_behind tests sources row (cond b (tried_with rows lookup (cell_at row lookup.link.earlier)) rows) in
@@ -247,7 +247,7 @@ by_same tests sources rows lookup row serves =
     (λ e. ap choose e ∙ with_same tests sources rows lookup row serves (wide_of row lookup.width e))
     (λ e. ap choose e)
 
-pub tried_same : (tests : List Meaning) (sources : List (List Cells)) (rows : List Cells) (lookup : Option Lookup) (row : Cells) → IfSome lookup (Serves tests rows)
+pub tried_same : (tests : List Meaning) (sources : List (List Cells)) (rows : List Cells) (lookup : Option Lookup) (row : Cells) → IfSome lookup (ServesLookup tests rows)
     → all_of (λ more. kept_from tests sources (row ++ more)) (tried rows lookup row) ≡ all_of (λ more. kept_from tests sources (row ++ more)) rows
 tried_same tests sources rows None row serves = refl
 tried_same tests sources rows (Some lookup) row serves = by_same tests sources rows lookup row serves
@@ -255,21 +255,21 @@ tried_same tests sources rows (Some lookup) row serves = by_same tests sources r
 -- ---- a lookup for each source
 
 served_end : (tests : List Meaning) (sources : List Read) (lookups : List (Option Lookup)) (source : Read) (lookup : Option Lookup)
-    → AreServed tests sources lookups → IfSome lookup (Serves tests source.rows) → AreServed tests (sources ++ source ∷ []) (lookups ++ lookup ∷ [])
+    → AreServed tests sources lookups → IfSome lookup (ServesLookup tests source.rows) → AreServed tests (sources ++ source ∷ []) (lookups ++ lookup ∷ [])
 served_end tests [] [] source lookup are one = (one, tt)
 served_end tests [] (y ∷ lookups) source lookup are one = absurd are
 served_end tests (x ∷ sources) [] source lookup are one = absurd are
 served_end tests (x ∷ sources) (y ∷ lookups) source lookup are one = (are.0, served_end tests sources lookups source lookup are.1 one)
 
 pub served_more : (tests : List Meaning) (sources : List Read) (lookups : List (Option Lookup)) (i : ℕ) (source : Read) (lookup : Option Lookup) → i < length sources → source ≡ get_or sources i source
-    → AreServed tests (take i sources) lookups → IfSome lookup (Serves tests source.rows) → AreServed tests (take (i + 1) sources) (lookups ++ lookup ∷ [])
+    → AreServed tests (take i sources) lookups → IfSome lookup (ServesLookup tests source.rows) → AreServed tests (take (i + 1) sources) (lookups ++ lookup ∷ [])
 served_more tests sources lookups i source lookup below is are one =
     subst (λ (l : List Read). AreServed tests l (lookups ++ lookup ∷ [])) (ap (λ x. take i sources ++ x ∷ []) is ∙ sym (take_more sources i source below))
     (served_end tests (take i sources) lookups source lookup are one)
 
 pub served_first : (tests : List Meaning) (sources : List Read) (lookups : List (Option Lookup)) (source : Read) (lookup : Option Lookup)
-    → 1 ≤ length sources → 1 ≤ length lookups → source ≡ get_or sources 0 source → lookup ≡ get_or lookups 0 lookup → AreServed tests sources lookups → IfSome lookup (Serves tests source.rows)
+    → 1 ≤ length sources → 1 ≤ length lookups → source ≡ get_or sources 0 source → lookup ≡ get_or lookups 0 lookup → AreServed tests sources lookups → IfSome lookup (ServesLookup tests source.rows)
 served_first tests [] lookups source lookup some any is other are = absurd (omega (arith, some))
 served_first tests (x ∷ sources) [] source lookup some any is other are = absurd (omega (arith, any))
 served_first tests (x ∷ sources) (y ∷ lookups) source lookup some any is other are =
-    subst (λ (o : Option Lookup). IfSome o (Serves tests source.rows)) (sym other) (subst (λ (s : Read). IfSome y (Serves tests s.rows)) (sym is) are.0)
+    subst (λ (o : Option Lookup). IfSome o (ServesLookup tests source.rows)) (sym other) (subst (λ (s : Read). IfSome y (ServesLookup tests s.rows)) (sym is) are.0)

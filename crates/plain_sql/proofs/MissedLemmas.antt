@@ -11,7 +11,7 @@ use Rattle.tuple_codec.specs.Rows.{Cells}
 use Rattle.sql_values.specs.Logic.{Truth3, and3}
 use Rattle.sql_values.specs.Worths.{Worth, Unknown, Whole, Truth, Letters, Octets, Scaled, cell_of, of_truth, truth}
 use Rattle.expr_eval.specs.declared.bound.BoundExpr.{BoundExpr}
-use Rattle.expr_eval.specs.declared.bound.Node.{Node}
+use Rattle.expr_eval.specs.declared.bound.BoundNode.{BoundNode}
 use Rattle.expr_eval.specs.Valuing.{Worthy, chained, conjunction, holds, two, worth}
 use Rattle.plain_sql.specs.Answers.{given, is_true}
 use Rattle.plain_sql.specs.Lists.{or_refuse}
@@ -72,12 +72,12 @@ now_missed a b known missed =
 both_known : (a b : Worthy) → IsKnown a → IsKnown b → IsKnown (two conjunction a b)
 both_known a b known more = (together known.0 more.0, met a b known.0 more.0 known.1 more.1)
 
-pub missed_first : (row : Cells) (a : Worthy) (xs : List Node) → IsMissed a → All IsCalm xs → IsMissed (chained conjunction a (map (worth row) xs))
+pub missed_first : (row : Cells) (a : Worthy) (xs : List BoundNode) → IsMissed a → All IsCalm xs → IsMissed (chained conjunction a (map (worth row) xs))
 missed_first row a [] missed calm = missed
 missed_first row a (x ∷ xs) missed calm =
     missed_first row (two conjunction a (worth row x)) xs (still_missed a (worth row x) missed (All-head IsCalm x xs calm row)) (All-tail IsCalm x xs calm)
 
-pub missed_at : (row : Cells) (a : Worthy) (xs : List Node) (x : Node) (k : ℕ) → IsKnown a → All IsCalm xs → k < length xs → get_or xs k x ≡ x → IsMissed (worth row x)
+pub missed_at : (row : Cells) (a : Worthy) (xs : List BoundNode) (x : BoundNode) (k : ℕ) → IsKnown a → All IsCalm xs → k < length xs → get_or xs k x ≡ x → IsMissed (worth row x)
     → IsMissed (chained conjunction a (map (worth row) xs))
 missed_at row a [] x k known calm below is missed = absurd (omega (arith, below))
 missed_at row a (y ∷ xs) x zero known calm below is missed =

@@ -17,7 +17,7 @@ use Rattle.sql_ast.specs.declared.selects.Limit.{Limit}
 use Rattle.tuple_codec.specs.declared.answers.Answer.{Answer}
 use Rattle.plain_sql.specs.declared.grouping.Grouping.{Grouping}
 use Rattle.plain_sql.specs.declared.grouping.Grouping.TheVariants.{Single, Whole, By}
-use Rattle.plain_sql.specs.declared.ranking.Rank.{Rank}
+use Rattle.plain_sql.specs.declared.ranking.RankedRow.{RankedRow}
 use Rattle.plain_sql.specs.Lists.{or_refuse, unless, each, all_of, in_order, firsts}
 
 -- what an expression gives on a row; None is out of range
@@ -143,14 +143,14 @@ unfoldable pub keys_shown : List SortKey → List Cells → Outcome Cells
 keys_shown keys rows = each (λ key. cell_of rows key.shown) keys
 
 -- what is shown of a group of rows, and what it is ordered by
-abbrev pub ranked : Plan → List Cells → Outcome Rank
+abbrev pub ranked : Plan → List Cells → Outcome RankedRow
 ranked plan rows = and_then (cells_shown plan.headings rows) (λ cells. and_then (keys_shown plan.keys rows) (λ keys. Ok (record { keys = keys; cells = cells })))
 
-abbrev pub cells_cmp : Rank → Rank → Ordering
+abbrev pub cells_cmp : RankedRow → RankedRow → Ordering
 cells_cmp a b = key_cmp a.cells b.cells
 
 -- DISTINCT keeps first occurrences
-abbrev pub once_if : Bool → List Rank → List Rank
+abbrev pub once_if : Bool → List RankedRow → List RankedRow
 once_if distinct rows = if distinct then firsts cells_cmp rows else rows
 
 abbrev pub directed : Direction → Ordering → Ordering
@@ -162,7 +162,7 @@ abbrev pub keys_cmp : ℕ → List SortKey → Cells → Cells → Ordering
 keys_cmp at [] a b = Equal
 keys_cmp at (key ∷ keys) a b = ordering_then (directed key.direction (value_cmp (cell_at a at) (cell_at b at))) (keys_cmp (suc at) keys a b)
 
-abbrev pub rank_cmp : List SortKey → Rank → Rank → Ordering
+abbrev pub rank_cmp : List SortKey → RankedRow → RankedRow → Ordering
 rank_cmp keys a b = keys_cmp 0 keys a.keys b.keys
 
 abbrev pub passed_over : Option ℕ → ℕ
@@ -173,10 +173,10 @@ abbrev pub cut : {A : Type 0} → Option Limit → List A → List A
 cut (Some limit) rows = take limit.count (drop (passed_over limit.offset) rows)
 cut None rows = rows
 
-abbrev pub arranged : Plan → List Rank → List Rank
+abbrev pub arranged : Plan → List RankedRow → List RankedRow
 arranged plan rows = cut plan.limit (in_order (rank_cmp plan.keys) (once_if plan.distinct rows))
 
-abbrev pub headed : Plan → List Rank → Answer
+abbrev pub headed : Plan → List RankedRow → Answer
 headed plan rows = record {
   names = map (λ heading. heading.name) plan.headings;
   kinds = map (λ heading. column_type heading.kind) plan.headings;

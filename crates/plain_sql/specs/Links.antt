@@ -11,8 +11,8 @@ use Rattle.sql_values.specs.Kinds.{is_bool, is_int}
 use Rattle.sql_values.specs.Worths.{scale_of}
 use Rattle.sql_values.specs.declared.kinds.Kind.{Kind}
 use Rattle.sql_values.specs.declared.kinds.Kind.TheVariants as kind
-use Rattle.expr_eval.specs.declared.bound.Node.{Node}
-use Rattle.expr_eval.specs.declared.bound.Node.TheVariants as node
+use Rattle.expr_eval.specs.declared.bound.BoundNode.{BoundNode}
+use Rattle.expr_eval.specs.declared.bound.BoundNode.TheVariants as node
 use Rattle.expr_eval.specs.declared.bound.BoundExpr.{BoundExpr}
 use Rattle.expr_eval.specs.Valuing.{worth}
 use Rattle.plain_sql.specs.Answers.{Meaning, is_null, kept_row}
@@ -73,18 +73,18 @@ AreApart width link near far = (near ≡ link.earlier) × (near < width) × (far
 abbrev pub AreEnds : ℕ → Link → ℕ → ℕ → Type 0
 AreEnds width link a b = AreApart width link a b ⊎ AreApart width link b a
 
-abbrev pub AreColumns : ℕ → Link → Node → Node → Type 0
+abbrev pub AreColumns : ℕ → Link → BoundNode → BoundNode → Type 0
 AreColumns width link a b = (k : Kind) × (p : ℕ) × (l : Kind) × (q : ℕ) × (a ≡ node.Column k p) × (b ≡ node.Column l q) × (scale_of k ≡ scale_of l) × AreEnds width link p q
 
 -- the part isn't true where the cells don't meet
-abbrev pub Parts : ℕ → Link → Node → Type 0
-Parts width link part = (row more behind : Cells) → Misses link width row more → IsMissed (worth (row ++ more ++ behind) part)
+abbrev pub NeedsLink : ℕ → Link → BoundNode → Type 0
+NeedsLink width link part = (row more behind : Cells) → Misses link width row more → IsMissed (worth (row ++ more ++ behind) part)
 
-abbrev pub AreCalm : Node → List Node → Type 0
+abbrev pub AreCalm : BoundNode → List BoundNode → Type 0
 AreCalm first rest = IsCalm first × All IsCalm rest
 
-abbrev pub PartsOne : ℕ → Link → Node → List Node → Type 0
-PartsOne width link first rest = Parts width link first ⊎ ((part : Node) × Contains rest part × Parts width link part)
+abbrev pub OneNeedsLink : ℕ → Link → BoundNode → List BoundNode → Type 0
+OneNeedsLink width link first rest = NeedsLink width link first ⊎ ((part : BoundNode) × Contains rest part × NeedsLink width link part)
 
 abbrev pub PassesOver : ℕ → Link → BoundExpr → Type 0
 PassesOver width link test = (row more behind : Cells) → Misses link width row more → IsPassedOver test (row ++ more ++ behind)
@@ -100,14 +100,14 @@ pub record Sorts (link : Link) (width : ℕ) (rows : List Cells) (lookup : Looku
   pub rows_are : lookup.rows ≡ in_order (cell_cmp link.place) rows
   pub alike : list_all (suits_at link.kind link.place) rows ≡ true
 
-pub record Serves (tests : List Meaning) (rows : List Cells) (lookup : Lookup) : Type 0 where
+pub record ServesLookup (tests : List Meaning) (rows : List Cells) (lookup : Lookup) : Type 0 where
   pub skips : Skips tests lookup.width lookup.link
   pub rows_are : lookup.rows ≡ in_order (cell_cmp lookup.link.place) rows
   pub alike : list_all (suits_at lookup.link.kind lookup.link.place) rows ≡ true
 
 -- each lookup that there is serves its source
 abbrev pub AreServed : List Meaning → List Read → List (Option Lookup) → Type 0
-AreServed tests sources lookups = AllZip (λ source lookup. IfSome lookup (Serves tests source.rows)) sources lookups
+AreServed tests sources lookups = AllZip (λ source lookup. IfSome lookup (ServesLookup tests source.rows)) sources lookups
 
 -- ---- which rows of a source are tried behind a row
 

@@ -4,13 +4,13 @@ use Rattle.tuple_codec.specs.Rows.{Cells}
 use Rattle.tuple_codec.specs.declared.values.Value.{Value}
 use Rattle.sql_values.specs.Worths.{Worth, Truth}
 use Rattle.expr_eval.specs.declared.bound.BoundExpr.{BoundExpr}
-use Rattle.expr_eval.specs.declared.bound.Node.{Node}
+use Rattle.expr_eval.specs.declared.bound.BoundNode.{BoundNode}
 use Rattle.expr_eval.specs.Valuing.{Worthy, worth}
 use Rattle.plain_sql.specs.Answers.{given, is_true}
 use Rattle.plain_sql.specs.Plans.{meaning}
 
 -- it is out of range on no row
-abbrev pub IsCalm : Node → Type 0
+abbrev pub IsCalm : BoundNode → Type 0
 IsCalm part = (row : Cells) → (w : Worth) × (worth row part ≡ Some w)
 
 abbrev pub is_so : Worth → Bool

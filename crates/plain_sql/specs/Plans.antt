@@ -17,10 +17,10 @@ use Rattle.sql_ast.specs.declared.selects.NamedExpr.{NamedExpr}
 use Rattle.sql_ast.specs.declared.selects.Query.{Query}
 use Rattle.sql_ast.specs.declared.selects.Items.{Items}
 use Rattle.sql_ast.specs.declared.selects.Items.TheVariants as items
-use Rattle.sql_ast.specs.declared.selects.Item.{Item}
-use Rattle.sql_ast.specs.declared.selects.Item.TheVariants as item
+use Rattle.sql_ast.specs.declared.selects.SelectItem.{SelectItem}
+use Rattle.sql_ast.specs.declared.selects.SelectItem.TheVariants as item
 use Rattle.sql_ast.specs.declared.selects.FromClause.{FromClause}
-use Rattle.sql_ast.specs.declared.selects.Source.{Source}
+use Rattle.sql_ast.specs.declared.selects.TableSource.{TableSource}
 use Rattle.sql_ast.specs.declared.selects.Clauses.{Clauses}
 use Rattle.sql_ast.specs.declared.selects.ColumnName.{ColumnName}
 use Rattle.sql_ast.specs.declared.selects.ColumnName.TheVariants as column
@@ -53,10 +53,10 @@ scope_column source column = record { source = source; name = column.name; kind 
 abbrev pub read_as : List ℕ → Known → Read
 read_as name known = record { columns = map (scope_column name) known.columns; rows = known.rows }
 
-unfoldable pub source_read : List Known → Source → Outcome Read
+unfoldable pub source_read : List Known → TableSource → Outcome Read
 source_read known source = and_then (or_refuse 1146 (find (is_known_as source.table) known)) (λ found. Ok (read_as (source_name source) found))
 
-abbrev pub sources_of : FromClause → List Source
+abbrev pub sources_of : FromClause → List TableSource
 sources_of from = from.first ∷ map (λ join. join.source) from.joins
 
 -- ---- expressions
@@ -131,7 +131,7 @@ abbrev pub all_headings : List ScopeColumn → Outcome (List Heading)
 all_headings scope = each (column_heading scope) (enumerate_from 0 scope)
 
 -- `name.*` is all columns of the source of that name
-abbrev pub item_headings : List ScopeColumn → Item → Outcome (List Heading)
+abbrev pub item_headings : List ScopeColumn → SelectItem → Outcome (List Heading)
 item_headings scope (item.AllOf source) = unless (not (has_source source scope)) 1054 (source_headings scope source)
 item_headings scope (item.One named) = and_then (one_heading scope named) (λ heading. Ok (heading ∷ []))
 
@@ -148,11 +148,11 @@ place_meant scope (column.Qualified source name) = place_qualified source name s
 abbrev pub group_place : List ScopeColumn → ColumnName → Outcome ℕ
 group_place scope name = or_refuse 1054 (place_meant scope name)
 
-abbrev pub calls_aggregate : Item → Bool
+abbrev pub calls_aggregate : SelectItem → Bool
 calls_aggregate (item.AllOf source) = false
 calls_aggregate (item.One named) = is_call named.expr
 
-abbrev pub item_list : Items → List Item
+abbrev pub item_list : Items → List SelectItem
 item_list items.All = []
 item_list (items.Listed list) = list
 
@@ -165,24 +165,24 @@ abbrev pub grouping_of : Bool → List ℕ → Grouping
 grouping_of aggregates places = if not (is_none places) then By places else (if aggregates then Whole else Single)
 
 -- an item that is an expression; `*` and `name.*` are meant by no number and no name
-abbrev pub expression_of : Option Item → Option NamedExpr
+abbrev pub expression_of : Option SelectItem → Option NamedExpr
 expression_of (Some (item.One named)) = Some named
 expression_of other = None
 
 -- items are counted from 1, as they are written
-abbrev pub item_numbered : List Item → ℕ → Option NamedExpr
+abbrev pub item_numbered : List SelectItem → ℕ → Option NamedExpr
 item_numbered list n = if nat_lt 0 n then expression_of (slice_get list (n - 1)) else None
 
 -- the first item of that name, which is its AS, else its column's name
-abbrev pub item_named : List Item → List ℕ → Option NamedExpr
+abbrev pub item_named : List SelectItem → List ℕ → Option NamedExpr
 item_named list name = expression_of (find (is_item_named name) list)
 
-abbrev pub item_meant_by : List Item → Literal → Option NamedExpr
+abbrev pub item_meant_by : List SelectItem → Literal → Option NamedExpr
 item_meant_by list (literal.Whole n) = item_numbered list n
 item_meant_by list other = None
 
 -- the item that a key means, by a number or a name
-abbrev pub item_meant : List Item → Expr-F Expr → Option NamedExpr
+abbrev pub item_meant : List SelectItem → Expr-F Expr → Option NamedExpr
 item_meant list (Expr-F.Literal given) = item_meant_by list given
 item_meant list (Expr-F.Name name) = item_named list name
 item_meant list node = None
@@ -192,7 +192,7 @@ abbrev pub shown_by : List ScopeColumn → Expr → Option NamedExpr → Outcome
 shown_by scope expr (Some named) = and_then (one_heading scope named) (λ heading. Ok heading.shown)
 shown_by scope expr None = and_then (meant scope expr) (λ meaning. Ok (Of meaning))
 
-abbrev pub sort_key : List ScopeColumn → List Item → OrderKey → Outcome SortKey
+abbrev pub sort_key : List ScopeColumn → List SelectItem → OrderKey → Outcome SortKey
 sort_key scope list key =
     and_then (shown_by scope key.expr (item_meant list (out-Expr key.expr))) (λ shown. Ok (record { shown = shown; direction = key.direction }))
 

@@ -2,16 +2,16 @@
 use Rattle.std.specs.Prelude.{ℕ, Bool, false, List, Option, Some, None, bytes_eq}
 use Rattle.sql_ast.specs.declared.expressions.Expr.{Expr, out-Expr}
 use Rattle.sql_ast.specs.declared.expressions.Expr.TheOpen.{Expr-F}
-use Rattle.sql_ast.specs.declared.selects.Item.{Item}
-use Rattle.sql_ast.specs.declared.selects.Item.TheVariants as item
-use Rattle.sql_ast.specs.declared.selects.Source.{Source}
+use Rattle.sql_ast.specs.declared.selects.SelectItem.{SelectItem}
+use Rattle.sql_ast.specs.declared.selects.SelectItem.TheVariants as item
+use Rattle.sql_ast.specs.declared.selects.TableSource.{TableSource}
 use Rattle.sql_features.specs.Features.{is_aggregate}
 
 abbrev pub name_or : List ℕ → Option (List ℕ) → List ℕ
 name_or table (Some alias) = alias
 name_or table None = table
 
-abbrev pub source_name : Source → List ℕ
+abbrev pub source_name : TableSource → List ℕ
 source_name source = name_or source.table source.alias
 
 abbrev pub is_call : Expr → Bool
@@ -26,6 +26,6 @@ abbrev pub is_named_by : List ℕ → Option (List ℕ) → Expr → Bool
 is_named_by name (Some alias) expr = bytes_eq name alias
 is_named_by name None expr = is_column_named name (out-Expr expr)
 
-abbrev pub is_item_named : List ℕ → Item → Bool
+abbrev pub is_item_named : List ℕ → SelectItem → Bool
 is_item_named name (item.AllOf source) = false
 is_item_named name (item.One named) = is_named_by name named.name named.expr

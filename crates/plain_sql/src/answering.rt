@@ -14,7 +14,7 @@ use crate::faults::Refused;
 use crate::grouping::{Grouping, groups};
 use crate::items::Heading;
 use crate::planning::{Plan, planned, planned_alone};
-use crate::ranking::{Rank, Sorter, cut, sorted};
+use crate::ranking::{RankedRow, Sorter, cut, sorted};
 use crate::shown::cell_of;
 use crate::sources::{Known, Read, scope_of, sources_read};
 use sql_ast::{Query, Select};
@@ -48,19 +48,19 @@ fn keys_of(alloc: Global, keys: &[Sorter], rows: &[Row]) -> Result<Row, Refused>
 }
 
 /// What is shown of a group of rows, and what it is ordered by.
-fn ranked(alloc: Global, plan: &Plan, rows: &[Row]) -> Result<Rank, Refused>
+fn ranked(alloc: Global, plan: &Plan, rows: &[Row]) -> Result<RankedRow, Refused>
     ensures { Gives result (ranked (plan_seen plan.now) rows.now) }
 {
     let cells = cells_of(alloc, plan.headings.as_slice(), rows)?;
     let keys = keys_of(alloc, plan.keys.as_slice(), rows)?;
-    Ok(Rank { keys, cells })
+    Ok(RankedRow { keys, cells })
 }
 
 fn all_ranked(
     alloc: Global,
     plan: &Plan,
     groups: &[Sequence<Row>],
-) -> Result<Sequence<Rank>, Refused>
+) -> Result<Sequence<RankedRow>, Refused>
     ensures { Gives result (each (ranked (plan_seen plan.now)) groups.now) }
 {
     let mut ranks = Sequence::new(alloc);
@@ -71,7 +71,7 @@ fn all_ranked(
 }
 
 /// The same, where each row is a group of its own.
-fn each_ranked(alloc: Global, plan: &Plan, rows: &[Row]) -> Result<Sequence<Rank>, Refused>
+fn each_ranked(alloc: Global, plan: &Plan, rows: &[Row]) -> Result<Sequence<RankedRow>, Refused>
     ensures { Gives result (each (λ row. ranked (plan_seen plan.now) (row ∷ [])) rows.now) }
 {
     let mut ranks = Sequence::new(alloc);
@@ -82,7 +82,7 @@ fn each_ranked(alloc: Global, plan: &Plan, rows: &[Row]) -> Result<Sequence<Rank
 }
 
 /// Where each row is a group of its own, no list of groups is made.
-fn ranks_of(alloc: Global, plan: &Plan, rows: Sequence<Row>) -> Result<Sequence<Rank>, Refused>
+fn ranks_of(alloc: Global, plan: &Plan, rows: Sequence<Row>) -> Result<Sequence<RankedRow>, Refused>
     ensures { Gives result (each (ranked (plan_seen plan.now)) (groups plan.now.grouping rows)) }
 {
     match &plan.grouping {
@@ -100,7 +100,11 @@ fn are_too_many(rows: &[Row]) -> bool
     rows.len() > MOST_JOINED_ROWS
 }
 
-fn once_if(alloc: Global, distinct: bool, ranks: Vec<Rank>) -> Result<Vec<Rank>, AllocError>
+fn once_if(
+    alloc: Global,
+    distinct: bool,
+    ranks: Vec<RankedRow>,
+) -> Result<Vec<RankedRow>, AllocError>
     ensures { IfOk result (λ left. left.items ≡ once_if distinct ranks.items) }
 {
     if distinct {
@@ -111,7 +115,7 @@ fn once_if(alloc: Global, distinct: bool, ranks: Vec<Rank>) -> Result<Vec<Rank>,
 }
 
 /// DISTINCT, ORDER BY and LIMIT.
-fn arranged(alloc: Global, plan: &Plan, ranks: Vec<Rank>) -> Result<Vec<Rank>, AllocError>
+fn arranged(alloc: Global, plan: &Plan, ranks: Vec<RankedRow>) -> Result<Vec<RankedRow>, AllocError>
     ensures { IfOk result (λ left. left.items ≡ arranged (plan_seen plan.now) ranks.items) }
 {
     let different = once_if(alloc, plan.distinct, ranks)?;
@@ -139,7 +143,7 @@ fn types_of(alloc: Global, headings: &[Heading]) -> Result<Sequence<SqlType>, Al
     Ok(kinds)
 }
 
-fn rows_of(alloc: Global, ranks: Vec<Rank>) -> Result<Sequence<Row>, AllocError>
+fn rows_of(alloc: Global, ranks: Vec<RankedRow>) -> Result<Sequence<Row>, AllocError>
     ensures { IfOk result (λ rows. rows ≡ map (λ rank. rank.cells) ranks.items) }
 {
     let mut rows = Sequence::new(alloc);
@@ -149,7 +153,7 @@ fn rows_of(alloc: Global, ranks: Vec<Rank>) -> Result<Sequence<Row>, AllocError>
     Ok(rows)
 }
 
-fn headed(alloc: Global, plan: &Plan, ranks: Sequence<Rank>) -> Result<Answer, AllocError>
+fn headed(alloc: Global, plan: &Plan, ranks: Sequence<RankedRow>) -> Result<Answer, AllocError>
     ensures { IfOk result (λ found. found ≡ headed (plan_seen plan.now) ranks) }
 {
     let headings = plan.headings.as_slice();

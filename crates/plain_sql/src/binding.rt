@@ -5,7 +5,7 @@ ghost use Rattle.plain_sql.specs.Gives.{Gives, GivesBy};
 ghost use Rattle.plain_sql.specs.Plans.{condition, meaning};
 
 use crate::faults::Refused;
-use expr_eval::{BindFault, BoundExpr, Node, ScopeColumn, bind, bind_condition};
+use expr_eval::{BindFault, BoundExpr, BoundNode, ScopeColumn, bind, bind_condition};
 use sql_ast::Expr;
 use sql_values::Kind;
 use std::alloc::Global;
@@ -41,7 +41,7 @@ pub fn column_at(scope: &[ScopeColumn], place: usize) -> Result<BoundExpr, Refus
         Some(column) => match Kind::of(&column.kind) {
             Some(kind) => Ok(BoundExpr {
                 kind: kind.copied(),
-                node: Node::Column(kind, place),
+                node: BoundNode::Column(kind, place),
             }),
             None => Err(Refused::By(9001)),
         },

@@ -12,7 +12,7 @@ use crate::faults::Refused;
 use crate::lists::append;
 use crate::shown::Showing;
 use expr_eval::{BoundExpr, ScopeColumn};
-use sql_ast::{Expr, Item, Items, NamedExpr};
+use sql_ast::{Expr, Items, NamedExpr, SelectItem};
 use sql_text::canonical_text;
 use sql_values::Kind;
 use std::alloc::{AllocError, Global};
@@ -183,18 +183,18 @@ fn source_headings(
 fn item_headings(
     alloc: Global,
     scope: &[ScopeColumn],
-    item: &Item,
+    item: &SelectItem,
 ) -> Result<Sequence<Heading>, Refused>
     ensures { GivesBy (map heading_seen) result (item_headings scope.now item.now) }
 {
     match item {
-        Item::AllOf(source) => {
+        SelectItem::AllOf(source) => {
             if !has_source(scope, source.as_slice()) {
                 return Err(Refused::By(1054));
             }
             source_headings(alloc, scope, source.as_slice())
         }
-        Item::One(named) => {
+        SelectItem::One(named) => {
             let mut headings = Sequence::new(alloc);
             headings.push(one_heading(alloc, scope, named)?)?;
             Ok(headings)
@@ -205,7 +205,7 @@ fn item_headings(
 fn listed_headings(
     alloc: Global,
     scope: &[ScopeColumn],
-    list: &[Item],
+    list: &[SelectItem],
 ) -> Result<Sequence<Heading>, Refused>
     ensures { GivesBy (map heading_seen) result (all_of (item_headings scope.now) list.now) }
 {

@@ -15,7 +15,7 @@ use crate::items::one_heading;
 use crate::ranking::Sorter;
 use crate::shown::Showing;
 use expr_eval::ScopeColumn;
-use sql_ast::{Expr, Item, Literal, NamedExpr, OrderKey};
+use sql_ast::{Expr, Literal, NamedExpr, OrderKey, SelectItem};
 use std::alloc::Global;
 use tuple_codec::{Sequence, Text};
 
@@ -38,12 +38,12 @@ fn is_named_by(name: &[u8], alias: &Option<Text>, expr: &Expr) -> bool
     }
 }
 
-fn is_item_named(name: &[u8], item: &Item) -> bool
+fn is_item_named(name: &[u8], item: &SelectItem) -> bool
     ensures { result ≡ is_item_named name.now item.now }
 {
     match item {
-        Item::AllOf(_) => false,
-        Item::One(named) => is_named_by(name, &named.name, &named.expr),
+        SelectItem::AllOf(_) => false,
+        SelectItem::One(named) => is_named_by(name, &named.name, &named.expr),
     }
 }
 
@@ -69,20 +69,20 @@ fn shown_by_found(
     alloc: Global,
     scope: &[ScopeColumn],
     expr: &Expr,
-    item: &Item,
+    item: &SelectItem,
 ) -> Result<Showing, Refused>
     ensures { GivesBy showing_seen result (shown_by scope.now expr.now (expression_of (Some item.now))) }
 {
     match item {
-        Item::AllOf(_) => shown_by_itself(alloc, scope, expr),
-        Item::One(named) => shown_by_item(alloc, scope, expr, named),
+        SelectItem::AllOf(_) => shown_by_itself(alloc, scope, expr),
+        SelectItem::One(named) => shown_by_item(alloc, scope, expr, named),
     }
 }
 
 fn shown_by_number(
     alloc: Global,
     scope: &[ScopeColumn],
-    list: &[Item],
+    list: &[SelectItem],
     expr: &Expr,
     number: u64,
 ) -> Result<Showing, Refused>
@@ -100,7 +100,7 @@ fn shown_by_number(
 fn shown_by_name(
     alloc: Global,
     scope: &[ScopeColumn],
-    list: &[Item],
+    list: &[SelectItem],
     expr: &Expr,
     name: &Text,
 ) -> Result<Showing, Refused>
@@ -117,7 +117,7 @@ fn shown_by_name(
 fn shown_by_literal(
     alloc: Global,
     scope: &[ScopeColumn],
-    list: &[Item],
+    list: &[SelectItem],
     expr: &Expr,
     literal: &Literal,
 ) -> Result<Showing, Refused>
@@ -132,7 +132,7 @@ fn shown_by_literal(
 fn shown_by(
     alloc: Global,
     scope: &[ScopeColumn],
-    list: &[Item],
+    list: &[SelectItem],
     expr: &Expr,
 ) -> Result<Showing, Refused>
     ensures { GivesBy showing_seen result (shown_by scope.now expr.now (item_meant list.now (out-Expr expr.now))) }
@@ -147,7 +147,7 @@ fn shown_by(
 fn sort_key(
     alloc: Global,
     scope: &[ScopeColumn],
-    list: &[Item],
+    list: &[SelectItem],
     key: &OrderKey,
 ) -> Result<Sorter, Refused>
     ensures { GivesBy key_seen result (sort_key scope.now list.now key.now) }
@@ -162,7 +162,7 @@ fn sort_key(
 pub fn sort_keys(
     alloc: Global,
     scope: &[ScopeColumn],
-    list: &[Item],
+    list: &[SelectItem],
     keys: &[OrderKey],
 ) -> Result<Sequence<Sorter>, Refused>
     ensures { GivesBy (map key_seen) result (each (sort_key scope.now list.now) keys.now) }

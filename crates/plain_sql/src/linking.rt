@@ -3,11 +3,11 @@
 ghost use Rattle.std.specs.Prelude.{◌≡◌, IfSome, true, map};
 ghost use Rattle.std.specs.List.{Contains};
 ghost use Rattle.sql_values.specs.Worths.{scale_of};
-ghost use Rattle.plain_sql.specs.Links.{AreCalm, AreColumns, AreEnds, Parts, PartsOne, PassesOver, Skips};
+ghost use Rattle.plain_sql.specs.Links.{AreCalm, AreColumns, AreEnds, NeedsLink, OneNeedsLink, PassesOver, Skips};
 ghost use Rattle.plain_sql.specs.Plans.{meaning};
 
 use crate::calm::{are_calm, is_calm};
-use expr_eval::{BoundExpr, Node};
+use expr_eval::{BoundExpr, BoundNode};
 use sql_ast::Comparison;
 use sql_values::Kind;
 
@@ -61,12 +61,12 @@ fn scaled_ends(
     }
 }
 
-fn columns(width: usize, end: usize, a: &Node, b: &Node) -> Option<Link>
+fn columns(width: usize, end: usize, a: &BoundNode, b: &BoundNode) -> Option<Link>
     ensures { IfSome result (λ link. AreColumns width link a.now b.now) }
 {
     match a {
-        Node::Column(kind, near) => match b {
-            Node::Column(other, far) => scaled_ends(width, end, kind, *near, other, *far),
+        BoundNode::Column(kind, near) => match b {
+            BoundNode::Column(other, far) => scaled_ends(width, end, kind, *near, other, *far),
             _ => None,
         },
         _ => None,
@@ -82,7 +82,13 @@ fn is_equal(comparison: Comparison) -> bool
     }
 }
 
-fn compared(width: usize, end: usize, a: &Node, comparison: Comparison, b: &Node) -> Option<Link>
+fn compared(
+    width: usize,
+    end: usize,
+    a: &BoundNode,
+    comparison: Comparison,
+    b: &BoundNode,
+) -> Option<Link>
     ensures { IfSome result (λ link. (comparison ≡ Comparison.Equal) × AreColumns width link a.now b.now) }
 {
     if is_equal(comparison) {
@@ -92,17 +98,17 @@ fn compared(width: usize, end: usize, a: &Node, comparison: Comparison, b: &Node
     }
 }
 
-fn link_in(width: usize, end: usize, part: &Node) -> Option<Link>
-    ensures { IfSome result (λ link. Parts width link part.now) }
+fn link_in(width: usize, end: usize, part: &BoundNode) -> Option<Link>
+    ensures { IfSome result (λ link. NeedsLink width link part.now) }
 {
     match part {
-        Node::Compare(a, comparison, b) => compared(width, end, a.get(), *comparison, b.get()),
+        BoundNode::Compare(a, comparison, b) => compared(width, end, a.get(), *comparison, b.get()),
         _ => None,
     }
 }
 
-fn link_among(width: usize, end: usize, parts: &[Node]) -> Option<Link>
-    ensures { IfSome result (λ link. (part : Node) × Contains parts.now part × Parts width link part) }
+fn link_among(width: usize, end: usize, parts: &[BoundNode]) -> Option<Link>
+    ensures { IfSome result (λ link. (part : BoundNode) × Contains parts.now part × NeedsLink width link part) }
 {
     for part in parts {
         match link_in(width, end, part) {
@@ -113,8 +119,8 @@ fn link_among(width: usize, end: usize, parts: &[Node]) -> Option<Link>
     None
 }
 
-fn first_link(width: usize, end: usize, first: &Node, rest: &[Node]) -> Option<Link>
-    ensures { IfSome result (λ link. PartsOne width link first.now rest.now) }
+fn first_link(width: usize, end: usize, first: &BoundNode, rest: &[BoundNode]) -> Option<Link>
+    ensures { IfSome result (λ link. OneNeedsLink width link first.now rest.now) }
 {
     match link_in(width, end, first) {
         Some(link) => Some(link),
@@ -123,8 +129,8 @@ fn first_link(width: usize, end: usize, first: &Node, rest: &[Node]) -> Option<L
 }
 
 /// An AND evaluates all its parts, so a row is passed over unseen only where each of them is calm.
-fn calm_link(width: usize, end: usize, first: &Node, rest: &[Node]) -> Option<Link>
-    ensures { IfSome result (λ link. AreCalm first.now rest.now × PartsOne width link first.now rest.now) }
+fn calm_link(width: usize, end: usize, first: &BoundNode, rest: &[BoundNode]) -> Option<Link>
+    ensures { IfSome result (λ link. AreCalm first.now rest.now × OneNeedsLink width link first.now rest.now) }
 {
     if !is_calm(first) {
         return None;
@@ -139,7 +145,7 @@ fn link_of_test(width: usize, end: usize, test: &BoundExpr) -> Option<Link>
     ensures { IfSome result (λ link. PassesOver width link test.now) }
 {
     match &test.node {
-        Node::And(first, rest) => calm_link(width, end, first.get(), rest.as_slice()),
+        BoundNode::And(first, rest) => calm_link(width, end, first.get(), rest.as_slice()),
         _ => calm_link(width, end, &test.node, &[]),
     }
 }

@@ -3,7 +3,7 @@
 ghost use Rattle.std.specs.Prelude.{◌≡◌, IfOk, IfSome, List, filter, map};
 ghost use Rattle.std.specs.List.{list_all};
 ghost use Rattle.tuple_codec.specs.Rows.{Cells, cell_at, value_cmp};
-ghost use Rattle.plain_sql.specs.Links.{AreServed, HasOrder, Serves, Sorts, cell_cmp, has_cell, suits, suits_at, tried, tried_by, tried_with};
+ghost use Rattle.plain_sql.specs.Links.{AreServed, HasOrder, ServesLookup, Sorts, cell_cmp, has_cell, suits, suits_at, tried, tried_by, tried_with};
 ghost use Rattle.plain_sql.specs.Lists.{in_order};
 ghost use Rattle.plain_sql.specs.Plans.{meaning};
 
@@ -156,7 +156,7 @@ fn lookup_of(
     end: usize,
     rows: &[Row],
 ) -> Result<Option<Lookup>, AllocError>
-    ensures { IfOk result (λ found. IfSome found (Serves (map meaning tests.now) rows.now)) }
+    ensures { IfOk result (λ found. IfSome found (ServesLookup (map meaning tests.now) rows.now)) }
 {
     match link_of(width, end, tests) {
         None => Ok(None),

@@ -15,7 +15,7 @@ use crate::items::{Heading, headings_of, one_heading};
 use crate::keys::sort_keys;
 use crate::ranking::Sorter;
 use expr_eval::{BoundExpr, ScopeColumn, place_named, place_qualified};
-use sql_ast::{ColumnName, Item, Items, Limit, NamedExpr, Query};
+use sql_ast::{ColumnName, Items, Limit, NamedExpr, Query, SelectItem};
 use sql_features::is_aggregate_node;
 use std::alloc::Global;
 use tuple_codec::Sequence;
@@ -84,16 +84,16 @@ fn group_places(
     Ok(places)
 }
 
-fn calls_aggregate(item: &Item) -> bool
+fn calls_aggregate(item: &SelectItem) -> bool
     ensures { result ≡ calls_aggregate item.now }
 {
     match item {
-        Item::AllOf(_) => false,
-        Item::One(named) => is_aggregate_node(&named.expr),
+        SelectItem::AllOf(_) => false,
+        SelectItem::One(named) => is_aggregate_node(&named.expr),
     }
 }
 
-fn some_calls_aggregate(list: &[Item]) -> bool
+fn some_calls_aggregate(list: &[SelectItem]) -> bool
     ensures { result ≡ list_any calls_aggregate list.now }
 {
     list.iter().any(calls_aggregate)
@@ -121,7 +121,7 @@ pub fn grouping_of(aggregates: bool, places: Sequence<usize>) -> Grouping
     }
 }
 
-fn item_list(items: &Items) -> &[Item]
+fn item_list(items: &Items) -> &[SelectItem]
     ensures { result.now ≡ item_list items.now }
 {
     match items {

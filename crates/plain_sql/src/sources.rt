@@ -9,7 +9,7 @@ ghost use Rattle.plain_sql.specs.Plans.{read_as, scope_column, scope_of, source_
 
 use crate::faults::Refused;
 use expr_eval::ScopeColumn;
-use sql_ast::{FromClause, Source};
+use sql_ast::{FromClause, TableSource};
 use std::alloc::{AllocError, Global};
 use tuple_codec::{Row, Sequence, SqlType, Text, copy_row};
 
@@ -36,7 +36,7 @@ pub struct Read {
 }
 
 /// The name that a source goes by.
-fn name_of(source: &Source) -> &Text
+fn name_of(source: &TableSource) -> &Text
     ensures { result.now ≡ source_name source.now }
 {
     match &source.alias {
@@ -83,7 +83,7 @@ fn read_as(alloc: Global, name: &[u8], known: &Known) -> Result<Read, AllocError
 }
 
 #[tactic(auto, unfolding(crate::specs::Plans::source_read))]
-fn source_read(alloc: Global, known: &[Known], source: &Source) -> Result<Read, Refused>
+fn source_read(alloc: Global, known: &[Known], source: &TableSource) -> Result<Read, Refused>
     ensures { Gives result (source_read known.now source.now) }
 {
     for one in known {

@@ -11,11 +11,11 @@ use Rattle.plain_writes.specs.declared.listing.Found as listing
 use Rattle.plain_writes.specs.declared.tables.Dispute.{Dispute}
 use Rattle.plain_writes.specs.declared.tables.NamedTable.{NamedTable}
 use Rattle.plain_writes.specs.declared.tables.Table.{Table}
-use Rattle.plain_writes.specs.declared.updating.Setting.{Setting}
+use Rattle.plain_writes.specs.declared.updating.BoundAssignment.{BoundAssignment}
 use Rattle.plain_writes.specs.Violations.{Found}
 use Rattle.plain_writes.specs.Writes.{Assign, Effect, Said, Nothing, Worth}
 
-abbrev pub setting_seen : Setting → Assign
+abbrev pub setting_seen : BoundAssignment → Assign
 setting_seen s = record { place = s.place; column = s.column; kind = s.value.kind; meaning = meaning s.value }
 
 abbrev pub given_seen : Given → Said

@@ -17,8 +17,8 @@ use Rattle.sql_values.specs.declared.assigning.Misfit.{Misfit}
 use Rattle.sql_values.specs.declared.kinds.Kind.{Kind}
 use Rattle.sql_ast.specs.declared.expressions.Expr.{Expr}
 use Rattle.sql_ast.specs.declared.statements.Insert.{Insert}
-use Rattle.sql_ast.specs.declared.statements.Entry.{Entry}
-use Rattle.sql_ast.specs.declared.statements.Entry.TheVariants as entry
+use Rattle.sql_ast.specs.declared.statements.InsertCell.{InsertCell}
+use Rattle.sql_ast.specs.declared.statements.InsertCell.TheVariants as entry
 use Rattle.sql_ast.specs.declared.statements.Update.{Update}
 use Rattle.sql_ast.specs.declared.statements.Assignment.{Assignment}
 use Rattle.sql_ast.specs.declared.statements.Delete.{Delete}
@@ -95,7 +95,7 @@ pub data Said : Type 0 where
 abbrev pub said_if : Column → BoundExpr → Outcome Said
 said_if column bound = if may_assign bound.kind column.kind then Ok (Worth bound.kind (meaning bound)) else mismatch
 
-abbrev pub said_by : Column → Entry → Outcome Said
+abbrev pub said_by : Column → InsertCell → Outcome Said
 said_by column entry.Default = Ok Nothing
 said_by column (entry.Value expr) = and_then (bound [] expr) (said_if column)
 
@@ -107,14 +107,14 @@ abbrev pub places_named : Schema → Option (List (List ℕ)) → Outcome (List 
 places_named schema None = Ok (range_with_len 0 (length schema.columns))
 places_named schema (Some names) = each (named_place schema) names
 
-abbrev pub entry_said : Schema → Entry → ℕ → Outcome Said
+abbrev pub entry_said : Schema → InsertCell → ℕ → Outcome Said
 entry_said schema given place = and_then (or_refuse 1054 (slice_get schema.columns place)) (λ column. said_by column given)
 
 -- the entry at a place of a tuple is about the column that is named there
-abbrev pub entry_at : Schema → List ℕ → ℕ × Entry → Outcome Said
+abbrev pub entry_at : Schema → List ℕ → ℕ × InsertCell → Outcome Said
 entry_at schema places x = and_then (or_refuse 1136 (slice_get places x.0)) (entry_said schema x.1)
 
-abbrev pub tuple_said : Schema → List ℕ → List Entry → Outcome (List Said)
+abbrev pub tuple_said : Schema → List ℕ → List InsertCell → Outcome (List Said)
 tuple_said schema places tuple = unless (not (length tuple == length places)) 1136 (each (entry_at schema places) (enumerate_from 0 tuple))
 
 -- what is said of the column at a place

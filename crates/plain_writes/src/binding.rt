@@ -11,7 +11,7 @@ ghost use Rattle.plain_writes.specs.Writes.{assign_to, bound_assignment, tests_o
 
 use crate::columns::column_place;
 use crate::copies::copy_column;
-use crate::updating::Setting;
+use crate::updating::BoundAssignment;
 use expr_eval::{BoundExpr, ScopeColumn};
 use plain_sql::{Refused, bound, condition};
 use schema_model::{Column, Schema};
@@ -26,7 +26,7 @@ fn assign_to(
     expr: &Expr,
     place: usize,
     column: &Column,
-) -> Result<Setting, Refused>
+) -> Result<BoundAssignment, Refused>
     ensures typed { IfOk result (λ one. one.column ≡ column.now) }
     ensures is { GivesBy setting_seen result (assign_to scope.now expr.now place column.now) }
 {
@@ -34,7 +34,7 @@ fn assign_to(
     if !may_assign(&value.kind, &column.kind) {
         return Err(Refused::By(9001));
     }
-    Ok(Setting {
+    Ok(BoundAssignment {
         place,
         column: copy_column(alloc, column)?,
         value,
@@ -47,7 +47,7 @@ fn bound_assignment(
     schema: &Schema,
     scope: &[ScopeColumn],
     assignment: &Assignment,
-) -> Result<Setting, Refused>
+) -> Result<BoundAssignment, Refused>
     requires { list_all (λ column. is_type column.kind) schema.now.columns ≡ true }
     ensures typed { IfOk result (λ one. is_type one.column.kind ≡ true) }
     ensures is { GivesBy setting_seen result (bound_assignment schema.now scope.now assignment.now) }
@@ -67,7 +67,7 @@ pub fn assignments(
     schema: &Schema,
     scope: &[ScopeColumn],
     list: &[Assignment],
-) -> Result<Sequence<Setting>, Refused>
+) -> Result<Sequence<BoundAssignment>, Refused>
     requires { list_all (λ column. is_type column.kind) schema.now.columns ≡ true }
     ensures typed { IfOk result (λ settings. list_all (λ one. is_type one.column.kind) settings ≡ true) }
     ensures is { GivesBy (map setting_seen) result (each (bound_assignment schema.now scope.now) list.now) }

@@ -18,7 +18,7 @@ use crate::inserting::{new_rows, places_named, tuples_said};
 use crate::keyed::by_key;
 use crate::listing::first_violation;
 use crate::tables::{NamedTable, Table, table_in};
-use crate::updating::{Later, Setting, all_chosen, all_turned};
+use crate::updating::{BoundAssignment, Later, all_chosen, all_turned};
 use expr_eval::ScopeColumn;
 use plain_sql::{Refused, append};
 use schema_model::limits::MOST_ROWS;
@@ -173,7 +173,7 @@ fn updated_by<R: Reads>(
     update: &Update,
     table: &Table,
     scope: &[ScopeColumn],
-    settings: &[Setting],
+    settings: &[BoundAssignment],
 ) -> Result<Effect, Refused>
     requires { list_all (λ one. is_type one.column.kind) settings.now ≡ true }
     ensures { GivesBy effect_seen result (updated_by (checks_by R.reading) (map named_seen database.now) update.now (table_seen table.now) scope.now (map setting_seen settings.now)) }

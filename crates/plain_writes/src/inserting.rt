@@ -14,7 +14,7 @@ use crate::limits::is_large;
 use expr_eval::BoundExpr;
 use plain_sql::{Refused, ask, bound};
 use schema_model::{Column, Schema};
-use sql_ast::{Entry, Tuple};
+use sql_ast::{InsertCell, Tuple};
 use sql_values::may_assign;
 use std::alloc::{AllocError, Global};
 use tuple_codec::{Row, Sequence, Text, Value};
@@ -37,16 +37,21 @@ fn said_if(column: &Column, value: BoundExpr) -> Result<Given, Refused>
     }
 }
 
-fn said_by(alloc: Global, column: &Column, entry: &Entry) -> Result<Given, Refused>
+fn said_by(alloc: Global, column: &Column, entry: &InsertCell) -> Result<Given, Refused>
     ensures { GivesBy given_seen result (said_by column.now entry.now) }
 {
     match entry {
-        Entry::Default => Ok(Given::Standard),
-        Entry::Value(expr) => said_if(column, bound(alloc, &[], expr)?),
+        InsertCell::Default => Ok(Given::Standard),
+        InsertCell::Value(expr) => said_if(column, bound(alloc, &[], expr)?),
     }
 }
 
-fn entry_said(alloc: Global, schema: &Schema, entry: &Entry, place: usize) -> Result<Given, Refused>
+fn entry_said(
+    alloc: Global,
+    schema: &Schema,
+    entry: &InsertCell,
+    place: usize,
+) -> Result<Given, Refused>
     ensures { GivesBy given_seen result (entry_said schema.now entry.now place) }
 {
     match schema.columns.as_slice().get(place) {
@@ -60,7 +65,7 @@ fn entry_at(
     schema: &Schema,
     places: &[usize],
     at: usize,
-    entry: &Entry,
+    entry: &InsertCell,
 ) -> Result<Given, Refused>
     ensures { GivesBy given_seen result (entry_at schema.now places.now (at, entry.now)) }
 {

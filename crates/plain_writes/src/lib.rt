@@ -32,4 +32,4 @@ pub use limits::is_large;
 pub use listing::{Found, first_violation, violations};
 pub use parents::same_types;
 pub use tables::{Dispute, NamedTable, Table, table_in};
-pub use updating::{Later, Setting, all_chosen, all_turned};
+pub use updating::{BoundAssignment, Later, all_chosen, all_turned};

@@ -20,7 +20,7 @@ use tuple_codec::{Row, Sequence, Value, copy_row, same_cells};
 
 /// A column that an UPDATE sets, and to what.
 #[derive(Drop)]
-pub struct Setting {
+pub struct BoundAssignment {
     pub place: usize,
     pub column: Column,
     pub value: BoundExpr,
@@ -45,7 +45,7 @@ fn with_cell(row: Row, place: usize, value: Value) -> Row
 }
 
 /// The row with each setting made, from left to right.
-fn row_after(alloc: Global, settings: &[Setting], row: Row) -> Result<Row, Refused>
+fn row_after(alloc: Global, settings: &[BoundAssignment], row: Row) -> Result<Row, Refused>
     requires { list_all (λ one. is_type one.column.kind) settings.now ≡ true }
     ensures { Gives result (row_after (map setting_seen settings.now) row) }
 {
@@ -59,7 +59,7 @@ fn row_after(alloc: Global, settings: &[Setting], row: Row) -> Result<Row, Refus
     }
 }
 
-fn assigns(settings: &[Setting], place: usize) -> bool
+fn assigns(settings: &[BoundAssignment], place: usize) -> bool
     ensures { result ≡ assigns (map setting_seen settings.now) place }
 {
     match settings {
@@ -68,13 +68,13 @@ fn assigns(settings: &[Setting], place: usize) -> bool
     }
 }
 
-fn keeps_null_at(settings: &[Setting], row: &[Value], place: usize, column: &Column) -> bool
+fn keeps_null_at(settings: &[BoundAssignment], row: &[Value], place: usize, column: &Column) -> bool
     ensures { result ≡ keeps_null_at (map setting_seen settings.now) row.now (place, column.now) }
 {
     column.not_null && !assigns(settings, place) && is_null_at(row, place)
 }
 
-fn keeps_null(schema: &Schema, settings: &[Setting], row: &[Value]) -> bool
+fn keeps_null(schema: &Schema, settings: &[BoundAssignment], row: &[Value]) -> bool
     ensures { result ≡ keeps_null schema.now (map setting_seen settings.now) row.now }
 {
     let columns = schema.columns.as_slice();
@@ -98,7 +98,7 @@ fn untouched(alloc: Global, row: &Row) -> Result<Later, Refused>
 fn if_changed(
     alloc: Global,
     schema: &Schema,
-    settings: &[Setting],
+    settings: &[BoundAssignment],
     old: &Row,
     new: Row,
 ) -> Result<Later, Refused>
@@ -121,7 +121,7 @@ pub fn turned(
     alloc: Global,
     schema: &Schema,
     tests: &[BoundExpr],
-    settings: &[Setting],
+    settings: &[BoundAssignment],
     row: &Row,
 ) -> Result<Later, Refused>
     requires { list_all (λ one. is_type one.column.kind) settings.now ≡ true }
@@ -138,7 +138,7 @@ fn turned_small(
     alloc: Global,
     schema: &Schema,
     tests: &[BoundExpr],
-    settings: &[Setting],
+    settings: &[BoundAssignment],
     row: &Row,
 ) -> Result<Later, Refused>
     requires { list_all (λ one. is_type one.column.kind) settings.now ≡ true }
@@ -156,7 +156,7 @@ pub fn all_turned(
     alloc: Global,
     schema: &Schema,
     tests: &[BoundExpr],
-    settings: &[Setting],
+    settings: &[BoundAssignment],
     rows: &[Row],
 ) -> Result<Sequence<Later>, Refused>
     requires { list_all (λ one. is_type one.column.kind) settings.now ≡ true }

@@ -3,9 +3,10 @@ use Rattle.std.proofs.Common.{◌≡◌, ◌<◌, ◌+◌, ℕ, suc, ◌==◌, t
 use Rattle.std.specs.List.{AllByRecursion}
 use Rattle.std.proofs.Math.Dec.{eqb-suc-zero}
 use Rattle.tuple_codec.specs.Nodes.{Item, Node}
+use Rattle.chunk_store.specs.Chunks.{Chunks}
 use Rattle.chunk_store.specs.Kinds.{is_node}
 use Rattle.tree_laws.specs.Found.{ButLast, IsCanonical, IsEnded, IsOrdered, Nodes, each_of, nodes_in, rows_at}
-use Rattle.tree_laws.specs.Standing.{Chunks, IsFound}
+use Rattle.tree_laws.specs.Standing.{IsNodeFound}
 use Rattle.tree_laws.proofs.StandingReads.{items_there}
 use Rattle.prolly_edit.specs.Fronts.{AreParts, EndsBefore, HaveNames, IsPart, front_of, is_over, load, rest}
 use Rattle.prolly_tree.specs.Fronts.{Front, on_level, sum_of, weight}
@@ -90,7 +91,7 @@ module _ (a : List ℕ → List ℕ) (chunks : Chunks) where
   ends_join level (item ∷ []) (part ∷ front) each all end = let ended = all (omega arith) in (ended.0, end)
   ends_join level (item ∷ other ∷ items) front each all end = (each.1, ends_join level (other ∷ items) front each.2 (λ some. (all some).1) end)
 
-  parts_each : (level : ℕ) (items : List Item) (front : Front) → level < 255 → AllByRecursion (IsFound chunks (suc level)) items
+  parts_each : (level : ℕ) (items : List Item) (front : Front) → level < 255 → AllByRecursion (IsNodeFound chunks (suc level)) items
       → AllByRecursion (IsCanonical a (nodes_in chunks) (suc level)) items → AllByRecursion (IsOrdered (nodes_in chunks) (suc level)) items
       → AllByRecursion (λ (part : ℕ × Item). IsPart a chunks part.0 part.1) front → AllByRecursion (λ (part : ℕ × Item). IsPart a chunks part.0 part.1) (on_level level items ++ front)
   parts_each level [] front low found canonical ordered each = each
@@ -108,8 +109,8 @@ module _ (a : List ℕ → List ℕ) (chunks : Chunks) where
   same_items x y e = cc
 
   -- the nodes below a node come in its place
-  pub parts_below : (level : ℕ) (item : Item) (front : Front) → IsFound chunks (suc level) item → IsCanonical a (nodes_in chunks) (suc level) item → IsOrdered (nodes_in chunks) (suc level) item
-      → (0 < length front → IsEnded a (nodes_in chunks) (suc level) item) → AreParts a chunks front → (found : IsFound chunks (suc level) item)
+  pub parts_below : (level : ℕ) (item : Item) (front : Front) → IsNodeFound chunks (suc level) item → IsCanonical a (nodes_in chunks) (suc level) item → IsOrdered (nodes_in chunks) (suc level) item
+      → (0 < length front → IsEnded a (nodes_in chunks) (suc level) item) → AreParts a chunks front → (found : IsNodeFound chunks (suc level) item)
       → (below : ℕ) → level ≡ suc below → AreParts a chunks (on_level below found.0 ++ front)
   parts_below level item front _ canonical ordered ended parts found below is =
       let items = found.0 in
@@ -124,7 +125,7 @@ module _ (a : List ℕ → List ℕ) (chunks : Chunks) where
       let R : List Item → Type 0 = λ l. AllByRecursion (IsEnded a (nodes_in chunks) level) l in
       subst R (same_items e.0 items (sym e.1 ∙ there)) e.2) in
       record {
-        each = parts_each below items front (omega (arith, low, is)) (subst (λ n. AllByRecursion (IsFound chunks n) items) is found.2)
+        each = parts_each below items front (omega (arith, low, is)) (subst (λ n. AllByRecursion (IsNodeFound chunks n) items) is found.2)
             (subst (λ n. AllByRecursion (IsCanonical a (nodes_in chunks) n) items) is (all_of (IsCanonical a (nodes_in chunks) level) (IsEnded a (nodes_in chunks) level) items each))
             (subst (λ n. AllByRecursion (IsOrdered (nodes_in chunks) n) items) is order) parts.each;
         end = ends_join below items front (subst (λ n. ButLast (IsCanonical a (nodes_in chunks) n) (IsEnded a (nodes_in chunks) n) items) is each)

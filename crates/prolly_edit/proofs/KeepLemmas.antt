@@ -7,7 +7,7 @@ use Rattle.tree_laws.proofs.StandingLists.{cut_some, names_length}
 use Rattle.tree_laws.proofs.StandingReads.{items_there}
 use Rattle.tree_laws.proofs.StandingNodes.{bytes_length, items_one as items_more}
 use Rattle.tree_laws.specs.Found.{IsCanonical, nodes_in}
-use Rattle.tree_laws.specs.Standing.{IsFound}
+use Rattle.tree_laws.specs.Standing.{IsNodeFound}
 use Rattle.tree_laws.proofs.StandingCuts.{cut_open as goes_on}
 use Rattle.std.specs.Prelude.{slice_get}
 use Rattle.std.specs.Int.{w16, w64, to_be_bytes}
@@ -56,7 +56,7 @@ pub stays_none : (a : List ℕ → List ℕ) (level : ℕ) → StaysOpen a level
 stays_none a level at more = absurd (omega arith)
 
 -- the items of the node that an item of a tree names
-pub stays_below : (a : List ℕ → List ℕ) (chunks : Chunks) (level : ℕ) (item : Item) → (found : IsFound chunks (suc level) item)
+pub stays_below : (a : List ℕ → List ℕ) (chunks : Chunks) (level : ℕ) (item : Item) → (found : IsNodeFound chunks (suc level) item)
     → IsCanonical a (nodes_in chunks) (suc level) item → StaysOpen a level found.0
 stays_below a chunks level item found canonical =
     let same : canonical.0 ≡ found.0 = some_is _ _ (sym canonical.1 ∙ items_there chunks item.body level found.0 found.1) in

@@ -10,7 +10,7 @@ use Rattle.node_chunker.specs.Subtrees.{IsSubtree, lift_chunks}
 use Rattle.node_chunker.proofs.GrowthLemmas.{name_body}
 use Rattle.node_chunker.proofs.TowerLemmas.{all_join, all_split}
 use Rattle.tree_laws.specs.Found.{ButLast, Ended, IsCanonical, IsEnded, each_of, lift, nodes_in, rows_at}
-use Rattle.tree_laws.specs.Standing.{IsFound}
+use Rattle.tree_laws.specs.Standing.{IsNodeFound}
 use Rattle.tree_laws.proofs.Cuts.{cut_apart, names_apart}
 use Rattle.tree_laws.proofs.Growing.{held_later}
 use Rattle.tree_laws.proofs.Lifts.{all_lift, ends, lifts}
@@ -86,8 +86,8 @@ module _ (a : List ℕ → List ℕ) where
     rows : ℕ → Item → List Item
     rows level = rows_at (nodes_in c) level
 
-    all_held : (level : ℕ) → ((item : Item) → IsFound c level item → IsCanonical a (nodes_in c) level item → AreHeld a c (lift_chunks a level 0 (rows_at (nodes_in c) level item)))
-        → (items : List Item) → AllByRecursion (IsFound c level) items → ButLast (IsCanonical a (nodes_in c) level) (IsEnded a (nodes_in c) level) items
+    all_held : (level : ℕ) → ((item : Item) → IsNodeFound c level item → IsCanonical a (nodes_in c) level item → AreHeld a c (lift_chunks a level 0 (rows_at (nodes_in c) level item)))
+        → (items : List Item) → AllByRecursion (IsNodeFound c level) items → ButLast (IsCanonical a (nodes_in c) level) (IsEnded a (nodes_in c) level) items
         → AreHeld a c (lift_chunks a level 0 (each_of (rows_at (nodes_in c) level) items))
     all_held level go [] found each = none_held c level 0
     all_held level go (item ∷ []) found each =
@@ -100,7 +100,7 @@ module _ (a : List ℕ → List ℕ) where
     same_items x y e = cc
 
     -- the nodes at and below a node of a tree that stands are held
-    all_there : (level : ℕ) (item : Item) → IsFound c level item → IsCanonical a (nodes_in c) level item → AreHeld a c (lift_chunks a level 0 (rows_at (nodes_in c) level item))
+    all_there : (level : ℕ) (item : Item) → IsNodeFound c level item → IsCanonical a (nodes_in c) level item → AreHeld a c (lift_chunks a level 0 (rows_at (nodes_in c) level item))
     all_there zero item found canonical = tt
     all_there (suc level) item found canonical =
         let items = found.0 in
@@ -120,7 +120,7 @@ module _ (a : List ℕ → List ℕ) where
         (chunks_last c level 0 below (all_held level (all_there level) items found.2 each)
         (subst (λ n. AreHeld a c (map (bytes_of n) (cut a n (lift a level 0 below)))) (sym z) last))
 
-    pub is_subtree : (now : Chunks) (level : ℕ) (item : Item) → Extends c now → IsFound c (suc level) item → IsCanonical a (nodes_in c) (suc level) item
+    pub is_subtree : (now : Chunks) (level : ℕ) (item : Item) → Extends c now → IsNodeFound c (suc level) item → IsCanonical a (nodes_in c) (suc level) item
         → IsEnded a (nodes_in c) (suc level) item → IsSubtree a now (suc level) item (rows_at (nodes_in c) (suc level) item)
     is_subtree now level item extends found canonical ended = record {
       inner = omega arith;

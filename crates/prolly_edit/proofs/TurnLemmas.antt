@@ -12,13 +12,13 @@ use Rattle.chunk_store.specs.Kinds.{is_node}
 use Rattle.node_chunker.specs.Growth.{IsTower}
 use Rattle.node_chunker.specs.Subtrees.{CanPushRef, IsSubtree, is_clear}
 use Rattle.tree_laws.specs.Found.{IsEnded, Nodes, each_of, items_of, nodes_in, rows_at}
-use Rattle.tree_laws.specs.Standing.{IsFound, IsStored}
+use Rattle.tree_laws.specs.Standing.{IsNodeFound, IsStored}
 use Rattle.tree_laws.proofs.Standing.{trees_have_roots, trees_lead}
 use Rattle.tree_laws.proofs.StandingReads.{all_map, items_there, reached, rows_there, some_rows}
 use Rattle.prolly_edit.specs.Editing.{CanEdit}
 use Rattle.prolly_edit.specs.Fronts.{AreParts, EndsBefore, IsPart, is_over, load, load_below, rest}
 use Rattle.prolly_tree.specs.Fronts.{Front, on_level, sum_of, weight}
-use Rattle.prolly_edit.specs.Stages.{Awaits, IsBefore, IsGoing, IsRead, IsTurn, is_past}
+use Rattle.prolly_edit.specs.Stages.{Awaits, IsBeforeNode, IsGoing, IsRead, IsTurn, is_past}
 use Rattle.prolly_edit.proofs.EditLemmas.{edited_rows, rows_pass}
 use Rattle.prolly_edit.proofs.StageLemmas.{awaits_all, awaits_next, awaits_same, next_rows}
 use Rattle.prolly_edit.proofs.FrontLemmas.{load_join, parts_below, rest_join, rest_level}
@@ -59,7 +59,7 @@ module _ (a : List ℕ → List ℕ) (start chunks : Chunks) (nodes : List (List
   below = rows_at (nodes_in start) (suc level) item
 
   -- the node is read
-  pub before : IsBefore a start chunks nodes level item.body front edits whole
+  pub before : IsBeforeNode a start chunks nodes level item.body front edits whole
   before = record {
     items = part.found.0;
     stored = part.found.1;
@@ -110,7 +110,7 @@ module _ (a : List ℕ → List ℕ) (start chunks : Chunks) (nodes : List (List
 -- ---- a node is read
 
 module _ (a : List ℕ → List ℕ) (start chunks : Chunks) (nodes : List (List Item)) (level : ℕ) (k : List ℕ) (front : Front) (edits : List Edit) (whole : List Item)
-    (is : IsBefore a start chunks nodes level k front edits whole) where
+    (is : IsBeforeNode a start chunks nodes level k front edits whole) where
   abbrev pub node : Node
   node = record { level = level; items = is.items }
 
@@ -166,7 +166,7 @@ none_left : (a : List ℕ → List ℕ) (start : Chunks) → AreParts a start []
 none_left a start = record { each = tt; end = tt }
 
 -- a node below which there is no row has no item
-no_items : (start : Chunks) (level : ℕ) (items : List Item) → AllByRecursion (IsFound start level) items → each_of (rows_at (nodes_in start) level) items ≡ [] → items ≡ []
+no_items : (start : Chunks) (level : ℕ) (items : List Item) → AllByRecursion (IsNodeFound start level) items → each_of (rows_at (nodes_in start) level) items ≡ [] → items ≡ []
 no_items start level [] found none = refl
 no_items start level (item ∷ items) found none =
     let some = some_rows (rows_at (nodes_in start) level) (item ∷ items) (all_map (reached start level) (item ∷ items) found) (omega arith) in
@@ -176,7 +176,7 @@ no_items start level (item ∷ items) found none =
 -- the root's node, and the walk before it is read
 pub record IsBegun (a : List ℕ → List ℕ) (start : Chunks) (nodes : List (List Item)) (k : List ℕ) (edits : List Edit) (rows : List Item) (node : Node) : Type 0 where
   pub stored : IsStored start k node
-  pub before : IsBefore a start start nodes node.level k [] edits (edited rows edits)
+  pub before : IsBeforeNode a start start nodes node.level k [] edits (edited rows edits)
 
 pub root_before : (a : List ℕ → List ℕ) (start : Chunks) (nodes : List (List Item)) (k : List ℕ) (edits : List Edit) (rows : List Item) → CanEdit a start k edits rows
     → IsTower a start nodes [] → (node : Node) × IsBegun a start nodes k edits rows node
@@ -238,9 +238,9 @@ three_true false q r e = absurd cc
 -- the walk before the root is read, as it is found
 pub root_begins : (a : List ℕ → List ℕ) (start : Chunks) (k : List ℕ) (edits : List Edit) (rows : List Item) → CanEdit a start k edits rows
     → (tower : List (List Item)) → IsTower a start tower [] → (found : Node) → ((node : Node) → IsStored start k node → found ≡ node)
-    → (level : ℕ) → level ≡ found.level → (path : Front) → path ≡ [] → IsBefore a start start tower level k path edits (edited rows edits)
+    → (level : ℕ) → level ≡ found.level → (path : Front) → path ≡ [] → IsBeforeNode a start start tower level k path edits (edited rows edits)
 root_begins a start k edits rows can tower is found found_is level level_is path none =
     let b = root_before a start tower k edits rows can is in
     let same : b.0.level ≡ level = ap (λ (n : Node). n.level) (sym (found_is b.0 b.1.stored)) ∙ sym level_is in
-    subst (λ (f : Front). IsBefore a start start tower level k f edits (edited rows edits)) (sym none)
-    (subst (λ (n : ℕ). IsBefore a start start tower n k [] edits (edited rows edits)) same b.1.before)
+    subst (λ (f : Front). IsBeforeNode a start start tower level k f edits (edited rows edits)) (sym none)
+    (subst (λ (n : ℕ). IsBeforeNode a start start tower n k [] edits (edited rows edits)) same b.1.before)

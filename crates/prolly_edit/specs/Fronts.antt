@@ -2,8 +2,9 @@
 use Rattle.std.specs.Prelude.{◌<◌, ℕ, zero, suc, ◌+◌, Bool, true, false, List, [], ◌∷◌, ◌++◌, length}
 use Rattle.std.specs.List.{AllByRecursion}
 use Rattle.tuple_codec.specs.Nodes.{Item, Node}
+use Rattle.chunk_store.specs.Chunks.{Chunks}
 use Rattle.tree_laws.specs.Found.{IsCanonical, IsEnded, IsOrdered, Nodes, items_of, nodes_in, rows_at}
-use Rattle.tree_laws.specs.Standing.{Chunks, IsFound}
+use Rattle.tree_laws.specs.Standing.{IsNodeFound}
 use Rattle.prolly_tree.specs.Fronts.{Front, on_level, sum_of, weight}
 
 -- those of a path, whose steps each have names of nodes of a level, the last step first
@@ -36,7 +37,7 @@ is_over (part ∷ front) = false
 -- a node of a tree that stands
 pub record IsPart (address : List ℕ → List ℕ) (chunks : Chunks) (level : ℕ) (item : Item) : Type 0 where
   pub low : level < 255
-  pub found : IsFound chunks (suc level) item
+  pub found : IsNodeFound chunks (suc level) item
   pub canonical : IsCanonical address (nodes_in chunks) (suc level) item
   pub ordered : IsOrdered (nodes_in chunks) (suc level) item
 

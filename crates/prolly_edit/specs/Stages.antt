@@ -47,7 +47,7 @@ pub record IsGoing (address : List ℕ → List ℕ) (start chunks : Chunks) (op
   pub awaits : Awaits address chunks open_nodes (edited (rest (nodes_in start) front) edits) whole
 
 -- the same before the node of a level at an address is read, which comes before the front
-pub record IsBefore (address : List ℕ → List ℕ) (start chunks : Chunks) (open_nodes : List (List Item)) (level : ℕ) (k : List ℕ) (front : Front) (edits : List Edit) (whole : List Item) : Type 0 where
+pub record IsBeforeNode (address : List ℕ → List ℕ) (start chunks : Chunks) (open_nodes : List (List Item)) (level : ℕ) (k : List ℕ) (front : Front) (edits : List Edit) (whole : List Item) : Type 0 where
   pub items : List Item
   pub stored : IsStored start k (record { level = level; items = items })
   pub some : 0 < level → 0 < length items

@@ -17,7 +17,7 @@ ghost use Rattle.prolly_tree.specs.Fronts.{on_level};
 ghost use Rattle.node_format.specs.Outlasting.{Outlasts};
 ghost use Rattle.prolly_edit.specs.Names.{item_of};
 ghost use Rattle.prolly_edit.specs.Keeping.{StaysOpen};
-ghost use Rattle.prolly_edit.specs.Stages.{Awaits, IsBefore, IsGoing, IsRead, IsTurn, is_past};
+ghost use Rattle.prolly_edit.specs.Stages.{Awaits, IsBeforeNode, IsGoing, IsRead, IsTurn, is_past};
 
 use crate::merging::{edit_rows, is_past, put_edits};
 use crate::paths::{Name, Path};
@@ -111,8 +111,8 @@ fn read<'a, D: Digester>(
     level: u8,
     address: &Address,
 ) -> Result<&'a [Edit], PutFault>
-    requires { (start : Chunks) × (whole : List Item) × IsBefore D.address start (chunks_of draft.old.chunks) tower.old level address.now.0 path.old edits.now whole }
-    ensures ok { (start : Chunks) (whole : List Item) → IsBefore D.address start (chunks_of draft.old.chunks) tower.old level address.now.0 path.old edits.now whole
+    requires { (start : Chunks) × (whole : List Item) × IsBeforeNode D.address start (chunks_of draft.old.chunks) tower.old level address.now.0 path.old edits.now whole }
+    ensures ok { (start : Chunks) (whole : List Item) → IsBeforeNode D.address start (chunks_of draft.old.chunks) tower.old level address.now.0 path.old edits.now whole
         → IfOk result (λ left. IsRead D.address start (chunks_of draft.new.chunks) tower.new level address.now.0 path.old path.new left.now whole) }
     ensures grows { Grows is_node draft.old draft.new }
     ensures cause { IfErr result (IsReason D.address (chunks_of draft.new.chunks)) }

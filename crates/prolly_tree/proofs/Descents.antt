@@ -7,10 +7,11 @@ use Rattle.basic_laws.proofs.Options.{some_is}
 use Rattle.tuple_codec.specs.Nodes.{Item, Node, Rise}
 use Rattle.tuple_codec.specs.Trees.{rows_in}
 use Rattle.tree_laws.specs.Found.{UpTo, each_of, nodes_in, rows_at}
-use Rattle.tree_laws.specs.Standing.{Chunks, IsFound, IsOpen, Leads, rows_below}
+use Rattle.tree_laws.specs.Standing.{IsNodeFound, IsOpen, Leads, rows_below}
 use Rattle.tree_laws.proofs.StandingReads.{IsReached, all_map, many_rows, reached, rows_there}
 use Rattle.tree_laws.proofs.StandingOrder.{order, rise_left, rise_right, upto_last}
 use Rattle.tuple_codec.specs.Edits.{value_at}
+use Rattle.chunk_store.specs.Chunks.{Chunks}
 use Rattle.prolly_tree.specs.Lists.{first_of, from_key, place_of}
 use Rattle.prolly_tree.proofs.Lookups.{drop_place, first_before, reach, skip_items, value_front}
 
@@ -90,14 +91,14 @@ nothing_at_end chunks node key leads place =
     ∙ ap (first_of key) (from_items chunks node key leads ∙ ap (λ (l : List Item). from_key key (each_of (rows_at (nodes_in chunks) node.level) l)) (from_end key node.items place))
 
 -- in the rows below an item whose key isn't below another, that one's rest begins
-pub from_here : (chunks : Chunks) (level : ℕ) (item : Item) (key : List ℕ) (more : List Item) → IsFound chunks level item → is_lt (order item.key key) ≡ false
+pub from_here : (chunks : Chunks) (level : ℕ) (item : Item) (key : List ℕ) (more : List Item) → IsNodeFound chunks level item → is_lt (order item.key key) ≡ false
     → (from_key key (rows_at (nodes_in chunks) level item ++ more) ≡ from_key key (rows_at (nodes_in chunks) level item) ++ more)
     × (0 < length (from_key key (rows_at (nodes_in chunks) level item)))
 from_here chunks level item key more found above =
     let r = reached chunks level item found in
     reach key (rows_at (nodes_in chunks) level item) more r.some (subst (λ (k : List ℕ). is_lt (order k key) ≡ false) (sym r.last) above)
 
-pub child_opens : (chunks : Chunks) (level : ℕ) (item : Item) (found : IsFound chunks (suc level) item) → Rise (rows_at (nodes_in chunks) (suc level) item)
+pub child_opens : (chunks : Chunks) (level : ℕ) (item : Item) (found : IsNodeFound chunks (suc level) item) → Rise (rows_at (nodes_in chunks) (suc level) item)
     → IsOpen chunks item.body (record { level = level; items = found.0 })
 child_opens chunks level item found rise = record {
   stored = found.1;
@@ -116,7 +117,7 @@ next_by chunks key zero items at item leads inner place is = absurd (omega arith
 next_by chunks key (suc level) items at item leads inner place is =
     let f = rows_at (nodes_in chunks) (suc level) in
     let node : Node = record { level = suc level; items = items } in
-    let found : IsFound chunks (suc level) item = all_at (IsFound chunks (suc level)) items at item leads.each is in
+    let found : IsNodeFound chunks (suc level) item = all_at (IsNodeFound chunks (suc level)) items at item leads.each is in
     let more = drop (suc at) items in
     let front : from_key key items ≡ item ∷ more = from_place key items at item place is in
     let here = from_here chunks (suc level) item key (each_of f more) found (head_above key items item more front) in

@@ -1,10 +1,11 @@
 -- What is left of a tree, as a list of items with their levels.
 use Rattle.std.proofs.Common.{◌≡◌, ◌≤◌, ℕ, inl, inr, List, [], ◌∷◌, ◌++◌, drop, refl, sym, ap, ◌∙◌, subst, append_assoc, append-nil}
 use Rattle.tuple_codec.specs.Nodes.{Item, Node}
+use Rattle.chunk_store.specs.Chunks.{Chunks}
 use Rattle.tree_laws.specs.Found.{Nodes, each_of, items_of, nodes_in, rows_at}
-use Rattle.tree_laws.specs.Standing.{Chunks, IsStored, Leads}
+use Rattle.tree_laws.specs.Standing.{IsStored, Leads}
 use Rattle.tree_laws.proofs.StandingReads.{items_there}
-use Rattle.prolly_tree.specs.Walks.{IsAtNode, IsAtRow, IsSettled, Left, left_in}
+use Rattle.prolly_tree.specs.Walks.{IsAtNode, IsAtRow, IsEmptyAbove, Left, left_in}
 use Rattle.prolly_tree.specs.Fronts.{Front, IsReady, front_above, front_of, items_below, on_level, opened, rows_ahead}
 use Rattle.prolly_tree.proofs.WalkLemmas.{IsBelow, begin, begin_can, down_to, up_from}
 
@@ -18,7 +19,7 @@ up_front old above node over is =
     sym (front_one above node) ∙ ap front_above (sym is) ∙ ap (λ (l : List Item). on_level old.here.level l ++ front_above old.above) (sym over)
 
 -- where nothing is left in a node, nothing is left
-pub front_over : (left : Left) → IsSettled left → left.here.items ≡ [] → front_of left ≡ []
+pub front_over : (left : Left) → IsEmptyAbove left → left.here.items ≡ [] → front_of left ≡ []
 front_over left settled over =
     ap (λ (l : List Item). on_level left.here.level l ++ front_above left.above) over ∙ ap front_above (settled over)
 
@@ -34,7 +35,7 @@ on_skip : (level : ℕ) (items : List Item) (above : Front) → (items ≡ [] �
 on_skip level [] above over = let e = over refl in e ∙ sym (ap (drop 1) e)
 on_skip level (item ∷ items) above over = refl
 
-pub skip_front : (left : Left) → IsSettled left → front_of (record { here = left_in left.here 1; above = left.above; room = left.room }) ≡ drop 1 (front_of left)
+pub skip_front : (left : Left) → IsEmptyAbove left → front_of (record { here = left_in left.here 1; above = left.above; room = left.room }) ≡ drop 1 (front_of left)
 skip_front left settled = on_skip left.here.level left.here.items (front_above left.above) (λ over. ap front_above (settled over))
 
 pub down_front : (chunks : Chunks) (old : Left) (address : List ℕ) (node : Node) → (at : IsAtNode old address) → IsBelow chunks old address node
@@ -58,7 +59,7 @@ opened_leaf : (nodes : Nodes) (level : ℕ) (items : List Item) (above : Front) 
 opened_leaf nodes level [] above e over = let a = over refl in ap (opened nodes) a ∙ sym a
 opened_leaf nodes level (item ∷ items) above e over = ap (λ (l : Front). l ++ (on_level level items ++ above)) (row_stays nodes level item e)
 
-pub opened_over : (nodes : Nodes) (left : Left) → IsSettled left → IsAtRow left → opened nodes (front_of left) ≡ front_of left
+pub opened_over : (nodes : Nodes) (left : Left) → IsEmptyAbove left → IsAtRow left → opened nodes (front_of left) ≡ front_of left
 opened_over nodes left settled (inl over) = let e = front_over left settled over in ap (opened nodes) e ∙ sym e
 opened_over nodes left settled (inr leaf) = opened_leaf nodes left.here.level left.here.items (front_above left.above) leaf (λ over. ap front_above (settled over))
 

@@ -11,7 +11,8 @@ use Rattle.basic_laws.proofs.Lists.{have_at}
 use Rattle.tuple_codec.specs.Edits.{EditsRiseAfter, value_at}
 use Rattle.tuple_codec.specs.Nodes.{Item, Node}
 use Rattle.tuple_codec.specs.declared.edits.Edit.{Edit}
-use Rattle.tree_laws.specs.Standing.{Chunks, IsFound, IsStored, Leads, rows_below}
+use Rattle.chunk_store.specs.Chunks.{Chunks}
+use Rattle.tree_laws.specs.Standing.{IsNodeFound, IsStored, Leads, rows_below}
 use Rattle.tree_laws.proofs.StandingOrder.{le_itself, le_lt, lt_is_le, lt_le, order}
 use Rattle.prolly_tree.specs.Lists.{has_any, place_of}
 use Rattle.prolly_tree.specs.Meets.{IsNamed, count_up_to, leaf_has_any}
@@ -139,11 +140,11 @@ below_same chunks node key at item child leads inner place is one (edit ∷ edit
     ap (λ (o : Option (List ℕ)). is_some o || has_any (rows_below chunks node) edits) value
     ∙ ap (λ (b : Bool). is_some (value_at edit.key (rows_below chunks child)) || b) (below_same chunks node key at item child leads inner place is one edits all.1)
 
-there_by : (chunks : Chunks) (level : ℕ) (items : List Item) (at : ℕ) (item : Item) → AllByRecursion (IsFound chunks level) items → 0 < level → slice_get items at ≡ Some item
+there_by : (chunks : Chunks) (level : ℕ) (items : List Item) (at : ℕ) (item : Item) → AllByRecursion (IsNodeFound chunks level) items → 0 < level → slice_get items at ≡ Some item
     → (below : Node) × (IsStored chunks item.body below × (below.level < level))
 there_by chunks zero items at item all inner is = absurd (omega arith)
 there_by chunks (suc level) items at item all inner is =
-    let found = have_at (IsFound chunks (suc level)) items at item all is in
+    let found = have_at (IsNodeFound chunks (suc level)) items at item all is in
     let below : Node = record { level = level; items = found.0 } in
     let deeper : level < suc level = omega arith in
     (below, (found.1, deeper))

@@ -2,8 +2,8 @@
 use Rattle.std.proofs.Common.{◌≡◌, ℕ, List, [], ◌∷◌, ◌++◌, length, map, Some, refl, sym, ap, ◌∙◌, subst, arith}
 use Rattle.tuple_codec.specs.Nodes.{Item, ends}
 use Rattle.tuple_codec.specs.Trees.{AreRows, bytes_of, closes, cut, inner_chunks, name, names, top}
+use Rattle.chunk_store.specs.Chunks.{Chunks}
 use Rattle.chunk_store.specs.Standing.{AreHeld, IsTree}
-use Rattle.tree_laws.specs.Standing.{Chunks}
 use Rattle.prolly_tree.specs.Samples.{by_length, two_rows}
 
 pub empty_tree : (address : List ℕ → List ℕ) (chunks : Chunks) (k : List ℕ) → address (bytes_of 0 []) ≡ k → chunks (address (bytes_of 0 [])) ≡ Some (bytes_of 0 [])

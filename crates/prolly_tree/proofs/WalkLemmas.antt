@@ -5,12 +5,13 @@ use Rattle.std.specs.Ordering.{is_lt}
 use Rattle.std.specs.Option.{MatchOption, is_some}
 use Rattle.tuple_codec.specs.Nodes.{Item, Node, Rise}
 use Rattle.tuple_codec.specs.Trees.{last_key}
+use Rattle.chunk_store.specs.Chunks.{Chunks}
 use Rattle.tree_laws.specs.Found.{each_of, nodes_in, rows_at}
-use Rattle.tree_laws.specs.Standing.{Chunks, IsFound, IsStored, Leads, rows_below}
+use Rattle.tree_laws.specs.Standing.{IsNodeFound, IsStored, Leads, rows_below}
 use Rattle.tree_laws.proofs.StandingReads.{IsReached, all_map, last_row, reached, rows_there, some_rows}
 use Rattle.tree_laws.proofs.StandingOrder.{order, rise_left, rise_right}
 use Rattle.prolly_tree.specs.Lists.{from_key, place_of}
-use Rattle.prolly_tree.specs.Walks.{CanWalk, HaveRoom, IsAtNode, IsAtRow, IsSettled, Left, LeadsOn, left_in, rows_above, rows_left}
+use Rattle.prolly_tree.specs.Walks.{CanWalk, HaveRoom, IsAtNode, IsAtRow, IsEmptyAbove, Left, LeadsOn, left_in, rows_above, rows_left}
 use Rattle.prolly_tree.proofs.Lookups.{drop_place, reach}
 use Rattle.prolly_tree.proofs.Descents.{from_items, head_above, leaf_below}
 
@@ -88,9 +89,9 @@ pub record IsBelow (chunks : Chunks) (old : Left) (address : List ℕ) (node : N
 
 pub below : (chunks : Chunks) (old : Left) (address : List ℕ) → CanWalk chunks old → IsAtNode old address → (node : Node) × IsBelow chunks old address node
 below chunks old address can at =
-    let here : AllByRecursion (IsFound chunks (suc at.level)) (at.item ∷ drop 1 old.here.items) =
-    subst (λ (l : ℕ). AllByRecursion (IsFound chunks l) (at.item ∷ drop 1 old.here.items)) at.inner (subst (AllByRecursion (IsFound chunks old.here.level)) at.first can.here) in
-    let found : IsFound chunks (suc at.level) at.item = here.0 in
+    let here : AllByRecursion (IsNodeFound chunks (suc at.level)) (at.item ∷ drop 1 old.here.items) =
+    subst (λ (l : ℕ). AllByRecursion (IsNodeFound chunks l) (at.item ∷ drop 1 old.here.items)) at.inner (subst (AllByRecursion (IsNodeFound chunks old.here.level)) at.first can.here) in
+    let found : IsNodeFound chunks (suc at.level) at.item = here.0 in
     let node : Node = record { level = at.level; items = found.0 } in
     let f = λ (l : ℕ). rows_at (nodes_in chunks) l in
     let first : each_of (f old.here.level) old.here.items ≡ f old.here.level at.item ++ each_of (f old.here.level) (drop 1 old.here.items) = ap (each_of (f old.here.level)) at.first in
@@ -112,8 +113,8 @@ down_can chunks old address node at can is =
     let room = can.room_here in
     let size = length_is_one old.above (left_in old.here 1) in
     record {
-      here = all_drop (IsFound chunks node.level) at node.items is.each;
-      above = all_one (LeadsOn chunks) old.above (left_in old.here 1) can.above (all_drop (IsFound chunks old.here.level) 1 old.here.items can.here);
+      here = all_drop (IsNodeFound chunks node.level) at node.items is.each;
+      above = all_one (LeadsOn chunks) old.above (left_in old.here 1) can.above (all_drop (IsNodeFound chunks old.here.level) 1 old.here.items can.here);
       room_here = omega (arith, lower, room, size);
       room_above = room_one old.room 0 old.above (left_in old.here 1) can.room_above (omega (arith, room));
     }
@@ -124,7 +125,7 @@ down_rows chunks old address node is =
     ∙ sym (append_assoc (rows_below chunks node) (rows_below chunks (left_in old.here 1)) (rows_above chunks old.above))
     ∙ ap (λ (l : List Item). l ++ rows_above chunks old.above) (sym is.rows)
 
-pub down_settled : (chunks : Chunks) (old : Left) (address : List ℕ) (node : Node) → IsBelow chunks old address node → IsSettled (down_to old node 0)
+pub down_settled : (chunks : Chunks) (old : Left) (address : List ℕ) (node : Node) → IsBelow chunks old address node → IsEmptyAbove (down_to old node 0)
 down_settled chunks old address node is over = let some = is.some in absurd (none_some node.items over some) where
   none_some : (items : List Item) → items ≡ [] → 0 < length items → ⊥
   none_some [] e s = absurd (omega (arith, s))
@@ -199,7 +200,7 @@ begin node at room = record { here = left_in node at; above = []; room = room }
 
 pub begin_can : (chunks : Chunks) (node : Node) (at room : ℕ) → Leads chunks node → node.level ≤ room → CanWalk chunks (begin node at room)
 begin_can chunks node at room leads has = record {
-  here = all_drop (IsFound chunks node.level) at node.items leads.each;
+  here = all_drop (IsNodeFound chunks node.level) at node.items leads.each;
   above = tt;
   room_here = omega (arith, has);
   room_above = tt;
@@ -221,7 +222,7 @@ begin_rest chunks key node at leads place =
 
 pub skip_can : (chunks : Chunks) (old : Left) → CanWalk chunks old → CanWalk chunks (record { here = left_in old.here 1; above = old.above; room = old.room })
 skip_can chunks old can = record {
-  here = all_drop (IsFound chunks old.here.level) 1 old.here.items can.here;
+  here = all_drop (IsNodeFound chunks old.here.level) 1 old.here.items can.here;
   above = can.above;
   room_here = can.room_here;
   room_above = can.room_above;

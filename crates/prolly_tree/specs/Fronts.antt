@@ -4,7 +4,7 @@ use Rattle.tuple_codec.specs.Nodes.{Item, Node}
 use Rattle.chunk_store.specs.Chunks.{Chunks}
 use Rattle.chunk_store.specs.Drafts.{DraftParts, chunks_of}
 use Rattle.tree_laws.specs.Found.{Nodes, items_of, nodes_in, rows_at}
-use Rattle.prolly_tree.specs.Walks.{CanWalk, IsSettled, Left}
+use Rattle.prolly_tree.specs.Walks.{CanWalk, IsEmptyAbove, Left}
 
 abbrev pub Front : Type 0
 Front = List (ℕ × Item)
@@ -61,4 +61,4 @@ front_of left = on_level left.here.level left.here.items ++ front_above left.abo
 -- a walk can go on to its end, and is at what comes first
 pub record IsReady (chunks : Chunks) (left : Left) : Type 0 where
   pub can : CanWalk chunks left
-  pub settled : IsSettled left
+  pub settled : IsEmptyAbove left

@@ -4,7 +4,7 @@ use Rattle.std.specs.List.{AllByRecursion}
 use Rattle.tuple_codec.specs.Nodes.{Item, Node}
 use Rattle.chunk_store.specs.Chunks.{Chunks}
 use Rattle.chunk_store.specs.Drafts.{DraftParts, chunks_of}
-use Rattle.tree_laws.specs.Standing.{IsFound, rows_below}
+use Rattle.tree_laws.specs.Standing.{IsNodeFound, rows_below}
 use Rattle.prolly_tree.specs.Lists.{pair_of}
 
 -- the items of a node from one on
@@ -33,7 +33,7 @@ rows_left chunks left = rows_below chunks left.here ++ rows_above chunks left.ab
 
 -- each item that is left in a node leads to its rows
 abbrev pub LeadsOn : Chunks → Node → Type 0
-LeadsOn chunks node = AllByRecursion (IsFound chunks node.level) node.items
+LeadsOn chunks node = AllByRecursion (IsNodeFound chunks node.level) node.items
 
 -- the node at each place has room for all levels below it
 abbrev pub HaveRoom : ℕ → ℕ → List Node → Type 0
@@ -48,8 +48,8 @@ pub record CanWalk (chunks : Chunks) (left : Left) : Type 0 where
   pub room_above : HaveRoom left.room 0 left.above
 
 -- nothing is left above a node in which nothing is left
-abbrev pub IsSettled : Left → Type 0
-IsSettled left = left.here.items ≡ [] → left.above ≡ []
+abbrev pub IsEmptyAbove : Left → Type 0
+IsEmptyAbove left = left.here.items ≡ [] → left.above ≡ []
 
 -- the walk is at a row, or nothing is left where it is
 abbrev pub IsAtRow : Left → Type 0

@@ -12,7 +12,7 @@ mod walks;
 pub use meets::has_any;
 pub use nodes::{count, get, known_at, node_at};
 pub use scans::{Scan, scan_from};
-pub use steps::Head;
+pub use steps::WalkHead;
 pub use walks::Walk;
 
 #[cfg(test)]

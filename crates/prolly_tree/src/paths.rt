@@ -6,12 +6,12 @@ ghost use Rattle.chunk_store.specs.Chunks.{Chunks};
 ghost use Rattle.chunk_store.specs.Drafts.{chunks_of};
 ghost use Rattle.tree_laws.specs.Standing.{IsStored, Leads, rows_below};
 ghost use Rattle.prolly_tree.specs.Lists.{from_key};
-ghost use Rattle.prolly_tree.specs.Walks.{CanWalk, IsAtNode, IsAtRow, IsSettled, Left, left_in, rows_above, rows_left};
+ghost use Rattle.prolly_tree.specs.Walks.{CanWalk, IsAtNode, IsAtRow, IsEmptyAbove, Left, left_in, rows_above, rows_left};
 ghost use Rattle.prolly_tree.specs.Fronts.{front_of};
 ghost use Rattle.prolly_tree.specs.Heads.{item_of, level_of};
 
 use crate::nodes::{node_at, place_of};
-use crate::steps::{Head, Step};
+use crate::steps::{Step, WalkHead};
 use chunk_store::Draft;
 use node_format::NodeRef;
 use smallvec::SmallVec;
@@ -43,7 +43,7 @@ impl<'a> Path<'a> {
     }
 
     /// The first item that is left in the node where the walk is.
-    pub(crate) fn head(&self) -> Option<Head<'a>>
+    pub(crate) fn head(&self) -> Option<WalkHead<'a>>
         ensures { MatchOption result (self.now.here.items ≡ [])
             (λ head. (self.now.here.items ≡ item_of head ∷ drop 1 self.now.here.items) × (self.now.here.level ≡ level_of head)) }
     {
@@ -72,7 +72,7 @@ impl<'a> Path<'a> {
         ensures kept { (chunks : Chunks) → rows_left chunks self.new ≡ rows_left chunks self.old }
         ensures can { (chunks : Chunks) → CanWalk chunks self.old → CanWalk chunks self.new }
         ensures front { front_of self.new ≡ front_of self.old }
-        ensures settled { IsSettled self.new }
+        ensures settled { IsEmptyAbove self.new }
     {
         'ended: while self.head().is_none() {
             match self.above.pop() {
@@ -88,8 +88,8 @@ impl<'a> Path<'a> {
     {
         match self.head() {
             None => None,
-            Some(Head::Row { .. }) => None,
-            Some(Head::Below { address, .. }) => Some(address),
+            Some(WalkHead::Row { .. }) => None,
+            Some(WalkHead::Below { address, .. }) => Some(address),
         }
     }
 
@@ -98,7 +98,7 @@ impl<'a> Path<'a> {
         requires { CanWalk (chunks_of draft.now.chunks) self.old }
         ensures can { CanWalk (chunks_of draft.now.chunks) self.new }
         ensures kept { rows_left (chunks_of draft.now.chunks) self.new ≡ rows_left (chunks_of draft.now.chunks) self.old }
-        ensures settled { IsSettled self.new }
+        ensures settled { IsEmptyAbove self.new }
         ensures at_row { IsAtRow self.new }
     {
         self.settle();

@@ -10,7 +10,7 @@ ghost use Rattle.prolly_tree.specs.Walks.{scan_rest};
 
 use crate::nodes::{node_at, place_of};
 use crate::paths::Path;
-use crate::steps::{Head, Step};
+use crate::steps::{Step, WalkHead};
 use chunk_store::Draft;
 use smallvec::SmallVec;
 use std::alloc::{AllocError, Global};
@@ -63,11 +63,11 @@ impl<'a, D: Digester> Scan<'a, D> {
         self.walk.to_row(self.draft);
         match self.walk.head() {
             None => None,
-            Some(Head::Row { key, value }) => {
+            Some(WalkHead::Row { key, value }) => {
                 self.walk.skip();
                 Some((key, value))
             }
-            Some(Head::Below { .. }) => unreachable!(),
+            Some(WalkHead::Below { .. }) => unreachable!(),
         }
     }
 }

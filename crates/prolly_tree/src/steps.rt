@@ -11,7 +11,7 @@ use tuple_codec::Address;
 
 /// The first of what a walk has left.
 #[derive(Clone, Copy, Debug)]
-pub enum Head<'a> {
+pub enum WalkHead<'a> {
     Row {
         key: &'a [u8],
         value: &'a [u8],
@@ -59,7 +59,7 @@ impl<'a> Step<'a> {
     }
 
     /// The first item that is left.
-    pub(crate) fn head(&self) -> Option<Head<'a>>
+    pub(crate) fn head(&self) -> Option<WalkHead<'a>>
         ensures { MatchOption result (self.now.items ≡ [])
             (λ head. (self.now.items ≡ item_of head ∷ drop 1 self.now.items) × (self.now.level ≡ level_of head)) }
     {
@@ -94,7 +94,7 @@ fn next_in(node: &NodeRef<'_>, at: u16) -> u16
 }
 
 /// A node's item of this number, if there is one.
-fn head_at<'a>(node: &NodeRef<'a>, at: u16) -> Option<Head<'a>>
+fn head_at<'a>(node: &NodeRef<'a>, at: u16) -> Option<WalkHead<'a>>
     ensures { MatchOption result (drop at node.now.items ≡ [])
         (λ head. (drop at node.now.items ≡ item_of head ∷ drop 1 (drop at node.now.items)) × (node.now.level ≡ level_of head)) }
 {
@@ -106,7 +106,7 @@ fn head_at<'a>(node: &NodeRef<'a>, at: u16) -> Option<Head<'a>>
 }
 
 /// A node's item of this number.
-fn item_at<'a>(node: &NodeRef<'a>, at: u16) -> Head<'a>
+fn item_at<'a>(node: &NodeRef<'a>, at: u16) -> WalkHead<'a>
     requires { at < length node.now.items }
     ensures item { slice_get node.now.items at ≡ Some (item_of result) }
     ensures level { node.now.level ≡ level_of result }
@@ -114,11 +114,11 @@ fn item_at<'a>(node: &NodeRef<'a>, at: u16) -> Head<'a>
     match node.level() {
         0 => {
             let (key, value) = node.leaf_item(at);
-            Head::Row { key, value }
+            WalkHead::Row { key, value }
         }
         level => {
             let (key, address, rows) = node.inner_item(at);
-            Head::Below {
+            WalkHead::Below {
                 level: level - 1,
                 key,
                 address,

@@ -11,7 +11,7 @@ ghost use Rattle.prolly_tree.specs.Heads.{item_of, level_of};
 
 use crate::nodes::node_at;
 use crate::paths::Path;
-use crate::steps::{Head, Step};
+use crate::steps::{Step, WalkHead};
 use chunk_store::Draft;
 use smallvec::SmallVec;
 use std::alloc::{AllocError, Global};
@@ -57,7 +57,7 @@ impl<'a, D: Digester> Walk<'a, D> {
     }
 
     /// What comes first; none at the end.
-    pub fn head(&self) -> Option<Head<'a>>
+    pub fn head(&self) -> Option<WalkHead<'a>>
         ensures { MatchOption result (self.now.front ≡ [])
             (λ head. self.now.front ≡ (level_of head, item_of head) ∷ drop 1 self.now.front) }
     {

@@ -11,28 +11,28 @@ use Rattle.basic_laws.proofs.Options.{some_is as some_same}
 use Rattle.tuple_codec.specs.Edits.{added, against, all_added, changed, order, removed, replaced}
 use Rattle.tuple_codec.specs.Nodes.{Item}
 use Rattle.tuple_codec.specs.Rows.{Cells}
-use Rattle.tuple_codec.specs.declared.edits.Change.{Change}
+use Rattle.tuple_codec.specs.declared.edits.ItemChange.{ItemChange}
 use Rattle.schema_model.specs.Limits.{is_row_within_limits}
 use Rattle.schema_model.specs.PlainTables.{body_bytes, is_row, row_item}
 use Rattle.schema_model.specs.Schemas.{is_schema}
 use Rattle.schema_model.specs.declared.schemas.Schema.{Schema}
 use Rattle.edit_laws.proofs.Orders.{same_key}
 use Rattle.table_rows.specs.Rows.{IsRowOf, RowItemsFollow}
-use Rattle.root_merge.specs.Changing.{AreBrought, IsBrought, is_short_perhaps}
+use Rattle.root_merge.specs.Changing.{AreBrought, IsBroughtRow, is_short_perhaps}
 
 -- ---- one change
 
-pub none_brought : (schema : Schema) (change : Change) (row : Option Cells) → change.new ≡ None → IsBrought schema change row → true ≡ is_short_perhaps schema row
+pub none_brought : (schema : Schema) (change : ItemChange) (row : Option Cells) → change.new ≡ None → IsBroughtRow schema change row → true ≡ is_short_perhaps schema row
 none_brought schema change None none is = refl
 none_brought schema change (Some row) none is = absurd (cc (sym none ∙ is.1))
 
 -- the row that a value is
-pub record IsRowHere (schema : Schema) (change : Change) (value : List ℕ) (row : Option Cells) : Type 0 where
+pub record IsRowHere (schema : Schema) (change : ItemChange) (value : List ℕ) (row : Option Cells) : Type 0 where
   pub cells : Cells
   pub is : IsRowOf schema change.key value cells
   pub row_is : row ≡ Some cells
 
-pub row_brought : (schema : Schema) (change : Change) (value : List ℕ) (row : Option Cells) → change.new ≡ Some value → IsBrought schema change row → IsRowHere schema change value row
+pub row_brought : (schema : Schema) (change : ItemChange) (value : List ℕ) (row : Option Cells) → change.new ≡ Some value → IsBroughtRow schema change row → IsRowHere schema change value row
 row_brought schema change value None there is = absurd (cc (sym is ∙ there))
 row_brought schema change value (Some cells) there is = record {
   cells = cells;
@@ -42,14 +42,14 @@ row_brought schema change value (Some cells) there is = record {
 
 -- ---- a loop over changes
 
-pub brought_at : (schema : Schema) (changes : List Change) (rows : List (Option Cells)) → AreBrought schema changes rows → (at : ℕ) (change : Change) → at < length changes
-    → change ≡ get_or changes at change → IsBrought schema change (get_or rows at None)
+pub brought_at : (schema : Schema) (changes : List ItemChange) (rows : List (Option Cells)) → AreBrought schema changes rows → (at : ℕ) (change : ItemChange) → at < length changes
+    → change ≡ get_or changes at change → IsBroughtRow schema change (get_or rows at None)
 brought_at schema [] rows are at change below is = absurd (omega (arith, below))
 brought_at schema (first ∷ changes) [] are at change below is = absurd are
-brought_at schema (first ∷ changes) (row ∷ rows) are zero change below is = subst (λ (c : Change). IsBrought schema c row) (sym is) are.0
+brought_at schema (first ∷ changes) (row ∷ rows) are zero change below is = subst (λ (c : ItemChange). IsBroughtRow schema c row) (sym is) are.0
 brought_at schema (first ∷ changes) (row ∷ rows) are (suc at) change below is = brought_at schema changes rows are.1 at change (omega (arith, below)) is
 
-pub brought_many : (schema : Schema) (changes : List Change) (rows : List (Option Cells)) → AreBrought schema changes rows → length rows ≡ length changes
+pub brought_many : (schema : Schema) (changes : List ItemChange) (rows : List (Option Cells)) → AreBrought schema changes rows → length rows ≡ length changes
 brought_many schema [] [] are = refl
 brought_many schema [] (row ∷ rows) are = absurd are
 brought_many schema (change ∷ changes) [] are = absurd are
@@ -82,15 +82,15 @@ module _ (follow : RowItemsFollow) (schema : Schema) (valid : is_schema schema �
   fit rows = list_all (is_row schema) rows ≡ true
 
   -- these rows are brought, and they keep the limits where all do
-  pub record AreNews (others : List Cells) (changes : List Change) : Type 0 where
+  pub record AreNews (others : List Cells) (changes : List ItemChange) : Type 0 where
     pub news : List (Option Cells)
     pub brought : AreBrought schema changes news
     pub limits : list_all (is_short_perhaps schema) news ≡ list_all (is_row_within_limits schema) others
 
-  none_more : (others : List Cells) (change : Change) (changes : List Change) → change.new ≡ None → AreNews others changes → AreNews others (change ∷ changes)
+  none_more : (others : List Cells) (change : ItemChange) (changes : List ItemChange) → change.new ≡ None → AreNews others changes → AreNews others (change ∷ changes)
   none_more others change changes none more = record { news = None ∷ more.news; brought = (none, more.brought); limits = more.limits }
 
-  one_more : (other : Cells) (others : List Cells) (change : Change) (changes : List Change) → IsBrought schema change (Some other) → AreNews others changes
+  one_more : (other : Cells) (others : List Cells) (change : ItemChange) (changes : List ItemChange) → IsBroughtRow schema change (Some other) → AreNews others changes
       → AreNews (other ∷ others) (change ∷ changes)
   one_more other others change changes is more = record {
     news = Some other ∷ more.news;
@@ -98,18 +98,18 @@ module _ (follow : RowItemsFollow) (schema : Schema) (valid : is_schema schema �
     limits = ap (λ b. is_row_within_limits schema other && b) more.limits;
   }
 
-  passed : (other : Cells) (others : List Cells) (changes : List Change) → is_row_within_limits schema other ≡ true → AreNews others changes → AreNews (other ∷ others) changes
+  passed : (other : Cells) (others : List Cells) (changes : List ItemChange) → is_row_within_limits schema other ≡ true → AreNews others changes → AreNews (other ∷ others) changes
   passed other others changes short more = record {
     news = more.news;
     brought = more.brought;
     limits = more.limits ∙ sym (ap (λ b. b && list_all (is_row_within_limits schema) others) short);
   }
 
-  is_added : (other : Cells) → is_row schema other ≡ true → IsBrought schema (added (row_item schema other)) (Some other)
+  is_added : (other : Cells) → is_row schema other ≡ true → IsBroughtRow schema (added (row_item schema other)) (Some other)
   is_added other fits = (body_bytes schema other, refl, record { fits = fits; key = refl; value = refl })
 
   is_replaced : (row other : Cells) → is_row schema other ≡ true → order (row_item schema other).key (row_item schema row).key ≡ Equal
-      → IsBrought schema (replaced (row_item schema row) (row_item schema other)) (Some other)
+      → IsBroughtRow schema (replaced (row_item schema row) (row_item schema other)) (Some other)
   is_replaced row other fits same =
       (body_bytes schema other, refl, record { fits = fits; key = same_key (row_item schema other).key (row_item schema row).key same; value = refl })
 
@@ -120,7 +120,7 @@ module _ (follow : RowItemsFollow) (schema : Schema) (valid : is_schema schema �
       let value = eq_key (row_item schema other).body (row_item schema row).body body in
       follow.one schema other row valid other_fits row_fits (λ i. record { key = key i; body = value i; rows = 1 })
 
-  equal_news : (row other : Cells) (others : List Cells) (changes : List Change) → is_row schema row ≡ true → is_row_within_limits schema row ≡ true → is_row schema other ≡ true
+  equal_news : (row other : Cells) (others : List Cells) (changes : List ItemChange) → is_row schema row ≡ true → is_row_within_limits schema row ≡ true → is_row schema other ≡ true
       → order (row_item schema other).key (row_item schema row).key ≡ Equal → AreNews others changes
       → AreNews (other ∷ others) (if bytes_eq (row_item schema other).body (row_item schema row).body then changes else replaced (row_item schema row) (row_item schema other) ∷ changes)
   equal_news row other others changes row_fits short other_fits same more =
@@ -136,7 +136,7 @@ module _ (follow : RowItemsFollow) (schema : Schema) (valid : is_schema schema �
       let both = and_parts (is_row schema other) (list_all (is_row schema) others) fits in
       one_more other others (added (row_item schema other)) (all_added (items others)) (is_added other both.0) (added_news others both.1)
 
-  news_at : (row : Cells) (rest : List Item → List Change) → is_row schema row ≡ true → is_row_within_limits schema row ≡ true
+  news_at : (row : Cells) (rest : List Item → List ItemChange) → is_row schema row ≡ true → is_row_within_limits schema row ≡ true
       → ((others : List Cells) → fit others → AreNews others (rest (items others)))
       → (others : List Cells) → fit others → AreNews others (against (row_item schema row) rest (items others))
   news_at row rest row_fits short more [] fits = none_more [] (removed (row_item schema row)) (rest []) refl (more [] fits)

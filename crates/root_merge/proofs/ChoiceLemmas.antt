@@ -4,9 +4,9 @@ use Rattle.tuple_codec.specs.declared.addresses.Address.{Address}
 use Rattle.schema_model.specs.Limits.{is_table_within_limits}
 use Rattle.schema_model.specs.PlainTables.{PlainTable}
 use Rattle.chunk_store.specs.Chunks.{Chunks}
-use Rattle.table_root.specs.declared.records.Table.{Table}
+use Rattle.table_root.specs.declared.records.StoredTable.{StoredTable}
 use Rattle.plain_merge.specs.RootMerge.{MergedDatabase, MergedTable, SchemaConflict, merged, step, unmerged}
-use Rattle.table_merge.specs.Merging.{IsFaultOf, IsMerged, PlainSides, merged_contents}
+use Rattle.table_merge.specs.Merging.{IsFaultOf, IsMergedTable, PlainSides, merged_contents}
 use Rattle.table_merge.specs.declared.faults.MergeFault.{MergeFault}
 use Rattle.table_merge.specs.declared.faults.MergeFault.TheVariants as fault
 use Rattle.root_merge.specs.Choosing.{LeadsTo}
@@ -37,8 +37,8 @@ ok_same : {A : Type 0} (wanted : Result A (List ℕ)) (x y : A) → wanted ≡ O
 ok_same wanted x y one two = cc
 
 -- a table merged as it was to be has no violations
-pub made_of : (address : List ℕ → List ℕ) (chunks : Chunks) (table : Table) (contents : PlainSides) (made : PlainTable) → merged_contents contents ≡ Ok made
-    → IsMerged address chunks table (merged_contents contents) → IsTableMade address chunks table made
+pub made_of : (address : List ℕ → List ℕ) (chunks : Chunks) (table : StoredTable) (contents : PlainSides) (made : PlainTable) → merged_contents contents ≡ Ok made
+    → IsMergedTable address chunks table (merged_contents contents) → IsTableMade address chunks table made
 made_of address chunks table contents made is merge =
     subst (λ (t : PlainTable). IsTableMade address chunks table t) (ok_same (merged_contents contents) merge.contents made merge.is is)
     (record { stands = merge.stands; limits = merge.limits; settled = (merged_new contents merge.contents merge.is).1 })

@@ -6,7 +6,7 @@ use Rattle.schema_model.specs.Limits.{is_database_within_limits}
 use Rattle.schema_model.specs.PlainTables.{IsDatabase, PlainDatabase, PlainTable}
 use Rattle.schema_model.proofs.SizeLemmas.{few_tables as few_kept}
 use Rattle.chunk_store.specs.Chunks.{Chunks, Extends}
-use Rattle.table_root.specs.Standing.{DatabasesStand}
+use Rattle.table_root.specs.Standing.{DatabasesStand, IsReadAt}
 use Rattle.expr_eval.specs.Binding.{Outcome, and_then}
 use Rattle.plain_merge.specs.RootMerge.{MergedDatabase, SchemaConflict}
 use Rattle.plain_sql.specs.Lists.{unless}
@@ -21,17 +21,17 @@ use Rattle.plain_writes.specs.Violations.{Found, table_in, violations}
 use Rattle.plain_schemas.specs.Statements.{checks}
 use Rattle.constraint_scan.specs.Recorded.{AllAreRecorded}
 use Rattle.constraint_scan.specs.Recording as recording
-use Rattle.constraint_scan.specs.Scanning.{IsKeptAt, IsReadAt}
+use Rattle.constraint_scan.specs.Scanning.{IsKeptAt}
 use Rattle.constraint_scan.specs.Written.{written, written_in}
-use Rattle.constraint_scan.specs.declared.listing.Violation.{Violation}
+use Rattle.constraint_scan.specs.declared.listing.ListedViolation.{ListedViolation}
 use Rattle.plain_sessions.specs.CommitRule.{both_merged, candidate, decide, has_violations, is_in_conflict, is_in_violation, is_none, judged, merged, recorded, without_conflicts}
 use Rattle.plain_sessions.specs.Records.{BranchState, is_same_state}
 use Rattle.plain_sessions.specs.Sessions.{Variables}
 use Rattle.root_merge.specs.Deciding.{AreStates, ComesTo, IsSide, anew, are_unsettled, refusal, settled, together}
-use Rattle.root_merge.specs.Merging.{AreRoots, IsFaultOf, IsMerged, PassesLimit}
+use Rattle.root_merge.specs.Merging.{AreRoots, IsFaultOf, IsMergedDatabase, PassesLimit}
 use Rattle.root_merge.proofs.StateLemmas.{root_later}
 use Rattle.root_merge.proofs.NatLemmas.{nat_false, zero_is}
-use Rattle.root_merge.specs.States.{IsCandidate, StateStands}
+use Rattle.root_merge.specs.States.{BranchStateStands, IsCandidate}
 use Rattle.root_merge.specs.declared.candidates.Candidate.TheVariants as candidate_of
 use Rattle.root_merge.specs.declared.deciding.Side.{Side}
 use Rattle.root_merge.specs.declared.deciding.Side.TheVariants as side
@@ -56,11 +56,11 @@ limit_passes wanted why is of = subst (λ (f : MergeFault). IsFaultOf wanted f) 
 pub none_met : (wanted : Result MergedDatabase SchemaConflict) (all : MergedDatabase) → ComesTo wanted all → without_conflicts wanted ≡ Ok all.database
 none_met wanted all comes = ap without_conflicts comes.is ∙ ap (λ (n : ℕ). unless (not (n == 0)) 1213 (Ok all.database)) comes.clean
 
-pub clean_side : (address : List ℕ → List ℕ) (chunks : Chunks) (result : Merged) (wanted : Result MergedDatabase SchemaConflict) → IsMerged address chunks result wanted → result.conflicts ≡ 0
+pub clean_side : (address : List ℕ → List ℕ) (chunks : Chunks) (result : Merged) (wanted : Result MergedDatabase SchemaConflict) → IsMergedDatabase address chunks result wanted → result.conflicts ≡ 0
     → IsSide address chunks (side.Clean result.root) wanted
 clean_side address chunks result wanted is none = (is.merged, record { is = is.is; clean = sym is.made.conflicts ∙ none }, is.made.root)
 
-pub conflict_side : (address : List ℕ → List ℕ) (chunks : Chunks) (result : Merged) (wanted : Result MergedDatabase SchemaConflict) → IsMerged address chunks result wanted → (result.conflicts ≡ 0 → ⊥)
+pub conflict_side : (address : List ℕ → List ℕ) (chunks : Chunks) (result : Merged) (wanted : Result MergedDatabase SchemaConflict) → IsMergedDatabase address chunks result wanted → (result.conflicts ≡ 0 → ⊥)
     → without_conflicts wanted ≡ Err 1213
 conflict_side address chunks result wanted is some = conflict_met wanted is.merged is.is (nat_false is.merged.conflicts (λ e. some (is.made.conflicts ∙ e)))
 
@@ -93,7 +93,7 @@ staged_roots address chunks start present own s p o states =
 pub refused : (address : List ℕ → List ℕ) (chunks : Chunks) (outcome : Outcome BranchState) (number : ℕ) → outcome ≡ Err number → IsCandidate address chunks (candidate_of.Refused number) outcome
 refused address chunks outcome number is = subst (λ (o : Outcome BranchState). IsCandidate address chunks (candidate_of.Refused number) o) (sym is) refl
 
-pub stands_for : (address : List ℕ → List ℕ) (chunks : Chunks) (outcome : Outcome BranchState) (rec : BranchRecord) (state : BranchState) → outcome ≡ Ok state → StateStands address chunks rec state
+pub stands_for : (address : List ℕ → List ℕ) (chunks : Chunks) (outcome : Outcome BranchState) (rec : BranchRecord) (state : BranchState) → outcome ≡ Ok state → BranchStateStands address chunks rec state
     → IsCandidate address chunks (candidate_of.Record rec) outcome
 stands_for address chunks outcome rec state is stands = subst (λ (o : Outcome BranchState). IsCandidate address chunks (candidate_of.Record rec) o) (sym is) stands
 
@@ -133,13 +133,13 @@ both_clean present w s all others one two first second =
 -- clean databases, recorded
 pub clean_candidate : (address : List ℕ → List ℕ) (old new : Chunks) (present : BranchState) (head : Address) (working staged : Side) (one two : Address) (w s : Result MergedDatabase SchemaConflict) (rec : BranchRecord)
     → working ≡ side.Clean one → staged ≡ side.Clean two → IsSide address old working w → IsSide address old staged s → head.0 ≡ present.head
-    → ((all others : PlainDatabase) → IsKeptAt address old one.0 all → IsKeptAt address old two.0 others → StateStands address new rec (anew head.0 all others))
+    → ((all others : PlainDatabase) → IsKeptAt address old one.0 all → IsKeptAt address old two.0 others → BranchStateStands address new rec (anew head.0 all others))
     → IsCandidate address new (candidate_of.Record rec) (together present w s)
 clean_candidate address old new present head working staged one two w s rec first second is_working is_staged at stands =
     let a : IsSide address old (side.Clean one) w = subst (λ (made : Side). IsSide address old made w) first is_working in
     let b : IsSide address old (side.Clean two) s = subst (λ (made : Side). IsSide address old made s) second is_staged in
     stands_for address new (together present w s) rec (anew present.head a.0.database b.0.database) (both_clean present w s a.0 b.0 a.1 b.1 a.2.within b.2.within)
-    (subst (λ (k : List ℕ). StateStands address new rec (anew k a.0.database b.0.database)) at (stands a.0.database b.0.database a.2 b.2))
+    (subst (λ (k : List ℕ). BranchStateStands address new rec (anew k a.0.database b.0.database)) at (stands a.0.database b.0.database a.2 b.2))
 
 -- ---- the rule
 
@@ -167,7 +167,7 @@ refusal_stays address chunks s p o v number is = by (candidate s p o) is where
 -- the state for which a record stands that was proposed
 pub record IsProposed (address : List ℕ → List ℕ) (chunks : Chunks) (rec : BranchRecord) (s p o : BranchState) (v : Variables) : Type 0 where
   pub state : BranchState
-  pub stands : StateStands address chunks rec state
+  pub stands : BranchStateStands address chunks rec state
   pub decided : decide s p o v ≡ judged v state
 
 pub proposed_is : (address : List ℕ → List ℕ) (chunks : Chunks) (rec : BranchRecord) (s p o : BranchState) (v : Variables) → IsCandidate address chunks (candidate_of.Record rec) (candidate s p o)
@@ -198,7 +198,7 @@ unfolding by_refusal
 judged_refused address chunks v state number is = refused address chunks (judged v state) number (judged_by v state ∙ ap (by_refusal state) is)
 
 pub judged_well : (address : List ℕ → List ℕ) (chunks : Chunks) (v : Variables) (rec : BranchRecord) (state : BranchState) → refusal (is_in_conflict state) (is_in_violation state) v.allow v.force ≡ None
-    → StateStands address chunks rec state → IsCandidate address chunks (candidate_of.Record rec) (judged v state)
+    → BranchStateStands address chunks rec state → IsCandidate address chunks (candidate_of.Record rec) (judged v state)
 unfolding by_refusal
 judged_well address chunks v rec state is stands = stands_for address chunks (judged v state) rec state (judged_by v state ∙ ap (by_refusal state) is) stands
 
@@ -211,11 +211,11 @@ all_recorded laws database is = laws.recorded database is
 pub read_kept : (address : List ℕ → List ℕ) (chunks : Chunks) (k : List ℕ) (database : PlainDatabase) → IsKeptAt address chunks k database → IsReadAt address chunks k database
 read_kept address chunks k database kept = record { stands = kept.stands; few = few_kept database kept.within }
 
-pub can_record : (address : List ℕ → List ℕ) (chunks : Chunks) (k : List ℕ) (list : List Violation) (database : PlainDatabase) → AllAreRecorded → IsKeptAt address chunks k database
+pub can_record : (address : List ℕ → List ℕ) (chunks : Chunks) (k : List ℕ) (list : List ListedViolation) (database : PlainDatabase) → AllAreRecorded → IsKeptAt address chunks k database
     → list ≡ flat_map (written_in database) (violations checks database) → recording.CanRecord address chunks k list database (violations checks database)
 can_record address chunks k list database laws kept is = record {
   kept = kept;
-  recordable = subst (λ (l : List Violation). recording.IsRecordable database l (violations checks database)) (sym is) (laws.recordable address chunks k database kept);
+  recordable = subst (λ (l : List ListedViolation). recording.IsRecordable database l (violations checks database)) (sym is) (laws.recordable address chunks k database kept);
 }
 
 nothing_first : {A : Type 0} (x : A) (xs : List A) → x ∷ xs ≡ [] → ⊥
@@ -250,7 +250,7 @@ recorded_bare (named ∷ database) none =
     } ∷ more i
 
 -- a database without violations that has recorded none stays
-pub stays_recorded : (address : List ℕ → List ℕ) (chunks : Chunks) (k : List ℕ) (list : List Violation) (database : PlainDatabase) → AllAreRecorded → IsKeptAt address chunks k database
+pub stays_recorded : (address : List ℕ → List ℕ) (chunks : Chunks) (k : List ℕ) (list : List ListedViolation) (database : PlainDatabase) → AllAreRecorded → IsKeptAt address chunks k database
     → list ≡ flat_map (written_in database) (violations checks database) → is_none list ≡ true → has_violations database ≡ false → recorded database ≡ database
 stays_recorded address chunks k list database laws kept is none bare =
     let can = laws.recordable address chunks k database kept in

@@ -3,8 +3,8 @@ use Rattle.std.proofs.Common.{◌≡◌, ◌<◌, ◌≤◌, ◌^◌, refl, sym,
 use Rattle.std.specs.List.{list_all}
 use Rattle.tuple_codec.specs.Edits.{EditsRiseAfter, changed, edited}
 use Rattle.tuple_codec.specs.Rows.{Cells}
-use Rattle.tuple_codec.specs.declared.edits.Change.{Change}
 use Rattle.tuple_codec.specs.declared.edits.Edit.{Edit}
+use Rattle.tuple_codec.specs.declared.edits.ItemChange.{ItemChange}
 use Rattle.schema_model.specs.Limits.{is_row_within_limits, is_table_within_limits}
 use Rattle.schema_model.specs.PlainTables.{PlainTable, is_row, row_item, row_items}
 use Rattle.schema_model.specs.Schemas.{is_schema}
@@ -15,7 +15,7 @@ use Rattle.edit_laws.specs.ByKey.{AreLeafRows, as_edits}
 use Rattle.edit_laws.proofs.Rising.{changed_rise}
 use Rattle.edit_laws.proofs.Values.{changes_back}
 use Rattle.table_root.specs.Standing.{IsTableOf, IsUnindexedOf}
-use Rattle.table_root.specs.declared.records.Table.{Table}
+use Rattle.table_root.specs.declared.records.StoredTable.{StoredTable}
 use Rattle.table_rows.specs.Rows.{RowItemsFollow}
 use Rattle.index_keep.specs.Keeping.{CanEditTable, with_rows}
 use Rattle.root_merge.specs.Changing.{AreBrought, CanKeep, is_short_perhaps}
@@ -26,28 +26,28 @@ use Rattle.root_merge.proofs.TableLemmas.{rows_tree, schema_same}
 
 -- ---- what may be kept
 
-pub kept_of : (address : List ℕ → List ℕ) (chunks : Chunks) (ours table : Table) (before contents : PlainTable) → IsMergeOf address chunks ours table before contents → table.schema ≡ ours.schema
+pub kept_of : (address : List ℕ → List ℕ) (chunks : Chunks) (ours table : StoredTable) (before contents : PlainTable) → IsMergeOf address chunks ours table before contents → table.schema ≡ ours.schema
     → CanKeep address chunks ours table before contents
 kept_of address chunks ours table before contents is same = record {
   stands = is.stands;
   within = is.within;
   made = is.made;
-  same = sym (schema_same address chunks table contents is.made.stands) ∙ same ∙ ap (λ (t : Table). t.schema) is.stands.value;
+  same = sym (schema_same address chunks table contents is.made.stands) ∙ same ∙ ap (λ (t : StoredTable). t.schema) is.stands.value;
 }
 
 leaves : (schema : Schema) (rows : List Cells) → AreLeafRows (map (row_item schema) rows)
 leaves schema [] = tt
 leaves schema (row ∷ rows) = (refl, leaves schema rows)
 
-module _ (address : List ℕ → List ℕ) (chunks : Chunks) (ours merged : Table) (before contents : PlainTable) (can : CanKeep address chunks ours merged before contents) where
+module _ (address : List ℕ → List ℕ) (chunks : Chunks) (ours merged : StoredTable) (before contents : PlainTable) (can : CanKeep address chunks ours merged before contents) where
   pub our_rows : IsTree address chunks ours.rows.0 (row_items before)
-  our_rows = subst (λ (k : List ℕ). IsTree address chunks k (row_items before)) (sym (ap (λ (t : Table). t.rows.0) can.stands.value)) can.stands.trees.rows
+  our_rows = subst (λ (k : List ℕ). IsTree address chunks k (row_items before)) (sym (ap (λ (t : StoredTable). t.rows.0) can.stands.value)) can.stands.trees.rows
 
   pub merged_rows : IsTree address chunks merged.rows.0 (row_items contents)
   merged_rows = rows_tree address chunks merged contents can.made.stands
 
   pub our_schema : ours.schema ≡ contents.schema
-  our_schema = ap (λ (t : Table). t.schema) can.stands.value ∙ sym can.same
+  our_schema = ap (λ (t : StoredTable). t.schema) can.stands.value ∙ sym can.same
 
   pub our_schema_valid : is_schema ours.schema ≡ true
   our_schema_valid = ap is_schema our_schema ∙ can.made.stands.is_table.schema
@@ -55,7 +55,7 @@ module _ (address : List ℕ → List ℕ) (chunks : Chunks) (ours merged : Tabl
   -- ---- the rows that come
 
   -- the rows that changes bring, and what their limits say of all
-  pub record AreNewsOf (schema : Schema) (changes : List Change) : Type 0 where
+  pub record AreNewsOf (schema : Schema) (changes : List ItemChange) : Type 0 where
     pub news : List (Option Cells)
     pub brought : AreBrought schema changes news
     pub limits : list_all (is_short_perhaps schema) news ≡ list_all (is_row_within_limits contents.schema) contents.rows
@@ -67,10 +67,10 @@ module _ (address : List ℕ → List ℕ) (chunks : Chunks) (ours merged : Tabl
       let own = news_of follow contents.schema can.made.stands.is_table.schema before.rows contents.rows fit short can.made.stands.is_table.rows in
       record { news = own.news; brought = own.brought; limits = own.limits }
 
-  pub news_for : RowItemsFollow → (changes : List Change) → changes ≡ changed (row_items before) (row_items contents) → AreNewsOf ours.schema changes
+  pub news_for : RowItemsFollow → (changes : List ItemChange) → changes ≡ changed (row_items before) (row_items contents) → AreNewsOf ours.schema changes
   news_for follow changes are =
       subst (λ (s : Schema). AreNewsOf s changes) (sym our_schema)
-      (subst (λ (l : List Change). AreNewsOf contents.schema l)
+      (subst (λ (l : List ItemChange). AreNewsOf contents.schema l)
       (ap (λ (s : Schema). changed (map (row_item s) before.rows) (row_items contents)) can.same ∙ sym are)
       (own_news follow))
 
@@ -99,7 +99,7 @@ module _ (address : List ℕ → List ℕ) (chunks : Chunks) (ours merged : Tabl
 
 -- ---- what comes of them
 
-pub table_kept : (address : List ℕ → List ℕ) (chunks : Chunks) (kept merged : Table) (before contents : PlainTable) → contents.schema ≡ before.schema
+pub table_kept : (address : List ℕ → List ℕ) (chunks : Chunks) (kept merged : StoredTable) (before contents : PlainTable) → contents.schema ≡ before.schema
     → IsTableOf address chunks kept (with_rows before contents.rows) → IsUnindexedOf address chunks merged contents
     → IsTableOf address chunks (record { schema = kept.schema; rows = kept.rows; indexes = kept.indexes; conflicts = merged.conflicts; violations = merged.violations }) contents
 table_kept address chunks kept merged before contents same stands made =

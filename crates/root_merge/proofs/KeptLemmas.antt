@@ -10,7 +10,7 @@ use Rattle.schema_model.specs.PlainTables.{PlainDatabase, PlainTable}
 use Rattle.schema_model.specs.WrittenForms.{table_address}
 use Rattle.chunk_store.specs.Chunks.{Chunks, Extends}
 use Rattle.table_root.specs.Standing.{IsTableAt, TablesStand, named_tables}
-use Rattle.table_root.specs.declared.records.NamedTable.{NamedTable}
+use Rattle.table_root.specs.declared.records.TableEntry.{TableEntry}
 use Rattle.plain_merge.specs.RootMerge.{table_in}
 use Rattle.table_merge.specs.Merging.{PlainSides}
 use Rattle.constraint_scan.specs.Scanning.{IsKeptAt}
@@ -50,7 +50,7 @@ schema_within table within =
     let c = and_parts (is_within_limits table.schema && nat_le (length table.rows) most_rows) rows b.0 in
     (and_parts (is_within_limits table.schema) (nat_le (length table.rows) most_rows) c.0).0
 
-pub kept_listed : (address : List ℕ → List ℕ) (chunks : Chunks) (k : List ℕ) (database : PlainDatabase) (tables : List NamedTable) → IsKeptAt address chunks k database
+pub kept_listed : (address : List ℕ → List ℕ) (chunks : Chunks) (k : List ℕ) (database : PlainDatabase) (tables : List TableEntry) → IsKeptAt address chunks k database
     → tables ≡ named_tables address database → AreKept address chunks tables database
 kept_listed address chunks k database tables kept is = record {
   is_database = kept.stands.is_database;
@@ -86,10 +86,10 @@ pub kept_some_by : (address : List ℕ → List ℕ) (chunks : Chunks) (place : 
     → IsKeptPerhaps address chunks place contents → IsSome address chunks k contents
 kept_some_by address chunks place k contents is kept = kept_some address chunks k contents (subst (λ (o : Option Address). IsKeptPerhaps address chunks o contents) is kept)
 
-pub kept_found : (address : List ℕ → List ℕ) (chunks : Chunks) (name : List ℕ) (tables : List NamedTable) (database : PlainDatabase) → AreKept address chunks tables database
+pub kept_found : (address : List ℕ → List ℕ) (chunks : Chunks) (name : List ℕ) (tables : List TableEntry) (database : PlainDatabase) → AreKept address chunks tables database
     → IsKeptPerhaps address chunks (address_in name tables) (table_in name database)
 kept_found address chunks name tables database kept =
-    subst (λ (list : List NamedTable). IsKeptPerhaps address chunks (address_in name list) (table_in name database)) (sym kept.there.listed)
+    subst (λ (list : List TableEntry). IsKeptPerhaps address chunks (address_in name list) (table_in name database)) (sym kept.there.listed)
     (found_perhaps address chunks name database kept.there.stand (kept_named database kept.within))
 
 -- ---- lists by their first and the others, as a pattern names them

@@ -10,14 +10,13 @@ use Rattle.schema_model.specs.PlainTables.{IsTable, PlainDatabase, PlainTable, r
 use Rattle.schema_model.specs.WrittenForms.{table_address}
 use Rattle.schema_model.proofs.SizeLemmas.{kept_few}
 use Rattle.chunk_store.specs.Chunks.{Chunks, Extends}
-use Rattle.table_root.specs.Standing.{IsTableAt, TablesStand, named_tables}
-use Rattle.table_root.specs.declared.records.NamedTable.{NamedTable}
+use Rattle.table_root.specs.Standing.{AreThere, IsTableAt, TablesStand, named_tables}
+use Rattle.table_root.specs.declared.records.TableEntry.{TableEntry}
 use Rattle.table_root.proofs.ListingLemmas.{made_count}
 use Rattle.plain_merge.specs.RootMerge.{MergedDatabase, MergedTable, SchemaConflict, step, unmerged, with_table}
-use Rattle.constraint_scan.specs.Scanning.{AreThere}
 use Rattle.root_merge.specs.Choosing.{LeadsTo}
 use Rattle.root_merge.specs.Kept.{AreKept, IsKeptPerhaps, IsKeptTable}
-use Rattle.root_merge.specs.Merging.{AreMade, AreNamed, are_within, is_within_perhaps}
+use Rattle.root_merge.specs.Merging.{AreMade, HaveTableNames, are_within, is_within_perhaps}
 use Rattle.root_merge.specs.Names.{LeadTo, Wanted, listed_as, together}
 use Rattle.root_merge.specs.declared.choosing.Choice.{Choice}
 use Rattle.root_merge.specs.declared.choosing.Choice.TheVariants as choice
@@ -46,11 +45,11 @@ stand_later address old new more laws [] stand = tt
 stand_later address old new more laws (named ∷ database) stand =
     (laws.later address old new (table_address address named.table) named.table more stand.0, stand_later address old new more laws database stand.1)
 
-pub made_later : (address : List ℕ → List ℕ) (old new : Chunks) → Extends old new → TablesStand → (made : List NamedTable) (database : PlainDatabase) → AreMade address old made database → AreMade address new made database
+pub made_later : (address : List ℕ → List ℕ) (old new : Chunks) → Extends old new → TablesStand → (made : List TableEntry) (database : PlainDatabase) → AreMade address old made database → AreMade address new made database
 made_later address old new more laws made database are =
     record { there = record { stand = stand_later address old new more laws database are.there.stand; listed = are.there.listed }; within = are.within }
 
-pub kept_later : (address : List ℕ → List ℕ) (old new : Chunks) → Extends old new → TablesStand → (made : List NamedTable) (database : PlainDatabase) → AreKept address old made database → AreKept address new made database
+pub kept_later : (address : List ℕ → List ℕ) (old new : Chunks) → Extends old new → TablesStand → (made : List TableEntry) (database : PlainDatabase) → AreKept address old made database → AreKept address new made database
 kept_later address old new more laws made database are = record {
   is_database = are.is_database;
   within = are.within;
@@ -74,9 +73,9 @@ within_joined (named ∷ done) more one two =
 
 listed_joined : (address : List ℕ → List ℕ) (done more : PlainDatabase) → named_tables address (done ++ more) ≡ named_tables address done ++ named_tables address more
 listed_joined address [] more = refl
-listed_joined address (named ∷ done) more = ap (λ (rest : List NamedTable). record { name = named.name; table = record { 0 = table_address address named.table } } ∷ rest) (listed_joined address done more)
+listed_joined address (named ∷ done) more = ap (λ (rest : List TableEntry). record { name = named.name; table = record { 0 = table_address address named.table } } ∷ rest) (listed_joined address done more)
 
-pub made_joined : (address : List ℕ → List ℕ) (chunks : Chunks) (made others : List NamedTable) (done more : PlainDatabase) → AreMade address chunks made done → AreMade address chunks others more
+pub made_joined : (address : List ℕ → List ℕ) (chunks : Chunks) (made others : List TableEntry) (done more : PlainDatabase) → AreMade address chunks made done → AreMade address chunks others more
     → AreMade address chunks (made ++ others) (done ++ more)
 made_joined address chunks made others done more one two = record {
   there = record {
@@ -123,7 +122,7 @@ tables_of : (address : List ℕ → List ℕ) (chunks : Chunks) (database : Plai
 tables_of address chunks [] stand = tt
 tables_of address chunks (named ∷ database) stand = (stand.0.is_table, tables_of address chunks database stand.1)
 
-pub all_made : (address : List ℕ → List ℕ) (chunks : Chunks) (made : List NamedTable) (database : PlainDatabase) → AreMade address chunks made database → AreNamed database → length database ≤ 256
+pub all_made : (address : List ℕ → List ℕ) (chunks : Chunks) (made : List TableEntry) (database : PlainDatabase) → AreMade address chunks made database → HaveTableNames database → length database ≤ 256
     → AreKept address chunks made database
 all_made address chunks made database are named few = record {
   is_database = record { tables = tables_of address chunks database are.there.stand; names = named.names; rise = named.rise };
@@ -131,36 +130,36 @@ all_made address chunks made database are named few = record {
   there = are.there;
 }
 
-pub kept_count : (address : List ℕ → List ℕ) (chunks : Chunks) (tables : List NamedTable) (database : PlainDatabase) → AreKept address chunks tables database → length tables ≤ 256
+pub kept_count : (address : List ℕ → List ℕ) (chunks : Chunks) (tables : List TableEntry) (database : PlainDatabase) → AreKept address chunks tables database → length tables ≤ 256
 kept_count address chunks tables database kept =
-    subst (λ (n : ℕ). n ≤ 256) (sym (ap (λ (list : List NamedTable). length list) kept.there.listed ∙ made_count address database)) (kept_few database kept.within)
+    subst (λ (n : ℕ). n ≤ 256) (sym (ap (λ (list : List TableEntry). length list) kept.there.listed ∙ made_count address database)) (kept_few database kept.within)
 
 -- ---- what is written
 
 short_listed : (address : List ℕ → List ℕ) (database : PlainDatabase) → list_all is_named_within_limits database ≡ true
-    → list_all (λ (named : NamedTable). is_short_name named.name) (named_tables address database) ≡ true
+    → list_all (λ (named : TableEntry). is_short_name named.name) (named_tables address database) ≡ true
 short_listed address [] within = refl
 short_listed address (named ∷ database) within =
     let both = and_parts (is_named_within_limits named) (list_all is_named_within_limits database) within in
-    and_from (is_short_name named.name) (list_all (λ (n : NamedTable). is_short_name n.name) (named_tables address database))
+    and_from (is_short_name named.name) (list_all (λ (n : TableEntry). is_short_name n.name) (named_tables address database))
     (and_parts (is_short_name named.name) (is_table_within_limits named.table) both.0).0 (short_listed address database both.1)
 
-pub kept_short : (address : List ℕ → List ℕ) (chunks : Chunks) (tables : List NamedTable) (database : PlainDatabase) → AreKept address chunks tables database
-    → list_all (λ (named : NamedTable). is_short_name named.name) tables ≡ true
+pub kept_short : (address : List ℕ → List ℕ) (chunks : Chunks) (tables : List TableEntry) (database : PlainDatabase) → AreKept address chunks tables database
+    → list_all (λ (named : TableEntry). is_short_name named.name) tables ≡ true
 kept_short address chunks tables database kept =
-    ap (λ (list : List NamedTable). list_all (λ (named : NamedTable). is_short_name named.name) list) kept.there.listed ∙ short_listed address database (kept_named database kept.within)
+    ap (λ (list : List TableEntry). list_all (λ (named : TableEntry). is_short_name named.name) list) kept.there.listed ∙ short_listed address database (kept_named database kept.within)
 
 rise_listed : (address : List ℕ → List ℕ) (database : PlainDatabase)
-    → rises (λ (a b : NamedTable). slice_cmp nat_cmp a.name b.name) (named_tables address database) ≡ rises (λ (a b : plain.NamedTable). slice_cmp nat_cmp a.name b.name) database
+    → rises (λ (a b : TableEntry). slice_cmp nat_cmp a.name b.name) (named_tables address database) ≡ rises (λ (a b : plain.NamedTable). slice_cmp nat_cmp a.name b.name) database
 rise_listed address [] = refl
 rise_listed address (named ∷ []) = refl
 rise_listed address (named ∷ next ∷ database) = ap (λ b. is_lt (slice_cmp nat_cmp named.name next.name) && b) (rise_listed address (next ∷ database))
 
-pub kept_rise : (address : List ℕ → List ℕ) (chunks : Chunks) (tables : List NamedTable) (database : PlainDatabase) → AreKept address chunks tables database
-    → rises (λ (a b : NamedTable). slice_cmp nat_cmp a.name b.name) tables ≡ true
+pub kept_rise : (address : List ℕ → List ℕ) (chunks : Chunks) (tables : List TableEntry) (database : PlainDatabase) → AreKept address chunks tables database
+    → rises (λ (a b : TableEntry). slice_cmp nat_cmp a.name b.name) tables ≡ true
 kept_rise address chunks tables database kept =
-    ap (λ (list : List NamedTable). rises (λ (a b : NamedTable). slice_cmp nat_cmp a.name b.name) list) kept.there.listed ∙ rise_listed address database ∙ kept.is_database.rise
+    ap (λ (list : List TableEntry). rises (λ (a b : TableEntry). slice_cmp nat_cmp a.name b.name) list) kept.there.listed ∙ rise_listed address database ∙ kept.is_database.rise
 
-pub kept_again : (address : List ℕ → List ℕ) (old new : Chunks) → Extends old new → TablesStand → (tables : List NamedTable) (database : PlainDatabase) → AreKept address old tables database
+pub kept_again : (address : List ℕ → List ℕ) (old new : Chunks) → Extends old new → TablesStand → (tables : List TableEntry) (database : PlainDatabase) → AreKept address old tables database
     → AllByRecursion (λ named. IsTableAt address new (table_address address named.table) named.table) database
 kept_again address old new more laws tables database kept = stand_later address old new more laws database kept.there.stand

@@ -27,7 +27,7 @@ use Rattle.plain_merge.proofs.Keys.{KeysRise, with_rise}
 use Rattle.edit_laws.proofs.Rising.{after_less}
 use Rattle.table_merge.specs.Merging.{PlainSides, is_short_merged, keeps_limits, merged_contents}
 use Rattle.table_merge.proofs.KeptLemmas.{short_rows as rows_of_all}
-use Rattle.root_merge.specs.Merging.{AreNamed, are_within}
+use Rattle.root_merge.specs.Merging.{HaveTableNames, are_within}
 use Rattle.root_merge.specs.Names.{Wanted, all_wanted, together, wanted_for}
 use Rattle.root_merge.proofs.NameLemmas.{all_few}
 
@@ -150,7 +150,7 @@ named_by test b o t merged nb nn nt e =
 
 pub merged_named : (b o t : PlainDatabase) (merged : MergedDatabase) → IsDatabase b → IsDatabase o → IsDatabase t
     → list_all is_named_within_limits b ≡ true → list_all is_named_within_limits o ≡ true → list_all is_named_within_limits t ≡ true
-    → together (all_wanted b o t) ≡ Ok merged → AreNamed merged.database
+    → together (all_wanted b o t) ≡ Ok merged → HaveTableNames merged.database
 merged_named b o t merged ib io it wb wo wt e =
     let keys = all_keys order (names_of b) (names_of o) (names_of t) in
     let rise : KeysRise None keys = with_rise (names_of b) None (keys_with order (names_of o) (names_of t)) (own_rise b ib.rise) (with_rise (names_of o) None (names_of t) (own_rise o io.rise) (own_rise t it.rise)) in
@@ -186,7 +186,7 @@ pub database_passes : (database : PlainDatabase) → are_within database ≡ fal
 database_passes database fails =
     not_so (is_database_within_limits database) (are_within database) (λ holds. within_named database (and_parts (nat_le (length database) most_tables) (list_all is_named_within_limits database) holds).1) fails
 
-pub database_within : (database : PlainDatabase) → length database ≤ 256 → AreNamed database → are_within database ≡ true → is_database_within_limits database ≡ true
+pub database_within : (database : PlainDatabase) → length database ≤ 256 → HaveTableNames database → are_within database ≡ true → is_database_within_limits database ≡ true
 database_within database few named within =
     and_from (nat_le (length database) most_tables) (list_all is_named_within_limits database) (le-leb (length database) 256 few) (named_within database named.short within)
 

@@ -11,7 +11,7 @@ use Rattle.schema_model.specs.PlainTables.{PlainDatabase}
 use Rattle.schema_model.specs.Sameness.{is_same_table}
 use Rattle.chunk_store.specs.Chunks.{Chunks}
 use Rattle.table_root.specs.Standing.{TablesStand, named_tables}
-use Rattle.table_root.specs.declared.records.NamedTable.{NamedTable}
+use Rattle.table_root.specs.declared.records.TableEntry.{TableEntry}
 use Rattle.plain_merge.specs.KeyByKey.{all_keys, key_among, keys_with}
 use Rattle.plain_merge.specs.RootMerge.{names_of, over_names, root3, step, table_in}
 use Rattle.root_merge.specs.Choosing.{address_in}
@@ -32,10 +32,10 @@ names_same : (address : List ℕ → List ℕ) (database : PlainDatabase) → na
 names_same address [] = refl
 names_same address (named ∷ database) = ap (λ names. named.name ∷ names) (names_same address database)
 
-pub kept_names : (address : List ℕ → List ℕ) (chunks : Chunks) (tables : List NamedTable) (database : PlainDatabase) → AreKept address chunks tables database → names_in tables ≡ names_of database
+pub kept_names : (address : List ℕ → List ℕ) (chunks : Chunks) (tables : List TableEntry) (database : PlainDatabase) → AreKept address chunks tables database → names_in tables ≡ names_of database
 kept_names address chunks tables database kept = ap names_in kept.there.listed ∙ names_same address database
 
-names_lead : (address : List ℕ → List ℕ) (chunks : Chunks) → TablesStand → AreTold is_same_table → (base ours theirs : List NamedTable) (b o t : PlainDatabase)
+names_lead : (address : List ℕ → List ℕ) (chunks : Chunks) → TablesStand → AreTold is_same_table → (base ours theirs : List TableEntry) (b o t : PlainDatabase)
     → AreKept address chunks base b → AreKept address chunks ours o → AreKept address chunks theirs t → (names : List (List ℕ))
     → LeadTo address chunks (map (chosen_for base ours theirs) names) (map (wanted_for b o t) names)
 names_lead address chunks laws told base ours theirs b o t kb ko kt [] = tt
@@ -46,7 +46,7 @@ names_lead address chunks laws told base ours theirs b o t kb ko kt (name ∷ na
   names_lead address chunks laws told base ours theirs b o t kb ko kt names,
 )
 
-pub all_lead : (address : List ℕ → List ℕ) (chunks : Chunks) → TablesStand → AreTold is_same_table → (base ours theirs : List NamedTable) (b o t : PlainDatabase)
+pub all_lead : (address : List ℕ → List ℕ) (chunks : Chunks) → TablesStand → AreTold is_same_table → (base ours theirs : List TableEntry) (b o t : PlainDatabase)
     → AreKept address chunks base b → AreKept address chunks ours o → AreKept address chunks theirs t → LeadTo address chunks (all_chosen base ours theirs) (all_wanted b o t)
 all_lead address chunks laws told base ours theirs b o t kb ko kt =
     subst (λ (names : List (List ℕ)). LeadTo address chunks (map (chosen_for base ours theirs) (all_keys order names (names_in ours) (names_in theirs))) (all_wanted b o t))
@@ -82,12 +82,12 @@ all_few order base ours theirs =
     let two = with_few order ours theirs in
     omega (arith, one, two)
 
-pub chosen_few : (base ours theirs : List NamedTable) → length base ≤ 256 → length ours ≤ 256 → length theirs ≤ 256 → length (all_chosen base ours theirs) ≤ 768
+pub chosen_few : (base ours theirs : List TableEntry) → length base ≤ 256 → length ours ≤ 256 → length theirs ≤ 256 → length (all_chosen base ours theirs) ≤ 768
 chosen_few base ours theirs one two three =
     let names = all_keys order (names_in base) (names_in ours) (names_in theirs) in
     let all = all_few order (names_in base) (names_in ours) (names_in theirs) in
     let count = length-map names (chosen_for base ours theirs) in
-    let b = length-map base (λ (named : NamedTable). named.name) in
-    let o = length-map ours (λ (named : NamedTable). named.name) in
-    let t = length-map theirs (λ (named : NamedTable). named.name) in
+    let b = length-map base (λ (named : TableEntry). named.name) in
+    let o = length-map ours (λ (named : TableEntry). named.name) in
+    let t = length-map theirs (λ (named : TableEntry). named.name) in
     omega (arith, one, two, three, all, count, b, o, t)

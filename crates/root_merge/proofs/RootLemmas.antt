@@ -6,7 +6,7 @@ use Rattle.schema_model.specs.Limits.{is_database_within_limits}
 use Rattle.schema_model.specs.PlainTables.{PlainDatabase, PlainTable}
 use Rattle.chunk_store.specs.Chunks.{Chunks, Extends}
 use Rattle.table_root.specs.Standing.{TablesStand, named_tables}
-use Rattle.table_root.specs.declared.records.NamedTable.{NamedTable}
+use Rattle.table_root.specs.declared.records.TableEntry.{TableEntry}
 use Rattle.table_root.proofs.ListingLemmas.{made_count}
 use Rattle.plain_merge.specs.RootMerge.{MergedDatabase, MergedTable, SchemaConflict, root3, with_table}
 use Rattle.table_merge.specs.Merging.{IsMergeReason}
@@ -14,7 +14,7 @@ use Rattle.table_merge.specs.declared.faults.MergeFault.{MergeFault}
 use Rattle.table_merge.specs.declared.faults.MergeFault.TheVariants as fault
 use Rattle.root_merge.specs.Choosing.{LeadsTo}
 use Rattle.root_merge.specs.Kept.{AreKept, IsKeptPerhaps}
-use Rattle.root_merge.specs.Merging.{AllMerge, AreMade, AreNamed, AreRoots, CanMerge, IsFaultOf, IsLimitFault, IsMadeOf, IsMerged, IsSchemaFault, are_within, is_within_perhaps}
+use Rattle.root_merge.specs.Merging.{AllMerge, AreMade, AreRoots, CanMerge, HaveTableNames, IsFaultOf, IsLimitFault, IsMadeOf, IsMergedDatabase, IsSchemaFault, are_within, is_within_perhaps}
 use Rattle.root_merge.specs.Names.{LeadTo, Wanted, all_wanted, listed_as, together}
 use Rattle.root_merge.specs.declared.merging.Merged.{Merged}
 use Rattle.root_merge.specs.declared.names.Named.{Named}
@@ -95,11 +95,11 @@ later_limit address chunks first names wanted merged why step of =
     (limit_weaker (are_within step.others.database) (are_within (with_table first.name step.one.table step.others.database)) why (later_passes first.name step.one.table step.others.database) of)
 
 -- the first table joins those that were made
-pub made_first : (address : List ℕ → List ℕ) (old new : Chunks) → Extends old new → TablesStand → (made now : List NamedTable) (done : PlainDatabase) (first : Named) (names : List Named) (wanted : List Wanted) (merged : MergedDatabase)
+pub made_first : (address : List ℕ → List ℕ) (old new : Chunks) → Extends old new → TablesStand → (made now : List TableEntry) (done : PlainDatabase) (first : Named) (names : List Named) (wanted : List Wanted) (merged : MergedDatabase)
     (step : IsStep address old first names wanted merged) (k : Option Address) → AreMade address old made done → IsKeptPerhaps address new k step.one.table → now ≡ made ++ listed_as first.name k
     → AreMade address new now (done ++ with_table first.name step.one.table [])
 made_first address old new more laws made now done first names wanted merged step k are kept is =
-    subst (λ (list : List NamedTable). AreMade address new list (done ++ with_table first.name step.one.table [])) (sym is)
+    subst (λ (list : List TableEntry). AreMade address new list (done ++ with_table first.name step.one.table [])) (sym is)
     (made_joined address new made (listed_as first.name k) done (with_table first.name step.one.table []) (made_later address old new more laws made done are) (made_one address new first.name k step.one.table kept))
 
 pub database_is : (address : List ℕ → List ℕ) (chunks : Chunks) (first : Named) (names : List Named) (wanted : List Wanted) (merged : MergedDatabase) (step : IsStep address chunks first names wanted merged) (done : PlainDatabase)
@@ -126,16 +126,16 @@ none_step address chunks names wanted merged few lead comes =
 pub nothing_made : (address : List ℕ → List ℕ) (chunks : Chunks) → AreMade address chunks [] []
 nothing_made address chunks = record { there = record { stand = tt; listed = refl }; within = refl }
 
-pub whole_kept : (address : List ℕ → List ℕ) (chunks : Chunks) (tables : List NamedTable) (merged : MergedDatabase) → AreMade address chunks tables merged.database → AreNamed merged.database → length tables ≤ 256
+pub whole_kept : (address : List ℕ → List ℕ) (chunks : Chunks) (tables : List TableEntry) (merged : MergedDatabase) → AreMade address chunks tables merged.database → HaveTableNames merged.database → length tables ≤ 256
     → AreKept address chunks tables merged.database
 whole_kept address chunks tables merged are named few =
     all_made address chunks tables merged.database are named
-    (subst (λ (n : ℕ). n ≤ 256) (ap (λ (list : List NamedTable). length list) are.there.listed ∙ made_count address merged.database) few)
+    (subst (λ (n : ℕ). n ≤ 256) (ap (λ (list : List TableEntry). length list) are.there.listed ∙ made_count address merged.database) few)
 
-pub whole_passes : (address : List ℕ → List ℕ) (chunks : Chunks) (tables : List NamedTable) (merged : MergedDatabase) → AreMade address chunks tables merged.database → 256 < length tables
+pub whole_passes : (address : List ℕ → List ℕ) (chunks : Chunks) (tables : List TableEntry) (merged : MergedDatabase) → AreMade address chunks tables merged.database → 256 < length tables
     → is_database_within_limits merged.database ≡ false
 whole_passes address chunks tables merged are many =
-    too_many merged.database (subst (λ (n : ℕ). 256 < n) (ap (λ (list : List NamedTable). length list) are.there.listed ∙ made_count address merged.database) many)
+    too_many merged.database (subst (λ (n : ℕ). 256 < n) (ap (λ (list : List TableEntry). length list) are.there.listed ∙ made_count address merged.database) many)
 
 pub tables_pass : (merged : MergedDatabase) (why : MergeFault) → IsLimitFault (are_within merged.database) why → IsLimitFault (is_database_within_limits merged.database) why
 tables_pass merged why of = limit_weaker (are_within merged.database) (is_database_within_limits merged.database) why (database_passes merged.database) of
@@ -150,5 +150,5 @@ can_merge address chunks base ours theirs b o t names merged roots lead comes = 
 }
 
 pub is_merged : (address : List ℕ → List ℕ) (chunks : Chunks) (result : Merged) (b o t : PlainDatabase) (merged : MergedDatabase) → together (all_wanted b o t) ≡ Ok merged → IsMadeOf address chunks result merged
-    → IsMerged address chunks result (root3 b o t)
+    → IsMergedDatabase address chunks result (root3 b o t)
 is_merged address chunks result b o t merged comes made = record { merged = merged; is = root_together b o t ∙ comes; made = made }

@@ -13,26 +13,26 @@ use Rattle.table_root.specs.Standing.{DatabasesStand, IsDatabaseAt, IsTableAt, T
 use Rattle.plain_sessions.specs.CommitRule.{is_in_conflict, is_in_violation, is_unsettled}
 use Rattle.plain_sessions.specs.Records.{BranchState}
 use Rattle.root_merge.specs.States.{bytes_of}
-use Rattle.root_merge.specs.Settling.{IsSettled, IsSettledDatabase, IsSettledTable, either, has, is_any, nothing_left, database_left, state_left, table_left}
+use Rattle.root_merge.specs.Settling.{AreSettledRoots, IsSettledDatabase, IsSettledTable, either, has, is_any, nothing_left, database_left, state_left, table_left}
 use Rattle.root_merge.specs.declared.settling.Left.{Left}
 use Rattle.root_merge.specs.declared.settling.Settled.{Settled}
 
 -- ---- what they stand for
 
-pub table_seen : (address : List ℕ → List ℕ) (chunks : Chunks) → TablesStand → (settled : Settled) → IsSettled address chunks settled → (k : List ℕ) → has settled.tables k ≡ true
+pub table_seen : (address : List ℕ → List ℕ) (chunks : Chunks) → TablesStand → (settled : Settled) → AreSettledRoots address chunks settled → (k : List ℕ) → has settled.tables k ≡ true
     → (contents : PlainTable) → IsTableAt address chunks k contents → nothing_left ≡ table_left contents
 table_seen address chunks laws settled seen k is contents at =
     let one = seen.tables k is in
     sym one.bare ∙ ap table_left (laws.one address chunks k one.contents contents one.at at)
 
-pub database_seen : (address : List ℕ → List ℕ) (chunks : Chunks) → DatabasesStand → (settled : Settled) → IsSettled address chunks settled → (k : List ℕ) → has settled.databases k ≡ true
+pub database_seen : (address : List ℕ → List ℕ) (chunks : Chunks) → DatabasesStand → (settled : Settled) → AreSettledRoots address chunks settled → (k : List ℕ) → has settled.databases k ≡ true
     → (contents : PlainDatabase) → IsDatabaseAt address chunks k contents → nothing_left ≡ database_left contents
 database_seen address chunks laws settled seen k is contents at =
     let one = seen.databases k is in
     sym one.bare ∙ ap database_left (laws.one address chunks k one.contents contents one.at at)
 
 -- they do so later too
-pub settled_later : (address : List ℕ → List ℕ) (old new : Chunks) → Extends old new → TablesStand → DatabasesStand → (settled : Settled) → IsSettled address old settled → IsSettled address new settled
+pub settled_later : (address : List ℕ → List ℕ) (old new : Chunks) → Extends old new → TablesStand → DatabasesStand → (settled : Settled) → AreSettledRoots address old settled → AreSettledRoots address new settled
 settled_later address old new more tables databases settled seen = record {
   tables = λ k is. let one = seen.tables k is in record { contents = one.contents; at = tables.later address old new k one.contents more one.at; bare = one.bare };
   databases = λ k is. let one = seen.databases k is in record { contents = one.contents; at = databases.later address old new k one.contents more one.at; bare = one.bare };
@@ -56,21 +56,21 @@ with_tables settled more = record { tables = more; databases = settled.databases
 abbrev with_databases : Settled → BTreeSet (List ℕ) → Settled
 with_databases settled more = record { tables = settled.tables; databases = more }
 
-module _ (address : List ℕ → List ℕ) (chunks : Chunks) (settled : Settled) (seen : IsSettled address chunks settled) (more : BTreeSet (List ℕ)) where
-  pub table_more : (k : List ℕ) → Updates (slice_cmp nat_cmp) settled.tables more k true → IsSettledTable address chunks k → IsSettled address chunks (with_tables settled more)
+module _ (address : List ℕ → List ℕ) (chunks : Chunks) (settled : Settled) (seen : AreSettledRoots address chunks settled) (more : BTreeSet (List ℕ)) where
+  pub table_more : (k : List ℕ) → Updates (slice_cmp nat_cmp) settled.tables more k true → IsSettledTable address chunks k → AreSettledRoots address chunks (with_tables settled more)
   table_more k updates new = record { tables = one_more settled.tables more k (IsSettledTable address chunks) updates new seen.tables; databases = seen.databases }
 
-  pub database_more : (k : List ℕ) → Updates (slice_cmp nat_cmp) settled.databases more k true → IsSettledDatabase address chunks k → IsSettled address chunks (with_databases settled more)
+  pub database_more : (k : List ℕ) → Updates (slice_cmp nat_cmp) settled.databases more k true → IsSettledDatabase address chunks k → AreSettledRoots address chunks (with_databases settled more)
   database_more k updates new = record { tables = seen.tables; databases = one_more settled.databases more k (IsSettledDatabase address chunks) updates new seen.databases }
 
-  pub tables_same : IsUnchanged settled.tables more → IsSettled address chunks (with_tables settled more)
+  pub tables_same : IsUnchanged settled.tables more → AreSettledRoots address chunks (with_tables settled more)
   tables_same same = record { tables = λ k is. seen.tables k (unchanged settled.tables more same k is); databases = seen.databases }
 
-  pub databases_same : IsUnchanged settled.databases more → IsSettled address chunks (with_databases settled more)
+  pub databases_same : IsUnchanged settled.databases more → AreSettledRoots address chunks (with_databases settled more)
   databases_same same = record { tables = seen.tables; databases = λ k is. seen.databases k (unchanged settled.databases more same k is) }
 
 -- none was seen yet
-pub none_seen : (address : List ℕ → List ℕ) (chunks : Chunks) (tables databases : BTreeSet (List ℕ)) → tables.keys ≡ [] → databases.keys ≡ [] → IsSettled address chunks (record { tables = tables; databases = databases })
+pub none_seen : (address : List ℕ → List ℕ) (chunks : Chunks) (tables databases : BTreeSet (List ℕ)) → tables.keys ≡ [] → databases.keys ≡ [] → AreSettledRoots address chunks (record { tables = tables; databases = databases })
 none_seen address chunks tables databases first second = record { tables = λ k is. absurd (none tables first k is); databases = λ k is. absurd (none databases second k is) } where
   none : (seen : BTreeSet (List ℕ)) → seen.keys ≡ [] → (k : List ℕ) → has seen k ≡ true → ⊥
   none seen bare k is = true≢false (sym is ∙ ap (λ (s : BTreeSet (List ℕ)). has s k) (λ i. record { keys = bare i }))

@@ -11,14 +11,14 @@ use Rattle.schema_model.specs.PlainTables.{PlainDatabase, PlainTable, conflict_i
 use Rattle.schema_model.specs.Sameness.{SamenessIsEquality, is_same_database, is_same_option}
 use Rattle.chunk_store.specs.Chunks.{Chunks, Extends}
 use Rattle.chunk_store.specs.Standing.{IsTree}
-use Rattle.table_root.specs.Standing.{DatabasesStand, IsTableOf, named_tables}
-use Rattle.table_root.specs.declared.records.NamedTable.{NamedTable}
-use Rattle.table_root.specs.declared.records.Table.{Table}
-use Rattle.constraint_scan.specs.Scanning.{AreThere, IsKeptAt}
+use Rattle.table_root.specs.Standing.{AreThere, DatabasesStand, IsTableOf, named_tables}
+use Rattle.table_root.specs.declared.records.StoredTable.{StoredTable}
+use Rattle.table_root.specs.declared.records.TableEntry.{TableEntry}
+use Rattle.constraint_scan.specs.Scanning.{IsKeptAt}
 use Rattle.plain_sessions.specs.CommitRule.{is_none}
 use Rattle.plain_sessions.specs.Records.{BranchState, is_same_state}
 use Rattle.root_merge.specs.Merging.{AreRoots}
-use Rattle.root_merge.specs.States.{StateStands, bytes_of}
+use Rattle.root_merge.specs.States.{BranchStateStands, bytes_of}
 
 -- ---- later
 
@@ -34,7 +34,7 @@ roots_later address old new more laws base ours theirs b o t roots = record {
 }
 
 pub state_later : (address : List ℕ → List ℕ) (old new : Chunks) → Extends old new → DatabasesStand → (rec : BranchRecord) (state : BranchState)
-    → StateStands address old rec state → StateStands address new rec state
+    → BranchStateStands address old rec state → BranchStateStands address new rec state
 state_later address old new more laws rec state stands = record {
   head = stands.head;
   working = root_later address old new more laws rec.working.0 state.working stands.working;
@@ -58,7 +58,7 @@ option_is (Some a) None e = absurd cc
 
 -- one record stands for one state
 pub same_record : (address : List ℕ → List ℕ) (chunks : Chunks) → DatabasesStand → SamenessIsEquality → (rec : BranchRecord) (p s : BranchState)
-    → StateStands address chunks rec p → StateStands address chunks rec s → is_same_state p s ≡ true
+    → BranchStateStands address chunks rec p → BranchStateStands address chunks rec s → is_same_state p s ≡ true
 unfolding is_same_state
 same_record address chunks laws told rec p s one two =
     let working = (told.databases p.working s.working).1 (laws.one address chunks rec.working.0 p.working s.working one.working.stands two.working.stands) in
@@ -71,7 +71,7 @@ same_record address chunks laws told rec p s one two =
 
 -- records of one state are one
 pub one_record : (address : List ℕ → List ℕ) (chunks : Chunks) → DatabasesStand → SamenessIsEquality → (present start : BranchRecord) (p s : BranchState)
-    → StateStands address chunks present p → StateStands address chunks start s → is_same_state p s ≡ true → present ≡ start
+    → BranchStateStands address chunks present p → BranchStateStands address chunks start s → is_same_state p s ≡ true → present ≡ start
 unfolding is_same_state
 one_record address chunks laws told present start p s one two same =
     let a = and_parts (bytes_eq p.head s.head && is_same_database p.working s.working && is_same_database p.staged s.staged) (is_same_option bytes_eq p.merging s.merging) same in
@@ -87,13 +87,13 @@ one_record address chunks laws told present start p s one two same =
 
 -- ---- what tables have recorded
 
-pub conflicts_tree : (address : List ℕ → List ℕ) (chunks : Chunks) (table : Table) (contents : PlainTable) → IsTableOf address chunks table contents → IsTree address chunks table.conflicts.0 (conflict_items contents)
+pub conflicts_tree : (address : List ℕ → List ℕ) (chunks : Chunks) (table : StoredTable) (contents : PlainTable) → IsTableOf address chunks table contents → IsTree address chunks table.conflicts.0 (conflict_items contents)
 conflicts_tree address chunks table contents stands =
-    subst (λ (k : List ℕ). IsTree address chunks k (conflict_items contents)) (sym (ap (λ (t : Table). t.conflicts.0) stands.value)) stands.trees.conflicts
+    subst (λ (k : List ℕ). IsTree address chunks k (conflict_items contents)) (sym (ap (λ (t : StoredTable). t.conflicts.0) stands.value)) stands.trees.conflicts
 
-pub violations_tree : (address : List ℕ → List ℕ) (chunks : Chunks) (table : Table) (contents : PlainTable) → IsTableOf address chunks table contents → IsTree address chunks table.violations.0 (violation_items contents)
+pub violations_tree : (address : List ℕ → List ℕ) (chunks : Chunks) (table : StoredTable) (contents : PlainTable) → IsTableOf address chunks table contents → IsTree address chunks table.violations.0 (violation_items contents)
 violations_tree address chunks table contents stands =
-    subst (λ (k : List ℕ). IsTree address chunks k (violation_items contents)) (sym (ap (λ (t : Table). t.violations.0) stands.value)) stands.trees.violations
+    subst (λ (k : List ℕ). IsTree address chunks k (violation_items contents)) (sym (ap (λ (t : StoredTable). t.violations.0) stands.value)) stands.trees.violations
 
 pub some_conflicts : (contents : PlainTable) (found : Bool) → found ≡ not (length (conflict_items contents) == 0) → found ≡ not (is_none contents.conflicts)
 some_conflicts contents found is = is ∙ ap (λ (n : ℕ). not (n == 0)) (length-map contents.conflicts (conflict_item contents.schema))
@@ -101,7 +101,7 @@ some_conflicts contents found is = is ∙ ap (λ (n : ℕ). not (n == 0)) (lengt
 pub some_violations : (contents : PlainTable) (found : Bool) → found ≡ not (length (violation_items contents) == 0) → found ≡ not (is_none contents.violations)
 some_violations contents found is = is ∙ ap (λ (n : ℕ). not (n == 0)) (length-map contents.violations (violation_item contents.schema))
 
-pub there_none : (address : List ℕ → List ℕ) (chunks : Chunks) (database : PlainDatabase) (all : List NamedTable) → all ≡ [] → AreThere address chunks database all → database ≡ []
+pub there_none : (address : List ℕ → List ℕ) (chunks : Chunks) (database : PlainDatabase) (all : List TableEntry) → all ≡ [] → AreThere address chunks database all → database ≡ []
 there_none address chunks [] all is there = refl
 there_none address chunks (named ∷ more) all is there = absurd (nothing (sym is ∙ there.listed)) where
   nothing : [] ≡ named_tables address (named ∷ more) → ⊥

@@ -11,14 +11,14 @@ use Rattle.schema_model.specs.PlainTables.{PlainTable, conflict_item, conflict_i
 use Rattle.schema_model.specs.declared.schemas.Schema.{Schema}
 use Rattle.chunk_store.specs.Chunks.{Chunks}
 use Rattle.chunk_store.specs.Drafts.{Drafting, Grows}
-use Rattle.chunk_store.specs.Kinds.{is_database, is_either, is_node, is_table}
+use Rattle.chunk_store.specs.Kinds.{is_data, is_database, is_either, is_node, is_table}
 use Rattle.chunk_store.specs.Laws.{DraftsGrow}
 use Rattle.chunk_store.specs.Standing.{IsTree}
 use Rattle.schema_merge.specs.Merging.{and_then, schema3}
 use Rattle.plain_merge.specs.TableMerge.{table3, table_of, three_on}
 use Rattle.table_rows.specs.Rows.{AreRowsAt}
 use Rattle.table_root.specs.Standing.{IsTableOf, IsUnindexedOf}
-use Rattle.table_root.specs.declared.records.Table.{Table}
+use Rattle.table_root.specs.declared.records.StoredTable.{StoredTable}
 use Rattle.index_keep.specs.Keeping.{AreIndexes, CanIndex, table_of_rows}
 use Rattle.chunk_store.specs.Clashes.{IsReason}
 use Rattle.chunk_store.specs.declared.faults.PutFault.{PutFault}
@@ -26,37 +26,37 @@ use Rattle.chunk_store.specs.declared.faults.PutFault.TheVariants as put
 use Rattle.table_merge.specs.Merging.{AreSides, IsMergeReason, IsSide, IsSidePerhaps, PlainSides, fault_of_put, merged_contents}
 use Rattle.table_merge.specs.declared.faults.MergeFault.{MergeFault}
 use Rattle.root_merge.specs.Kept.{IsKeptPerhaps}
-use Rattle.root_merge.specs.Merging.{CanMergeRows, CanMergeSides, IsLimitFault, MayBecome, is_data, part_in, schemas_merged}
+use Rattle.root_merge.specs.Merging.{CanMergeRows, CanMergeSides, IsLimitFault, MayBecome, part_in, schemas_merged}
 use Rattle.root_merge.specs.declared.reading.Sides.{Sides}
 use Rattle.root_merge.proofs.MergedLemmas.{few_rows, row_limits_of}
 
 -- ---- trees
 
-pub schema_same : (address : List ℕ → List ℕ) (chunks : Chunks) (table : Table) (contents : PlainTable) → IsUnindexedOf address chunks table contents → table.schema ≡ contents.schema
-schema_same address chunks table contents stands = ap (λ (t : Table). t.schema) stands.value
+pub schema_same : (address : List ℕ → List ℕ) (chunks : Chunks) (table : StoredTable) (contents : PlainTable) → IsUnindexedOf address chunks table contents → table.schema ≡ contents.schema
+schema_same address chunks table contents stands = ap (λ (t : StoredTable). t.schema) stands.value
 
-pub rows_tree : (address : List ℕ → List ℕ) (chunks : Chunks) (table : Table) (contents : PlainTable) → IsUnindexedOf address chunks table contents
+pub rows_tree : (address : List ℕ → List ℕ) (chunks : Chunks) (table : StoredTable) (contents : PlainTable) → IsUnindexedOf address chunks table contents
     → IsTree address chunks table.rows.0 (map (row_item contents.schema) contents.rows)
 rows_tree address chunks table contents stands =
-    subst (λ (k : List ℕ). IsTree address chunks k (map (row_item contents.schema) contents.rows)) (sym (ap (λ (t : Table). t.rows.0) stands.value)) stands.trees.rows
+    subst (λ (k : List ℕ). IsTree address chunks k (map (row_item contents.schema) contents.rows)) (sym (ap (λ (t : StoredTable). t.rows.0) stands.value)) stands.trees.rows
 
-pub rows_at : (address : List ℕ → List ℕ) (chunks : Chunks) (table : Table) (contents : PlainTable) → IsUnindexedOf address chunks table contents
+pub rows_at : (address : List ℕ → List ℕ) (chunks : Chunks) (table : StoredTable) (contents : PlainTable) → IsUnindexedOf address chunks table contents
     → AreRowsAt address chunks table.rows.0 table.schema contents.rows
 rows_at address chunks table contents stands =
     subst (λ (s : Schema). AreRowsAt address chunks table.rows.0 s contents.rows) (sym (schema_same address chunks table contents stands))
     (record { fit = stands.is_table.rows; tree = rows_tree address chunks table contents stands })
 
-pub conflicts_tree : (address : List ℕ → List ℕ) (chunks : Chunks) (table : Table) (contents : PlainTable) → IsUnindexedOf address chunks table contents
+pub conflicts_tree : (address : List ℕ → List ℕ) (chunks : Chunks) (table : StoredTable) (contents : PlainTable) → IsUnindexedOf address chunks table contents
     → IsTree address chunks table.conflicts.0 (conflict_items contents)
 conflicts_tree address chunks table contents stands =
-    subst (λ (k : List ℕ). IsTree address chunks k (conflict_items contents)) (sym (ap (λ (t : Table). t.conflicts.0) stands.value)) stands.trees.conflicts
+    subst (λ (k : List ℕ). IsTree address chunks k (conflict_items contents)) (sym (ap (λ (t : StoredTable). t.conflicts.0) stands.value)) stands.trees.conflicts
 
 pub conflicts_count : (contents : PlainTable) → length (conflict_items contents) ≡ length contents.conflicts
 conflicts_count contents = length-map contents.conflicts (conflict_item contents.schema)
 
 -- ---- indexes
 
-pub can_index : (address : List ℕ → List ℕ) (chunks : Chunks) (table : Table) (contents : PlainTable) → MayBecome address chunks table contents
+pub can_index : (address : List ℕ → List ℕ) (chunks : Chunks) (table : StoredTable) (contents : PlainTable) → MayBecome address chunks table contents
     → CanIndex address chunks table.rows.0 table.schema contents.rows
 can_index address chunks table contents may =
     subst (λ (s : Schema). CanIndex address chunks table.rows.0 s contents.rows) (sym (schema_same address chunks table contents may.stands))
@@ -67,7 +67,7 @@ can_index address chunks table contents may =
       few_of : (contents : PlainTable) → is_table_within_limits contents ≡ true → length contents.rows < 2 ^ 63
       few_of contents within = let few = few_rows contents within in omega (arith, few)
 
-pub table_made : (address : List ℕ → List ℕ) (chunks : Chunks) (table : Table) (contents : PlainTable) (roots : List Address) → IsUnindexedOf address chunks table contents
+pub table_made : (address : List ℕ → List ℕ) (chunks : Chunks) (table : StoredTable) (contents : PlainTable) (roots : List Address) → IsUnindexedOf address chunks table contents
     → AreIndexes address chunks (table_of_rows table.schema contents.rows) roots
     → IsTableOf address chunks (record { schema = table.schema; rows = table.rows; indexes = roots; conflicts = table.conflicts; violations = table.violations }) contents
 table_made address chunks table contents roots stands indexes =
@@ -112,11 +112,11 @@ same_fault P (Err fault) why of h = subst P (sym h.1) of
 
 -- ---- schemas
 
-schema_told : (address : List ℕ → List ℕ) (chunks : Chunks) (table : Table) (contents : PlainTable) → IsSide address chunks table contents → table.schema ≡ contents.schema
-schema_told address chunks table contents side = ap (λ (t : Table). t.schema) side.stands.value
+schema_told : (address : List ℕ → List ℕ) (chunks : Chunks) (table : StoredTable) (contents : PlainTable) → IsSide address chunks table contents → table.schema ≡ contents.schema
+schema_told address chunks table contents side = ap (λ (t : StoredTable). t.schema) side.stands.value
 
-base_told : (address : List ℕ → List ℕ) (chunks : Chunks) (table : Option Table) (contents : Option PlainTable) → IsSidePerhaps address chunks table contents
-    → option_map (λ (t : Table). t.schema) table ≡ option_map (λ (t : PlainTable). t.schema) contents
+base_told : (address : List ℕ → List ℕ) (chunks : Chunks) (table : Option StoredTable) (contents : Option PlainTable) → IsSidePerhaps address chunks table contents
+    → option_map (λ (t : StoredTable). t.schema) table ≡ option_map (λ (t : PlainTable). t.schema) contents
 base_told address chunks None None side = refl
 base_told address chunks (Some table) (Some contents) side = ap (λ (s : Schema). Some s) (schema_told address chunks table contents side)
 base_told address chunks None (Some contents) side = absurd side
@@ -129,13 +129,13 @@ merged_part contents = by (schema3 (option_map (λ (t : PlainTable). t.schema) c
   by (Ok s) = refl
   by (Err part) = refl
 
-pub part_told : (address : List ℕ → List ℕ) (chunks : Chunks) (base : Option Table) (ours theirs : Table) (contents : PlainSides) → AreSides address chunks base ours theirs contents
+pub part_told : (address : List ℕ → List ℕ) (chunks : Chunks) (base : Option StoredTable) (ours theirs : StoredTable) (contents : PlainSides) → AreSides address chunks base ours theirs contents
     → part_in (schemas_merged base ours theirs) ≡ part_in (merged_contents contents)
 part_told address chunks base ours theirs contents sides =
     (λ i. part_in (schema3 (base_told address chunks base contents.base sides.base_side i) (schema_told address chunks ours contents.ours sides.our_side i) (schema_told address chunks theirs contents.theirs sides.their_side i)))
     ∙ sym (merged_part contents)
 
-pub limits_told : (address : List ℕ → List ℕ) (chunks : Chunks) (table : Table) (contents : PlainTable) → IsSide address chunks table contents → is_within_limits table.schema ≡ true
+pub limits_told : (address : List ℕ → List ℕ) (chunks : Chunks) (table : StoredTable) (contents : PlainTable) → IsSide address chunks table contents → is_within_limits table.schema ≡ true
 limits_told address chunks table contents side = ap (λ (s : Schema). is_within_limits s) (schema_told address chunks table contents side) ∙ side.limits
 
 -- ---- tables that are merged

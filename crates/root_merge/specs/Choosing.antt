@@ -4,7 +4,7 @@ use Rattle.tuple_codec.specs.RowRule.{same_option, three_way}
 use Rattle.tuple_codec.specs.declared.addresses.Address.{Address}
 use Rattle.schema_model.specs.PlainTables.{PlainTable}
 use Rattle.chunk_store.specs.Chunks.{Chunks}
-use Rattle.table_root.specs.declared.records.NamedTable.{NamedTable}
+use Rattle.table_root.specs.declared.records.TableEntry.{TableEntry}
 use Rattle.plain_merge.specs.RootMerge.{MergedTable, merged, unmerged}
 use Rattle.table_merge.specs.Merging.{PlainSides, merged_contents}
 use Rattle.root_merge.specs.Kept.{AreKeptSides, IsKeptPerhaps}
@@ -12,7 +12,7 @@ use Rattle.root_merge.specs.declared.choosing.Choice.{Choice}
 use Rattle.root_merge.specs.declared.choosing.Choice.TheVariants as choice
 
 -- the address of the table of a name
-abbrev pub address_in : List ℕ → List NamedTable → Option Address
+abbrev pub address_in : List ℕ → List TableEntry → Option Address
 address_in name [] = None
 address_in name (named ∷ tables) = if bytes_eq named.name name then Some named.table else address_in name tables
 

@@ -12,7 +12,7 @@ use Rattle.tuple_codec.specs.declared.records.BranchRecord.{BranchRecord}
 use Rattle.plain_sessions.specs.Sessions.{Variables}
 use Rattle.tuple_codec.specs.declared.addresses.Address.{Address}
 use Rattle.root_merge.specs.Merging.{AreRoots, PassesLimit}
-use Rattle.root_merge.specs.States.{StateStands}
+use Rattle.root_merge.specs.States.{BranchStateStands}
 use Rattle.root_merge.specs.declared.deciding.Side.{Side}
 use Rattle.root_merge.specs.declared.deciding.Side.TheVariants as side
 
@@ -29,9 +29,9 @@ IsSide address chunks side.Limit wanted = (merged : MergedDatabase) × ComesTo w
 
 -- three records stand for three states
 pub record AreStates (address : List ℕ → List ℕ) (chunks : Chunks) (start present own : BranchRecord) (s p o : BranchState) : Type 0 where
-  pub start_stands : StateStands address chunks start s
-  pub present_stands : StateStands address chunks present p
-  pub own_stands : StateStands address chunks own o
+  pub start_stands : BranchStateStands address chunks start s
+  pub present_stands : BranchStateStands address chunks present p
+  pub own_stands : BranchStateStands address chunks own o
 
 -- the addresses stand for databases whose merge passes a limit
 pub record PassesAt (address : List ℕ → List ℕ) (chunks : Chunks) (base ours theirs : Address) (b o t : PlainDatabase) : Type 0 where

@@ -5,11 +5,10 @@ use Rattle.schema_model.specs.Limits.{is_database_within_limits, is_table_within
 use Rattle.schema_model.specs.PlainTables as plain
 use Rattle.schema_model.specs.PlainTables.{PlainDatabase, PlainTable}
 use Rattle.chunk_store.specs.Chunks.{Chunks}
-use Rattle.table_root.specs.Standing.{IsTableAt, IsTableOf}
-use Rattle.table_root.specs.declared.records.NamedTable.{NamedTable}
-use Rattle.table_root.specs.declared.records.Table.{Table}
+use Rattle.table_root.specs.Standing.{AreThere, IsTableAt, IsTableOf}
+use Rattle.table_root.specs.declared.records.StoredTable.{StoredTable}
+use Rattle.table_root.specs.declared.records.TableEntry.{TableEntry}
 use Rattle.table_merge.specs.Merging.{PlainSides}
-use Rattle.constraint_scan.specs.Scanning.{AreThere}
 
 -- the address stands for the table, which keeps the limits
 pub record IsKeptTable (address : List ℕ → List ℕ) (chunks : Chunks) (k : List ℕ) (table : PlainTable) : Type 0 where
@@ -29,12 +28,12 @@ pub record AreKeptSides (address : List ℕ → List ℕ) (chunks : Chunks) (bas
   pub their_side : IsKeptTable address chunks theirs.0 contents.theirs
 
 -- this list names the tables of a database that keeps the limits
-pub record AreKept (address : List ℕ → List ℕ) (chunks : Chunks) (tables : List NamedTable) (database : PlainDatabase) : Type 0 where
+pub record AreKept (address : List ℕ → List ℕ) (chunks : Chunks) (tables : List TableEntry) (database : PlainDatabase) : Type 0 where
   pub is_database : plain.IsDatabase database
   pub within : is_database_within_limits database ≡ true
   pub there : AreThere address chunks database tables
 
 -- a table whose trees are found, and which keeps the limits
-pub record MayStand (address : List ℕ → List ℕ) (chunks : Chunks) (table : Table) (contents : PlainTable) : Type 0 where
+pub record MayBeKept (address : List ℕ → List ℕ) (chunks : Chunks) (table : StoredTable) (contents : PlainTable) : Type 0 where
   pub stands : IsTableOf address chunks table contents
   pub within : is_table_within_limits contents ≡ true

@@ -10,27 +10,22 @@ use Rattle.schema_model.specs.PlainTables.{PlainDatabase, PlainTable, rises}
 use Rattle.schema_model.specs.Schemas.{is_name}
 use Rattle.schema_model.specs.declared.schemas.Schema.{Schema}
 use Rattle.chunk_store.specs.Chunks.{Chunks}
-use Rattle.chunk_store.specs.Kinds.{is_database, is_either, is_node, is_table}
-use Rattle.table_root.specs.Standing.{IsTableOf, IsUnindexedOf}
-use Rattle.table_root.specs.declared.records.NamedTable.{NamedTable}
-use Rattle.table_root.specs.declared.records.Table.{Table}
+use Rattle.table_root.specs.Standing.{AreThere, IsTableOf, IsUnindexedOf}
+use Rattle.table_root.specs.declared.records.StoredTable.{StoredTable}
+use Rattle.table_root.specs.declared.records.TableEntry.{TableEntry}
 use Rattle.schema_merge.specs.Merging.{schema3}
 use Rattle.plain_merge.specs.RootMerge.{MergedDatabase, MergedTable, SchemaConflict}
 use Rattle.table_merge.specs.Merging as merging
 use Rattle.table_merge.specs.Merging.{PlainSides, keeps_limits, merged_contents}
 use Rattle.table_merge.specs.declared.faults.MergeFault.{MergeFault}
 use Rattle.table_merge.specs.declared.faults.MergeFault.TheVariants as fault
-use Rattle.constraint_scan.specs.Scanning.{AreThere, IsKeptAt}
+use Rattle.constraint_scan.specs.Scanning.{IsKeptAt}
 use Rattle.root_merge.specs.Kept.{AreKeptSides, IsKeptPerhaps}
 use Rattle.root_merge.specs.Names.{LeadTo, Wanted, together}
 use Rattle.root_merge.specs.declared.merging.Merged.{Merged}
 use Rattle.root_merge.specs.declared.names.Named.{Named}
 use Rattle.root_merge.specs.declared.reading.Sides.{Sides}
 use Rattle.root_merge.specs.declared.tables.Became.{Became}
-
--- a node, a table or a database
-abbrev pub is_data : List ℕ → Bool
-is_data = is_either is_node (is_either is_table is_database)
 
 -- the name of a part in conflict
 abbrev pub Part : Type 0
@@ -44,8 +39,8 @@ part_in (Ok table) = None
 part_in (Err part) = Some part
 
 -- what the schemas of tables come to
-abbrev pub schemas_merged : Option Table → Table → Table → Result Schema (List ℕ)
-schemas_merged base ours theirs = schema3 (option_map (λ (table : Table). table.schema) base) ours.schema theirs.schema
+abbrev pub schemas_merged : Option StoredTable → StoredTable → StoredTable → Result Schema (List ℕ)
+schemas_merged base ours theirs = schema3 (option_map (λ (table : StoredTable). table.schema) base) ours.schema theirs.schema
 
 -- all schemas merge
 abbrev pub AllMerge : Result MergedDatabase SchemaConflict → Type 0
@@ -80,19 +75,19 @@ pub record CanMergeRows (address : List ℕ → List ℕ) (chunks : Chunks) (bas
   pub comes : merged_contents contents ≡ Ok table
 
 -- a merged table without its indexes, which keeps the limits but perhaps those on indexes
-pub record IsTableMade (address : List ℕ → List ℕ) (chunks : Chunks) (table : Table) (contents : PlainTable) : Type 0 where
+pub record IsTableMade (address : List ℕ → List ℕ) (chunks : Chunks) (table : StoredTable) (contents : PlainTable) : Type 0 where
   pub stands : IsUnindexedOf address chunks table contents
   pub limits : keeps_limits contents ≡ true
   pub settled : contents.violations ≡ []
 
 -- ours, which keeps the limits, and the table that a merge gave
-pub record IsMergeOf (address : List ℕ → List ℕ) (chunks : Chunks) (ours table : Table) (before contents : PlainTable) : Type 0 where
+pub record IsMergeOf (address : List ℕ → List ℕ) (chunks : Chunks) (ours table : StoredTable) (before contents : PlainTable) : Type 0 where
   pub stands : IsTableOf address chunks ours before
   pub within : is_table_within_limits before ≡ true
   pub made : IsTableMade address chunks table contents
 
 -- the same where it keeps them all
-pub record MayBecome (address : List ℕ → List ℕ) (chunks : Chunks) (table : Table) (contents : PlainTable) : Type 0 where
+pub record MayBecome (address : List ℕ → List ℕ) (chunks : Chunks) (table : StoredTable) (contents : PlainTable) : Type 0 where
   pub stands : IsUnindexedOf address chunks table contents
   pub within : is_table_within_limits contents ≡ true
 
@@ -111,7 +106,7 @@ abbrev pub are_within : PlainDatabase → Bool
 are_within database = list_all (λ named. is_table_within_limits named.table) database
 
 -- this list names tables that stand and keep the limits
-pub record AreMade (address : List ℕ → List ℕ) (chunks : Chunks) (made : List NamedTable) (database : PlainDatabase) : Type 0 where
+pub record AreMade (address : List ℕ → List ℕ) (chunks : Chunks) (made : List TableEntry) (database : PlainDatabase) : Type 0 where
   pub there : AreThere address chunks database made
   pub within : are_within database ≡ true
 
@@ -124,7 +119,7 @@ pub record AreRoots (address : List ℕ → List ℕ) (chunks : Chunks) (base ou
   pub their_root : IsKeptAt address chunks theirs.0 t
 
 -- names that the tables of a database may have
-pub record AreNamed (database : PlainDatabase) : Type 0 where
+pub record HaveTableNames (database : PlainDatabase) : Type 0 where
   pub names : list_all (λ named. is_name named.name) database ≡ true
   pub short : list_all (λ named. is_short_name named.name) database ≡ true
   pub rise : rises (λ a b. slice_cmp nat_cmp a.name b.name) database ≡ true
@@ -133,7 +128,7 @@ pub record AreNamed (database : PlainDatabase) : Type 0 where
 pub record CanMerge (address : List ℕ → List ℕ) (chunks : Chunks) (names : List Named) (wanted : List Wanted) (merged : MergedDatabase) : Type 0 where
   pub lead : LeadTo address chunks names wanted
   pub comes : together wanted ≡ Ok merged
-  pub named : AreNamed merged.database
+  pub named : HaveTableNames merged.database
 
 -- the merged database stands, and its conflicts are counted
 pub record IsMadeOf (address : List ℕ → List ℕ) (chunks : Chunks) (result : Merged) (merged : MergedDatabase) : Type 0 where
@@ -141,7 +136,7 @@ pub record IsMadeOf (address : List ℕ → List ℕ) (chunks : Chunks) (result 
   pub conflicts : result.conflicts ≡ merged.conflicts
 
 -- the merged database stands
-pub record IsMerged (address : List ℕ → List ℕ) (chunks : Chunks) (result : Merged) (wanted : Result MergedDatabase SchemaConflict) : Type 0 where
+pub record IsMergedDatabase (address : List ℕ → List ℕ) (chunks : Chunks) (result : Merged) (wanted : Result MergedDatabase SchemaConflict) : Type 0 where
   pub merged : MergedDatabase
   pub is : wanted ≡ Ok merged
   pub made : IsMadeOf address chunks result merged

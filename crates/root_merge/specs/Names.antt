@@ -4,25 +4,25 @@ use Rattle.tuple_codec.specs.Edits.{order}
 use Rattle.tuple_codec.specs.declared.addresses.Address.{Address}
 use Rattle.schema_model.specs.PlainTables.{PlainDatabase}
 use Rattle.chunk_store.specs.Chunks.{Chunks}
-use Rattle.table_root.specs.declared.records.NamedTable.{NamedTable}
+use Rattle.table_root.specs.declared.records.TableEntry.{TableEntry}
 use Rattle.plain_merge.specs.KeyByKey.{all_keys}
 use Rattle.plain_merge.specs.RootMerge.{MergedDatabase, MergedTable, SchemaConflict, either_table, names_of, step, table_in}
 use Rattle.root_merge.specs.Choosing.{LeadsTo, address_in, chosen}
 use Rattle.root_merge.specs.declared.names.Named.{Named}
 
-abbrev pub names_in : List NamedTable → List (List ℕ)
+abbrev pub names_in : List TableEntry → List (List ℕ)
 names_in tables = map (λ named. named.name) tables
 
 -- ---- by addresses
 
-abbrev pub chosen_for : List NamedTable → List NamedTable → List NamedTable → List ℕ → Named
+abbrev pub chosen_for : List TableEntry → List TableEntry → List TableEntry → List ℕ → Named
 chosen_for base ours theirs name = record { name = name; choice = chosen (address_in name base) (address_in name ours) (address_in name theirs) }
 
-abbrev pub all_chosen : List NamedTable → List NamedTable → List NamedTable → List Named
+abbrev pub all_chosen : List TableEntry → List TableEntry → List TableEntry → List Named
 all_chosen base ours theirs = map (chosen_for base ours theirs) (all_keys order (names_in base) (names_in ours) (names_in theirs))
 
 -- a table as databases list it, if there is one
-abbrev pub listed_as : List ℕ → Option Address → List NamedTable
+abbrev pub listed_as : List ℕ → Option Address → List TableEntry
 listed_as name None = []
 listed_as name (Some table) = record { name = name; table = table } ∷ []
 

@@ -46,6 +46,6 @@ abbrev pub has : BTreeSet (List ℕ) → List ℕ → Bool
 has seen k = contains (slice_cmp nat_cmp) seen k
 
 -- each address that was seen stands for such a table, or for such a database
-pub record IsSettled (address : List ℕ → List ℕ) (chunks : Chunks) (settled : Settled) : Type 0 where
+pub record AreSettledRoots (address : List ℕ → List ℕ) (chunks : Chunks) (settled : Settled) : Type 0 where
   pub tables : (k : List ℕ) → has settled.tables k ≡ true → IsSettledTable address chunks k
   pub databases : (k : List ℕ) → has settled.databases k ≡ true → IsSettledDatabase address chunks k

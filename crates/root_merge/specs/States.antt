@@ -14,18 +14,18 @@ abbrev pub bytes_of : Option Address → Option (List ℕ)
 bytes_of place = option_map (λ (k : Address). k.0) place
 
 -- its databases keep the limits on data
-pub record StateStands (address : List ℕ → List ℕ) (chunks : Chunks) (rec : BranchRecord) (state : BranchState) : Type 0 where
+pub record BranchStateStands (address : List ℕ → List ℕ) (chunks : Chunks) (rec : BranchRecord) (state : BranchState) : Type 0 where
   pub head : rec.head.0 ≡ state.head
   pub working : IsKeptAt address chunks rec.working.0 state.working
   pub staged : IsKeptAt address chunks rec.staged.0 state.staged
   pub merging : bytes_of rec.merging ≡ state.merging
 
-abbrev pub HasState : (List ℕ → List ℕ) → Chunks → BranchRecord → Type 0
-HasState address chunks rec = (state : BranchState) × StateStands address chunks rec state
+abbrev pub HasBranchState : (List ℕ → List ℕ) → Chunks → BranchRecord → Type 0
+HasBranchState address chunks rec = (state : BranchState) × BranchStateStands address chunks rec state
 
 -- the answer is what was decided: a record that stands for the state, or the refusal's number
 abbrev pub IsCandidate : (List ℕ → List ℕ) → Chunks → Candidate → Outcome BranchState → Type 0
-IsCandidate address chunks (candidate.Record rec) (Ok state) = StateStands address chunks rec state
+IsCandidate address chunks (candidate.Record rec) (Ok state) = BranchStateStands address chunks rec state
 IsCandidate address chunks (candidate.Refused number) (Err refusal) = number ≡ refusal
 IsCandidate address chunks (candidate.Record rec) (Err refusal) = ⊥
 IsCandidate address chunks (candidate.Refused number) (Ok state) = ⊥

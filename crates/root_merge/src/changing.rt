@@ -9,31 +9,31 @@ ghost use Rattle.schema_model.specs.PlainTables.{PlainTable, row_items};
 ghost use Rattle.schema_model.specs.Schemas.{is_schema};
 ghost use Rattle.chunk_store.specs.Clashes.{IsReason};
 ghost use Rattle.chunk_store.specs.Drafts.{Grows, chunks_of};
-ghost use Rattle.chunk_store.specs.Kinds.{is_node};
+ghost use Rattle.chunk_store.specs.Kinds.{is_data, is_node};
 ghost use Rattle.edit_laws.specs.ByKey.{as_edits};
 ghost use Rattle.table_root.specs.Standing.{IsTableOf};
 ghost use Rattle.table_merge.specs.Merging.{IsMergeReason};
-ghost use Rattle.root_merge.specs.Changing.{AreBrought, CanKeep, HasChanges, HasEdits, IsBrought, is_short_perhaps};
-ghost use Rattle.root_merge.specs.Merging.{IsBecome, IsLimitFault, is_data, of_table};
+ghost use Rattle.root_merge.specs.Changing.{AreBrought, CanKeep, HasChanges, HasEdits, IsBroughtRow, is_short_perhaps};
+ghost use Rattle.root_merge.specs.Merging.{IsBecome, IsLimitFault, of_table};
 
 use crate::laws::laws_of_growth;
 use crate::tables::{Became, conflicts_in, keep_table};
 use chunk_store::{Draft, PutFault};
 use index_keep::apply_with_indexes;
-use pair_walk::{Reads, changes};
+use pair_walk::{ReadCount, changes};
 use plain_writes::is_large;
 use schema_model::Schema;
 use std::alloc::{AllocError, Global};
 use table_merge::MergeFault;
-use table_root::Table;
+use table_root::StoredTable;
 use table_rows::{law_of_row_items, row_of};
-use tuple_codec::{Change, Digester, Edit};
+use tuple_codec::{Digester, Edit, ItemChange};
 
 /// Whether the row that a change brings keeps the limits, if it brings one.
-fn is_short(alloc: Global, schema: &Schema, change: &Change) -> Result<bool, AllocError>
+fn is_short(alloc: Global, schema: &Schema, change: &ItemChange) -> Result<bool, AllocError>
     requires schema { is_schema schema.now ≡ true }
-    requires row { (row : Option Cells) × IsBrought schema.now change.now row }
-    ensures { (row : Option Cells) → IsBrought schema.now change.now row → IfOk result (λ short. short ≡ is_short_perhaps schema.now row) }
+    requires row { (row : Option Cells) × IsBroughtRow schema.now change.now row }
+    ensures { (row : Option Cells) → IsBroughtRow schema.now change.now row → IfOk result (λ short. short ≡ is_short_perhaps schema.now row) }
 {
     match change.new.as_ref() {
         None => Ok(true),
@@ -45,7 +45,7 @@ fn is_short(alloc: Global, schema: &Schema, change: &Change) -> Result<bool, All
 }
 
 /// The same of all of these changes.
-fn are_short(alloc: Global, schema: &Schema, changes: &[Change]) -> Result<bool, AllocError>
+fn are_short(alloc: Global, schema: &Schema, changes: &[ItemChange]) -> Result<bool, AllocError>
     requires schema { is_schema schema.now ≡ true }
     requires rows { (rows : List (Option Cells)) × AreBrought schema.now changes.now rows }
     ensures { (rows : List (Option Cells)) → AreBrought schema.now changes.now rows → IfOk result (λ short. short ≡ list_all (is_short_perhaps schema.now) rows) }
@@ -59,7 +59,7 @@ fn are_short(alloc: Global, schema: &Schema, changes: &[Change]) -> Result<bool,
 }
 
 /// The changes as edits of the old rows.
-fn edits_of(alloc: Global, changes: Vec<Change>) -> Result<Vec<Edit>, AllocError>
+fn edits_of(alloc: Global, changes: Vec<ItemChange>) -> Result<Vec<Edit>, AllocError>
     ensures { IfOk result (λ edits. edits.items ≡ as_edits changes.items) }
 {
     let mut edits = Vec::new(alloc);
@@ -76,14 +76,14 @@ fn edits_of(alloc: Global, changes: Vec<Change>) -> Result<Vec<Edit>, AllocError
 fn changes_between<D: Digester>(
     alloc: Global,
     draft: &Draft<D>,
-    ours: &Table,
-    merged: &Table,
-) -> Result<Vec<Change>, AllocError>
+    ours: &StoredTable,
+    merged: &StoredTable,
+) -> Result<Vec<ItemChange>, AllocError>
     requires { (before : PlainTable) × (contents : PlainTable) × CanKeep D.address (chunks_of draft.now.chunks) ours.now merged.now before contents }
     ensures { (before contents : PlainTable) → CanKeep D.address (chunks_of draft.now.chunks) ours.now merged.now before contents
         → IfOk result (λ list. list.items ≡ changed (row_items before) (row_items contents)) }
 {
-    let mut reads = Reads::new();
+    let mut reads = ReadCount::new();
     changes(alloc, draft, &ours.rows, &merged.rows, &mut reads)
 }
 
@@ -91,9 +91,9 @@ fn changes_between<D: Digester>(
 fn rows_are_short<D: Digester>(
     alloc: Global,
     draft: &Draft<D>,
-    ours: &Table,
-    merged: &Table,
-    changes: &[Change],
+    ours: &StoredTable,
+    merged: &StoredTable,
+    changes: &[ItemChange],
 ) -> Result<bool, AllocError>
     requires { (before : PlainTable) × (contents : PlainTable) × HasChanges D.address (chunks_of draft.now.chunks) ours.now merged.now changes.now before contents }
     ensures { (before contents : PlainTable) → HasChanges D.address (chunks_of draft.now.chunks) ours.now merged.now changes.now before contents
@@ -107,10 +107,10 @@ fn rows_are_short<D: Digester>(
 fn with_edits<D: Digester>(
     alloc: Global,
     draft: &mut Draft<D>,
-    ours: &Table,
-    merged: &Table,
+    ours: &StoredTable,
+    merged: &StoredTable,
     edits: &[Edit],
-) -> Result<Table, PutFault>
+) -> Result<StoredTable, PutFault>
     requires { (before : PlainTable) × (contents : PlainTable) × HasEdits D.address (chunks_of draft.old.chunks) ours.now merged.now edits.now before contents }
     ensures stands { (before contents : PlainTable) → HasEdits D.address (chunks_of draft.old.chunks) ours.now merged.now edits.now before contents
         → IfOk result (λ made. IsTableOf D.address (chunks_of draft.new.chunks) made contents) }
@@ -119,7 +119,7 @@ fn with_edits<D: Digester>(
 {
     laws_of_growth();
     let kept = apply_with_indexes(alloc, draft, ours, edits)?;
-    Ok(Table {
+    Ok(StoredTable {
         schema: kept.schema,
         rows: kept.rows,
         indexes: kept.indexes,
@@ -132,8 +132,8 @@ fn with_edits<D: Digester>(
 fn keep_edits<D: Digester>(
     alloc: Global,
     draft: &mut Draft<D>,
-    ours: &Table,
-    merged: &Table,
+    ours: &StoredTable,
+    merged: &StoredTable,
     edits: &[Edit],
 ) -> Result<Became, PutFault>
     requires { (before : PlainTable) × (contents : PlainTable) × HasEdits D.address (chunks_of draft.old.chunks) ours.now merged.now edits.now before contents }
@@ -156,8 +156,8 @@ fn keep_edits<D: Digester>(
 pub(crate) fn keep_changes<D: Digester>(
     alloc: Global,
     draft: &mut Draft<D>,
-    ours: &Table,
-    merged: &Table,
+    ours: &StoredTable,
+    merged: &StoredTable,
 ) -> Result<Became, MergeFault>
     requires { (before : PlainTable) × (contents : PlainTable) × CanKeep D.address (chunks_of draft.old.chunks) ours.now merged.now before contents }
     ensures made { (before contents : PlainTable) → CanKeep D.address (chunks_of draft.old.chunks) ours.now merged.now before contents

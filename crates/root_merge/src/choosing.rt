@@ -4,7 +4,7 @@ ghost use Rattle.std.specs.Prelude.{◌≡◌, None, Some};
 ghost use Rattle.tuple_codec.specs.RowRule.{same_option, three_way};
 ghost use Rattle.root_merge.specs.Choosing.{address_in, chosen, same_address};
 
-use table_root::NamedTable;
+use table_root::TableEntry;
 use tuple_codec::Address;
 
 /// What becomes of the tables of one name.
@@ -23,7 +23,7 @@ pub(crate) enum Choice {
 }
 
 /// The address of the table of a name.
-pub(crate) fn address_in(name: &[u8], tables: &[NamedTable]) -> Option<Address>
+pub(crate) fn address_in(name: &[u8], tables: &[TableEntry]) -> Option<Address>
     ensures { result ≡ address_in name.now tables.now }
 {
     match tables {

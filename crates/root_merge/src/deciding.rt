@@ -4,14 +4,15 @@ ghost use Rattle.std.specs.Prelude.{◌≡◌, ◌&&◌, Bool, IfErr, IfOk, List
 ghost use Rattle.schema_model.specs.PlainTables.{PlainDatabase};
 ghost use Rattle.chunk_store.specs.Clashes.{IsReason};
 ghost use Rattle.chunk_store.specs.Drafts.{Grows, chunks_of};
+ghost use Rattle.chunk_store.specs.Kinds.{is_data};
 ghost use Rattle.plain_merge.specs.RootMerge.{MergedDatabase, SchemaConflict, root3};
 ghost use Rattle.constraint_scan.specs.Scanning.{HasKeptAt, IsKeptAt};
 ghost use Rattle.plain_sessions.specs.CommitRule.{candidate, decide, is_none, judged, merged, recorded};
 ghost use Rattle.plain_sessions.specs.Records.{BranchState};
 ghost use Rattle.root_merge.specs.Deciding.{AreBoth, AreStates, IsSide, PassesAt, anew, are_unsettled, refusal, set, settled, together};
-ghost use Rattle.root_merge.specs.Merging.{AreRoots, is_data};
-ghost use Rattle.root_merge.specs.Settling.{IsSettled};
-ghost use Rattle.root_merge.specs.States.{HasState, IsCandidate, StateStands};
+ghost use Rattle.root_merge.specs.Merging.{AreRoots};
+ghost use Rattle.root_merge.specs.Settling.{AreSettledRoots};
+ghost use Rattle.root_merge.specs.States.{BranchStateStands, HasBranchState, IsCandidate};
 
 use crate::candidates::Candidate;
 use crate::counting::roots_conflict;
@@ -19,7 +20,7 @@ use crate::laws::{laws_of_growth, laws_of_states};
 use crate::merging::merge_roots;
 use crate::settling::{Left, Settled, is_unsettled, left_in_database, left_in_record};
 use chunk_store::{Draft, PutFault};
-use constraint_scan::{Violation, record_violations, violations};
+use constraint_scan::{ListedViolation, record_violations, violations};
 use std::alloc::{AllocError, Global};
 use table_merge::MergeFault;
 use tuple_codec::{Address, BranchRecord, Digester};
@@ -36,7 +37,7 @@ enum Side {
 }
 
 /// Whether a database has neither violations nor recorded ones.
-fn has_none(list: &[Violation], left: Left) -> bool
+fn has_none(list: &[ListedViolation], left: Left) -> bool
     ensures { result ≡ (is_none list.now && not left.violations) }
 {
     list.is_empty() && !left.violations
@@ -50,10 +51,10 @@ fn record_all<D: Digester>(
     settled: &mut Settled,
 ) -> Result<Address, PutFault>
     requires database { HasKeptAt D.address (chunks_of draft.old.chunks) database.now.0 }
-    requires settled { IsSettled D.address (chunks_of draft.old.chunks) settled.old }
+    requires settled { AreSettledRoots D.address (chunks_of draft.old.chunks) settled.old }
     ensures stands { (contents : PlainDatabase) → IsKeptAt D.address (chunks_of draft.old.chunks) database.now.0 contents
         → IfOk result (λ at. IsKeptAt D.address (chunks_of draft.new.chunks) at.0 (recorded contents)) }
-    ensures settled { IsSettled D.address (chunks_of draft.new.chunks) settled.new }
+    ensures settled { AreSettledRoots D.address (chunks_of draft.new.chunks) settled.new }
     ensures grows { Grows is_data draft.old draft.new }
     ensures cause { IfErr result (IsReason D.address (chunks_of draft.new.chunks)) }
 {
@@ -133,10 +134,10 @@ fn record_merged<D: Digester>(
 ) -> Result<BranchRecord, PutFault>
     requires working { HasKeptAt D.address (chunks_of draft.old.chunks) working.now.0 }
     requires staged { HasKeptAt D.address (chunks_of draft.old.chunks) staged.now.0 }
-    requires settled { IsSettled D.address (chunks_of draft.old.chunks) settled.old }
+    requires settled { AreSettledRoots D.address (chunks_of draft.old.chunks) settled.old }
     ensures stands { (w s : PlainDatabase) → IsKeptAt D.address (chunks_of draft.old.chunks) working.now.0 w → IsKeptAt D.address (chunks_of draft.old.chunks) staged.now.0 s
-        → IfOk result (λ made. StateStands D.address (chunks_of draft.new.chunks) made (anew head.0 w s)) }
-    ensures settled { IsSettled D.address (chunks_of draft.new.chunks) settled.new }
+        → IfOk result (λ made. BranchStateStands D.address (chunks_of draft.new.chunks) made (anew head.0 w s)) }
+    ensures settled { AreSettledRoots D.address (chunks_of draft.new.chunks) settled.new }
     ensures grows { Grows is_data draft.old draft.new }
     ensures cause { IfErr result (IsReason D.address (chunks_of draft.new.chunks)) }
 {
@@ -160,10 +161,10 @@ fn both<D: Digester>(
     settled: &mut Settled,
 ) -> Result<Candidate, PutFault>
     requires both { (w : Result MergedDatabase SchemaConflict) × (s : Result MergedDatabase SchemaConflict) × AreBoth D.address (chunks_of draft.old.chunks) working.now staged.now w s }
-    requires settled { IsSettled D.address (chunks_of draft.old.chunks) settled.old }
+    requires settled { AreSettledRoots D.address (chunks_of draft.old.chunks) settled.old }
     ensures is { (w s : Result MergedDatabase SchemaConflict) (present : BranchState) → AreBoth D.address (chunks_of draft.old.chunks) working.now staged.now w s → head.0 ≡ present.head
         → IfOk result (λ made. IsCandidate D.address (chunks_of draft.new.chunks) made (together present w s)) }
-    ensures settled { OnOk result (IsSettled D.address (chunks_of draft.new.chunks) settled.new) }
+    ensures settled { OnOk result (AreSettledRoots D.address (chunks_of draft.new.chunks) settled.new) }
     ensures grows { Grows is_data draft.old draft.new }
     ensures cause { IfErr result (IsReason D.address (chunks_of draft.new.chunks)) }
 {
@@ -195,10 +196,10 @@ fn any_unsettled<D: Digester>(
     settled: &mut Settled,
 ) -> Result<bool, AllocError>
     requires states { (s : BranchState) × (p : BranchState) × (o : BranchState) × AreStates D.address (chunks_of draft.now.chunks) start.now present.now own.now s p o }
-    requires settled { IsSettled D.address (chunks_of draft.now.chunks) settled.old }
+    requires settled { AreSettledRoots D.address (chunks_of draft.now.chunks) settled.old }
     ensures is { (s p o : BranchState) → AreStates D.address (chunks_of draft.now.chunks) start.now present.now own.now s p o
         → IfOk result (λ found. found ≡ are_unsettled s p o) }
-    ensures settled { IsSettled D.address (chunks_of draft.now.chunks) settled.new }
+    ensures settled { AreSettledRoots D.address (chunks_of draft.now.chunks) settled.new }
 {
     let at_present = is_unsettled(alloc, draft, present, settled)?;
     if at_present {
@@ -221,10 +222,10 @@ fn merge_settled<D: Digester>(
     seen: &mut Settled,
 ) -> Result<Candidate, PutFault>
     requires states { (s : BranchState) × (p : BranchState) × (o : BranchState) × AreStates D.address (chunks_of draft.old.chunks) start.now present.now own.now s p o }
-    requires settled { IsSettled D.address (chunks_of draft.old.chunks) seen.old }
+    requires settled { AreSettledRoots D.address (chunks_of draft.old.chunks) seen.old }
     ensures is { (s p o : BranchState) → AreStates D.address (chunks_of draft.old.chunks) start.now present.now own.now s p o
         → IfOk result (λ made. IsCandidate D.address (chunks_of draft.new.chunks) made (settled s p o)) }
-    ensures settled { OnOk result (IsSettled D.address (chunks_of draft.new.chunks) seen.new) }
+    ensures settled { OnOk result (AreSettledRoots D.address (chunks_of draft.new.chunks) seen.new) }
     ensures grows { Grows is_data draft.old draft.new }
     ensures cause { IfErr result (IsReason D.address (chunks_of draft.new.chunks)) }
 {
@@ -244,10 +245,10 @@ fn merge_states<D: Digester>(
     settled: &mut Settled,
 ) -> Result<Candidate, PutFault>
     requires states { (s : BranchState) × (p : BranchState) × (o : BranchState) × AreStates D.address (chunks_of draft.old.chunks) start.now present.now own.now s p o }
-    requires settled { IsSettled D.address (chunks_of draft.old.chunks) settled.old }
+    requires settled { AreSettledRoots D.address (chunks_of draft.old.chunks) settled.old }
     ensures is { (s p o : BranchState) → AreStates D.address (chunks_of draft.old.chunks) start.now present.now own.now s p o
         → IfOk result (λ made. IsCandidate D.address (chunks_of draft.new.chunks) made (merged s p o)) }
-    ensures settled { OnOk result (IsSettled D.address (chunks_of draft.new.chunks) settled.new) }
+    ensures settled { OnOk result (AreSettledRoots D.address (chunks_of draft.new.chunks) settled.new) }
     ensures grows { Grows is_data draft.old draft.new }
     ensures cause { IfErr result (IsReason D.address (chunks_of draft.new.chunks)) }
 {
@@ -269,10 +270,10 @@ fn proposed<D: Digester>(
     settled: &mut Settled,
 ) -> Result<Candidate, PutFault>
     requires states { (s : BranchState) × (p : BranchState) × (o : BranchState) × AreStates D.address (chunks_of draft.old.chunks) start.now present.now own.now s p o }
-    requires settled { IsSettled D.address (chunks_of draft.old.chunks) settled.old }
+    requires settled { AreSettledRoots D.address (chunks_of draft.old.chunks) settled.old }
     ensures is { (s p o : BranchState) → AreStates D.address (chunks_of draft.old.chunks) start.now present.now own.now s p o
         → IfOk result (λ made. IsCandidate D.address (chunks_of draft.new.chunks) made (candidate s p o)) }
-    ensures settled { OnOk result (IsSettled D.address (chunks_of draft.new.chunks) settled.new) }
+    ensures settled { OnOk result (AreSettledRoots D.address (chunks_of draft.new.chunks) settled.new) }
     ensures grows { Grows is_data draft.old draft.new }
     ensures cause { IfErr result (IsReason D.address (chunks_of draft.new.chunks)) }
 {
@@ -305,11 +306,11 @@ fn judged<D: Digester>(
     force: bool,
     settled: &mut Settled,
 ) -> Result<Candidate, AllocError>
-    requires decided { HasState D.address (chunks_of draft.now.chunks) decided }
-    requires settled { IsSettled D.address (chunks_of draft.now.chunks) settled.old }
-    ensures is { (state : BranchState) (autocommit : Bool) → StateStands D.address (chunks_of draft.now.chunks) decided state
+    requires decided { HasBranchState D.address (chunks_of draft.now.chunks) decided }
+    requires settled { AreSettledRoots D.address (chunks_of draft.now.chunks) settled.old }
+    ensures is { (state : BranchState) (autocommit : Bool) → BranchStateStands D.address (chunks_of draft.now.chunks) decided state
         → IfOk result (λ made. IsCandidate D.address (chunks_of draft.now.chunks) made (judged (set autocommit allow force) state)) }
-    ensures settled { IsSettled D.address (chunks_of draft.now.chunks) settled.new }
+    ensures settled { AreSettledRoots D.address (chunks_of draft.now.chunks) settled.new }
 {
     let left = left_in_record(alloc, draft, &decided, settled)?;
     match refusal(left.conflicts, left.violations, allow, force) {
@@ -331,9 +332,9 @@ pub fn candidate<D: Digester>(
     allow: bool,
     force: bool,
 ) -> Result<Candidate, PutFault>
-    requires start { HasState D.address (chunks_of draft.old.chunks) start.now }
-    requires present { HasState D.address (chunks_of draft.old.chunks) present.now }
-    requires own { HasState D.address (chunks_of draft.old.chunks) own.now }
+    requires start { HasBranchState D.address (chunks_of draft.old.chunks) start.now }
+    requires present { HasBranchState D.address (chunks_of draft.old.chunks) present.now }
+    requires own { HasBranchState D.address (chunks_of draft.old.chunks) own.now }
     ensures is { (s p o : BranchState) (autocommit : Bool) → AreStates D.address (chunks_of draft.old.chunks) start.now present.now own.now s p o
         → IfOk result (λ made. IsCandidate D.address (chunks_of draft.new.chunks) made (decide s p o (set autocommit allow force))) }
     ensures grows { Grows is_data draft.old draft.new }

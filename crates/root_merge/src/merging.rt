@@ -5,12 +5,12 @@ ghost use Rattle.schema_model.specs.Limits.{is_database_within_limits};
 ghost use Rattle.schema_model.specs.PlainTables.{PlainDatabase};
 ghost use Rattle.chunk_store.specs.Clashes.{IsReason};
 ghost use Rattle.chunk_store.specs.Drafts.{Grows, chunks_of};
-ghost use Rattle.chunk_store.specs.Kinds.{is_database};
+ghost use Rattle.chunk_store.specs.Kinds.{is_data, is_database};
 ghost use Rattle.plain_merge.specs.RootMerge.{MergedDatabase, root3};
 ghost use Rattle.table_merge.specs.Merging.{IsMergeReason};
 ghost use Rattle.constraint_scan.specs.Scanning.{HasKeptAt, IsKeptAt};
 ghost use Rattle.root_merge.specs.Kept.{AreKept};
-ghost use Rattle.root_merge.specs.Merging.{AreMade, AreRoots, CanMerge, IsFaultOf, IsLimitFault, IsMadeOf, IsMerged, are_within, is_data};
+ghost use Rattle.root_merge.specs.Merging.{AreMade, AreRoots, CanMerge, IsFaultOf, IsLimitFault, IsMadeOf, IsMergedDatabase, are_within};
 ghost use Rattle.root_merge.specs.Names.{LeadTo, Wanted, all_wanted, listed_as, together};
 
 use crate::judging::judge;
@@ -23,7 +23,7 @@ use schema_model::law_of_sameness;
 use schema_model::limits::MOST_TABLES;
 use std::alloc::{AllocError, Global};
 use table_merge::MergeFault;
-use table_root::{NamedTable, law_of_tables, write_database};
+use table_root::{TableEntry, law_of_tables, write_database};
 use tuple_codec::{Address, Digester, Text};
 
 /// A merged database: its address, and how many conflicts rows met in all its tables.
@@ -36,7 +36,7 @@ pub struct Merged {
 /// Adds a table to a list, unless it is absent.
 fn push_perhaps(
     alloc: Global,
-    made: &mut Vec<NamedTable>,
+    made: &mut Vec<TableEntry>,
     name: &Text,
     table: Option<Address>,
 ) -> Result<(), AllocError>
@@ -44,7 +44,7 @@ fn push_perhaps(
 {
     if let Some(table) = table {
         let name = Text::from_slice(alloc, name.as_slice())?;
-        made.push(NamedTable { name, table })?;
+        made.push(TableEntry { name, table })?;
     }
     Ok(())
 }
@@ -54,7 +54,7 @@ fn merge_each<D: Digester>(
     alloc: Global,
     draft: &mut Draft<D>,
     names: &[Named],
-    made: &mut Vec<NamedTable>,
+    made: &mut Vec<TableEntry>,
 ) -> Result<u64, MergeFault>
     requires few { length names.now ≤ 768 }
     requires lead { (wanted : List Wanted) × (merged : MergedDatabase) × LeadTo D.address (chunks_of draft.old.chunks) names.now wanted × (together wanted ≡ Ok merged) }
@@ -83,7 +83,7 @@ fn merge_each<D: Digester>(
 fn put_database<D: Digester>(
     alloc: Global,
     draft: &mut Draft<D>,
-    tables: &[NamedTable],
+    tables: &[TableEntry],
 ) -> Result<Address, PutFault>
     requires { (database : PlainDatabase) × AreKept D.address (chunks_of draft.old.chunks) tables.now database }
     ensures stands { (database : PlainDatabase) → AreKept D.address (chunks_of draft.old.chunks) tables.now database
@@ -159,7 +159,7 @@ pub fn merge_roots<D: Digester>(
     requires ours { HasKeptAt D.address (chunks_of draft.old.chunks) ours.now.0 }
     requires theirs { HasKeptAt D.address (chunks_of draft.old.chunks) theirs.now.0 }
     ensures merged { (b o t : PlainDatabase) → AreRoots D.address (chunks_of draft.old.chunks) base.now ours.now theirs.now b o t
-        → IfOk result (λ merged. IsMerged D.address (chunks_of draft.new.chunks) merged (root3 b o t)) }
+        → IfOk result (λ merged. IsMergedDatabase D.address (chunks_of draft.new.chunks) merged (root3 b o t)) }
     ensures fault { (b o t : PlainDatabase) → AreRoots D.address (chunks_of draft.old.chunks) base.now ours.now theirs.now b o t
         → IfErr result (IsFaultOf (root3 b o t)) }
     ensures grows { Grows is_data draft.old draft.new }

@@ -8,7 +8,7 @@ ghost use Rattle.root_merge.specs.Names.{all_chosen, chosen_for, names_in};
 use crate::choosing::{Choice, address_in, chosen};
 use std::alloc::{AllocError, Global};
 use std::cmp::Ordering;
-use table_root::NamedTable;
+use table_root::TableEntry;
 use tuple_codec::Text;
 
 /// A name, and what becomes of its tables.
@@ -18,7 +18,7 @@ pub(crate) struct Named {
     pub choice: Choice,
 }
 
-fn copies(alloc: Global, tables: &[NamedTable]) -> Result<Vec<Text>, AllocError>
+fn copies(alloc: Global, tables: &[TableEntry]) -> Result<Vec<Text>, AllocError>
     ensures { IfOk result (λ names. names.items ≡ names_in tables.now) }
 {
     let mut names = Vec::new(alloc);
@@ -88,9 +88,9 @@ fn names_with(alloc: Global, names: &[Text], others: &[Text]) -> Result<Vec<Text
 /// The names of three databases, in order and each once.
 fn all_names(
     alloc: Global,
-    base: &[NamedTable],
-    ours: &[NamedTable],
-    theirs: &[NamedTable],
+    base: &[TableEntry],
+    ours: &[TableEntry],
+    theirs: &[TableEntry],
 ) -> Result<Vec<Text>, AllocError>
     ensures { IfOk result (λ names. names.items ≡ all_keys order (names_in base.now) (names_in ours.now) (names_in theirs.now)) }
 {
@@ -101,7 +101,7 @@ fn all_names(
     names_with(alloc, base.as_slice(), sides.as_slice())
 }
 
-fn chosen_for(name: Text, base: &[NamedTable], ours: &[NamedTable], theirs: &[NamedTable]) -> Named
+fn chosen_for(name: Text, base: &[TableEntry], ours: &[TableEntry], theirs: &[TableEntry]) -> Named
     ensures { result ≡ chosen_for base.now ours.now theirs.now name }
 {
     let key = name.as_slice();
@@ -116,9 +116,9 @@ fn chosen_for(name: Text, base: &[NamedTable], ours: &[NamedTable], theirs: &[Na
 /// What becomes of the tables of each name, by the addresses at which they stand in three databases.
 pub(crate) fn all_chosen(
     alloc: Global,
-    base: &[NamedTable],
-    ours: &[NamedTable],
-    theirs: &[NamedTable],
+    base: &[TableEntry],
+    ours: &[TableEntry],
+    theirs: &[TableEntry],
 ) -> Result<Vec<Named>, AllocError>
     ensures { IfOk result (λ names. names.items ≡ all_chosen base.now ours.now theirs.now) }
 {

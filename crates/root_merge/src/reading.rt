@@ -10,7 +10,7 @@ ghost use Rattle.root_merge.specs.Kept.{AreKept, AreKeptSides, IsKeptPerhaps, Is
 use crate::laws::laws_of_growth;
 use chunk_store::Draft;
 use std::alloc::{AllocError, Global};
-use table_root::{NamedTable, Table, read_database, read_table};
+use table_root::{StoredTable, TableEntry, read_database, read_table};
 use tuple_codec::{Address, Digester};
 
 /// The names and addresses of the tables of the database at an address, by rising name.
@@ -18,7 +18,7 @@ pub(crate) fn read_tables<D: Digester>(
     alloc: Global,
     draft: &Draft<D>,
     database: &Address,
-) -> Result<Vec<NamedTable>, AllocError>
+) -> Result<Vec<TableEntry>, AllocError>
     requires { HasKeptAt D.address (chunks_of draft.now.chunks) database.now.0 }
     ensures { (contents : PlainDatabase) → IsKeptAt D.address (chunks_of draft.now.chunks) database.now.0 contents
         → IfOk result (λ tables. AreKept D.address (chunks_of draft.now.chunks) tables.items contents) }
@@ -32,7 +32,7 @@ fn table_at<D: Digester>(
     alloc: Global,
     draft: &Draft<D>,
     address: &Address,
-) -> Result<Table, AllocError>
+) -> Result<StoredTable, AllocError>
     requires { (contents : PlainTable) × IsKeptTable D.address (chunks_of draft.now.chunks) address.now.0 contents }
     ensures { (contents : PlainTable) → IsKeptTable D.address (chunks_of draft.now.chunks) address.now.0 contents
         → IfOk result (λ table. IsSide D.address (chunks_of draft.now.chunks) table contents) }
@@ -46,7 +46,7 @@ fn base_at<D: Digester>(
     alloc: Global,
     draft: &Draft<D>,
     address: Option<Address>,
-) -> Result<Option<Table>, AllocError>
+) -> Result<Option<StoredTable>, AllocError>
     requires { (contents : Option PlainTable) × IsKeptPerhaps D.address (chunks_of draft.now.chunks) address contents }
     ensures { (contents : Option PlainTable) → IsKeptPerhaps D.address (chunks_of draft.now.chunks) address contents
         → IfOk result (λ table. IsSidePerhaps D.address (chunks_of draft.now.chunks) table contents) }
@@ -63,9 +63,9 @@ fn base_at<D: Digester>(
 /// Tables of one name, whose rows are merged.
 #[derive(Debug, Drop)]
 pub(crate) struct Sides {
-    pub base: Option<Table>,
-    pub ours: Table,
-    pub theirs: Table,
+    pub base: Option<StoredTable>,
+    pub ours: StoredTable,
+    pub theirs: StoredTable,
 }
 
 /// The tables at these addresses.

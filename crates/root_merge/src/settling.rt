@@ -6,12 +6,12 @@ ghost use Rattle.schema_model.specs.PlainTables.{PlainDatabase, PlainTable};
 ghost use Rattle.chunk_store.specs.Chunks.{Chunks};
 ghost use Rattle.chunk_store.specs.Drafts.{chunks_of};
 ghost use Rattle.chunk_store.specs.Standing.{IsTree};
-ghost use Rattle.table_root.specs.Standing.{IsTableAt};
-ghost use Rattle.constraint_scan.specs.Scanning.{AreThere, HasKeptAt, IsKeptAt};
+ghost use Rattle.table_root.specs.Standing.{AreThere, IsTableAt};
+ghost use Rattle.constraint_scan.specs.Scanning.{HasKeptAt, IsKeptAt};
 ghost use Rattle.plain_sessions.specs.CommitRule.{is_unsettled};
 ghost use Rattle.plain_sessions.specs.Records.{BranchState};
-ghost use Rattle.root_merge.specs.Settling.{IsSettled, IsSettledDatabase, IsSettledTable, database_left, either, has, is_any, state_left, table_left};
-ghost use Rattle.root_merge.specs.States.{HasState, StateStands};
+ghost use Rattle.root_merge.specs.Settling.{AreSettledRoots, IsSettledDatabase, IsSettledTable, database_left, either, has, is_any, state_left, table_left};
+ghost use Rattle.root_merge.specs.States.{BranchStateStands, HasBranchState};
 
 use crate::laws::laws_of_growth;
 use crate::reading::read_tables;
@@ -19,7 +19,7 @@ use chunk_store::Draft;
 use prolly_tree::count;
 use std::alloc::{AllocError, Global};
 use std::collections::BTreeSet;
-use table_root::{NamedTable, read_table};
+use table_root::{TableEntry, read_table};
 use tuple_codec::{Address, BranchRecord, Digester};
 
 /// Whether tables have recorded conflicts, and whether violations.
@@ -40,7 +40,7 @@ pub(crate) struct Settled {
 impl Settled {
     /// None was seen yet.
     pub(crate) fn new(alloc: Global) -> Settled
-        ensures { (address : List ℕ → List ℕ) (chunks : Chunks) → IsSettled address chunks result }
+        ensures { (address : List ℕ → List ℕ) (chunks : Chunks) → AreSettledRoots address chunks result }
     {
         Settled {
             tables: BTreeSet::new(alloc),
@@ -66,9 +66,9 @@ impl Settled {
         draft: &Draft<D>,
         address: &Address,
     ) -> Result<(), AllocError>
-        requires settled { IsSettled D.address (chunks_of draft.now.chunks) self.old }
+        requires settled { AreSettledRoots D.address (chunks_of draft.now.chunks) self.old }
         requires table { IsSettledTable D.address (chunks_of draft.now.chunks) address.now.0 }
-        ensures { IsSettled D.address (chunks_of draft.now.chunks) self.new }
+        ensures { AreSettledRoots D.address (chunks_of draft.now.chunks) self.new }
     {
         self.tables.insert(address.0)?;
         Ok(())
@@ -80,9 +80,9 @@ impl Settled {
         draft: &Draft<D>,
         address: &Address,
     ) -> Result<(), AllocError>
-        requires settled { IsSettled D.address (chunks_of draft.now.chunks) self.old }
+        requires settled { AreSettledRoots D.address (chunks_of draft.now.chunks) self.old }
         requires database { IsSettledDatabase D.address (chunks_of draft.now.chunks) address.now.0 }
-        ensures { IsSettled D.address (chunks_of draft.now.chunks) self.new }
+        ensures { AreSettledRoots D.address (chunks_of draft.now.chunks) self.new }
     {
         self.databases.insert(address.0)?;
         Ok(())
@@ -144,10 +144,10 @@ fn left_in_table<D: Digester>(
     settled: &mut Settled,
 ) -> Result<Left, AllocError>
     requires table { (contents : PlainTable) × IsTableAt D.address (chunks_of draft.now.chunks) address.now.0 contents }
-    requires settled { IsSettled D.address (chunks_of draft.now.chunks) settled.old }
+    requires settled { AreSettledRoots D.address (chunks_of draft.now.chunks) settled.old }
     ensures is { (contents : PlainTable) → IsTableAt D.address (chunks_of draft.now.chunks) address.now.0 contents
         → IfOk result (λ left. left ≡ table_left contents) }
-    ensures settled { IsSettled D.address (chunks_of draft.now.chunks) settled.new }
+    ensures settled { AreSettledRoots D.address (chunks_of draft.now.chunks) settled.new }
 {
     laws_of_growth();
     if settled.has_table(address) {
@@ -177,14 +177,14 @@ fn either(one: Left, other: Left) -> Left
 fn left_in_tables<D: Digester>(
     alloc: Global,
     draft: &Draft<D>,
-    tables: &[NamedTable],
+    tables: &[TableEntry],
     settled: &mut Settled,
 ) -> Result<Left, AllocError>
     requires there { (database : PlainDatabase) × AreThere D.address (chunks_of draft.now.chunks) database tables.now }
-    requires settled { IsSettled D.address (chunks_of draft.now.chunks) settled.old }
+    requires settled { AreSettledRoots D.address (chunks_of draft.now.chunks) settled.old }
     ensures is { (database : PlainDatabase) → AreThere D.address (chunks_of draft.now.chunks) database tables.now
         → IfOk result (λ left. left ≡ database_left database) }
-    ensures settled { IsSettled D.address (chunks_of draft.now.chunks) settled.new }
+    ensures settled { AreSettledRoots D.address (chunks_of draft.now.chunks) settled.new }
 {
     let [first, rest @ ..] = tables else {
         return Ok(Left {
@@ -205,10 +205,10 @@ pub(crate) fn left_in_database<D: Digester>(
     settled: &mut Settled,
 ) -> Result<Left, AllocError>
     requires database { HasKeptAt D.address (chunks_of draft.now.chunks) database.now.0 }
-    requires settled { IsSettled D.address (chunks_of draft.now.chunks) settled.old }
+    requires settled { AreSettledRoots D.address (chunks_of draft.now.chunks) settled.old }
     ensures is { (contents : PlainDatabase) → IsKeptAt D.address (chunks_of draft.now.chunks) database.now.0 contents
         → IfOk result (λ left. left ≡ database_left contents) }
-    ensures settled { IsSettled D.address (chunks_of draft.now.chunks) settled.new }
+    ensures settled { AreSettledRoots D.address (chunks_of draft.now.chunks) settled.new }
 {
     laws_of_growth();
     if settled.has_database(database) {
@@ -233,11 +233,11 @@ pub(crate) fn left_in_record<D: Digester>(
     branch: &BranchRecord,
     settled: &mut Settled,
 ) -> Result<Left, AllocError>
-    requires state { HasState D.address (chunks_of draft.now.chunks) branch.now }
-    requires settled { IsSettled D.address (chunks_of draft.now.chunks) settled.old }
-    ensures is { (state : BranchState) → StateStands D.address (chunks_of draft.now.chunks) branch.now state
+    requires state { HasBranchState D.address (chunks_of draft.now.chunks) branch.now }
+    requires settled { AreSettledRoots D.address (chunks_of draft.now.chunks) settled.old }
+    ensures is { (state : BranchState) → BranchStateStands D.address (chunks_of draft.now.chunks) branch.now state
         → IfOk result (λ left. left ≡ state_left state) }
-    ensures settled { IsSettled D.address (chunks_of draft.now.chunks) settled.new }
+    ensures settled { AreSettledRoots D.address (chunks_of draft.now.chunks) settled.new }
 {
     let working = left_in_database(alloc, draft, &branch.working, settled)?;
     let staged = left_in_database(alloc, draft, &branch.staged, settled)?;
@@ -251,11 +251,11 @@ pub(crate) fn is_unsettled<D: Digester>(
     branch: &BranchRecord,
     settled: &mut Settled,
 ) -> Result<bool, AllocError>
-    requires state { HasState D.address (chunks_of draft.now.chunks) branch.now }
-    requires settled { IsSettled D.address (chunks_of draft.now.chunks) settled.old }
-    ensures is { (state : BranchState) → StateStands D.address (chunks_of draft.now.chunks) branch.now state
+    requires state { HasBranchState D.address (chunks_of draft.now.chunks) branch.now }
+    requires settled { AreSettledRoots D.address (chunks_of draft.now.chunks) settled.old }
+    ensures is { (state : BranchState) → BranchStateStands D.address (chunks_of draft.now.chunks) branch.now state
         → IfOk result (λ found. found ≡ is_unsettled state) }
-    ensures settled { IsSettled D.address (chunks_of draft.now.chunks) settled.new }
+    ensures settled { AreSettledRoots D.address (chunks_of draft.now.chunks) settled.new }
 {
     if branch.merging.is_some() {
         return Ok(true);

@@ -6,13 +6,13 @@ ghost use Rattle.schema_model.specs.Limits.{is_row_within_limits, is_table_withi
 ghost use Rattle.schema_model.specs.PlainTables.{PlainTable};
 ghost use Rattle.chunk_store.specs.Clashes.{IsReason};
 ghost use Rattle.chunk_store.specs.Drafts.{Grows, chunks_of};
-ghost use Rattle.chunk_store.specs.Kinds.{is_node, is_table};
+ghost use Rattle.chunk_store.specs.Kinds.{is_data, is_node, is_table};
 ghost use Rattle.table_root.specs.Standing.{IsTableOf, IsUnindexedOf};
 ghost use Rattle.plain_merge.specs.RootMerge.{MergedTable};
 ghost use Rattle.table_merge.specs.Merging.{IsMergeReason, PlainSides};
 ghost use Rattle.root_merge.specs.Choosing.{LeadsTo};
-ghost use Rattle.root_merge.specs.Kept.{IsKeptTable, MayStand};
-ghost use Rattle.root_merge.specs.Merging.{CanMergeRows, CanMergeSides, IsBecome, IsLimitFault, IsMergeOf, IsTableMade, MayBecome, Part, is_data, is_within_perhaps, of_table};
+ghost use Rattle.root_merge.specs.Kept.{IsKeptTable, MayBeKept};
+ghost use Rattle.root_merge.specs.Merging.{CanMergeRows, CanMergeSides, IsBecome, IsLimitFault, IsMergeOf, IsTableMade, MayBecome, Part, is_within_perhaps, of_table};
 
 use crate::changing::keep_changes;
 use crate::choosing::Choice;
@@ -25,7 +25,7 @@ use prolly_tree::count;
 use schema_model::{Schema, is_same_schema, law_of_sameness};
 use std::alloc::{AllocError, Global};
 use table_merge::{MergeFault, merge_kept_table};
-use table_root::{Table, write_table};
+use table_root::{StoredTable, write_table};
 use table_rows::read_rows;
 use tuple_codec::{Address, Digester, Row, Sequence};
 
@@ -51,7 +51,7 @@ fn are_short(alloc: Global, schema: &Schema, rows: &[Row]) -> Result<bool, Alloc
 fn rows_are_short<D: Digester>(
     alloc: Global,
     draft: &Draft<D>,
-    table: &Table,
+    table: &StoredTable,
 ) -> Result<bool, AllocError>
     requires { (contents : PlainTable) × IsUnindexedOf D.address (chunks_of draft.now.chunks) table.now contents }
     ensures { (contents : PlainTable) → IsUnindexedOf D.address (chunks_of draft.now.chunks) table.now contents
@@ -62,7 +62,7 @@ fn rows_are_short<D: Digester>(
 }
 
 /// How many conflicts a table has.
-pub(crate) fn conflicts_in<D: Digester>(draft: &Draft<D>, table: &Table) -> u64
+pub(crate) fn conflicts_in<D: Digester>(draft: &Draft<D>, table: &StoredTable) -> u64
     requires { (contents : PlainTable) × IsUnindexedOf D.address (chunks_of draft.now.chunks) table.now contents }
     ensures { (contents : PlainTable) → IsUnindexedOf D.address (chunks_of draft.now.chunks) table.now contents → result ≡ length contents.conflicts }
 {
@@ -73,8 +73,8 @@ pub(crate) fn conflicts_in<D: Digester>(draft: &Draft<D>, table: &Table) -> u64
 fn with_indexes<D: Digester>(
     alloc: Global,
     draft: &mut Draft<D>,
-    table: Table,
-) -> Result<Table, PutFault>
+    table: StoredTable,
+) -> Result<StoredTable, PutFault>
     requires { (contents : PlainTable) × MayBecome D.address (chunks_of draft.old.chunks) table contents }
     ensures stands { (contents : PlainTable) → MayBecome D.address (chunks_of draft.old.chunks) table contents
         → IfOk result (λ made. IsTableOf D.address (chunks_of draft.new.chunks) made contents) }
@@ -83,7 +83,7 @@ fn with_indexes<D: Digester>(
 {
     laws_of_growth();
     let indexes = indexes_of(alloc, draft, &table.schema, &table.rows)?;
-    Ok(Table {
+    Ok(StoredTable {
         schema: table.schema,
         rows: table.rows,
         indexes: Sequence::from_vec(indexes),
@@ -96,10 +96,10 @@ fn with_indexes<D: Digester>(
 pub(crate) fn keep_table<D: Digester>(
     alloc: Global,
     draft: &mut Draft<D>,
-    table: &Table,
+    table: &StoredTable,
 ) -> Result<Address, PutFault>
-    requires { (contents : PlainTable) × MayStand D.address (chunks_of draft.old.chunks) table.now contents }
-    ensures stands { (contents : PlainTable) → MayStand D.address (chunks_of draft.old.chunks) table.now contents
+    requires { (contents : PlainTable) × MayBeKept D.address (chunks_of draft.old.chunks) table.now contents }
+    ensures stands { (contents : PlainTable) → MayBeKept D.address (chunks_of draft.old.chunks) table.now contents
         → IfOk result (λ at. IsKeptTable D.address (chunks_of draft.new.chunks) at.0 contents) }
     ensures grows { Grows is_table draft.old draft.new }
     ensures cause { IfErr result (IsReason D.address (chunks_of draft.new.chunks)) }
@@ -113,7 +113,7 @@ pub(crate) fn keep_table<D: Digester>(
 fn keep_merged<D: Digester>(
     alloc: Global,
     draft: &mut Draft<D>,
-    table: Table,
+    table: StoredTable,
 ) -> Result<Became, PutFault>
     requires { (contents : PlainTable) × MayBecome D.address (chunks_of draft.old.chunks) table contents }
     ensures made { (contents : PlainTable) → MayBecome D.address (chunks_of draft.old.chunks) table contents
@@ -135,7 +135,7 @@ fn keep_merged<D: Digester>(
 fn keep_rows<D: Digester>(
     alloc: Global,
     draft: &mut Draft<D>,
-    table: Table,
+    table: StoredTable,
 ) -> Result<Became, MergeFault>
     requires { (contents : PlainTable) × IsTableMade D.address (chunks_of draft.old.chunks) table contents }
     ensures made { (contents : PlainTable) → IsTableMade D.address (chunks_of draft.old.chunks) table contents
@@ -158,8 +158,8 @@ fn keep_rows<D: Digester>(
 fn keep_merge<D: Digester>(
     alloc: Global,
     draft: &mut Draft<D>,
-    ours: &Table,
-    table: Table,
+    ours: &StoredTable,
+    table: StoredTable,
 ) -> Result<Became, MergeFault>
     requires { (before : PlainTable) × (contents : PlainTable) × IsMergeOf D.address (chunks_of draft.old.chunks) ours.now table before contents }
     ensures made { (before contents : PlainTable) → IsMergeOf D.address (chunks_of draft.old.chunks) ours.now table before contents

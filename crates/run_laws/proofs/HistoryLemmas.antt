@@ -12,7 +12,7 @@ use Rattle.plain_sessions.specs.Records.{Shared, opening}
 use Rattle.plain_sessions.specs.Sessions.{is_before_statement, new_session}
 use Rattle.plain_sessions.specs.declared.commands.Command.{Command}
 use Rattle.plain_sessions.specs.Runs.{Runner, Shortages, advance, commands_of, is_over, plain_run, put_runner, runners_of, step, step_of, steps_along}
-use Rattle.run_laws.specs.Histories.{Entry, GoesTold, Way, left_last, moment_of_entry, told_by}
+use Rattle.run_laws.specs.Histories.{GoesTold, ToldMoment, Way, left_last, moment_of_entry, told_by}
 use Rattle.run_laws.specs.Replaying.{AreWaiting, all_replies, seen}
 use Rattle.run_laws.proofs.ListLemmas.{get_put, get_put_other, if_false}
 use Rattle.run_laws.proofs.ReplayLemmas.{agrees_self, machine_by, still_seen, unanswered}
@@ -25,8 +25,8 @@ same_lists (x ∷ xs) (y ∷ ys) h same =
     ap (λ z. z ∷ xs) (same 0 x y refl refl) ∙ ap (λ more. y ∷ more) (same_lists xs ys (omega arith) (λ i a b. same (suc i) a b))
 
 module _ {Words : Type 0} (Stands : Words → Shared → Type 0) (address : List ℕ → List ℕ) (epoch : ℤ) (answers : Shortages) (one : (words : Words) (s t : Shared) → Stands words s → Stands words t → s ≡ t) where
-  pub along_history : (log : List (Entry Words)) (before : Words) (found : Shared) (runners finals : List Runner) → Stands before found → length runners ≡ length finals
-      → AllByRecursion (λ (entry : Entry Words). entry.session < length finals) log
+  pub along_history : (log : List (ToldMoment Words)) (before : Words) (found : Shared) (runners finals : List Runner) → Stands before found → length runners ≡ length finals
+      → AllByRecursion (λ (entry : ToldMoment Words). entry.session < length finals) log
       → ((j : ℕ) (r q : Runner) → slice_get runners j ≡ Some r → slice_get finals j ≡ Some q → GoesTold Stands address epoch (answers j) r (told_by j before log) q)
       → (last : Shared) × Stands (left_last before log) last
       × (steps_along address epoch answers (map moment_of_entry log) (record { shared = found; runners = runners }) ≡ Some (record { shared = last; runners = finals }))
@@ -72,15 +72,15 @@ runner_at reads answers script place (suc i) (name ∷ names) r h =
     let more = runner_at reads answers script (place + 1) i names r h in
     (more.0, more.1, ap (λ n. advance (answers n) (commands_of reads n script.lines) [] (new_session n more.0)) e ∙ more.2)
 
-as_many_runners : (reads : List ℕ → Command) (answers : Shortages) (script : Script) (place : ℕ) (names : List (List ℕ)) → length (runners_of reads answers script.lines place names) ≡ length names
+pub as_many_runners : (reads : List ℕ → Command) (answers : Shortages) (script : Script) (place : ℕ) (names : List (List ℕ)) → length (runners_of reads answers script.lines place names) ≡ length names
 as_many_runners reads answers script place [] = refl
 as_many_runners reads answers script place (name ∷ names) = ap suc (as_many_runners reads answers script (place + 1) names)
 
 -- sessions that have each gone their own way to the end make the machine's run along the history that they share
 module _ (reads : List ℕ → Command) (address : List ℕ → List ℕ) (epoch : ℤ) (script : Script) {Words : Type 0} (Stands : Words → Shared → Type 0) (one : (words : Words) (s t : Shared) → Stands words s → Stands words t → s ≡ t) where
-  pub ways_run : (log : List (Entry Words)) (before : Words) (runners : List Runner) → Stands before (opening address epoch script.names)
+  pub ways_run : (log : List (ToldMoment Words)) (before : Words) (runners : List Runner) → Stands before (opening address epoch script.names)
       → length runners ≡ length script.names → AreWaiting runners → list_all is_over runners ≡ true
-      → AllByRecursion (λ (entry : Entry Words). entry.session < length script.names) log
+      → AllByRecursion (λ (entry : ToldMoment Words). entry.session < length script.names) log
       → ((place : ℕ) (name : List ℕ) (runner : Runner) → slice_get script.names place ≡ Some name → slice_get runners place ≡ Some runner
       → Way Stands address epoch (new_session place name) (commands_of reads place script.lines) (told_by place before log) runner)
       → (last : Shared) × Stands (left_last before log) last
@@ -90,7 +90,7 @@ module _ (reads : List ℕ → Command) (address : List ℕ → List ℕ) (epoch
       let firsts : List Runner = runners_of reads answers script.lines 0 script.names in
       let along = along_history Stands address epoch answers one log before (opening address epoch script.names) firsts runners stands
       (as_many_runners reads answers script 0 script.names ∙ sym lengths)
-      (subst (λ n. AllByRecursion (λ (entry : Entry Words). entry.session < n) log) (sym lengths) within)
+      (subst (λ n. AllByRecursion (λ (entry : ToldMoment Words). entry.session < n) log) (sym lengths) within)
       (λ j r q h1 h2.
       let first = runner_at reads answers script 0 j script.names r h1 in
       let zeroth : 0 + j ≡ j = omega arith in

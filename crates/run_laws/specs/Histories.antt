@@ -15,22 +15,22 @@ pub record ToldTurn (Words : Type 0) : Type 0 where
   pub left : Words
 
 -- a moment in a history: whose it was, at which statement, and the spelling of what it left
-pub record Entry (Words : Type 0) : Type 0 where
+pub record ToldMoment (Words : Type 0) : Type 0 where
   pub session : ℕ
   pub statement : ℕ
   pub left : Words
 
 -- a session's turns in a history
-abbrev pub told_by : {Words : Type 0} → ℕ → Words → List (Entry Words) → List (ToldTurn Words)
+abbrev pub told_by : {Words : Type 0} → ℕ → Words → List (ToldMoment Words) → List (ToldTurn Words)
 told_by place before [] = []
 told_by place before (entry ∷ log) =
     if entry.session == place then record { statement = entry.statement; found = before; left = entry.left } ∷ told_by place entry.left log else told_by place entry.left log
 
-abbrev pub left_last : {Words : Type 0} → Words → List (Entry Words) → Words
+abbrev pub left_last : {Words : Type 0} → Words → List (ToldMoment Words) → Words
 left_last before [] = before
 left_last before (entry ∷ log) = left_last entry.left log
 
-abbrev pub moment_of_entry : {Words : Type 0} → Entry Words → Moment
+abbrev pub moment_of_entry : {Words : Type 0} → ToldMoment Words → Moment
 moment_of_entry entry = record { session = entry.session; statement = entry.statement }
 
 -- a session alone goes through its turns, on states that the spellings stand for

@@ -13,8 +13,8 @@ use Rattle.schema_model.specs.declared.schemas.IndexDef.{IndexDef}
 use Rattle.schema_model.specs.declared.schemas.Schema.{Schema}
 use Rattle.schema_model.proofs.FitLemmas.{places_within as places_below}
 use Rattle.plain_schemas.specs.Altered.{foreign_without, index_without, moved_up, schema_after, with_columns}
-use Rattle.plain_schemas.specs.declared.changing.Change.{Change}
-use Rattle.plain_schemas.specs.declared.changing.Change.TheVariants as change
+use Rattle.plain_schemas.specs.declared.changing.ColumnChange.{ColumnChange}
+use Rattle.plain_schemas.specs.declared.changing.ColumnChange.TheVariants as change
 use Rattle.write_laws.proofs.OrderLemmas.{both_so, neither_so}
 use Rattle.schema_laws.proofs.ColumnLemmas.{distinct_named}
 use Rattle.schema_laws.proofs.ListLemmas.{removed_all, removed_apart, set_all}
@@ -28,7 +28,7 @@ pub record IsFree (schema : Schema) (place : ℕ) : Type 0 where
   pub indexes : list_any (λ (index : IndexDef). is_keyed index.columns place) schema.indexes ≡ false
   pub foreign : list_any (λ (foreign : ForeignKey). is_keyed foreign.columns place) schema.foreign ≡ false
 
-abbrev pub Fits : Change → Schema → Type 0
+abbrev pub Fits : ColumnChange → Schema → Type 0
 Fits (change.Add column) schema = (is_column column ≡ true) × (list_any (λ (other : Column). bytes_eq other.name column.name) schema.columns ≡ false)
 Fits (change.Remove place) schema = (place < length schema.columns) × IsFree schema place
 Fits (change.Redefine place kind column) schema = (is_column column ≡ true) × IsFree schema place × ((old : Column) × (slice_get schema.columns place ≡ Some old) × (old.name ≡ column.name))
@@ -202,7 +202,7 @@ redefined_schema schema place column old one free at same within parts =
       foreign = subst (λ n. are_foreign n schema.foreign ≡ true) as_many parts.foreign;
     })
 
-pub changed_schema : (schema : Schema) (done : Change) → Fits done schema → is_within_limits (schema_after done schema) ≡ true → is_schema schema ≡ true → is_schema (schema_after done schema) ≡ true
+pub changed_schema : (schema : Schema) (done : ColumnChange) → Fits done schema → is_within_limits (schema_after done schema) ≡ true → is_schema schema ≡ true → is_schema (schema_after done schema) ≡ true
 changed_schema schema (change.Add column) fits within is = added_schema schema column fits within (parts_so schema is)
 changed_schema schema (change.Remove gone) fits within is = removed_schema schema gone fits within (parts_so schema is)
 changed_schema schema (change.Redefine place kind column) fits within is =

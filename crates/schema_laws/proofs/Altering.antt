@@ -27,8 +27,8 @@ use Rattle.plain_writes.specs.Violations.{Checks, column_place, table_in}
 use Rattle.plain_writes.specs.Writes.{Effect, assigned, if_small, is_large, replaced, standard}
 use Rattle.plain_schemas.specs.Altered.{alter_effect, altered, change_of, check_needs, column_after, free_place, is_open, is_used, kind_at, redefined, redefined_from, refers_to, row_after, schema_after, small_row_after, table_after, without_column}
 use Rattle.plain_schemas.specs.Effects.{changed_to}
-use Rattle.plain_schemas.specs.declared.changing.Change.{Change}
-use Rattle.plain_schemas.specs.declared.changing.Change.TheVariants as change
+use Rattle.plain_schemas.specs.declared.changing.ColumnChange.{ColumnChange}
+use Rattle.plain_schemas.specs.declared.changing.ColumnChange.TheVariants as change
 use Rattle.sound_laws.specs.Laws.{IsKeptAction}
 use Rattle.write_laws.specs.Laws.{IsKept}
 use Rattle.write_laws.proofs.OrderLemmas.{both_so, two}
@@ -79,11 +79,11 @@ as_long (one ∷ columns) [] h = cc
 as_long (one ∷ columns) (first ∷ row) h = ap suc (as_long columns row (and_parts (fits one.kind first) (fits_all (types columns) row) h).1)
 
 -- a row after a change fits the schema after it, and has its key
-record Follows (schema : Schema) (done : Change) (row after : Cells) : Type 0 where
+record Follows (schema : Schema) (done : ColumnChange) (row after : Cells) : Type 0 where
   fits : is_row (schema_after done schema) after ≡ true
   key : primary_key (schema_after done schema) after ≡ primary_key schema row
 
-row_follows : (schema : Schema) (done : Change) (row after : Cells) → Fits done schema → is_schema schema ≡ true → is_row schema row ≡ true → row_after done row ≡ Ok after → Follows schema done row after
+row_follows : (schema : Schema) (done : ColumnChange) (row after : Cells) → Fits done schema → is_schema schema ≡ true → is_row schema row ≡ true → row_after done row ≡ Ok after → Follows schema done row after
 row_follows schema (change.Add column) row after fit is h e =
     let value = then_so (standard column) (λ value. Ok (row ++ value ∷ [])) after e in
     let made : Outcome Cells = Ok (row ++ value.0 ∷ []) in
@@ -108,7 +108,7 @@ row_follows schema (change.Redefine place kind column) row after fit is h e =
     })
 
 -- the same of one that keeps the limits
-small_follows : (schema : Schema) (done : Change) (row after : Cells) → Fits done schema → is_schema schema ≡ true → is_row schema row ≡ true
+small_follows : (schema : Schema) (done : ColumnChange) (row after : Cells) → Fits done schema → is_schema schema ≡ true → is_row schema row ≡ true
     → small_row_after (schema_after done schema) done row ≡ Ok after → Follows schema done row after × (is_row_within_limits (schema_after done schema) after ≡ true)
 small_follows schema done row after fit is h e =
     let turned = then_so (row_after done row) (if_small (schema_after done schema)) after e in
@@ -119,13 +119,13 @@ small_follows schema done row after fit is h e =
 
 -- ---- the rows of a table
 
-rows_good : (schema : Schema) (done : Change) (rows afters : List Cells) → Fits done schema → is_schema schema ≡ true → list_all (is_row schema) rows ≡ true
+rows_good : (schema : Schema) (done : ColumnChange) (rows afters : List Cells) → Fits done schema → is_schema schema ≡ true → list_all (is_row schema) rows ≡ true
     → each (small_row_after (schema_after done schema) done) rows ≡ Ok afters → list_all (is_good (schema_after done schema)) afters ≡ true
 rows_good schema done rows afters fit is h e =
     each_all (small_row_after (schema_after done schema) done) (is_row schema) (is_good (schema_after done schema))
     (λ row after here made. let both = small_follows schema done row after fit is here made in let follows = both.0 in both_so follows.fits both.1) rows afters h e
 
-rows_keys : (schema : Schema) (done : Change) (rows afters : List Cells) → Fits done schema → is_schema schema ≡ true → list_all (is_row schema) rows ≡ true
+rows_keys : (schema : Schema) (done : ColumnChange) (rows afters : List Cells) → Fits done schema → is_schema schema ≡ true → list_all (is_row schema) rows ≡ true
     → each (small_row_after (schema_after done schema) done) rows ≡ Ok afters → map (primary_key (schema_after done schema)) afters ≡ map (primary_key schema) rows
 rows_keys schema done [] afters fit is h e =
     let none : Outcome (List Cells) = Ok [] in ap (map (primary_key (schema_after done schema))) (sym (ok_same none [] afters refl e))
@@ -156,7 +156,7 @@ rows_length turn (row ∷ rows) afters e =
 few_rows : (table : PlainTable) → is_table_within_limits table ≡ true → leb (length table.rows) most_rows ≡ true
 few_rows table h = (and_parts (is_within_limits table.schema) (leb (length table.rows) most_rows) (and_parts _ _ (and_parts _ _ (and_parts _ _ h).0).0).0).1
 
-changed_table : (table after : PlainTable) (done : Change) → Fits done table.schema → IsKeptTable table → table_after table done ≡ Ok after → IsKeptTable after
+changed_table : (table after : PlainTable) (done : ColumnChange) → Fits done table.schema → IsKeptTable table → table_after table done ≡ Ok after → IsKeptTable after
 changed_table table after done fit kept e =
     let schema = schema_after done table.schema in
     let it = kept.is_table in
@@ -214,24 +214,24 @@ free_place_so checks database name schema column place e =
     subst (λ p. (p < length schema.columns) × Named schema column p × IsFree schema p) (ok_same here found.0 place refl parts.1)
     (named.0, named.1, free_so checks database name schema column found.0 parts.0)
 
-redefined_from_so : (place : ℕ) (column : Column) (kind : Kind) (done : Change) → redefined_from place column kind ≡ Ok done → change.Redefine place kind column ≡ done
+redefined_from_so : (place : ℕ) (column : Column) (kind : Kind) (done : ColumnChange) → redefined_from place column kind ≡ Ok done → change.Redefine place kind column ≡ done
 redefined_from_so place column kind done e = two (may_assign kind column.kind)
-    (λ t. let made : Outcome Change = Ok (change.Redefine place kind column) in
+    (λ t. let made : Outcome ColumnChange = Ok (change.Redefine place kind column) in
     ok_same made (change.Redefine place kind column) done refl (sym (ap (λ b. cond b (Ok (change.Redefine place kind column)) mismatch) t) ∙ e))
     (λ t. let refused : redefined_from place column kind ≡ Err 9001 = ap (λ b. cond b (Ok (change.Redefine place kind column)) mismatch) t in cc)
 
-change_fits : (checks : Checks) (database : PlainDatabase) (name : List ℕ) (schema : Schema) (done : AlterAction) (found : Change) → IsKeptAction done → change_of checks database name schema done ≡ Ok found → Fits found schema
+change_fits : (checks : Checks) (database : PlainDatabase) (name : List ℕ) (schema : Schema) (done : AlterAction) (found : ColumnChange) → IsKeptAction done → change_of checks database name schema done ≡ Ok found → Fits found schema
 change_fits checks database name schema (action.Add column) found kept e =
-    let next : Outcome Change = and_then (column_after column) (λ made. Ok (change.Add made)) in
+    let next : Outcome ColumnChange = and_then (column_after column) (λ made. Ok (change.Add made)) in
     let parts = unless_so (is_some (column_place schema column.name)) 9013 next found e in
     let made = then_so (column_after column) (λ made. Ok (change.Add made)) found parts.1 in
-    let whole : Outcome Change = Ok (change.Add made.0) in
+    let whole : Outcome ColumnChange = Ok (change.Add made.0) in
     let one = made_so column.name (refuses_null_after false column.attributes) column made.0 made.1 in
     subst (λ c. Fits c schema) (ok_same whole (change.Add made.0) found refl made.2)
     (one.is_one (name_kept column.name kept), subst (λ n. list_any (λ (other : Column). bytes_eq other.name n) schema.columns ≡ false) (sym one.name_is) (no_place (λ (other : Column). bytes_eq other.name column.name) schema.columns (none_there (column_place schema column.name) parts.0)))
 change_fits checks database name schema (action.Drop column) found kept e =
     let place = then_so (free_place checks database name schema column) (λ place. Ok (change.Remove place)) found e in
-    let whole : Outcome Change = Ok (change.Remove place.0) in
+    let whole : Outcome ColumnChange = Ok (change.Remove place.0) in
     let free = free_place_so checks database name schema column place.0 place.1 in
     subst (λ c. Fits c schema) (ok_same whole (change.Remove place.0) found refl place.2) (free.0, free.2)
 change_fits checks database name schema (action.Modify column) found kept e =

@@ -16,8 +16,8 @@ use Rattle.sql_ast.specs.declared.tables.ColumnElement.{ColumnElement}
 use Rattle.sql_ast.specs.declared.tables.TypeName.TheVariants as type
 use Rattle.sql_rules.specs.Defaults.{default_after, default_of, definition_of, kept, kept_of, typed}
 use Rattle.sql_rules.specs.Tables.{type_of}
+use Rattle.sql_rules.specs.declared.defaults.DefaultValue.{DefaultValue}
 use Rattle.sql_rules.specs.declared.defaults.Definition.{Definition}
-use Rattle.sql_rules.specs.declared.defaults.Given.{Given}
 use Rattle.sql_values.specs.Assigning.{stored}
 use Rattle.sql_values.specs.declared.assigning.Misfit.{Misfit}
 use Rattle.sound_laws.specs.Laws.{IsKeptName}
@@ -35,7 +35,7 @@ kept_so : (outcome : Result Value Misfit) (own : Value) → kept outcome ≡ Som
 kept_so (Ok value) own e = let same : value ≡ own = cc in ap Ok same
 kept_so (Err misfit) own e = cc
 
-kept_of_fits : (kind : SqlType) (not_null : Bool) (given : Option Given) (own : Value) → kept_of kind not_null given ≡ Some own → fits kind own ≡ true
+kept_of_fits : (kind : SqlType) (not_null : Bool) (given : Option DefaultValue) (own : Value) → kept_of kind not_null given ≡ Some own → fits kind own ≡ true
 kept_of_fits kind not_null (Some default) own e = stored_fits default.kind kind not_null default.value own (kept_so (stored default.kind kind not_null default.value) own e)
 kept_of_fits kind not_null None own e = cc
 

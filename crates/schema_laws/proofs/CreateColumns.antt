@@ -22,7 +22,7 @@ use Rattle.expr_eval.specs.Binding.{Outcome, and_then}
 use Rattle.plain_sql.specs.Lists.{all_of}
 use Rattle.plain_schemas.specs.Lists.{place_in, places}
 use Rattle.plain_schemas.specs.Made.{column_made, defined, key_in}
-use Rattle.sound_laws.specs.Laws.{IsKept}
+use Rattle.sound_laws.specs.Laws.{IsKeptElement}
 use Rattle.write_laws.proofs.OrderLemmas.{both_so, two}
 use Rattle.write_laws.proofs.OutcomeLemmas.{ok_same, then_so}
 use Rattle.schema_laws.proofs.ColumnLemmas.{made_so, name_kept}
@@ -34,11 +34,11 @@ use Rattle.schema_laws.proofs.ColumnPlaces.{are_there, is_column_named, places_a
 pub record IsGood (all : List Element) (e : Element) : Type 0 where
   pub inside : element_outside all e ≡ false
   pub sound : is_element e ≡ true
-  pub kept : IsKept e
+  pub kept : IsKeptElement e
   pub there : (test : Element → Bool) → test e ≡ true → list_any test all ≡ true
 
 pub goods : (all es : List Element) → ((test : Element → Bool) → list_any test es ≡ true → list_any test all ≡ true) → list_any (element_outside all) es ≡ false → list_all is_element es ≡ true
-    → AllByRecursion IsKept es → AllByRecursion (IsGood all) es
+    → AllByRecursion IsKeptElement es → AllByRecursion (IsGood all) es
 goods all [] within inside sound kept = tt
 goods all (e ∷ es) within inside sound kept =
     let inner = or_parts (element_outside all e) (list_any (element_outside all) es) inside in

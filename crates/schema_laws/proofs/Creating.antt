@@ -305,7 +305,7 @@ same_names name xs names same are short = subst AreNames (sym same) (are (ap (li
 
 record IsInside (create : CreateTable) : Type 0 where
   table : IsKeptName create.table
-  kept : AllByRecursion kept_laws.IsKept create.elements
+  kept : AllByRecursion kept_laws.IsKeptElement create.elements
   sound : list_all is_element create.elements ≡ true
   inside : elements_outside create.elements ≡ false
 

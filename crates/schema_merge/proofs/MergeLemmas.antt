@@ -7,7 +7,7 @@ use Rattle.basic_laws.proofs.Lists.{filter_few as fewer}
 use Rattle.schema_model.specs.Limits.{is_within_limits}
 use Rattle.schema_model.specs.declared.schemas.Column.{Column}
 use Rattle.schema_model.specs.declared.schemas.Schema.{Schema}
-use Rattle.schema_merge.specs.Parts.{Kind, Sides, find}
+use Rattle.schema_merge.specs.Parts.{PartKind, Sides, find}
 use Rattle.schema_merge.specs.Merging.{merged_by, names3, others, part3, parts3, step, with_part, with_parts}
 
 pub with_none : {P : Type 0} (r : Result (List P) (List ℕ)) → with_parts [] r ≡ r
@@ -44,7 +44,7 @@ unfolding AtMost
 merged_few part_of [] = omega arith
 merged_few part_of (name ∷ names) = step_few (length names) name (part_of name) (merged_by part_of names) (merged_few part_of names)
 
-pub few_parts : {P : Type 0} (called : P → List ℕ) (kind : Kind P) (all : Sides) (columns : List Column) (parts : List P) → parts3 called kind all columns ≡ Ok parts
+pub few_parts : {P : Type 0} (called : P → List ℕ) (kind : PartKind P) (all : Sides) (columns : List Column) (parts : List P) → parts3 called kind all columns ≡ Ok parts
     → length parts ≤ length (kind.parts all.ours) + length (kind.parts all.theirs)
 unfolding AtMost
 few_parts called kind all columns parts e =

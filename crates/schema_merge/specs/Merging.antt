@@ -11,25 +11,25 @@ use Rattle.schema_model.specs.declared.schemas.ForeignKey.{ForeignKey}
 use Rattle.schema_model.specs.declared.schemas.Schema.{Schema}
 use Rattle.schema_merge.specs.declared.faults.SchemaFault.{SchemaFault}
 use Rattle.schema_merge.specs.declared.faults.SchemaFault.TheVariants as fault
-use Rattle.schema_merge.specs.Parts.{Kind, Sides, find, of_checks, of_columns, of_foreign, of_indexes, moved_places, sides}
+use Rattle.schema_merge.specs.Parts.{PartKind, Sides, find, of_checks, of_columns, of_foreign, of_indexes, moved_places, sides}
 
 -- ---- the part of one name
 
 -- a part with the schema in which it stands
-abbrev pub stands : {P : Type 0} → (P → List ℕ) → Kind P → List ℕ → Option Schema → Option (Schema × P)
+abbrev pub stands : {P : Type 0} → (P → List ℕ) → PartKind P → List ℕ → Option Schema → Option (Schema × P)
 stands called kind name None = None
 stands called kind name (Some schema) = option_map (λ part. (schema, part)) (find called name (kind.parts schema))
 
-abbrev pub same_pair : {P : Type 0} → Kind P → Schema × P → Schema × P → Bool
+abbrev pub same_pair : {P : Type 0} → PartKind P → Schema × P → Schema × P → Bool
 same_pair kind a b = kind.same a.0 a.1 b.0 b.1
 
 -- a part that was taken from a side, or its absence, as it stands in the merged schema
-abbrev pub taken : {P : Type 0} → Kind P → Sides → List Column → Option (Schema × P) → Option (Option P)
+abbrev pub taken : {P : Type 0} → PartKind P → Sides → List Column → Option (Schema × P) → Option (Option P)
 taken kind all columns None = Some None
 taken kind all columns (Some pair) = option_map (λ part. Some part) (kind.moved all columns pair.0 pair.1)
 
 -- what becomes of the part of a name, absence counting as a definition; none is a conflict
-abbrev pub part3 : {P : Type 0} → (P → List ℕ) → Kind P → Sides → List Column → List ℕ → Option (Option P)
+abbrev pub part3 : {P : Type 0} → (P → List ℕ) → PartKind P → Sides → List Column → List ℕ → Option (Option P)
 part3 called kind all columns name =
     option_and_then (taken kind all columns)
     (three_way (same_option (same_pair kind)) (stands called kind name all.base) (stands called kind name (Some all.ours)) (stands called kind name (Some all.theirs)))
@@ -64,7 +64,7 @@ others called ours theirs = filter (λ part. not (is_some (find called (called p
 abbrev pub names3 : {P : Type 0} → (P → List ℕ) → List P → List P → List (List ℕ)
 names3 called ours theirs = map called ours ++ map called (others called ours theirs)
 
-abbrev pub parts3 : {P : Type 0} → (P → List ℕ) → Kind P → Sides → List Column → Result (List P) (List ℕ)
+abbrev pub parts3 : {P : Type 0} → (P → List ℕ) → PartKind P → Sides → List Column → Result (List P) (List ℕ)
 parts3 called kind all columns = merged_by (part3 called kind all columns) (names3 called (kind.parts all.ours) (kind.parts all.theirs))
 
 -- ---- the whole

@@ -1,22 +1,22 @@
 -- The columns that the text of a CHECK names. In a canonical text words in capitals are reserved, a word in lower case is a name, and one with a
 -- dot behind it is a table's.
 use Rattle.std.specs.Prelude.{ℕ, Bool, false, ◌==◌, ◌&&◌, ◌||◌, nat_le, not, if◌then◌else◌, List, [], ◌∷◌, ◌++◌}
-use Rattle.schema_merge.specs.declared.names.Place.{Place}
-use Rattle.schema_merge.specs.declared.names.Place.TheVariants as place
+use Rattle.schema_merge.specs.declared.names.QuoteState.{QuoteState}
+use Rattle.schema_merge.specs.declared.names.QuoteState.TheVariants as place
 
 -- in strings quotes and backslashes stand behind backslashes
-abbrev pub next_place : Place → ℕ → Place
+abbrev pub next_place : QuoteState → ℕ → QuoteState
 next_place place.Outside byte = if byte == 39 then place.Inside else place.Outside
 next_place place.Inside byte = if byte == 92 then place.Escaped else (if byte == 39 then place.Outside else place.Inside)
 next_place place.Escaped byte = place.Inside
 
-abbrev pub is_kept : Place → ℕ → Bool
+abbrev pub is_kept : QuoteState → ℕ → Bool
 is_kept place.Outside byte = not (byte == 39)
 is_kept place.Inside byte = false
 is_kept place.Escaped byte = false
 
 -- a text without its strings
-abbrev pub unquoted : Place → List ℕ → List ℕ
+abbrev pub unquoted : QuoteState → List ℕ → List ℕ
 unquoted at [] = []
 unquoted at (byte ∷ bytes) = if is_kept at byte then byte ∷ unquoted (next_place at byte) bytes else unquoted (next_place at byte) bytes
 

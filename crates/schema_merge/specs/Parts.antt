@@ -82,7 +82,7 @@ covers_all all part = covers_in part.kind part.name all.base && covers_in part.k
 
 -- What a kind of part has beside its name: where it stands in a schema, when it has the same definition in two schemas, and, of one taken from a
 -- side, how it stands in the schema of the merged columns, if it can.
-pub record Kind (P : Type 0) : Type 0 where
+pub record PartKind (P : Type 0) : Type 0 where
   pub parts : Schema → List P
   pub same : Schema → P → Schema → P → Bool
   pub moved : Sides → List Column → Schema → P → Option P
@@ -90,7 +90,7 @@ pub record Kind (P : Type 0) : Type 0 where
 abbrev pub if_so : {P : Type 0} → Bool → P → Option P
 if_so test part = if test then Some part else None
 
-abbrev pub of_columns : Kind Column
+abbrev pub of_columns : PartKind Column
 of_columns = record {
   parts = λ schema. schema.columns;
   same = λ schema a other b. is_same_column a b;
@@ -103,14 +103,14 @@ same_index schema a other b = is_same_truth a.unique b.unique && pointwise bytes
 abbrev pub moved_index : List Column → Schema → IndexDef → IndexDef
 moved_index columns side part = record part { columns = moved_places columns side part.columns }
 
-abbrev pub of_indexes : Kind IndexDef
+abbrev pub of_indexes : PartKind IndexDef
 of_indexes = record {
   parts = λ schema. schema.indexes;
   same = same_index;
   moved = λ all columns side part. if_so (keeps_places columns side part.columns) (moved_index columns side part);
 }
 
-abbrev pub of_checks : Kind CheckDef
+abbrev pub of_checks : PartKind CheckDef
 of_checks = record {
   parts = λ schema. schema.checks;
   same = λ schema a other b. bytes_eq a.text b.text;
@@ -126,7 +126,7 @@ same_foreign schema a other b =
 abbrev pub moved_foreign : List Column → Schema → ForeignKey → ForeignKey
 moved_foreign columns side part = record part { columns = moved_places columns side part.columns }
 
-abbrev pub of_foreign : Kind ForeignKey
+abbrev pub of_foreign : PartKind ForeignKey
 of_foreign = record {
   parts = λ schema. schema.foreign;
   same = same_foreign;

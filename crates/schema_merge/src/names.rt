@@ -38,7 +38,7 @@ fn names_in(alloc: Global, text: &[u8]) -> Result<Sequence<Text>, AllocError>
 
 /// Where a byte of a text stands: outside of strings, inside of one, or in one behind a backslash.
 #[derive(Clone, Copy)]
-pub(crate) enum Place {
+pub(crate) enum QuoteState {
     Outside,
     Inside,
     Escaped,
@@ -46,10 +46,10 @@ pub(crate) enum Place {
 
 /// A text without its strings.
 fn unquoted(alloc: Global, text: &[u8]) -> Result<Vec<u8>, AllocError>
-    ensures { IfOk result (λ bytes. bytes.items ≡ unquoted Place.Outside text.now) }
+    ensures { IfOk result (λ bytes. bytes.items ≡ unquoted QuoteState.Outside text.now) }
 {
     let mut bytes = Vec::new(alloc);
-    let mut place = Place::Outside;
+    let mut place = QuoteState::Outside;
     for byte in text {
         if is_kept(place, *byte) {
             bytes.push(*byte)?;
@@ -59,26 +59,26 @@ fn unquoted(alloc: Global, text: &[u8]) -> Result<Vec<u8>, AllocError>
     Ok(bytes)
 }
 
-fn next_place(place: Place, byte: u8) -> Place
+fn next_place(place: QuoteState, byte: u8) -> QuoteState
     ensures { result ≡ next_place place byte }
 {
     match place {
-        Place::Outside if byte == b'\'' => Place::Inside,
-        Place::Outside => Place::Outside,
-        Place::Inside if byte == b'\\' => Place::Escaped,
-        Place::Inside if byte == b'\'' => Place::Outside,
-        Place::Inside => Place::Inside,
-        Place::Escaped => Place::Inside,
+        QuoteState::Outside if byte == b'\'' => QuoteState::Inside,
+        QuoteState::Outside => QuoteState::Outside,
+        QuoteState::Inside if byte == b'\\' => QuoteState::Escaped,
+        QuoteState::Inside if byte == b'\'' => QuoteState::Outside,
+        QuoteState::Inside => QuoteState::Inside,
+        QuoteState::Escaped => QuoteState::Inside,
     }
 }
 
 /// Whether a byte stands outside of strings and begins none.
-fn is_kept(place: Place, byte: u8) -> bool
+fn is_kept(place: QuoteState, byte: u8) -> bool
     ensures { result ≡ is_kept place byte }
 {
     match place {
-        Place::Outside => byte != b'\'',
-        Place::Inside | Place::Escaped => false,
+        QuoteState::Outside => byte != b'\'',
+        QuoteState::Inside | QuoteState::Escaped => false,
     }
 }
 

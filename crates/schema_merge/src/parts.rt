@@ -2,7 +2,7 @@
 
 ghost use Rattle.std.specs.Prelude.{◌≡◌, ◌<◌, ℕ, List, length, bytes_eq, IfOk};
 ghost use Rattle.std.specs.Option.{option_copied};
-ghost use Rattle.schema_merge.specs.Parts.{Kind, of_checks, of_columns, of_foreign, of_indexes, sides};
+ghost use Rattle.schema_merge.specs.Parts.{PartKind, of_checks, of_columns, of_foreign, of_indexes, sides};
 
 use crate::copies::{copy_check, copy_column, copy_text, copy_texts};
 use crate::covering::covers_all;
@@ -26,7 +26,7 @@ pub(crate) trait Named {
 /// A part of a schema that is merged by its name.
 pub(crate) trait Part: Named + Drop {
     /// What the definitions say of this kind of part.
-    ghost kind: { Kind Self };
+    ghost kind: { PartKind Self };
 
     /// Those of a schema.
     fn parts(schema: &Schema) -> &[Self]

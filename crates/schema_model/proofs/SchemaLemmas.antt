@@ -8,8 +8,8 @@ use Rattle.basic_laws.proofs.Options.{some_is}
 use Rattle.tuple_codec.specs.Fields.{short, short_at}
 use Rattle.tuple_codec.specs.KeyBytes.{bit}
 use Rattle.tuple_codec.specs.Limits.{is_type}
-use Rattle.tuple_codec.specs.RowBytes.{counted}
-use Rattle.tuple_codec.specs.Fronts.{uncounted}
+use Rattle.tuple_codec.specs.RowBytes.{length_prefixed}
+use Rattle.tuple_codec.specs.Fronts.{length_prefixed_at}
 use Rattle.tuple_codec.specs.declared.values.SqlType.{SqlType}
 use Rattle.tuple_codec.specs.declared.values.Value.{Value}
 use Rattle.tuple_codec.proofs.NumberLemmas.{AreBytes}
@@ -22,7 +22,7 @@ use Rattle.schema_model.specs.declared.schemas.Schema.{Schema}
 use Rattle.schema_model.specs.SchemaBytes.{check_bytes, column_bytes, default_bytes, flags, foreign_bytes, index_bytes, listed, schema_bytes, type_bytes}
 use Rattle.schema_model.specs.Schemas.{are_checks, are_columns, are_foreign, are_indexes, default_fits, is_check, is_column, is_foreign, is_index, is_key, is_name, is_schema}
 use Rattle.schema_model.specs.Reading.{◌>>=◌, bool_of, byte_at, check_at, column_at, default_at, flags_of, foreign_at, if_schema, index_at, items_at, list_at, schema_at, schema_of, type_at}
-use Rattle.schema_model.specs.Spellings.{HasOneSpelling, Reads}
+use Rattle.schema_model.specs.Spellings.{HasOneSpelling, ReadsSchema}
 use Rattle.schema_model.proofs.PartLemmas.{IsReader, Takes, Takes-then, bind_some, bool_again, bool_means, byte_again, byte_takes, flags_again, flags_mean, items_again, items_take, list_reader, nothing, short_again, short_reader, type_again, type_reader}
 use Rattle.schema_model.proofs.ValueLemmas.{default_again, default_takes}
 
@@ -110,26 +110,26 @@ index_reader columns = record { takes = index_takes; again = λ index rest h. in
 -- ---- checks
 
 abbrev after_check_name : List ℕ × List ℕ → Option (CheckDef × List ℕ)
-after_check_name name = uncounted name.1 >>= λ text. Some (record { name = name.0; text = text.0 }, text.1)
+after_check_name name = length_prefixed_at name.1 >>= λ text. Some (record { name = name.0; text = text.0 }, text.1)
 
 check_takes : (bytes : List ℕ) (x : CheckDef × List ℕ) → AreBytes bytes → check_at bytes ≡ Some x → Takes bytes (check_bytes x.0) x.1
 unfolding check_at
 check_takes bytes x fit e =
     let a = bind_some (short_at bytes) after_check_name x e in
-    let b = bind_some (uncounted a.0.1) (λ text. Some (record { name = a.0.0; text = text.0 }, text.1)) x a.2 in
+    let b = bind_some (length_prefixed_at a.0.1) (λ text. Some (record { name = a.0.0; text = text.0 }, text.1)) x a.2 in
     let first = (short_reader is_name).takes bytes a.0 fit a.1 in
     let c = counted_takes a.0.1 b.0.0 b.0.1 first.rest_fits b.1 in
-    let second : Takes a.0.1 (counted b.0.0) b.0.1 = record { parts = c.0; rest_fits = c.1 } in
-    let all = Takes-then bytes (short a.0.0) a.0.1 (counted b.0.0) b.0.1 first second in
+    let second : Takes a.0.1 (length_prefixed b.0.0) b.0.1 = record { parts = c.0; rest_fits = c.1 } in
+    let all = Takes-then bytes (short a.0.0) a.0.1 (length_prefixed b.0.0) b.0.1 first second in
     let made : CheckDef × List ℕ = (record { name = a.0.0; text = b.0.0 }, b.0.1) in
     subst (λ (y : CheckDef × List ℕ). Takes bytes (check_bytes y.0) y.1) (some_is made x b.2) all
 
 check_again : (check : CheckDef) (rest : List ℕ) → check_at (check_bytes check ++ rest) ≡ Some (check, rest)
 unfolding check_at
 check_again check rest =
-    let split : check_bytes check ++ rest ≡ short check.name ++ (counted check.text ++ rest) = simp append_assoc in
+    let split : check_bytes check ++ rest ≡ short check.name ++ (length_prefixed check.text ++ rest) = simp append_assoc in
     ap (λ (l : List ℕ). short_at l >>= after_check_name) split
-    ∙ ap (λ (o : Option (List ℕ × List ℕ)). o >>= after_check_name) (short_again check.name (counted check.text ++ rest))
+    ∙ ap (λ (o : Option (List ℕ × List ℕ)). o >>= after_check_name) (short_again check.name (length_prefixed check.text ++ rest))
     ∙ ap (λ (o : Option (List ℕ × List ℕ)). o >>= λ text. Some (record { name = check.name; text = text.0 }, text.1)) (counted_again check.text rest)
 
 check_reader : IsReader check_bytes is_check check_at
@@ -297,7 +297,7 @@ kept : (b : Bool) (x y : Schema) → cond b (Some x) None ≡ Some y → (b ≡ 
 kept true x y e = (refl, some_is x y e)
 kept false x y e = absurd cc
 
-pub is_read : (bytes : List ℕ) (s : Schema) → AreBytes bytes → schema_of bytes ≡ Some s → Reads bytes (Some s)
+pub is_read : (bytes : List ℕ) (s : Schema) → AreBytes bytes → schema_of bytes ≡ Some s → ReadsSchema bytes (Some s)
 is_read bytes s fit e =
     let b = bind_some (schema_at bytes) if_schema s e in
     let k = kept _ b.0.0 s b.2 in
@@ -306,7 +306,7 @@ is_read bytes s fit e =
     let all : bytes ≡ schema_bytes b.0.0 = schema_takes bytes b.0 fit b.1 ∙ ap (λ (r : List ℕ). schema_bytes b.0.0 ++ r) empty ∙ append-nil (schema_bytes b.0.0) in
     subst (λ (y : Schema). (is_schema y ≡ true) × (schema_bytes y ≡ bytes)) k.1 (both.1, sym all)
 
-pub is_none : (bytes : List ℕ) → schema_of bytes ≡ None → Reads bytes None
+pub is_none : (bytes : List ℕ) → schema_of bytes ≡ None → ReadsSchema bytes None
 is_none bytes e s h same = nothing s (sym e ∙ ap schema_of (sym same) ∙ found_again s h)
 
 pub one_spelling : HasOneSpelling

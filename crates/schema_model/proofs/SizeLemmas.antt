@@ -7,7 +7,7 @@ use Rattle.std.proofs.lemmas.Bool.{and_parts, eqb-true, leb-true, ltb-true}
 use Rattle.std.proofs.lemmas.List.{length-append}
 use Rattle.tuple_codec.specs.Fields.{short}
 use Rattle.tuple_codec.specs.Limits.{is_type}
-use Rattle.tuple_codec.specs.RowBytes.{counted, row_cell}
+use Rattle.tuple_codec.specs.RowBytes.{length_prefixed, row_cell}
 use Rattle.tuple_codec.specs.KeyBytes.{bit}
 use Rattle.tuple_codec.specs.Rows.{fits}
 use Rattle.tuple_codec.specs.Texts.{char_count, is_utf8}
@@ -117,7 +117,7 @@ check_size check h =
     let b = and_parts (is_name check.name) (ltb (length check.text) 65536) a.0 in
     let name = name_size check.name b.0 in
     let few = ltb-true (length check.text) 65536 b.1 in
-    let all = length-append (short check.name) (counted check.text) in
+    let all = length-append (short check.name) (length_prefixed check.text) in
     omega (arith, name, few, all)
 
 foreign_size : (columns : ℕ) (foreign : ForeignKey) → is_foreign columns foreign ≡ true → length (foreign_bytes foreign) ≤ 66048

@@ -8,8 +8,8 @@ use Rattle.basic_laws.proofs.Options.{some_is}
 use Rattle.tuple_codec.specs.Rows.{Cells, fits_all, key_cmp, key_of}
 use Rattle.tuple_codec.specs.Limits.{are_types}
 use Rattle.tuple_codec.specs.KeyBytes.{key_bytes, key_cell}
-use Rattle.tuple_codec.specs.RowBytes.{counted}
-use Rattle.tuple_codec.specs.Fronts.{uncounted}
+use Rattle.tuple_codec.specs.RowBytes.{length_prefixed}
+use Rattle.tuple_codec.specs.Fronts.{length_prefixed_at}
 use Rattle.tuple_codec.specs.Nodes.{Item}
 use Rattle.tuple_codec.specs.Texts.{is_utf8}
 use Rattle.tuple_codec.specs.declared.forms.Form.TheVariants as form
@@ -102,9 +102,9 @@ row_by_body s key a b h fa fb bodies =
     row_by_parts s a b h p.fits q.fits (p.keyed ∙ sym q.keyed) bodies
 
 -- what stands behind its length, and what follows
-counted_one : (a b x y : List ℕ) → counted a ++ x ≡ counted b ++ y → (a ≡ b) × (x ≡ y)
+counted_one : (a b x y : List ℕ) → length_prefixed a ++ x ≡ length_prefixed b ++ y → (a ≡ b) × (x ≡ y)
 counted_one a b x y e =
-    let same = some_is (a, x) (b, y) (sym (counted_again a x) ∙ ap uncounted e ∙ counted_again b y) in
+    let same = some_is (a, x) (b, y) (sym (counted_again a x) ∙ ap length_prefixed_at e ∙ counted_again b y) in
     (ap (λ (p : List ℕ × List ℕ). p.0) same, ap (λ (p : List ℕ × List ℕ). p.1) same)
 
 side_one : (s : Schema) (key : Cells) (a b : Option Cells) (x y : List ℕ) → is_schema s ≡ true → is_side_at s key a ≡ true → is_side_at s key b ≡ true
@@ -113,7 +113,7 @@ side_one s key None None x y h fa fb e = (refl, cc)
 side_one s key None (Some b) x y h fa fb e = absurd cc
 side_one s key (Some a) None x y h fa fb e = absurd cc
 side_one s key (Some a) (Some b) x y h fa fb e =
-    let rest : counted (body_bytes s a) ++ x ≡ counted (body_bytes s b) ++ y = cc in
+    let rest : length_prefixed (body_bytes s a) ++ x ≡ length_prefixed (body_bytes s b) ++ y = cc in
     let both = counted_one (body_bytes s a) (body_bytes s b) x y rest in
     (ap Some (row_by_body s key a b h fa fb both.0), both.1)
 

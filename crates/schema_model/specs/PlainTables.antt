@@ -6,7 +6,7 @@ use Rattle.std.specs.Cmp.Lexicographic.{slice_cmp}
 use Rattle.std.specs.declared.cmp.Ordering.{Ordering}
 use Rattle.tuple_codec.specs.Rows.{Cells, fits_all, key_cmp, key_of}
 use Rattle.tuple_codec.specs.KeyBytes.{key_bytes, key_cell}
-use Rattle.tuple_codec.specs.RowBytes.{counted, row_bytes}
+use Rattle.tuple_codec.specs.RowBytes.{length_prefixed, row_bytes}
 use Rattle.tuple_codec.specs.Nodes.{Item, leaf_item}
 use Rattle.tuple_codec.specs.declared.values.SqlType.{SqlType}
 use Rattle.tuple_codec.specs.declared.values.Value.TheVariants as cell
@@ -162,7 +162,7 @@ index_items table index = sorted (map (index_item table.schema index) table.rows
 -- a side of a conflict: absent, or a row behind its length
 abbrev pub side_bytes : Schema → Option Cells → List ℕ
 side_bytes schema None = 0 ∷ []
-side_bytes schema (Some row) = 1 ∷ counted (body_bytes schema row)
+side_bytes schema (Some row) = 1 ∷ length_prefixed (body_bytes schema row)
 
 abbrev pub conflict_item : Schema → Conflict → Item
 conflict_item schema conflict =

@@ -4,7 +4,7 @@ use Rattle.std.specs.Option.{option_map, option_and_then}
 use Rattle.tuple_codec.specs.Rows.{Cells}
 use Rattle.tuple_codec.specs.Limits.{is_type}
 use Rattle.tuple_codec.specs.Fields.{bytes_at, short_at}
-use Rattle.tuple_codec.specs.Fronts.{cells_front, uncounted, whole}
+use Rattle.tuple_codec.specs.Fronts.{cells_front, length_prefixed_at, whole}
 use Rattle.tuple_codec.specs.declared.forms.Form.TheVariants as form
 use Rattle.tuple_codec.specs.declared.values.SqlType.{SqlType}
 use Rattle.tuple_codec.specs.declared.values.SqlType.TheVariants as kind
@@ -120,7 +120,7 @@ index_at bytes = do
 unfoldable pub check_at : List ℕ → Option (CheckDef × List ℕ)
 check_at bytes = do
   name ← short_at bytes
-  text ← uncounted name.1
+  text ← length_prefixed_at name.1
   Some (record { name = name.0; text = text.0 }, text.1)
 
 -- so many items, one after another

@@ -3,7 +3,7 @@ use Rattle.std.specs.Prelude.{ℕ, ◌+◌, ◌*◌, ◌/◌, ◌%◌, Bool, is_
 use Rattle.std.specs.List.{flat_map}
 use Rattle.tuple_codec.specs.Fields.{short}
 use Rattle.tuple_codec.specs.KeyBytes.{bit}
-use Rattle.tuple_codec.specs.RowBytes.{counted, row_cell}
+use Rattle.tuple_codec.specs.RowBytes.{length_prefixed, row_cell}
 use Rattle.tuple_codec.specs.declared.values.SqlType.{SqlType}
 use Rattle.tuple_codec.specs.declared.values.SqlType.TheVariants as kind
 use Rattle.tuple_codec.specs.declared.values.Value.{Value}
@@ -45,7 +45,7 @@ abbrev pub index_bytes : IndexDef → List ℕ
 index_bytes index = short index.name ++ bit index.unique ∷ short index.columns
 
 abbrev pub check_bytes : CheckDef → List ℕ
-check_bytes check = short check.name ++ counted check.text
+check_bytes check = short check.name ++ length_prefixed check.text
 
 -- the parent's columns are as many as the columns, so their number isn't told again
 abbrev pub foreign_bytes : ForeignKey → List ℕ

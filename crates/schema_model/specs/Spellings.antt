@@ -5,9 +5,9 @@ use Rattle.schema_model.specs.Schemas.{is_schema}
 use Rattle.schema_model.specs.declared.schemas.Schema.{Schema}
 
 -- the schema that has the bytes, or that there is none
-abbrev pub Reads : List ℕ → Option Schema → Type 0
-Reads bytes None = (schema : Schema) → is_schema schema ≡ true → schema_bytes schema ≡ bytes → ⊥
-Reads bytes (Some schema) = (is_schema schema ≡ true) × (schema_bytes schema ≡ bytes)
+abbrev pub ReadsSchema : List ℕ → Option Schema → Type 0
+ReadsSchema bytes None = (schema : Schema) → is_schema schema ≡ true → schema_bytes schema ≡ bytes → ⊥
+ReadsSchema bytes (Some schema) = (is_schema schema ≡ true) × (schema_bytes schema ≡ bytes)
 
 -- two schemas with the same bytes are one
 abbrev pub HasOneSpelling : Type 0

@@ -3,7 +3,7 @@ use Rattle.std.specs.Prelude.{ℕ, ℤ, List, [], ◌∷◌, ◌++◌, length, m
 use Rattle.std.specs.List.{flat_map}
 use Rattle.std.specs.Int.{w16, w32, w64, cast_unsigned, to_be_bytes}
 use Rattle.tuple_codec.specs.Fields.{short}
-use Rattle.tuple_codec.specs.RowBytes.{counted}
+use Rattle.tuple_codec.specs.RowBytes.{length_prefixed}
 use Rattle.tuple_codec.specs.Trees.{root}
 use Rattle.tuple_codec.specs.declared.addresses.Address.{Address}
 use Rattle.tuple_codec.specs.declared.records.BranchRecord.{BranchRecord}
@@ -26,15 +26,15 @@ abbrev pub table_address : (List ℕ → List ℕ) → PlainTable → List ℕ
 table_address address table = address (table_bytes address table)
 
 -- a table's name and address within a database
-pub record Entry : Type 0 where
+pub record WrittenEntry : Type 0 where
   pub name : List ℕ
   pub address : List ℕ
 
 -- a database: how many tables, and by rising name each name and the table's address
-abbrev pub database_form : List Entry → List ℕ
+abbrev pub database_form : List WrittenEntry → List ℕ
 database_form entries = 4 ∷ (to_be_bytes w16 (length entries) ++ flat_map (λ entry. short entry.name ++ entry.address) entries)
 
-abbrev pub entry_of : (List ℕ → List ℕ) → NamedTable → Entry
+abbrev pub entry_of : (List ℕ → List ℕ) → NamedTable → WrittenEntry
 entry_of address named = record { name = named.name; address = table_address address named.table }
 
 abbrev pub database_bytes : (List ℕ → List ℕ) → PlainDatabase → List ℕ
@@ -55,7 +55,7 @@ pub record CommitParts : Type 0 where
 abbrev pub commit_bytes : CommitParts → List ℕ
 commit_bytes commit =
     5 ∷ (commit.root ++ (length commit.parents ∷ (flat_map (λ parent. parent) commit.parents ++ (to_be_bytes w64 commit.height
-    ++ (to_be_bytes w64 (cast_unsigned w64 commit.date) ++ (counted commit.committer ++ counted commit.message))))))
+    ++ (to_be_bytes w64 (cast_unsigned w64 commit.date) ++ (length_prefixed commit.committer ++ length_prefixed commit.message))))))
 
 -- the commit of a merge in progress, if there is one
 abbrev pub merging_bytes : Option Address → List ℕ

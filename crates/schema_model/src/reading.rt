@@ -3,7 +3,7 @@
 ghost use Rattle.std.specs.Prelude.{◌≡◌, IfOk};
 ghost use Rattle.tuple_codec.specs.Fronts.{Gives};
 ghost use Rattle.schema_model.specs.Reading.{schema_at, schema_of};
-ghost use Rattle.schema_model.specs.Spellings.{Reads};
+ghost use Rattle.schema_model.specs.Spellings.{ReadsSchema};
 
 use crate::lists::list_at;
 use crate::rules::is_schema;
@@ -14,7 +14,7 @@ use tuple_codec::{Sequence, Unread, short_at};
 /// The schema that has these bytes, or None where no schema has them. It takes time for each byte once, and compares
 /// each name, and each position of a list, with those after it.
 pub fn read_schema(alloc: Global, bytes: &[u8]) -> Result<Option<Schema>, AllocError>
-    ensures { IfOk result (λ schema. Reads bytes.now schema) }
+    ensures { IfOk result (λ schema. ReadsSchema bytes.now schema) }
 {
     match schema_of(alloc, bytes) {
         Ok(schema) => Ok(Some(schema)),

@@ -10,7 +10,7 @@ use Rattle.std.proofs.lemmas.Bool.Decides.{nat_tests}
 use Rattle.std.proofs.lemmas.Bool.{and_parts as both, and_from as join}
 use Rattle.basic_laws.proofs.Lists.{all_weaker, all_append}
 use Rattle.tuple_codec.specs.Texts.{is_utf8}
-use Rattle.script_text.specs.Input.{Parts, add_line, add_statement, and_then, bad, is_name, is_name_byte, is_one_too_many, is_skipped, items_of, lines_of, most_bytes, most_statement_bytes, most_statements, no_script, ordered_by, ordered_from, parts_after, parts_of, script, script_from, script_in, statement_in, with_statement}
+use Rattle.script_text.specs.Input.{SpokenLine, add_line, add_statement, and_then, bad, is_name, is_name_byte, is_one_too_many, is_skipped, items_of, lines_of, most_bytes, most_statement_bytes, most_statements, no_script, ordered_by, ordered_from, parts_after, parts_of, script, script_from, script_in, statement_in, with_statement}
 use Rattle.script_text.specs.Shown.{is_shown_name}
 use Rattle.script_text.specs.declared.scripts.Line.{Line}
 use Rattle.script_text.specs.declared.scripts.OrderItem.{OrderItem}
@@ -27,7 +27,7 @@ name_bytes (byte ∷ bytes) =
     ] refl
 
 -- the parts of a line have a name that may be shown
-named_after : (name rest : List ℕ) (parts : Parts) → list_all is_name_byte name ≡ true → parts_after name rest ≡ Some parts → is_shown_name parts.name ≡ true
+named_after : (name rest : List ℕ) (parts : SpokenLine) → list_all is_name_byte name ≡ true → parts_after name rest ≡ Some parts → is_shown_name parts.name ≡ true
 named_after name rest parts letters h =
     elim (is_name name && starts_with nat_eq rest (codes " ")) as (λ test. (is_name name && starts_with nat_eq rest (codes " ")) ≡ test
     → (if test then option_map (λ statement. record { name = name; statement = statement }) (statement_in rest) else None) ≡ Some parts → is_shown_name parts.name ≡ true) [
@@ -36,13 +36,13 @@ named_after name rest parts letters h =
             | None ↦ λ e. absurd (cc)
             | Some statement ↦ λ e.
                 let made : record { name = name; statement = statement } ≡ parts = cc in
-                ap (λ (p : Parts). is_shown_name p.name) (sym made)
+                ap (λ (p : SpokenLine). is_shown_name p.name) (sym made)
                 ∙ join (is_name name) (list_all is_name_byte name) (both (is_name name) (starts_with nat_eq rest (codes " ")) test).0 letters
           ] found
       | false ↦ λ test found. absurd (cc)
     ] refl h
 
-named : (line : List ℕ) (parts : Parts) → parts_of line ≡ Some parts → is_shown_name parts.name ≡ true
+named : (line : List ℕ) (parts : SpokenLine) → parts_of line ≡ Some parts → is_shown_name parts.name ≡ true
 named [] parts h = absurd (cc)
 named (byte ∷ bytes) parts h =
     elim (byte == 64) as (λ test. (if test then parts_after (take_while is_name_byte bytes) (drop (length (take_while is_name_byte bytes)) bytes) else None) ≡ Some parts → is_shown_name parts.name ≡ true) [
@@ -75,7 +75,7 @@ distinct_push (first ∷ names) name h apart =
 within_more : (read next : Script) → length read.names ≤ length next.names → (line : Line) → is_line_within read line ≡ true → is_line_within next line ≡ true
 within_more read next more line h = let test : nat_lt line.session (length read.names) ≡ true = h in grind (arith, nat_tests)
 
-statement_sound : (read : Script) (parts : Parts) → is_shown_name parts.name ≡ true → nat_le most_statements (length read.lines) ≡ false → IsSoundScript read → IsSoundScript (with_statement read parts)
+statement_sound : (read : Script) (parts : SpokenLine) → is_shown_name parts.name ≡ true → nat_le most_statements (length read.lines) ≡ false → IsSoundScript read → IsSoundScript (with_statement read parts)
 statement_sound read parts name room sound =
     let place : ℕ = position_or_len (λ other. bytes_eq other parts.name) read.names in
     let few : length read.lines + 1 ≤ 20000 = grind (arith, nat_tests) in
@@ -117,7 +117,7 @@ statement_sound read parts name room sound =
 abbrev IsGrown : Script → Script → Type 0
 IsGrown read next = IsSoundScript next × (next.order ≡ read.order)
 
-added : (number : ℕ) (read : Script) (parts : Parts) (next : Script) → is_shown_name parts.name ≡ true → IsSoundScript read → add_statement number read parts ≡ Ok next → IsGrown read next
+added : (number : ℕ) (read : Script) (parts : SpokenLine) (next : Script) → is_shown_name parts.name ≡ true → IsSoundScript read → add_statement number read parts ≡ Ok next → IsGrown read next
 added number read parts next name sound h =
     elim (nat_lt most_statement_bytes (length parts.statement)) as (λ test. (if test then bad number 4 else (
     if is_one_too_many read.names parts.name then bad number 5 else (

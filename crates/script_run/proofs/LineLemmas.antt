@@ -17,7 +17,7 @@ use Rattle.run_laws.specs.Orders.{count_of}
 use Rattle.run_laws.specs.Turns.{moments_of}
 use Rattle.run_laws.proofs.RunLemmas.{commands_counted}
 use Rattle.run_laws.proofs.OrderLemmas.{count_fits as count_most}
-use Rattle.session_state.specs.declared.sessions.Place.TheVariants as place
+use Rattle.session_state.specs.declared.sessions.Position.TheVariants as place
 use Rattle.serving.specs.Steps.{number_at}
 use Rattle.serving.proofs.AnswerLemmas.{same_number as number_is}
 use Rattle.script_run.specs.Running.{AreSpeakers, IsRunningAt, IsSpeaker, Speaks}

@@ -20,7 +20,7 @@ use crate::running::{Running, Speaker};
 use chunk_store::PutFault;
 use run_laws::law_of_lines;
 use script_text::{Reply, RunText, Script};
-use session_state::Place;
+use session_state::Position;
 use shared_db::SharedDb;
 use std::alloc::{AllocError, Global};
 use tuple_codec::{Digester, Sequence};
@@ -129,11 +129,11 @@ fn speak<D: Digester, P: Pacer>(
 }
 
 /// The number of the statement before or in which a session stands.
-pub fn number_of(place: Place) -> u32
+pub fn number_of(place: Position) -> u32
     ensures { result ≡ number_at place }
 {
     match place {
-        Place::Before(number) | Place::Between(number) => number,
+        Position::Before(number) | Position::Between(number) => number,
     }
 }
 

@@ -31,7 +31,7 @@ use serving::{
     meet_planned, meet_start, plan_open, plan_pending,
 };
 use session_state::Session;
-use shared_db::{Plan, SharedDb};
+use shared_db::{DecisionPlan, SharedDb};
 use std::alloc::Global;
 use std::mem::replace;
 use table_root::Look;
@@ -110,7 +110,7 @@ fn plan_next<D: Digester>(
     player: &Player<D>,
     look: &Look,
     epoch: i64,
-) -> Option<Plan>
+) -> Option<DecisionPlan>
     requires player { (parts : Parts) × (shared : Shared) × (place : ℕ) × (runner : Runner) × IsPlayer D.address parts shared place runner player.now }
     requires looked { HasLooked D.address player.now.session look.now }
     requires epoch { pos 0 ≤ℤ epoch }

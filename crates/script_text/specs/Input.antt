@@ -78,7 +78,7 @@ abbrev pub is_skipped : List ℕ → Bool
 is_skipped line = list_all is_blank line || starts_with nat_eq line (codes "#") || starts_with nat_eq line (codes "--")
 
 -- what a line `@name statement;` says
-pub record Parts : Type 0 where
+pub record SpokenLine : Type 0 where
   pub name : List ℕ
   pub statement : List ℕ
 
@@ -94,10 +94,10 @@ abbrev pub is_name : List ℕ → Bool
 is_name name = nat_lt 0 (length name) && nat_le (length name) most_name_bytes
 
 -- a name, one or more spaces, and a statement with its semicolon
-abbrev pub parts_after : List ℕ → List ℕ → Option Parts
+abbrev pub parts_after : List ℕ → List ℕ → Option SpokenLine
 parts_after name rest = if is_name name && starts_with nat_eq rest (codes " ") then option_map (λ statement. record { name = name; statement = statement }) (statement_in rest) else None
 
-abbrev pub parts_of : List ℕ → Option Parts
+abbrev pub parts_of : List ℕ → Option SpokenLine
 parts_of [] = None
 parts_of (byte ∷ bytes) = let name = take_while is_name_byte bytes in if byte == 64 then parts_after name (drop (length name) bytes) else None
 
@@ -108,7 +108,7 @@ place_of names name = position (λ other. bytes_eq other name) names
 abbrev pub with_name : List (List ℕ) → List ℕ → List (List ℕ)
 with_name names name = if is_none (place_of names name) then names ++ name ∷ [] else names
 
-abbrev pub with_statement : Script → Parts → Script
+abbrev pub with_statement : Script → SpokenLine → Script
 with_statement read parts = record {
   names = with_name read.names parts.name;
   lines = read.lines ++ (record { session = unwrap_or (place_of read.names parts.name) (length read.names); statement = parts.statement }) ∷ [];
@@ -122,7 +122,7 @@ bad line rule = Err (record { line = line; rule = rule })
 abbrev pub is_one_too_many : List (List ℕ) → List ℕ → Bool
 is_one_too_many names name = is_none (place_of names name) && nat_le most_sessions (length names)
 
-abbrev pub add_statement : ℕ → Script → Parts → Result Script BadScript
+abbrev pub add_statement : ℕ → Script → SpokenLine → Result Script BadScript
 add_statement number read parts =
     if nat_lt most_statement_bytes (length parts.statement) then bad number 4 else (
     if is_one_too_many read.names parts.name then bad number 5 else (

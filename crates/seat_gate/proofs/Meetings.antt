@@ -10,14 +10,14 @@ use Rattle.atomic_table.proofs.Lists.{set_else, set_here, at_longer}
 use Rattle.seat_gate.specs.History.{Spelling, Entry, Past, entries_of, View, past_of, joined_with, OneOpening}
 use Rattle.seat_gate.specs.Places.{first_place, giving, given_out, taking_in, gone, only, is_at_rest}
 use Rattle.seat_gate.specs.Rule.{turn, waiting, PastFits, SeatFits, Rule, Ordered}
-use Rattle.seat_gate.specs.declared.place.Place.{Place}
+use Rattle.seat_gate.specs.declared.place.SeatState.{SeatState}
 use Rattle.seat_gate.specs.Words.{HasJoined, StandsIn, IsWhole}
 use Rattle.seat_gate.proofs.HistoryLemmas.{longest, entries_none, all_map, all_join, all_at}
 use Rattle.seat_gate.proofs.PlaceLemmas.{off, inside, one_there, each_set, each_snoc, one_if, waiting_set, waiting_snoc, apart_set, apart_snoc, past_set, one_opening, none_before}
 use Rattle.seat_gate.proofs.Moves.{carried}
 
 -- the only place of a seat at rest neither waits nor serves, and is not joined away
-pub record Rests (ps : List Place) (p : Place) : Type 0 where
+pub record Rests (ps : List SeatState) (p : SeatState) : Type 0 where
   pub is : only ps ≡ p
   pub idle : p.waits ≡ false
   pub off_turn : p.serves ≡ false
@@ -29,7 +29,7 @@ three true b c h = absurd (off refl h)
 three false true c h = absurd (off refl h)
 three false false true h = absurd (off refl h)
 
-pub rests : (ps : List Place) (p : Place) → is_at_rest ps ≡ true → ps ≡ p ∷ [] → Rests ps p
+pub rests : (ps : List SeatState) (p : SeatState) → is_at_rest ps ≡ true → ps ≡ p ∷ [] → Rests ps p
 rests ps p h e =
     let t = three p.waits p.serves p.spent (subst (λ l. is_at_rest l ≡ true) e h) in
     record { is = ap only e; idle = t.0; off_turn = t.1; live = t.2 }
@@ -37,7 +37,7 @@ rests ps p h e =
 three_off : (a b c : Bool) → a ≡ false → b ≡ false → c ≡ false → (not a && (not b && not c)) ≡ true
 three_off a b c e f g = ap (λ (x : Bool × Bool × Bool). not x.0 && (not x.1 && not x.2)) (λ i. (e i, f i, g i))
 
-pub rests_again : (ps : List Place) (p : Place) → ps ≡ p ∷ [] → p.waits ≡ false → p.serves ≡ false → p.spent ≡ false → is_at_rest ps ≡ true
+pub rests_again : (ps : List SeatState) (p : SeatState) → ps ≡ p ∷ [] → p.waits ≡ false → p.serves ≡ false → p.spent ≡ false → is_at_rest ps ≡ true
 rests_again ps p is e f g = ap is_at_rest is ∙ three_off p.waits p.serves p.spent e f g
 
 -- the words of a new gate
@@ -45,7 +45,7 @@ zero_at : (k : ℕ) → k < 4 → get_or {A = ℕ} (replicate 4 0) k 0 ≡ 0
 zero_at k within = get_or-replicate {A = ℕ} 4 k 0 0 within
 
 module _ {T : Type 0} (fits : T → Spelling → List Entry → Type 0) (opened : Spelling) where
-  only_first : (P : Place → Type 0) → P (first_place opened) → (i : ℕ) (p : Place) → get_elem? (first_place opened ∷ []) i ≡ some p → (i ≡ 0) × P p
+  only_first : (P : SeatState → Type 0) → P (first_place opened) → (i : ℕ) (p : SeatState) → get_elem? (first_place opened ∷ []) i ≡ some p → (i ≡ 0) × P p
   only_first P h zero p e = (refl, subst P (some-injective _ _ e) h)
   only_first P h (suc i) p e = absurd (some-ne-none p (sym e))
 
@@ -83,16 +83,16 @@ module _ {T : Type 0} (fits : T → Spelling → List Entry → Type 0) (opened 
         joined = tt;
       }
 
-  module _ (id : ℕ) (p : Place) where
+  module _ (id : ℕ) (p : SeatState) where
     pub splits : p.spent ≡ false → p.view.number ≡ 0 → p.view.given + 1 < 4294967296 → Splits (Ordered fits opened) id p (giving p) (given_out p)
     splits live first few s o at =
         let serving : ℕ = o.0 in
         let keeper : ℕ = o.1 in
         let log : List Entry = o.2 in
         let r : Rule fits opened s serving keeper log = o.3 in
-        let q : Place = giving p in
-        let ps : List Place = set s.views id q in
-        let qs : List Place = ps ++ given_out p ∷ [] in
+        let q : SeatState = giving p in
+        let ps : List SeatState = set s.views id q in
+        let qs : List SeatState = ps ++ given_out p ∷ [] in
         let mine = r.seats id p at in
         let some_given : 0 < p.view.given = mine.first live (sym (mine.number live) ∙ first) in
         let all_given : p.view.given ≡ length s.views = (mine.given some_given).0 in
@@ -103,7 +103,7 @@ module _ {T : Type 0} (fits : T → Spelling → List Entry → Type 0) (opened 
         let set_of : waiting ps + one_if p.waits ≡ waiting s.views + one_if p.waits = waiting_set s.views id p q at in
         let as_set : waiting qs ≡ waiting ps = waiting_snoc ps (given_out p) refl in
         let as_many : waiting qs ≡ waiting s.views = omega arith in
-        let line = λ (y : Place) (l : (serving ≤ y.ticket) × (y.ticket < serving + waiting s.views)). subst (λ n. (serving ≤ y.ticket) × (y.ticket < serving + n)) (sym as_many) l in
+        let line = λ (y : SeatState) (l : (serving ≤ y.ticket) × (y.ticket < serving + waiting s.views)). subst (λ n. (serving ≤ y.ticket) × (y.ticket < serving + n)) (sym as_many) l in
         let past = λ (a : Past) (h : PastFits opened s.views log a). past_longer opened ps (given_out p) log a (past_set opened s.views id p q log a at live h) in (
           serving,
           keeper,
@@ -147,20 +147,20 @@ module _ {T : Type 0} (fits : T → Spelling → List Entry → Type 0) (opened 
                 });
             apart = apart_snoc ps (given_out p) (apart_set s.views id q r.apart (λ w j y ne e w' equal. ne (r.apart j id y p e at w' w (sym equal)))) refl;
             known = all_map (λ (e : Entry). e.seat < length s.views) (λ (e : Entry). e.seat < length qs) (λ e h. let lt : e.seat < length s.views = h in omega arith) log r.known;
-            value = λ none. let before = λ (i : ℕ) (x : Place) (e : get_elem? ps i ≡ some x). none i x (at_longer ps (given_out p ∷ []) i x e) in
+            value = λ none. let before = λ (i : ℕ) (x : SeatState) (e : get_elem? ps i ≡ some x). none i x (at_longer ps (given_out p ∷ []) i x e) in
                 r.value (none_before s.views id p q at (before id q (set_here s.views id q (inside s.views id p at))) before);
           },
         )
       where
-        past_longer : (opened : Spelling) (ps : List Place) (q : Place) (log : List Entry) (past : Past) → PastFits opened ps log past → PastFits opened (ps ++ q ∷ []) log past
+        past_longer : (opened : Spelling) (ps : List SeatState) (q : SeatState) (log : List Entry) (past : Past) → PastFits opened ps log past → PastFits opened (ps ++ q ∷ []) log past
         past_longer opened ps q log past f = let g = f.gone in record { opened_as = f.opened_as; prefix = f.prefix; made = f.made; gone = (g.0, at_longer ps (q ∷ []) past.number g.0 g.1, g.2) }
 
-    module _ (other : ℕ) (q : Place) where
+    module _ (other : ℕ) (q : SeatState) where
       -- who knows, from now on, how many seats were given out: the taking seat where either knew
-      new_keeper : (s : State (Option T) Place) (serving keeper : ℕ) (log : List Entry) → Rule fits opened s serving keeper log → get_elem? s.views id ≡ some p → get_elem? s.views other ≡ some q → ¬ (other ≡ id)
+      new_keeper : (s : State (Option T) SeatState) (serving keeper : ℕ) (log : List Entry) → Rule fits opened s serving keeper log → get_elem? s.views id ≡ some p → get_elem? s.views other ≡ some q → ¬ (other ≡ id)
           → (keeper' : ℕ)
           × (0 < p.view.given + q.view.given → (p.view.given + q.view.given ≡ length s.views) × (id ≡ keeper'))
-          × ((j : ℕ) (x : Place) → j ≢ id → j ≢ other → get_elem? s.views j ≡ some x → 0 < x.view.given → (x.view.given ≡ length s.views) × (j ≡ keeper'))
+          × ((j : ℕ) (x : SeatState) → j ≢ id → j ≢ other → get_elem? s.views j ≡ some x → 0 < x.view.given → (x.view.given ≡ length s.views) × (j ≡ keeper'))
       new_keeper s serving keeper log r at there apart =
           let mine = r.seats id p at in
           let theirs = r.seats other q there in
@@ -184,9 +184,9 @@ module _ {T : Type 0} (fits : T → Spelling → List Entry → Type 0) (opened 
           let serving : ℕ = o.0 in
           let log : List Entry = o.2 in
           let r : Rule fits opened s serving o.1 log = o.3 in
-          let both : Place = taking_in p q in
-          let ps : List Place = set s.views id both in
-          let qs : List Place = set ps other gone in
+          let both : SeatState = taking_in p q in
+          let ps : List SeatState = set s.views id both in
+          let qs : List SeatState = set ps other gone in
           let there : get_elem? s.views other ≡ some q = sym (set_else s.views id other both apart) ∙ after in
           let mine = r.seats id p at in
           let theirs = r.seats other q there in
@@ -266,13 +266,13 @@ module _ {T : Type 0} (fits : T → Spelling → List Entry → Type 0) (opened 
         let mine = r.seats id p at in
         let count : p.view.given ≡ length s.views = (mine.given some_given).0 in
         let v = r.value (λ i x e. dite (ℕ_discrete i id)
-        (λ is. subst (λ (y : Place). y.serves ≡ false) (one_there s.views id p x at (subst (λ k. get_elem? s.views k ≡ some x) is e)) off_turn)
+        (λ is. subst (λ (y : SeatState). y.serves ≡ false) (one_there s.views id p x at (subst (λ k. get_elem? s.views k ≡ some x) is e)) off_turn)
         (λ ne.
         let within : i < length s.views = inside s.views i x e in
         let h = all i (omega arith) (λ is. ne (is ∙ mine.number live)) in
         let g = (all_at (PastFits opened s.views log) p.view.joined mine.joined h.0 h.1 h.2).gone in
         let same : g.0 ≡ x = one_there s.views i g.0 x (subst (λ k. get_elem? s.views k ≡ some g.0) h.3 g.1) e in
-        ((r.seats i x e).over (subst (λ (y : Place). y.spent ≡ true) same g.2)).1)) in (
+        ((r.seats i x e).over (subst (λ (y : SeatState). y.spent ≡ true) same g.2)).1)) in (
           v.0,
           log,
           end.4 0 (Some v.0) v.1,

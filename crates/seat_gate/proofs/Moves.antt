@@ -14,12 +14,12 @@ use Rattle.atomic_table.proofs.Lists.{exchanged, set_again, set_here, one_turn}
 use Rattle.seat_gate.specs.History.{Spelling, Entry, Past, entries_of, StartsWith}
 use Rattle.seat_gate.specs.Places.{drawn, served, marked, done}
 use Rattle.seat_gate.specs.Rule.{turn, waiting, PastFits, SeatFits, Rule, Ordered, Drew, DrewWhere, Looked, Rose, Recalled}
-use Rattle.seat_gate.specs.declared.place.Place.{Place}
+use Rattle.seat_gate.specs.declared.place.SeatState.{SeatState}
 use Rattle.seat_gate.proofs.HistoryLemmas.{starts_more, entries_mine, entries_other, all_map, all_join}
 use Rattle.seat_gate.proofs.PlaceLemmas.{off, inside, one_there, each_set, one_if, waiting_few, waiting_set, apart_set, past_set, past_more, one_opening, none_before}
 
 -- a seat that a step of another leaves as it is
-pub carried : (opened : Spelling) (ps qs : List Place) (serving serving' keeper keeper' : ℕ) (log log' : List Entry) (j : ℕ) (p : Place)
+pub carried : (opened : Spelling) (ps qs : List SeatState) (serving serving' keeper keeper' : ℕ) (log log' : List Entry) (j : ℕ) (p : SeatState)
     → SeatFits opened ps serving keeper log j p
     → (p.waits ≡ true → (serving' ≤ p.ticket) × (p.ticket < serving' + waiting qs))
     → (p.serves ≡ true → (p.waits ≡ true) × (p.ticket ≡ serving') × (p.view.seen ≡ log'))
@@ -42,12 +42,12 @@ carried opened ps qs serving serving' keeper keeper' log log' j p f line on pref
   joined = all_map (PastFits opened ps log) (PastFits opened qs log') past p.view.joined f.joined;
 }
 
-pub given_set : (opened : Spelling) (ps : List Place) (serving keeper : ℕ) (log : List Entry) (id : ℕ) (q : Place) (j : ℕ) (p : Place)
+pub given_set : (opened : Spelling) (ps : List SeatState) (serving keeper : ℕ) (log : List Entry) (id : ℕ) (q : SeatState) (j : ℕ) (p : SeatState)
     → SeatFits opened ps serving keeper log j p → 0 < p.view.given → (p.view.given ≡ length (set ps id q)) × (j ≡ keeper)
 given_set opened ps serving keeper log id q j p f some_given = let g = f.given some_given in (g.0 ∙ sym (length-set ps id q), g.1)
 
-module _ {T : Type 0} (fits : T → Spelling → List Entry → Type 0) (opened : Spelling) (slots id : ℕ) (m : Me (Option T) Place) where
-  abbrev Fits : List Place → ℕ → ℕ → List Entry → ℕ → Place → Type 0
+module _ {T : Type 0} (fits : T → Spelling → List Entry → Type 0) (opened : Spelling) (slots id : ℕ) (m : Me (Option T) SeatState) where
+  abbrev Fits : List SeatState → ℕ → ℕ → List Entry → ℕ → SeatState → Type 0
   Fits = SeatFits opened
 
   -- a word goes up by one, as the number does for which it stands
@@ -55,8 +55,8 @@ module _ {T : Type 0} (fits : T → Spelling → List Entry → Type 0) (opened 
   raised words i n lt is = get_or-set_same words i ((get_or words i 0 + 1) % turn) 0 lt ∙ (ap (λ k. (k + 1) % turn) is ∙ mod-add-mod n turn 1)
 
   -- only one seat has its turn
-  alone : (s : State (Option T) Place) (serving keeper : ℕ) (log : List Entry) → Rule fits opened s serving keeper log → get_elem? s.views id ≡ some m.0 → m.0.waits ≡ true → m.0.ticket ≡ serving
-      → (j : ℕ) (p : Place) → get_elem? s.views j ≡ some p → p.serves ≡ true → j ≡ id
+  alone : (s : State (Option T) SeatState) (serving keeper : ℕ) (log : List Entry) → Rule fits opened s serving keeper log → get_elem? s.views id ≡ some m.0 → m.0.waits ≡ true → m.0.ticket ≡ serving
+      → (j : ℕ) (p : SeatState) → get_elem? s.views j ≡ some p → p.serves ≡ true → j ≡ id
   alone s serving keeper log r at waits here j p e on =
       let f = (r.seats j p e).on_turn on in
       r.apart j id p m.0 e at f.0 waits (f.1 ∙ sym here)
@@ -67,10 +67,10 @@ module _ {T : Type 0} (fits : T → Spelling → List Entry → Type 0) (opened 
       let keeper : ℕ = o.1 in
       let log : List Entry = o.2 in
       let r : Rule fits opened s serving keeper log = o.3 in
-      let p : Place = m.0 in
+      let p : SeatState = m.0 in
       let ticket : ℕ = serving + waiting s.views in
-      let q : Place = drawn ticket p in
-      let qs : List Place = set s.views id q in
+      let q : SeatState = drawn ticket p in
+      let qs : List SeatState = set s.views id q in
       let x : ℕ = (get_or s.words 0 0 + 1) % turn in
       let long = r.words in
       let none_of : one_if p.waits ≡ 0 = ap one_if idle in
@@ -118,10 +118,10 @@ module _ {T : Type 0} (fits : T → Spelling → List Entry → Type 0) (opened 
       )
 
   -- a read leaves the state as it is
-  abbrev Same : (i : ℕ) → State (Option T) Place → Type 0
+  abbrev Same : (i : ℕ) → State (Option T) SeatState → Type 0
   Same i s = stepped s i (get_or s.words i 0) id m.1 m.0 keeps ≡ s
 
-  same : (i : ℕ) (s : State (Option T) Place) → get_elem? s.views id ≡ some m.0 → Same i s
+  same : (i : ℕ) (s : State (Option T) SeatState) → get_elem? s.views id ≡ some m.0 → Same i s
   same i s at = λ k. record { words = set-get_or s.words i 0 k; homes = s.homes; views = set_again s.views id m.0 at k }
 
   pub tries : m.0.waits ≡ false → m.0.serves ≡ false → m.0.spent ≡ false → (wanted : ℕ)
@@ -129,17 +129,17 @@ module _ {T : Type 0} (fits : T → Spelling → List Entry → Type 0) (opened 
   tries idle off_turn live wanted s o long at low =
       let found : ℕ = get_or s.words 0 0 in
       exchanged found wanted ((wanted + 1) % turn)
-      (λ n. (w : Place) × (a : Act (Option T)) × Valid s.homes m.1 a × Ordered fits opened (stepped s 0 n id m.1 w a) × DrewWhere wanted m found (w, carried_after m.1 a))
+      (λ n. (w : SeatState) × (a : Act (Option T)) × Valid s.homes m.1 a × Ordered fits opened (stepped s 0 n id m.1 w a) × DrewWhere wanted m found (w, carried_after m.1 a))
       (λ hit.
       let drew = draws idle off_turn live s o long at low in
       (drew.0, drew.1, drew.2, subst (λ n. Ordered fits opened (stepped s 0 ((n + 1) % turn) id m.1 drew.0 drew.1)) hit drew.3, ((λ _. drew.4), (λ missed. absurd (missed hit)))))
       (λ missed. (m.0, keeps, tt, subst (Ordered fits opened) (sym (same 0 s at)) o, ((λ hit. absurd (missed hit)), (λ _. refl))))
 
-  turn_comes : m.0.waits ≡ true → m.0.serves ≡ false → (s : State (Option T) Place) (serving keeper : ℕ) (log : List Entry) → Rule fits opened s serving keeper log
+  turn_comes : m.0.waits ≡ true → m.0.serves ≡ false → (s : State (Option T) SeatState) (serving keeper : ℕ) (log : List Entry) → Rule fits opened s serving keeper log
       → get_elem? s.views id ≡ some m.0 → get_or s.words 1 0 ≡ m.0.ticket % turn
       → (value : T) × (get_elem? s.homes 0 ≡ some (some (Some value))) × fits value opened log × (m.0.ticket ≡ serving)
   turn_comes waits off_turn s serving keeper log r at found =
-      let p : Place = m.0 in
+      let p : SeatState = m.0 in
       let mine = r.seats id p at in
       let line = mine.in_line waits in
       let low : serving ≤ p.ticket = line.0 in
@@ -149,16 +149,16 @@ module _ {T : Type 0} (fits : T → Spelling → List Entry → Type 0) (opened 
       let here : serving ≡ p.ticket = one_turn serving p.ticket turn low (omega arith) (sym r.serving_word ∙ found) in
       let v = r.value (λ j u e. not_true u.serves (λ on.
       let is : j ≡ id = alone s serving keeper log r at waits (sym here) j u e on in
-      off off_turn (subst (λ (y : Place). y.serves ≡ true) (one_there s.views id u p (subst (λ k. get_elem? s.views k ≡ some u) is e) at) on))) in
+      off off_turn (subst (λ (y : SeatState). y.serves ≡ true) (one_there s.views id u p (subst (λ k. get_elem? s.views k ≡ some u) is e) at) on))) in
       (v.0, v.1, v.2, sym here)
 
-  takes_turn : m.0.waits ≡ true → m.0.serves ≡ false → (s : State (Option T) Place) (serving keeper : ℕ) (log : List Entry) → Rule fits opened s serving keeper log
+  takes_turn : m.0.waits ≡ true → m.0.serves ≡ false → (s : State (Option T) SeatState) (serving keeper : ℕ) (log : List Entry) → Rule fits opened s serving keeper log
       → get_elem? s.views id ≡ some m.0 → (value : T) → m.0.ticket ≡ serving
       → Rule fits opened (stepped s 1 (get_or s.words 1 0) id m.1 (served log m.0) (takes 0 (Some value))) serving keeper log
   takes_turn waits off_turn s serving keeper log r at value here =
-      let p : Place = m.0 in
-      let q : Place = served log p in
-      let qs : List Place = set s.views id q in
+      let p : SeatState = m.0 in
+      let q : SeatState = served log p in
+      let qs : List SeatState = set s.views id q in
       let x : ℕ = get_or s.words 1 0 in
       let long = r.words in
       let mine = r.seats id p at in
@@ -167,7 +167,7 @@ module _ {T : Type 0} (fits : T → Spelling → List Entry → Type 0) (opened 
       let as_many : waiting qs ≡ waiting s.views = omega arith in
       let given = given_set opened s.views serving keeper log id q in
       let past = λ (a : Past) (h : PastFits opened s.views log a). past_set opened s.views id p q log a at live h in
-      let line = λ (y : Place) (l : (serving ≤ y.ticket) × (y.ticket < serving + waiting s.views)). subst (λ n. (serving ≤ y.ticket) × (y.ticket < serving + n)) (sym as_many) l in
+      let line = λ (y : SeatState) (l : (serving ≤ y.ticket) × (y.ticket < serving + waiting s.views)). subst (λ n. (serving ≤ y.ticket) × (y.ticket < serving + n)) (sym as_many) l in
       record {
         words = length-set s.words 1 x ∙ long;
         ticket_word = get_or-set_other s.words 1 0 x 0 (λ e. omega arith) ∙ (r.ticket_word ∙ ap (λ n. (serving + n) % turn) (sym as_many));
@@ -225,7 +225,7 @@ module _ {T : Type 0} (fits : T → Spelling → List Entry → Type 0) (opened 
       (λ ne. (m.0, keeps, tt, subst (Ordered fits opened) (sym (same 1 s at)) o, ((λ found. absurd (ne found)), (λ _. refl))))
 
   -- a bed's word may be whatever it is
-  lain : (s : State (Option T) Place) (serving keeper : ℕ) (log : List Entry) (i x : ℕ) → 3 ≤ i → Rule fits opened s serving keeper log
+  lain : (s : State (Option T) SeatState) (serving keeper : ℕ) (log : List Entry) (i x : ℕ) → 3 ≤ i → Rule fits opened s serving keeper log
       → Rule fits opened (record { words = set s.words i x; homes = s.homes; views = s.views }) serving keeper log
   lain s serving keeper log i x behind r = record {
     words = length-set s.words i x ∙ r.words;
@@ -261,9 +261,9 @@ module _ {T : Type 0} (fits : T → Spelling → List Entry → Type 0) (opened 
       let keeper : ℕ = o.1 in
       let log : List Entry = o.2 in
       let r : Rule fits opened s serving keeper log = o.3 in
-      let p : Place = m.0 in
-      let q : Place = marked e p in
-      let qs : List Place = set s.views id q in
+      let p : SeatState = m.0 in
+      let q : SeatState = marked e p in
+      let qs : List SeatState = set s.views id q in
       let log' : List Entry = log ++ e ∷ [] in
       let x : ℕ = (get_or s.words 2 0 + 1) % turn in
       let long = r.words in
@@ -275,7 +275,7 @@ module _ {T : Type 0} (fits : T → Spelling → List Entry → Type 0) (opened 
       let as_many : waiting qs ≡ waiting s.views = omega arith in
       let given = given_set opened s.views serving keeper log id q in
       let past = λ (a : Past) (h : PastFits opened s.views log a). past_set opened s.views id p q log' a at live (past_more opened s.views id p log e a at live is h) in
-      let line = λ (y : Place) (l : (serving ≤ y.ticket) × (y.ticket < serving + waiting s.views)). subst (λ n. (serving ≤ y.ticket) × (y.ticket < serving + n)) (sym as_many) l in
+      let line = λ (y : SeatState) (l : (serving ≤ y.ticket) × (y.ticket < serving + waiting s.views)). subst (λ n. (serving ≤ y.ticket) × (y.ticket < serving + n)) (sym as_many) l in
       let within : id < length s.views = inside s.views id p at in (
         q,
         keeps,
@@ -317,13 +317,13 @@ module _ {T : Type 0} (fits : T → Spelling → List Entry → Type 0) (opened 
         refl,
       )
 
-  gives_turn : (value : T) → m.0.serves ≡ true → fits value m.0.view.opened m.0.view.seen → (s : State (Option T) Place) (serving keeper : ℕ) (log : List Entry) → Rule fits opened s serving keeper log
+  gives_turn : (value : T) → m.0.serves ≡ true → fits value m.0.view.opened m.0.view.seen → (s : State (Option T) SeatState) (serving keeper : ℕ) (log : List Entry) → Rule fits opened s serving keeper log
       → get_elem? s.views id ≡ some m.0 → length s.homes ≡ 1
       → Rule fits opened (stepped s 1 ((get_or s.words 1 0 + 1) % turn) id ((0, Some value) ∷ []) (done m.0) gives) (serving + 1) keeper log
   gives_turn value on fit s serving keeper log r at wide =
-      let p : Place = m.0 in
-      let q : Place = done p in
-      let qs : List Place = set s.views id q in
+      let p : SeatState = m.0 in
+      let q : SeatState = done p in
+      let qs : List SeatState = set s.views id q in
       let x : ℕ = (get_or s.words 1 0 + 1) % turn in
       let long = r.words in
       let mine = r.seats id p at in
@@ -369,11 +369,11 @@ module _ {T : Type 0} (fits : T → Spelling → List Entry → Type 0) (opened 
         value = λ _. (value, set_here s.homes 0 (some (Some value)) (omega arith), subst (λ (z : Spelling × List Entry). fits value z.0 z.1) (λ i. (mine.opened_as live i, turns.2 i)) fit);
       }
 
-pub rises : {T : Type 0} (fits : T → Spelling → List Entry → Type 0) (opened : Spelling) (slots id : ℕ) (m : Me (Option T) Place) → slots ≡ 1 → m.0.serves ≡ true
+pub rises : {T : Type 0} (fits : T → Spelling → List Entry → Type 0) (opened : Spelling) (slots id : ℕ) (m : Me (Option T) SeatState) → slots ≡ 1 → m.0.serves ≡ true
     → (value : T) → m.1 ≡ (0, Some value) ∷ [] → fits value m.0.view.opened m.0.view.seen → Allows (Ordered fits opened) slots id m 1 (λ n. (n + 1) % turn) (λ _ w. Rose m w)
 rises {T} fits opened slots id m one on value out fit =
-    let me : Me (Option T) Place = (m.0, (0, Some value) ∷ []) in
+    let me : Me (Option T) SeatState = (m.0, (0, Some value) ∷ []) in
     let is : me ≡ m = λ i. (m.0, sym out i) in
     let at_me : Allows (Ordered fits opened) slots id me 1 (λ n. (n + 1) % turn) (λ _ w. Rose me w) = λ s o wide at _.
     (done m.0, gives, tt, (o.0 + 1, o.1, o.2, gives_turn fits opened slots id me value on fit s o.0 o.1 o.2 o.3 at (wide ∙ one)), refl) in
-    subst (λ (x : Me (Option T) Place). Allows (Ordered fits opened) slots id x 1 (λ n. (n + 1) % turn) (λ _ w. Rose x w)) is at_me
+    subst (λ (x : Me (Option T) SeatState). Allows (Ordered fits opened) slots id x 1 (λ n. (n + 1) % turn) (λ _ w. Rose x w)) is at_me

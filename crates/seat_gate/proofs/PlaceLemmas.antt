@@ -8,7 +8,7 @@ use Rattle.atomic_table.proofs.Lists.{at_set, set_else}
 use Rattle.std.specs.List.{AllByRecursion}
 use Rattle.seat_gate.specs.History.{Spelling, Entry, Past, View, OneOpening}
 use Rattle.seat_gate.specs.Rule.{waiting, PastFits}
-use Rattle.seat_gate.specs.declared.place.Place.{Place}
+use Rattle.seat_gate.specs.declared.place.SeatState.{SeatState}
 use Rattle.seat_gate.proofs.HistoryLemmas.{starts_more, entries_other, all_map}
 
 pub off : {b : Bool} → b ≡ false → b ≡ true → ⊥
@@ -47,24 +47,24 @@ waits_few : (b : Bool) → one_if b ≤ 1
 waits_few true = omega arith
 waits_few false = omega arith
 
-pub waiting_few : (ps : List Place) → waiting ps ≤ length ps
+pub waiting_few : (ps : List SeatState) → waiting ps ≤ length ps
 waiting_few [] = omega arith
 waiting_few (p ∷ ps) = let a = waits_few p.waits in let b = waiting_few ps in omega arith
 
-pub waiting_set : (ps : List Place) (i : ℕ) (p q : Place) → get_elem? ps i ≡ some p → waiting (set ps i q) + one_if p.waits ≡ waiting ps + one_if q.waits
+pub waiting_set : (ps : List SeatState) (i : ℕ) (p q : SeatState) → get_elem? ps i ≡ some p → waiting (set ps i q) + one_if p.waits ≡ waiting ps + one_if q.waits
 waiting_set [] i p q e = absurd (some-ne-none p (sym e))
-waiting_set (x ∷ ps) zero p q e = let same : one_if x.waits ≡ one_if p.waits = ap (λ (y : Place). one_if y.waits) (some-injective x p e) in omega arith
+waiting_set (x ∷ ps) zero p q e = let same : one_if x.waits ≡ one_if p.waits = ap (λ (y : SeatState). one_if y.waits) (some-injective x p e) in omega arith
 waiting_set (x ∷ ps) (suc i) p q e = let more = waiting_set ps i p q e in omega arith
 
-pub waiting_snoc : (ps : List Place) (q : Place) → q.waits ≡ false → waiting (ps ++ q ∷ []) ≡ waiting ps
+pub waiting_snoc : (ps : List SeatState) (q : SeatState) → q.waits ≡ false → waiting (ps ++ q ∷ []) ≡ waiting ps
 waiting_snoc [] q rests = let zero_of : one_if q.waits ≡ 0 = ap one_if rests in omega arith
 waiting_snoc (p ∷ ps) q rests = ap (λ n. one_if p.waits + n) (waiting_snoc ps q rests)
 
-abbrev pub Apart : List Place → Type 0
-Apart ps = (i j : ℕ) (p q : Place) → get_elem? ps i ≡ some p → get_elem? ps j ≡ some q → p.waits ≡ true → q.waits ≡ true → p.ticket ≡ q.ticket → i ≡ j
+abbrev pub Apart : List SeatState → Type 0
+Apart ps = (i j : ℕ) (p q : SeatState) → get_elem? ps i ≡ some p → get_elem? ps j ≡ some q → p.waits ≡ true → q.waits ≡ true → p.ticket ≡ q.ticket → i ≡ j
 
 -- where no other seat that waits has the ticket of the one set
-pub apart_set : (ps : List Place) (id : ℕ) (q : Place) → Apart ps → (q.waits ≡ true → (j : ℕ) (p : Place) → j ≢ id → get_elem? ps j ≡ some p → p.waits ≡ true → q.ticket ≢ p.ticket) → Apart (set ps id q)
+pub apart_set : (ps : List SeatState) (id : ℕ) (q : SeatState) → Apart ps → (q.waits ≡ true → (j : ℕ) (p : SeatState) → j ≢ id → get_elem? ps j ≡ some p → p.waits ≡ true → q.ticket ≢ p.ticket) → Apart (set ps id q)
 apart_set ps id q apart none i j a b ea eb wa wb same =
     each_set (λ k x. x.waits ≡ true → x.ticket ≡ b.ticket → k ≡ j) ps id q
     (λ w t. each_set (λ k x. x.waits ≡ true → q.ticket ≡ x.ticket → id ≡ k) ps id q
@@ -77,7 +77,7 @@ apart_set ps id q apart none i j a b ea eb wa wb same =
     j b eb wb tx)
     i a ea wa same
 
-pub apart_snoc : (ps : List Place) (q : Place) → Apart ps → q.waits ≡ false → Apart (ps ++ q ∷ [])
+pub apart_snoc : (ps : List SeatState) (q : SeatState) → Apart ps → q.waits ≡ false → Apart (ps ++ q ∷ [])
 apart_snoc ps q apart rests i j a b ea eb wa wb same =
     each_snoc (λ k x. x.waits ≡ true → x.ticket ≡ b.ticket → k ≡ j) ps q
     (λ k x ex wx tx. each_snoc (λ l y. y.waits ≡ true → x.ticket ≡ y.ticket → k ≡ l) ps q
@@ -88,26 +88,26 @@ apart_snoc ps q apart rests i j a b ea eb wa wb same =
     i a ea wa same
 
 -- a seat that was joined away stays so while another place is set
-pub past_set : (opened : Spelling) (ps : List Place) (id : ℕ) (p q : Place) (log : List Entry) (past : Past) → get_elem? ps id ≡ some p → p.spent ≡ false → PastFits opened ps log past → PastFits opened (set ps id q) log past
+pub past_set : (opened : Spelling) (ps : List SeatState) (id : ℕ) (p q : SeatState) (log : List Entry) (past : Past) → get_elem? ps id ≡ some p → p.spent ≡ false → PastFits opened ps log past → PastFits opened (set ps id q) log past
 past_set opened ps id p q log past at live f =
     let g = f.gone in
-    let ne : past.number ≢ id = λ is. off live (subst (λ (x : Place). x.spent ≡ true) (one_there ps id g.0 p (subst (λ k. get_elem? ps k ≡ some g.0) is g.1) at) g.2) in
+    let ne : past.number ≢ id = λ is. off live (subst (λ (x : SeatState). x.spent ≡ true) (one_there ps id g.0 p (subst (λ k. get_elem? ps k ≡ some g.0) is g.1) at) g.2) in
     record { opened_as = f.opened_as; prefix = f.prefix; made = f.made; gone = (g.0, set_else ps id past.number q ne ∙ g.1, g.2) }
 
 -- and while a seat that was not joined away makes an entry
-pub past_more : (opened : Spelling) (ps : List Place) (id : ℕ) (p : Place) (log : List Entry) (e : Entry) (past : Past) → get_elem? ps id ≡ some p → p.spent ≡ false → e.seat ≡ id → PastFits opened ps log past → PastFits opened ps (log ++ e ∷ []) past
+pub past_more : (opened : Spelling) (ps : List SeatState) (id : ℕ) (p : SeatState) (log : List Entry) (e : Entry) (past : Past) → get_elem? ps id ≡ some p → p.spent ≡ false → e.seat ≡ id → PastFits opened ps log past → PastFits opened ps (log ++ e ∷ []) past
 past_more opened ps id p log e past at live own f =
     let g = f.gone in
-    let ne : e.seat ≢ past.number = λ is. off live (subst (λ (x : Place). x.spent ≡ true) (one_there ps id g.0 p (subst (λ k. get_elem? ps k ≡ some g.0) (sym is ∙ own) g.1) at) g.2) in
+    let ne : e.seat ≢ past.number = λ is. off live (subst (λ (x : SeatState). x.spent ≡ true) (one_there ps id g.0 p (subst (λ k. get_elem? ps k ≡ some g.0) (sym is ∙ own) g.1) at) g.2) in
     record { opened_as = f.opened_as; prefix = starts_more log (e ∷ []) past.seen f.prefix; made = entries_other past.number log e ne ∙ f.made; gone = g }
 
 -- all that were joined into a seat are of its opening
-pub one_opening : (opened : Spelling) (ps : List Place) (log : List Entry) (v : View) → v.opened ≡ opened → AllByRecursion (PastFits opened ps log) v.joined → OneOpening v
+pub one_opening : (opened : Spelling) (ps : List SeatState) (log : List Entry) (v : View) → v.opened ≡ opened → AllByRecursion (PastFits opened ps log) v.joined → OneOpening v
 one_opening opened ps log v is = all_map (PastFits opened ps log) (λ (a : Past). a.opened ≡ v.opened) (λ a f. f.opened_as ∙ sym is) v.joined
 
 -- where the one set serves as little as before, nobody served before if nobody does now
-pub none_before : (ps : List Place) (id : ℕ) (p q : Place) → get_elem? ps id ≡ some p → p.serves ≡ false → ((i : ℕ) (x : Place) → get_elem? (set ps id q) i ≡ some x → x.serves ≡ false)
-    → (i : ℕ) (x : Place) → get_elem? ps i ≡ some x → x.serves ≡ false
+pub none_before : (ps : List SeatState) (id : ℕ) (p q : SeatState) → get_elem? ps id ≡ some p → p.serves ≡ false → ((i : ℕ) (x : SeatState) → get_elem? (set ps id q) i ≡ some x → x.serves ≡ false)
+    → (i : ℕ) (x : SeatState) → get_elem? ps i ≡ some x → x.serves ≡ false
 none_before ps id p q at rests none i x e = dite (ℕ_discrete i id)
-    (λ is. subst (λ (y : Place). y.serves ≡ false) (one_there ps id p x at (subst (λ k. get_elem? ps k ≡ some x) is e)) rests)
+    (λ is. subst (λ (y : SeatState). y.serves ≡ false) (one_there ps id p x at (subst (λ k. get_elem? ps k ≡ some x) is e)) rests)
     (λ ne. none i x (set_else ps id i q ne ∙ e))

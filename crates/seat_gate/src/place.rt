@@ -6,7 +6,7 @@ ghost use Rattle.seat_gate.specs.History.{Entry, View};
 use std::marker::Model;
 
 /// What a seat knows, and where it stands in the line. No value of it is made: it is there for contracts alone.
-pub struct Place {
+pub struct SeatState {
     pub ghost view: { View },
     /// The shorter of two beginnings of the history, from when the seat last took another in.
     pub ghost recalls: { List Entry },
@@ -19,6 +19,6 @@ pub struct Place {
     pub ghost spent: { Bool },
 }
 
-impl Model for Place {
+impl Model for SeatState {
     ghost also_owns = { λ _. ftrue };
 }

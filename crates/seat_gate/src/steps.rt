@@ -7,7 +7,7 @@ ghost use Rattle.seat_gate.specs.Rule.{Drew, Looked, Rose};
 
 use crate::gate::Gate;
 use crate::kept::Kept;
-use crate::place::Place;
+use crate::place::SeatState;
 use crate::plays::{Bed, Draw, Look, Note, Recall, Rise, Write};
 use atomic_table::Seat;
 use std::sync::Wait;
@@ -25,7 +25,7 @@ const LOOKS: u64 = 60;
 impl<T: Kept> Gate<T> {
     // Draws the ticket that is served, so that the seat's turn is at once, or none where another seat has it. A seat that sleeps has no ticket: who runs
     // when a turn ends takes the next one, and none waits for a thread that the processors leave out.
-    pub(crate) fn draw_ticket(&self, seat: &mut Seat<Option<T>, Place>) -> Option<u64>
+    pub(crate) fn draw_ticket(&self, seat: &mut Seat<Option<T>, SeatState>) -> Option<u64>
         requires here { seat.old.table_id ≡ self.now.table.shared.table_id }
         requires rests { (seat.old.me.0.waits ≡ false) × (seat.old.me.0.serves ≡ false) × (seat.old.me.0.spent ≡ false) }
         ensures same { seat.new.table_id ≡ seat.old.table_id }
@@ -41,7 +41,7 @@ impl<T: Kept> Gate<T> {
         if found == served { Some(found) } else { None }
     }
 
-    pub(crate) fn read_serving(&self, seat: &mut Seat<Option<T>, Place>) -> u64
+    pub(crate) fn read_serving(&self, seat: &mut Seat<Option<T>, SeatState>) -> u64
         requires here { seat.old.table_id ≡ self.now.table.shared.table_id }
         requires waits { (seat.old.me.0.waits ≡ true) × (seat.old.me.0.serves ≡ false) }
         ensures same { seat.new.table_id ≡ seat.old.table_id }
@@ -53,7 +53,7 @@ impl<T: Kept> Gate<T> {
     // The entry is picked by the call, since a step reads no arguments: this seat's, with the note and the spelling of the value.
     pub(crate) fn count_entry<N: Note>(
         &self,
-        seat: &mut Seat<Option<T>, Place>,
+        seat: &mut Seat<Option<T>, SeatState>,
         _note: u64,
         _value: &T,
     )
@@ -67,7 +67,7 @@ impl<T: Kept> Gate<T> {
     }
 
     // Two seats were made one: it tells that the shorter of what both had seen begins the longer, and that they are of one opening.
-    pub(crate) fn recall(&self, seat: &mut Seat<Option<T>, Place>)
+    pub(crate) fn recall(&self, seat: &mut Seat<Option<T>, SeatState>)
         requires here { seat.old.table_id ≡ self.now.table.shared.table_id }
         requires live { seat.old.me.0.spent ≡ false }
         ensures same { (seat.new.table_id ≡ seat.old.table_id) × (seat.new.me ≡ seat.old.me) }
@@ -78,7 +78,7 @@ impl<T: Kept> Gate<T> {
     }
 
     // One of those that sleep is called, to try for the next turn.
-    pub(crate) fn serve_next(&self, seat: &mut Seat<Option<T>, Place>)
+    pub(crate) fn serve_next(&self, seat: &mut Seat<Option<T>, SeatState>)
         requires here { seat.old.table_id ≡ self.now.table.shared.table_id }
         requires serves { seat.old.me.0.serves ≡ true }
         requires fits { (value : T) × (seat.old.me.1 ≡ (0, Some value) ∷ []) × T.fits value seat.old.me.0.view.opened seat.old.me.0.view.seen }
@@ -90,7 +90,7 @@ impl<T: Kept> Gate<T> {
     }
 
     // Wakes one seat that sleeps. One that has lain down and doesn't sleep yet finds the bed's word raised, and won't.
-    fn call(&self, seat: &mut Seat<Option<T>, Place>)
+    fn call(&self, seat: &mut Seat<Option<T>, SeatState>)
         requires here { seat.old.table_id ≡ self.now.table.shared.table_id }
         ensures same { (seat.new.table_id ≡ seat.old.table_id) × (seat.new.me ≡ seat.old.me) }
     {
@@ -102,7 +102,7 @@ impl<T: Kept> Gate<T> {
 
     // The bed's word, made odd, once the seat has looked often enough. It does so before it tries again: whoever ends a turn behind that try finds the word odd,
     // and calls. One that slept does so each time, since others may still sleep.
-    pub(crate) fn lie_down(&self, seat: &mut Seat<Option<T>, Place>, looks: u64) -> Option<u64>
+    pub(crate) fn lie_down(&self, seat: &mut Seat<Option<T>, SeatState>, looks: u64) -> Option<u64>
         requires here { seat.old.table_id ≡ self.now.table.shared.table_id }
         ensures same { (seat.new.table_id ≡ seat.old.table_id) × (seat.new.me ≡ seat.old.me) }
     {

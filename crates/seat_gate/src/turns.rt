@@ -7,7 +7,7 @@ ghost use Rattle.seat_gate.specs.Words.{gate_id, gate_of, seat_view, held_at, he
 use crate::gate::Gate;
 use crate::held::Held;
 use crate::kept::Kept;
-use crate::place::Place;
+use crate::place::SeatState;
 use crate::seat::Seat;
 use atomic_table::Seat as TableSeat;
 use std::marker::Brand;
@@ -42,7 +42,7 @@ impl<T: Kept> Gate<T> {
     }
 
     /// The ticket that is served, once no other seat has it.
-    fn wait_for_ticket<R: Wait>(&self, rt: &R, seat: &mut TableSeat<Option<T>, Place>) -> u64
+    fn wait_for_ticket<R: Wait>(&self, rt: &R, seat: &mut TableSeat<Option<T>, SeatState>) -> u64
         requires here { seat.old.table_id ≡ self.now.table.shared.table_id }
         requires rests { (seat.old.me.0.waits ≡ false) × (seat.old.me.0.serves ≡ false) × (seat.old.me.0.spent ≡ false) }
         ensures same { seat.new.table_id ≡ seat.old.table_id }

@@ -7,18 +7,18 @@ use Rattle.tuple_codec.specs.declared.addresses.Address.{Address}
 use Rattle.tuple_codec.specs.declared.records.BranchRecord.{BranchRecord}
 use Rattle.script_text.specs.declared.outputs.BranchLine.{BranchLine}
 use Rattle.table_root.specs.Heads.{heads_rise}
-use Rattle.table_root.specs.declared.heads.Head.{Head}
+use Rattle.table_root.specs.declared.heads.BranchHead.{BranchHead}
 use Rattle.session_laws.specs.Laws.{head_in, with_record}
 use Rattle.shared_db.specs.Shared.{record_at}
 use Rattle.serving.specs.Ahead.{with_head}
 
-head_name : (name : List ℕ) (head : Address) (seen : Head) → (with_head name head seen).branch ≡ seen.branch
+head_name : (name : List ℕ) (head : Address) (seen : BranchHead) → (with_head name head seen).branch ≡ seen.branch
 head_name name head seen = by (bytes_eq seen.branch name) where
   by : (t : Bool) → (if t then record { branch = seen.branch; head = head } else seen).branch ≡ seen.branch
   by true = refl
   by false = refl
 
-pub heads_still_rise : (name : List ℕ) (head : Address) (heads : List Head) → heads_rise (map (with_head name head) heads) ≡ heads_rise heads
+pub heads_still_rise : (name : List ℕ) (head : Address) (heads : List BranchHead) → heads_rise (map (with_head name head) heads) ≡ heads_rise heads
 heads_still_rise name head [] = refl
 heads_still_rise name head (x ∷ []) = refl
 heads_still_rise name head (x ∷ y ∷ heads) =

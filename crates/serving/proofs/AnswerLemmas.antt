@@ -19,8 +19,8 @@ use Rattle.plain_sessions.specs.declared.commands.Work.{Work}
 use Rattle.run_laws.specs.Turns.{InOneTurn}
 use Rattle.session_laws.specs.Changes.{Parts}
 use Rattle.session_state.specs.Standing.{IsAt, SessionStands}
-use Rattle.session_state.specs.declared.sessions.Place.{Place}
-use Rattle.session_state.specs.declared.sessions.Place.TheVariants as place
+use Rattle.session_state.specs.declared.sessions.Position.{Position}
+use Rattle.session_state.specs.declared.sessions.Position.TheVariants as place
 use Rattle.session_state.specs.declared.sessions.Session.{Session}
 use Rattle.shared_db.specs.Shared.{noted}
 use Rattle.serving.specs.Answering.{Answered}
@@ -31,7 +31,7 @@ use Rattle.serving.proofs.MomentLemmas.{begun_at, decided_as, in_one_turn, verdi
 use Rattle.serving.proofs.StateLemmas.{stands_noted}
 use Rattle.serving.proofs.WorkLemmas.{Came, kept_after, never_answered, refused_after, stays_open, waits_for_start}
 
-pub same_number : (at : Place) (statement : ℕ) (there : plain.Place) → IsAt at statement there → number_at at ≡ statement
+pub same_number : (at : Position) (statement : ℕ) (there : plain.Place) → IsAt at statement there → number_at at ≡ statement
 same_number (place.Before number) statement there is = is.0
 same_number (place.Between number) statement there is = is.0
 

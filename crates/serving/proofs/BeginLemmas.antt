@@ -28,9 +28,9 @@ use Rattle.session_state.specs.declared.sessions.Session.{Session}
 use Rattle.session_txn.specs.Answering.{Decides}
 use Rattle.shared_db.specs.Plans.{PlanIs}
 use Rattle.shared_db.specs.Shared.{AreWith, IsSettled, changed_lines, record_at}
-use Rattle.shared_db.specs.declared.changes.Change.TheVariants.{Nothing, Record}
-use Rattle.shared_db.specs.declared.changes.Change.{Change}
-use Rattle.shared_db.specs.declared.changes.Plan.{Plan}
+use Rattle.shared_db.specs.declared.changes.DecisionPlan.{DecisionPlan}
+use Rattle.shared_db.specs.declared.changes.RecordChange.TheVariants.{Nothing, Record}
+use Rattle.shared_db.specs.declared.changes.RecordChange.{RecordChange}
 use Rattle.serving.specs.Ahead.{with_head}
 use Rattle.serving.specs.Answering.{Answered}
 use Rattle.serving.specs.Serving.{IsBefore, turn_at}
@@ -66,7 +66,7 @@ module _ {D : Type 0} (address : List ℕ → List ℕ) (epoch : ℤ) (session :
       }
 
 -- a plan that changes no record is a refusal, and one that changes it isn't
-nothing_not : {A : Type 0} (rec : BranchRecord) (change : Change) → change ≡ Nothing → change ≡ Record rec → A
+nothing_not : {A : Type 0} (rec : BranchRecord) (change : RecordChange) → change ≡ Nothing → change ≡ Record rec → A
 nothing_not rec change nothing is = let same : Nothing ≡ Record rec = sym nothing ∙ is in absurd (cc)
 
 -- the verdict of a decision is the rule's
@@ -76,7 +76,7 @@ verdict_of address p t shared parts new reply d present there verdict is =
     let same : d.verdict ≡ verdict = sym d.is ∙ ap (λ (b : BranchState). decide t.start b t.own p.variables) (same_Some _ _ (sym d.there ∙ there)) ∙ is in
     (subst (λ (v : Outcome BranchState). ComesTo shared p.branch v d.last reply) same d.comes, same)
 
-module _ {D : Type 0} (follow : StatesFollow) (address : List ℕ → List ℕ) (old : Session D) (parts new : Parts) (look : Look) (looks : Looks old parts look) (plan : Plan)
+module _ {D : Type 0} (follow : StatesFollow) (address : List ℕ → List ℕ) (old : Session D) (parts new : Parts) (look : Look) (looks : Looks old parts look) (plan : DecisionPlan)
     (planned : Planned follow address old parts look looks plan) (number : ℕ) (numbered : number ≡ number_at old.position)
     (settled : IsSettled old.number number look.branch plan.change (option_map arc_value plan.sealed) parts new) (is_single : IsSingle new.chunks) where
   made : (p : plain.Session) (shared : Shared) → IsBefore address old parts p shared → IsSettled p.number p.statement look.branch plan.change (option_map arc_value plan.sealed) parts new
@@ -139,7 +139,7 @@ module _ {D : Type 0} (follow : StatesFollow) (address : List ℕ → List ℕ) 
         way = decides follow address old parts look looks p t shared (here_before address old parts p shared before) transaction
 
         lines : new.branches ≡ with_record look.branch rec parts.branches
-        lines = settled.branches ∙ ap (λ (c : Change). changed_lines look.branch c parts.branches) change_is
+        lines = settled.branches ∙ ap (λ (c : RecordChange). changed_lines look.branch c parts.branches) change_is
 
         there : record_at next.branch new.branches ≡ Some next.rec
         there =

@@ -24,7 +24,7 @@ use Rattle.run_laws.specs.Turns.{InOneTurn}
 use Rattle.run_laws.proofs.ListLemmas.{get_put, get_put_other}
 use Rattle.session_laws.specs.Changes.{Parts, StateStands}
 use Rattle.session_state.specs.Standing.{SessionStands}
-use Rattle.session_state.specs.declared.sessions.Place.TheVariants as place
+use Rattle.session_state.specs.declared.sessions.Position.TheVariants as place
 use Rattle.session_state.specs.declared.sessions.Session.{Session}
 use Rattle.session_txn.specs.Showing.{is_sound_reply}
 use Rattle.shared_db.specs.Stepping.{Ends, IsPlainStep, IsStepped, StepsFollow, number_of, places_after, plain_step, step_of_branch, step_of_checkout}

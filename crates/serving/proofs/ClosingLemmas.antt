@@ -4,7 +4,7 @@ use Rattle.std.specs.Prelude.{Result}
 use Rattle.std.specs.Arc.{arc_value}
 use Rattle.std.specs.Option.{option_and_then, option_map_or}
 use Rattle.basic_laws.proofs.Options.{some_there}
-use Rattle.chunk_store.specs.Chunks.{AreNamed, Chunk, IsSingle, Lists, bytes_at}
+use Rattle.chunk_store.specs.Chunks.{AreNamed, Chunk, IsSingle, Lists, chunk_bytes}
 use Rattle.chunk_store.specs.Clashes.{IsCause}
 use Rattle.chunk_store.specs.Drafts.{DraftParts, IsNamed}
 use Rattle.chunk_store.specs.Laws.{ChunksFollow}
@@ -49,8 +49,8 @@ use Rattle.branch_procs.specs.Closing.{IsVerdict}
 use Rattle.merge_procs.specs.Closing.{IsAsBefore, is_closing}
 use Rattle.shared_db.specs.Plans.{PlanIs, brought}
 use Rattle.shared_db.specs.Shared.{AreWith, IsSettled, changed_lines, noted, record_at}
-use Rattle.shared_db.specs.declared.changes.Change.{Change}
-use Rattle.shared_db.specs.declared.changes.Plan.{Plan}
+use Rattle.shared_db.specs.declared.changes.DecisionPlan.{DecisionPlan}
+use Rattle.shared_db.specs.declared.changes.RecordChange.{RecordChange}
 use Rattle.serving.specs.Answering.{Concluded, HasStartedTo}
 use Rattle.serving.specs.Branching.{Went}
 use Rattle.serving.specs.Closing.{ClosedAs, LeavesAs}
@@ -103,7 +103,7 @@ committing p t request ending is = committing_by (to_commit (own_root t) request
 -- ---- what is planned
 
 module _ (address : List ℕ → List ℕ) (epoch e : ℤ) (e_is : e ≡ epoch) (look : Look) (p : plain.Session) (t : Transaction) (shared : Shared) (present : BranchState)
-    (asked : Work) (ending : Ending) (work_is : worked p t asked ≡ Ok (Closes ending)) (result : Result Plan PutFault) where
+    (asked : Work) (ending : Ending) (work_is : worked p t asked ≡ Ok (Closes ending)) (result : Result DecisionPlan PutFault) where
   abbrev pub IsPlannedAt : ℤ → Ending → Type 0
   IsPlannedAt date call = IfOk result (λ plan. PlanIs address look shared.commits plan (closed address date shared.commits p t present call))
 
@@ -202,16 +202,16 @@ module _ (address : List ℕ → List ℕ) (epoch : ℤ) (shared : Shared) (p : 
   plainly ending outcome is = subst (Plainly address) is (plainly_closed ending)
 
   -- the plan's reply is the outcome's
-  planned_plainly : (look : Look) (plan : Plan) (outcome : Outcome machine.Change) → Plainly address outcome → PlanIs address look shared.commits plan outcome → IsPlainly address plan.reply
+  planned_plainly : (look : Look) (plan : DecisionPlan) (outcome : Outcome machine.Change) → Plainly address outcome → PlanIs address look shared.commits plan outcome → IsPlainly address plan.reply
   planned_plainly look plan (Ok change) so planned = subst (IsPlainly address) (sym planned.reply) so
   planned_plainly look plan (Err number) so planned = subst (IsPlainly address) (sym planned.reply) so
 
-  named_by : (look : Look) (plan : Plan) (outcome : Outcome machine.Change) → PlanIs address look shared.commits plan outcome → AreNamed address (brought plan)
+  named_by : (look : Look) (plan : DecisionPlan) (outcome : Outcome machine.Change) → PlanIs address look shared.commits plan outcome → AreNamed address (brought plan)
   named_by look plan (Ok change) planned = planned.stands.named
   named_by look plan (Err number) planned = subst (λ (sealed : Option _). AreNamed address (option_map_or arc_value sealed [])) (sym planned.sealed) tt
 
   -- the plan was settled, on a state that may have grown since the one that was looked at
-  closed_by : (found : Shared) (among : AreAmong shared.commits found.commits) (ending : Ending) (follow : StatesFollow) (parts new : Parts) (look : Look) (plan : Plan) (outcome : Outcome machine.Change)
+  closed_by : (found : Shared) (among : AreAmong shared.commits found.commits) (ending : Ending) (follow : StatesFollow) (parts new : Parts) (look : Look) (plan : DecisionPlan) (outcome : Outcome machine.Change)
       → closed address epoch shared.commits p t present ending ≡ outcome → state_of found.branches p.branch ≡ Some present
       → IsLookOf address look shared → look.branch ≡ p.branch → Lists (all_chunks look.store) parts.chunks → StateStands address parts found
       → PlanIs address look shared.commits plan outcome → IsSingle new.chunks
@@ -220,7 +220,7 @@ module _ (address : List ℕ → List ℕ) (epoch : ℤ) (shared : Shared) (p : 
   closed_by found among ending follow parts new look plan (Ok change) is there look_is branch lists stands planned single settled =
       let union : IsUnion parts.chunks (brought plan) new.chunks = subst (λ (cs : List Chunk). IsUnion parts.chunks cs new.chunks) (brought_is plan) (union_with parts.chunks new.chunks _ settled.chunks) in
       let lines : new.branches ≡ with_record p.branch planned.rec parts.branches =
-      settled.branches ∙ ap (λ (c : Change). changed_lines look.branch c parts.branches) planned.is ∙ ap (λ (name : List ℕ). with_record name planned.rec parts.branches) branch in
+      settled.branches ∙ ap (λ (c : RecordChange). changed_lines look.branch c parts.branches) planned.is ∙ ap (λ (name : List ℕ). with_record name planned.rec parts.branches) branch in
       let left = follow.settled address (all_chunks look.store) (brought plan) shared.commits parts new found p.branch look_is.state.head planned.rec present change
       look_is.commits look_is.stands.head_known lists planned.stands stands there lines settled.places union
       single in
@@ -239,7 +239,7 @@ module _ (address : List ℕ → List ℕ) (epoch : ℤ) (shared : Shared) (p : 
         numbers = settled.numbers;
       }
   closed_by found among ending follow parts new look plan (Err number) is there look_is branch lists stands planned single settled =
-      let lines : new.branches ≡ parts.branches = settled.branches ∙ ap (λ (c : Change). changed_lines look.branch c parts.branches) planned.change in
+      let lines : new.branches ≡ parts.branches = settled.branches ∙ ap (λ (c : RecordChange). changed_lines look.branch c parts.branches) planned.change in
       let same : new.chunks ≡ parts.chunks = subst (λ (sealed : Option _). AreWith parts.chunks (option_map arc_value sealed) new.chunks) planned.sealed settled.chunks in
       record {
         present = present;
@@ -258,7 +258,7 @@ module _ (address : List ℕ → List ℕ) (epoch : ℤ) (shared : Shared) (p : 
 
 -- ---- from the plan to what was settled
 
-module _ {D : Type 0} (address : List ℕ → List ℕ) (epoch : ℤ) (session : Session D) (look : Look) (plan : Plan) (p : plain.Session) (t : Transaction) (ending : Ending) where
+module _ {D : Type 0} (address : List ℕ → List ℕ) (epoch : ℤ) (session : Session D) (look : Look) (plan : DecisionPlan) (p : plain.Session) (t : Transaction) (ending : Ending) where
   plan_plainly : IsPlanned address session look plan p t (by_closing address epoch p t ending) → IsPlainly address plan.reply
   plan_plainly planned =
       planned_plainly address epoch planned.seen p t planned.present look plan _ (plainly_closed address epoch planned.seen p t planned.present ending) planned.is
@@ -276,7 +276,7 @@ module _ {D : Type 0} (address : List ℕ → List ℕ) (epoch : ℤ) (session :
   closing_truly planned (Err fault) said = tt
 
   pub closing_fault : ChunksFollow → (parts : Parts) (shared : Shared) → IsPlannedFor address session look plan p t (by_closing address epoch p t ending) parts shared
-      → (result : Result (Option Reply) PutFault) → IfErr result (IsCause (bytes_at parts.chunks) (bytes_at (brought plan))) → IfErr result (IsFault address)
+      → (result : Result (Option Reply) PutFault) → IfErr result (IsCause (chunk_bytes parts.chunks) (chunk_bytes (brought plan))) → IfErr result (IsFault address)
   closing_fault chunks_follow parts shared has (Ok settled) cause = tt
   closing_fault chunks_follow parts shared has (Err Memory) cause = tt
   closing_fault chunks_follow parts shared has (Err (Collision clash)) cause = record {

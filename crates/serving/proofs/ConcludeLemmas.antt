@@ -15,7 +15,7 @@ use Rattle.plain_sessions.specs.declared.commands.Command.{Command}
 use Rattle.run_laws.specs.Replaying.{dropped, reply_of}
 use Rattle.session_laws.specs.Changes.{Parts}
 use Rattle.session_state.specs.Standing.{SessionStands}
-use Rattle.session_state.specs.declared.sessions.Place.TheVariants as place
+use Rattle.session_state.specs.declared.sessions.Position.TheVariants as place
 use Rattle.session_state.specs.declared.sessions.Session.{Session}
 use Rattle.session_txn.specs.Showing.{is_sound_reply}
 use Rattle.serving.specs.Answering.{Concluded}

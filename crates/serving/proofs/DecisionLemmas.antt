@@ -3,7 +3,7 @@ use Rattle.std.proofs.Common.{◌≡◌, refl, ◌∙◌, sym, ap, subst, inl, �
 use Rattle.std.specs.Option.{option_map, option_map_or}
 use Rattle.std.specs.Arc.{arc_value}
 use Rattle.std.proofs.lemmas.Option.{same_Some}
-use Rattle.chunk_store.specs.Chunks.{AreNamed, Chunk, IsSingle, Listed, Lists, bytes_at}
+use Rattle.chunk_store.specs.Chunks.{AreNamed, Chunk, IsSingle, Listed, Lists, chunk_bytes}
 use Rattle.chunk_store.specs.Clashes.{IsClash}
 use Rattle.chunk_store.specs.Laws.{ChunksFollow}
 use Rattle.chunk_store.specs.Stores.{IsUnion, all_chunks}
@@ -22,8 +22,8 @@ use Rattle.session_laws.specs.Transactions.{IsLookOf}
 use Rattle.session_txn.specs.Showing.{is_sound_reply}
 use Rattle.shared_db.specs.Plans.{PlanIs, brought}
 use Rattle.shared_db.specs.Shared.{AreWith, IsSettled, changed_lines}
-use Rattle.shared_db.specs.declared.changes.Change.{Change}
-use Rattle.shared_db.specs.declared.changes.Plan.{Plan}
+use Rattle.shared_db.specs.declared.changes.DecisionPlan.{DecisionPlan}
+use Rattle.shared_db.specs.declared.changes.RecordChange.{RecordChange}
 use Rattle.serving.specs.Steps.{Decided}
 use Rattle.serving.proofs.RuleLemmas.{refused_plainly}
 
@@ -43,10 +43,10 @@ sealed_as : {A : Type 0} (f : A → List Chunk) (sealed : Option A) → sealed_i
 sealed_as f None = refl
 sealed_as f (Some sealed) = refl
 
-pub brought_is : (plan : Plan) → sealed_in (option_map arc_value plan.sealed) ≡ brought plan
+pub brought_is : (plan : DecisionPlan) → sealed_in (option_map arc_value plan.sealed) ≡ brought plan
 brought_is plan = sealed_as arc_value plan.sealed
 
-module _ (follow : StatesFollow) (address : List ℕ → List ℕ) (parts new : Parts) (p : plain.Session) (t : plain.Transaction) (shared : Shared) (present : BranchState) (look : Look) (plan : Plan) where
+module _ (follow : StatesFollow) (address : List ℕ → List ℕ) (parts new : Parts) (p : plain.Session) (t : plain.Transaction) (shared : Shared) (present : BranchState) (look : Look) (plan : DecisionPlan) where
   -- nothing has changed but that a moment was made
   pub stands_still : IsSettled p.number p.statement look.branch plan.change (option_map arc_value plan.sealed) parts new → new.branches ≡ parts.branches → new.chunks ≡ parts.chunks
       → StateStands address parts shared → StateStands address new shared
@@ -74,7 +74,7 @@ module _ (follow : StatesFollow) (address : List ℕ → List ℕ) (parts new : 
       let change = without_commit done state in
       let union : IsUnion parts.chunks (brought plan) new.chunks = subst (λ (cs : List Chunk). IsUnion parts.chunks cs new.chunks) (brought_is plan) (union_with parts.chunks new.chunks _ settled.chunks) in
       let lines : new.branches ≡ with_record p.branch planned.rec parts.branches =
-      settled.branches ∙ ap (λ (c : Change). changed_lines look.branch c parts.branches) planned.is ∙ ap (λ (name : List ℕ). with_record name planned.rec parts.branches) branch in
+      settled.branches ∙ ap (λ (c : RecordChange). changed_lines look.branch c parts.branches) planned.is ∙ ap (λ (name : List ℕ). with_record name planned.rec parts.branches) branch in
       let left = follow.settled address (all_chunks look.store) (brought plan) seen.commits parts new shared p.branch look_is.state.head planned.rec present change
       look_is.commits look_is.stands.head_known lists planned.stands stands there lines settled.places union
       single in
@@ -91,7 +91,7 @@ module _ (follow : StatesFollow) (address : List ℕ → List ℕ) (parts new : 
         numbers = settled.numbers;
       }
   settled_by seen (Err number) is there look_is branch lists stands planned single settled =
-      let lines : new.branches ≡ parts.branches = settled.branches ∙ ap (λ (c : Change). changed_lines look.branch c parts.branches) planned.change in
+      let lines : new.branches ≡ parts.branches = settled.branches ∙ ap (λ (c : RecordChange). changed_lines look.branch c parts.branches) planned.change in
       let same : new.chunks ≡ parts.chunks = subst (λ (sealed : Option _). AreWith parts.chunks (option_map arc_value sealed) new.chunks) planned.sealed settled.chunks in
       record {
         present = present;
@@ -134,7 +134,7 @@ module _ (follow : StatesFollow) (address : List ℕ → List ℕ) (parts new : 
 
   -- what was met when it was settled is a collision
   pub clash_met : ChunksFollow → (clash : Clash) → AreNamed address parts.chunks → PlanIs address look shared.commits plan (ruled p t present done)
-      → IsClash (bytes_at parts.chunks) (bytes_at (brought plan)) clash → IsCollision address clash
+      → IsClash (chunk_bytes parts.chunks) (chunk_bytes (brought plan)) clash → IsCollision address clash
   clash_met chunks_follow clash named planned met = record {
     first = chunks_follow.is_named address parts.chunks clash.address.0 clash.first named met.is_held;
     second = chunks_follow.is_named address (brought plan) clash.address.0 clash.second (named_by (decide t.start present t.own p.variables) planned) met.is_brought;

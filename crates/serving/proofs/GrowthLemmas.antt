@@ -10,7 +10,7 @@ use Rattle.schema_model.specs.PlainCommits.{AreGrown, Commits, IsGrown, PlainCom
 use Rattle.schema_model.specs.PlainTables.{PlainDatabase}
 use Rattle.tuple_codec.specs.declared.records.BranchRecord.{BranchRecord}
 use Rattle.script_text.specs.declared.outputs.BranchLine.{BranchLine}
-use Rattle.chunk_store.specs.Chunks.{Chunk, Extends, Lists, bytes_at}
+use Rattle.chunk_store.specs.Chunks.{Chunk, Extends, Lists, chunk_bytes}
 use Rattle.chunk_store.specs.Laws.{ChunksFollow}
 use Rattle.chunk_store.specs.Stores.{all_chunks}
 use Rattle.expr_eval.specs.Binding.{Outcome, and_then}
@@ -32,8 +32,8 @@ use Rattle.session_state.specs.declared.sessions.Session.{Session}
 use Rattle.session_txn.specs.Answering.{Decides}
 use Rattle.shared_db.specs.Plans.{PlanIs}
 use Rattle.shared_db.specs.Shared.{IsSettled, is_line_of, record_at}
-use Rattle.shared_db.specs.declared.changes.Change as db
-use Rattle.shared_db.specs.declared.changes.Plan.{Plan}
+use Rattle.shared_db.specs.declared.changes.DecisionPlan.{DecisionPlan}
+use Rattle.shared_db.specs.declared.changes.RecordChange as db
 use Rattle.serving.specs.Steps.{number_at}
 use Rattle.serving.proofs.AnswerLemmas.{same_number}
 
@@ -137,7 +137,7 @@ module _ (address : List ℕ → List ℕ) (base over : Commits) (base_grown : A
   made_known head None is known = subst (λ (c : Commits). is_known c head ≡ true) (sym (same_Some base over is)) known
   made_known head (Some commit) is known = added_known (commit_address address commit) commit (base (commit_address address commit)) refl is
 
-pub planned_known : (address : List ℕ → List ℕ) (look : Look) (commits : Commits) (plan : Plan) → AreGrown commits → (outcome : Outcome Change) → PlanIs address look commits plan outcome
+pub planned_known : (address : List ℕ → List ℕ) (look : Look) (commits : Commits) (plan : DecisionPlan) → AreGrown commits → (outcome : Outcome Change) → PlanIs address look commits plan outcome
     → NamesKnown commits outcome
 planned_known address look commits plan grown (Ok change) planned =
     let stands = planned.stands in
@@ -146,7 +146,7 @@ planned_known address look commits plan grown (Err number) planned = tt
 
 -- so a closing call's decision is what was planned, where all commits that were known at the look are known
 pub still_closed : (address : List ℕ → List ℕ) (epoch : ℤ) (some others : Commits) → AreAmong some others → (p : plain.Session) (t : Transaction) (present : BranchState) (ending : Ending)
-    (look : Look) (plan : Plan) → AreGrown some → (outcome : Outcome Change) → closed address epoch some p t present ending ≡ outcome
+    (look : Look) (plan : DecisionPlan) → AreGrown some → (outcome : Outcome Change) → closed address epoch some p t present ending ≡ outcome
     → PlanIs address look some plan outcome → closed address epoch others p t present ending ≡ outcome
 still_closed address epoch some others among p t present ending look plan grown outcome is planned =
     closed_kept some others among address epoch p t present ending (subst (NamesKnown some) (sym is) (planned_known address look some plan grown outcome planned)) ∙ is
@@ -162,45 +162,45 @@ pub record SettlingFollows : Type 0 where
 -- the branch of a record that is found
 state_found : (address : List ℕ → List ℕ) (chunks : List Chunk) (commits : Commits) (name : List ℕ) (rec : BranchRecord) (lines : List BranchLine) (branches : List Branch)
     → Paired (BranchStands address chunks commits) lines branches → record_at name lines ≡ Some rec
-    → (state : BranchState) × (state_of branches name ≡ Some state) × RecordStands address (bytes_at chunks) commits rec state
+    → (state : BranchState) × (state_of branches name ≡ Some state) × RecordStands address (chunk_bytes chunks) commits rec state
 state_found address chunks commits name rec [] branches stand found = absurd (cc)
 state_found address chunks commits name rec (x ∷ lines) [] stand found = absurd stand
 state_found address chunks commits name rec (x ∷ lines) (b ∷ branches) stand found =
-    let rest : record_at name lines ≡ Some rec → (state : BranchState) × (state_of branches name ≡ Some state) × RecordStands address (bytes_at chunks) commits rec state =
+    let rest : record_at name lines ≡ Some rec → (state : BranchState) × (state_of branches name ≡ Some state) × RecordStands address (chunk_bytes chunks) commits rec state =
     state_found address chunks commits name rec lines branches stand.1 in
     subst (λ n. (state : BranchState) × (option_map (λ (c : Branch). c.state) (cond (bytes_eq n name) (Some b) (find (is_branch name) branches)) ≡ Some state)
-    × RecordStands address (bytes_at chunks) commits rec state) stand.0.name
+    × RecordStands address (chunk_bytes chunks) commits rec state) stand.0.name
     (by (bytes_eq x.name name) found rest)
   where
     by : (test : Bool) → option_map (λ (line : BranchLine). line.rec) (cond test (Some x) (find (is_line_of name) lines)) ≡ Some rec
-        → (record_at name lines ≡ Some rec → (state : BranchState) × (state_of branches name ≡ Some state) × RecordStands address (bytes_at chunks) commits rec state)
+        → (record_at name lines ≡ Some rec → (state : BranchState) × (state_of branches name ≡ Some state) × RecordStands address (chunk_bytes chunks) commits rec state)
         → (state : BranchState) × (option_map (λ (c : Branch). c.state) (cond test (Some b) (find (is_branch name) branches)) ≡ Some state)
-        × RecordStands address (bytes_at chunks) commits rec state
-    by true here rest = (b.state, refl, subst (λ (r : BranchRecord). RecordStands address (bytes_at chunks) commits r b.state) (same_Some x.rec rec here) stand.0.stands)
+        × RecordStands address (chunk_bytes chunks) commits rec state
+    by true here rest = (b.state, refl, subst (λ (r : BranchRecord). RecordStands address (chunk_bytes chunks) commits r b.state) (same_Some x.rec rec here) stand.0.stands)
     by false here rest = rest here
 
 module _ {D : Type 0} (laws : SettlingFollows) (address : List ℕ → List ℕ) (session : Session D) (look : Look) (p : plain.Session) (t : Transaction) (seen : Shared) (present : BranchState)
     (decides : Decides address session look p t seen present) (parts : Parts) (shared : Shared) (stands : StateStands address parts shared) (grown : Lists (all_chunks look.store) parts.chunks) where
-  in_parts : Extends (bytes_at (all_chunks look.store)) (bytes_at parts.chunks)
+  in_parts : Extends (chunk_bytes (all_chunks look.store)) (chunk_bytes parts.chunks)
   in_parts = laws.chunks.lists_extends (all_chunks look.store) parts.chunks stands.single grown
 
   -- all commits that were known at the look are known
   pub commits_among : AreAmong seen.commits shared.commits
-  commits_among = laws.commits.among address (bytes_at (all_chunks look.store)) (bytes_at parts.chunks) seen.commits shared.commits in_parts decides.look_is.commits stands.commits
+  commits_among = laws.commits.among address (chunk_bytes (all_chunks look.store)) (chunk_bytes parts.chunks) seen.commits shared.commits in_parts decides.look_is.commits stands.commits
 
   -- where the branch has the look's record, it is as it was
   pub present_again : record_at look.branch parts.branches ≡ Some look.rec → state_of shared.branches p.branch ≡ Some present
   present_again there =
       let at = state_found address parts.chunks shared.commits look.branch look.rec parts.branches shared.branches stands.branches there in
       let first = decides.look_is in
-      let later = laws.records.later address (bytes_at (all_chunks look.store)) (bytes_at parts.chunks) seen.commits seen.commits look.rec first.state in_parts (λ k known. known) first.stands in
-      let one : at.0 ≡ first.state = laws.records.one address (bytes_at parts.chunks) shared.commits seen.commits look.rec at.0 first.state at.2 later in
+      let later = laws.records.later address (chunk_bytes (all_chunks look.store)) (chunk_bytes parts.chunks) seen.commits seen.commits look.rec first.state in_parts (λ k known. known) first.stands in
+      let one : at.0 ≡ first.state = laws.records.one address (chunk_bytes parts.chunks) shared.commits seen.commits look.rec at.0 first.state at.2 later in
       let same : first.state ≡ present = same_Some _ _ (sym first.there ∙ ap (state_of seen.branches) decides.branch ∙ decides.present_is) in
       ap (state_of shared.branches) (sym decides.branch) ∙ at.1 ∙ ap Some (one ∙ same)
 
 -- the moment of the session's own statement
 pub settled_own : {D : Type 0} (address : List ℕ → List ℕ) (session : Session D) (p : plain.Session) → SessionStands address session p → (number : ℕ) → number ≡ number_at session.position
-    → (name : List ℕ) (change : db.Change) (sealed : Option (List Chunk)) (old new : Parts) → IsSettled session.number number name change sealed old new
+    → (name : List ℕ) (change : db.RecordChange) (sealed : Option (List Chunk)) (old new : Parts) → IsSettled session.number number name change sealed old new
     → IsSettled p.number p.statement name change sealed old new
 settled_own address session p stands number is name change sealed old new settled =
     let count : number ≡ p.statement = is ∙ same_number session.position p.statement p.place stands.position in

@@ -3,7 +3,7 @@ use Rattle.std.proofs.Common.{◌≡◌, ◌∙◌, sym, ap, subst, ℕ, ℤ, tr
 use Rattle.std.specs.Prelude.{Result}
 use Rattle.std.specs.Arc.{arc_value}
 use Rattle.std.specs.Option.{option_map}
-use Rattle.chunk_store.specs.Chunks.{Chunk, IsSingle, Lists, bytes_at}
+use Rattle.chunk_store.specs.Chunks.{Chunk, IsSingle, Lists, chunk_bytes}
 use Rattle.chunk_store.specs.Clashes.{IsCause}
 use Rattle.chunk_store.specs.Laws.{ChunksFollow}
 use Rattle.chunk_store.specs.Stores.{all_chunks}
@@ -26,7 +26,7 @@ use Rattle.session_txn.specs.Answering.{Decides}
 use Rattle.session_txn.specs.Showing.{is_sound_reply}
 use Rattle.shared_db.specs.Plans.{PlanIs, brought}
 use Rattle.shared_db.specs.Shared.{IsSettled, noted, record_at}
-use Rattle.shared_db.specs.declared.changes.Plan.{Plan}
+use Rattle.shared_db.specs.declared.changes.DecisionPlan.{DecisionPlan}
 use Rattle.serving.specs.Serving.{IsBefore, IsHere}
 use Rattle.serving.specs.Answering.{Answered}
 use Rattle.serving.specs.Steps.{Decided, number_at}
@@ -63,11 +63,11 @@ module _ {D : Type 0} (follow : StatesFollow) (address : List ℕ → List ℕ) 
         },
       )
 
-  abbrev pub Planned : Plan → Type 0
+  abbrev pub Planned : DecisionPlan → Type 0
   Planned plan = (p : plain.Session) (t : plain.Transaction) (shared : Shared) (present : BranchState) → Decides address session look p t shared present
       → PlanIs address look shared.commits plan (ruled p t present done)
 
-  module _ (plan : Plan) (planned : Planned plan) where
+  module _ (plan : DecisionPlan) (planned : Planned plan) where
     pub decided_ok : (new : Parts) (number : ℕ) → number ≡ number_at session.position → (result : Result Reply PutFault) → IfOk result (λ reply. reply ≡ plan.reply)
         → OnOk result (IsSettled session.number number look.branch plan.change (option_map arc_value plan.sealed) parts new) → OnOk result (IsSingle new.chunks)
         → IfOk result (λ reply. (p : plain.Session) (t : plain.Transaction) (shared : Shared) → IsHere address session parts p shared → p.transaction ≡ Some t
@@ -89,7 +89,7 @@ module _ {D : Type 0} (follow : StatesFollow) (address : List ℕ → List ℕ) 
           ap is_sound_reply said ∙ planned_sound follow address parts parts p t shared way.0 look plan (planned p t shared way.0 way.1)
       sound_ok (Err fault) said = tt
 
-      pub fault_is : ChunksFollow → (result : Result Reply PutFault) → IfErr result (IsCause (bytes_at parts.chunks) (bytes_at (brought plan))) → IfErr result (IsFault address)
+      pub fault_is : ChunksFollow → (result : Result Reply PutFault) → IfErr result (IsCause (chunk_bytes parts.chunks) (chunk_bytes (brought plan))) → IfErr result (IsFault address)
       fault_is chunks_follow (Ok reply) cause = tt
       fault_is chunks_follow (Err Memory) cause = tt
       fault_is chunks_follow (Err (Collision clash)) cause =

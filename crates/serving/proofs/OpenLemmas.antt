@@ -17,7 +17,7 @@ use Rattle.plain_sessions.specs.declared.commands.Work.{Work}
 use Rattle.session_laws.specs.Changes.{Parts}
 use Rattle.session_state.specs.Standing.{SessionStands}
 use Rattle.session_state.specs.declared.sessions.Session.{Session}
-use Rattle.shared_db.specs.declared.changes.Plan.{Plan}
+use Rattle.shared_db.specs.declared.changes.DecisionPlan.{DecisionPlan}
 use Rattle.serving.specs.Answering.{Answered}
 use Rattle.serving.specs.Branching.{Went}
 use Rattle.serving.specs.Planning.{IfSettled, IsPlanned, PlansClosing, PlansOpen, PlansRule, by_closing, may_end_open}
@@ -59,7 +59,7 @@ open_fails address session parts asked ends (Err fault) = λ p shared before wai
 
 -- ---- what it comes to
 
-pub plans_as : {D : Type 0} (address : List ℕ → List ℕ) (epoch : ℤ) (session : Session D) (asked one : Command) → asked ≡ one → (look : Look) (plan : Plan)
+pub plans_as : {D : Type 0} (address : List ℕ → List ℕ) (epoch : ℤ) (session : Session D) (asked one : Command) → asked ≡ one → (look : Look) (plan : DecisionPlan)
     → PlansOpen address epoch session asked look plan → PlansOpen address epoch session one look plan
 plans_as address epoch session asked one is look plan plans = subst (λ (c : Command). PlansOpen address epoch session c look plan) is plans
 
@@ -111,13 +111,13 @@ before_again address found session at parts kept same p shared before =
 
 -- ---- plans as they are made
 
-module _ {D : Type 0} (address : List ℕ → List ℕ) (epoch : ℤ) (session : Session D) (asked : Command) (look : Look) (result : Result Plan PutFault) where
+module _ {D : Type 0} (address : List ℕ → List ℕ) (epoch : ℤ) (session : Session D) (asked : Command) (look : Look) (result : Result DecisionPlan PutFault) where
   pub plans_call : (work : Work) → asked ≡ command.Data work → (date : ℤ) → date ≡ epoch
       → ((p : plain.Session) (t : plain.Transaction) (ending : Ending) → SessionStands address session p → p.transaction ≡ Some t → worked p t work ≡ Ok (Closes ending)
       → IfOk result (λ plan. IsPlanned address session look plan p t (by_closing address date p t ending)))
       → IfOk result (PlansOpen address epoch session asked look)
   plans_call work is date date_is planned = by result planned where
-    by : (made : Result Plan PutFault) → ((p : plain.Session) (t : plain.Transaction) (ending : Ending) → SessionStands address session p → p.transaction ≡ Some t → worked p t work ≡ Ok (Closes ending)
+    by : (made : Result DecisionPlan PutFault) → ((p : plain.Session) (t : plain.Transaction) (ending : Ending) → SessionStands address session p → p.transaction ≡ Some t → worked p t work ≡ Ok (Closes ending)
         → IfOk made (λ plan. IsPlanned address session look plan p t (by_closing address date p t ending)))
         → IfOk made (PlansOpen address epoch session asked look)
     by (Ok plan) so = subst (λ (c : Command). PlansOpen address epoch session c look plan) (sym is) (subst (λ (e : ℤ). PlansClosing address e session work look plan) date_is so)

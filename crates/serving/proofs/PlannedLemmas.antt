@@ -18,7 +18,7 @@ use Rattle.session_laws.specs.Laws.{StatesFollow, head_in}
 use Rattle.session_state.specs.Standing.{SessionStands}
 use Rattle.session_state.specs.declared.sessions.Session.{Session}
 use Rattle.shared_db.specs.Shared.{Db, KeepsRoom, record_at}
-use Rattle.shared_db.specs.declared.changes.Plan.{Plan}
+use Rattle.shared_db.specs.declared.changes.DecisionPlan.{DecisionPlan}
 use Rattle.serving.specs.Closing.{ClosedAs}
 use Rattle.serving.specs.Planning.{HasLooked, IfSettled, IsPlanned, IsPlannedFor, PlansClosing, PlansCommand, PlansPending, PlansRule, UnlessSettled, by_closing, by_rule}
 use Rattle.serving.specs.Serving.{Concludes, IsBetween, IsHere}
@@ -62,7 +62,7 @@ concludes_of address epoch session left new asked result wanted one is date date
 
 -- ---- plans for what is found
 
-module _ {D : Type 0} (address : List ℕ → List ℕ) (session : Session D) (look : Look) (plan : Plan) (parts : Parts) (grown : Lists (all_chunks look.store) parts.chunks) where
+module _ {D : Type 0} (address : List ℕ → List ℕ) (session : Session D) (look : Look) (plan : DecisionPlan) (parts : Parts) (grown : Lists (all_chunks look.store) parts.chunks) where
   pub for_rule : PlansRule address session look plan → (p : plain.Session) (t : plain.Transaction) (shared : Shared) → IsHere address session parts p shared → p.transaction ≡ Some t
       → IsPlannedFor address session look plan p t (by_rule p t) parts shared
   for_rule plans p t shared here transaction = record { planned = plans p t here.session_stands transaction; here = here; grown = grown }
@@ -104,13 +104,13 @@ looked_result follow address session parts (Err none) branch there heads chunks 
 -- ---- plans as they are made
 
 module _ {D : Type 0} (address : List ℕ → List ℕ) (session : Session D) where
-  pub plans_rule : (look : Look) (result : Result Plan PutFault)
+  pub plans_rule : (look : Look) (result : Result DecisionPlan PutFault)
       → ((p : plain.Session) (t : plain.Transaction) → SessionStands address session p → p.transaction ≡ Some t → IfOk result (λ plan. IsPlanned address session look plan p t (by_rule p t)))
       → IfOk result (PlansRule address session look)
   plans_rule look (Ok plan) planned = planned
   plans_rule look (Err fault) planned = tt
 
-  pub plans_closing : (asked : Command) (work : Work) → asked ≡ Data work → (look : Look) (date epoch : ℤ) → date ≡ epoch → (result : Result Plan PutFault)
+  pub plans_closing : (asked : Command) (work : Work) → asked ≡ Data work → (look : Look) (date epoch : ℤ) → date ≡ epoch → (result : Result DecisionPlan PutFault)
       → ((p : plain.Session) (t : plain.Transaction) (ending : Ending) → SessionStands address session p → p.transaction ≡ Some t → worked p t work ≡ Ok (Closes ending)
       → IfOk result (λ plan. IsPlanned address session look plan p t (by_closing address date p t ending)))
       → IfOk result (PlansCommand address epoch session asked look)
@@ -118,10 +118,10 @@ module _ {D : Type 0} (address : List ℕ → List ℕ) (session : Session D) wh
       subst (λ (one : Command). PlansCommand address epoch session one look plan) (sym is) (subst (λ (e : ℤ). PlansClosing address e session work look plan) date_is planned)
   plans_closing asked work is look date epoch date_is (Err fault) planned = tt
 
-  pub plans_dated : (asked : Command) (look : Look) (date epoch : ℤ) → date ≡ epoch → (result : Result Plan PutFault) → IfOk result (PlansCommand address date session asked look)
+  pub plans_dated : (asked : Command) (look : Look) (date epoch : ℤ) → date ≡ epoch → (result : Result DecisionPlan PutFault) → IfOk result (PlansCommand address date session asked look)
       → IfOk result (PlansCommand address epoch session asked look)
   plans_dated asked look date epoch date_is result planned = subst (λ (e : ℤ). IfOk result (PlansCommand address e session asked look)) date_is planned
 
-pub plans_of : {D : Type 0} (address : List ℕ → List ℕ) (epoch : ℤ) (session : Session D) (asked : Command) (look : Look) (wanted one : Pending) → wanted ≡ one → (result : Result Plan PutFault)
+pub plans_of : {D : Type 0} (address : List ℕ → List ℕ) (epoch : ℤ) (session : Session D) (asked : Command) (look : Look) (wanted one : Pending) → wanted ≡ one → (result : Result DecisionPlan PutFault)
     → IfOk result (PlansPending address epoch session asked one look) → IfOk result (PlansPending address epoch session asked wanted look)
 plans_of address epoch session asked look wanted one is result planned = subst (λ (w : Pending). IfOk result (PlansPending address epoch session asked w look)) (sym is) planned

@@ -3,7 +3,7 @@ use Rattle.std.proofs.Common.{◌≡◌, ◌≢◌, ◌∙◌, sym, ap, subst, �
 use Rattle.std.specs.Prelude.{Result}
 use Rattle.std.specs.Arc.{arc_value}
 use Rattle.std.specs.Option.{option_map}
-use Rattle.chunk_store.specs.Chunks.{Chunk, IsSingle, Lists, bytes_at}
+use Rattle.chunk_store.specs.Chunks.{Chunk, IsSingle, Lists, chunk_bytes}
 use Rattle.chunk_store.specs.Clashes.{IsCause}
 use Rattle.chunk_store.specs.Laws.{ChunksFollow}
 use Rattle.chunk_store.specs.declared.faults.PutFault.{PutFault}
@@ -21,7 +21,7 @@ use Rattle.session_txn.specs.Answering.{Decides}
 use Rattle.session_txn.specs.Showing.{is_sound_reply}
 use Rattle.shared_db.specs.Plans.{PlanIs, brought}
 use Rattle.shared_db.specs.Shared.{IsSettled, record_at}
-use Rattle.shared_db.specs.declared.changes.Plan.{Plan}
+use Rattle.shared_db.specs.declared.changes.DecisionPlan.{DecisionPlan}
 use Rattle.serving.specs.Planning.{Deciding, HasLooked, IfSettled, IsPlanned, IsPlannedFor, by_rule}
 use Rattle.serving.specs.Serving.{IsHere}
 use Rattle.serving.specs.Steps.{Decided, number_at}
@@ -44,7 +44,7 @@ module _ {D : Type 0} (address : List ℕ → List ℕ) (session : Session D) (l
     later = looked.later;
   }
 
-  pub planned_on : (deciding : Deciding) (result : Result Plan PutFault) → IfOk result (λ plan. PlanIs address look looked.seen.commits plan (deciding looked.seen.commits looked.is.state))
+  pub planned_on : (deciding : Deciding) (result : Result DecisionPlan PutFault) → IfOk result (λ plan. PlanIs address look looked.seen.commits plan (deciding looked.seen.commits looked.is.state))
       → IfOk result (λ plan. IsPlanned address session look plan p t deciding)
   planned_on deciding (Ok plan) is = record { seen = looked.seen; present = looked.is.state; decides = decides_looked; is = is }
   planned_on deciding (Err fault) is = tt
@@ -59,7 +59,7 @@ module _ {D : Type 0} (follow : StatesFollow) (address : List ℕ → List ℕ) 
     later = subst (Lists session.draft.chunks.base) (sym looks.chunks) here.later;
   }
 
-  pub planned_here : (p : plain.Session) (t : plain.Transaction) (deciding : Deciding) (shared : Shared) → IsHere address session parts p shared → (plan : Plan)
+  pub planned_here : (p : plain.Session) (t : plain.Transaction) (deciding : Deciding) (shared : Shared) → IsHere address session parts p shared → (plan : DecisionPlan)
       → IsPlanned address session look plan p t deciding → IsPlannedFor address session look plan p t deciding parts shared
   planned_here p t deciding shared here plan planned = record {
     planned = planned;
@@ -72,7 +72,7 @@ settled_some P settled reply is has = subst (λ (o : Option Reply). IfSettled (O
 
 -- ---- the session's branch is there
 
-pub still_there : {D : Type 0} (address : List ℕ → List ℕ) (session : Session D) (look : Look) (plan : Plan) (p : plain.Session) (t : plain.Transaction) (deciding : Deciding) (parts : Parts) (shared : Shared)
+pub still_there : {D : Type 0} (address : List ℕ → List ℕ) (session : Session D) (look : Look) (plan : DecisionPlan) (p : plain.Session) (t : plain.Transaction) (deciding : Deciding) (parts : Parts) (shared : Shared)
     → IsPlannedFor address session look plan p t deciding parts shared → record_at look.branch parts.branches ≢ None
 still_there address session look plan p t deciding parts shared has none =
     let there = record_there address session parts p shared has.here in
@@ -82,7 +82,7 @@ still_there address session look plan p t deciding parts shared has none =
 
 -- ---- the commit rule's decision
 
-module _ {D : Type 0} (address : List ℕ → List ℕ) (session : Session D) (look : Look) (plan : Plan) (p : plain.Session) (t : plain.Transaction) where
+module _ {D : Type 0} (address : List ℕ → List ℕ) (session : Session D) (look : Look) (plan : DecisionPlan) (p : plain.Session) (t : plain.Transaction) where
   pub rule_sound : StatesFollow → IsPlanned address session look plan p t (by_rule p t) → (parts : Parts) → (result : Result (Option Reply) PutFault) → IfSettled result (λ reply. reply ≡ plan.reply)
       → IfSettled result (λ reply. is_sound_reply reply ≡ true)
   rule_sound follow planned parts (Ok (Some reply)) said =
@@ -91,7 +91,7 @@ module _ {D : Type 0} (address : List ℕ → List ℕ) (session : Session D) (l
   rule_sound follow planned parts (Err fault) said = tt
 
   pub rule_fault : StatesFollow → ChunksFollow → (parts : Parts) (shared : Shared) → IsPlannedFor address session look plan p t (by_rule p t) parts shared → (result : Result (Option Reply) PutFault)
-      → IfErr result (IsCause (bytes_at parts.chunks) (bytes_at (brought plan))) → IfErr result (IsFault address)
+      → IfErr result (IsCause (chunk_bytes parts.chunks) (chunk_bytes (brought plan))) → IfErr result (IsFault address)
   rule_fault follow chunks_follow parts shared has (Ok settled) cause = tt
   rule_fault follow chunks_follow parts shared has (Err Memory) cause = tt
   rule_fault follow chunks_follow parts shared has (Err (Collision clash)) cause =

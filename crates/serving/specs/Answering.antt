@@ -14,8 +14,8 @@ use Rattle.plain_sessions.specs.declared.commands.Work.{Work}
 use Rattle.run_laws.specs.Turns.{InOneTurn}
 use Rattle.session_laws.specs.Changes.{Parts, StateStands}
 use Rattle.session_state.specs.Standing.{SessionStands}
-use Rattle.session_state.specs.declared.sessions.Place.{Place}
-use Rattle.session_state.specs.declared.sessions.Place.TheVariants as place
+use Rattle.session_state.specs.declared.sessions.Position.{Position}
+use Rattle.session_state.specs.declared.sessions.Position.TheVariants as place
 use Rattle.session_state.specs.declared.sessions.Session.{Session}
 use Rattle.shared_db.specs.Shared.{noted}
 use Rattle.serving.specs.Branching.{Went}
@@ -73,6 +73,6 @@ pub record Concluded {D : Type 0} (address : List ℕ → List ℕ) (epoch : ℤ
   pub numbers : new.numbers ≡ old.numbers
 
 -- the session goes on to its next statement, or rests before its decision
-abbrev pub place_after : ℕ → Met → Place
+abbrev pub place_after : ℕ → Met → Position
 place_after number (met.Answered reply) = place.Before (number + 1)
 place_after number (met.Pending wanted) = place.Between number

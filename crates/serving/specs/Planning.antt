@@ -22,7 +22,7 @@ use Rattle.session_state.specs.Standing.{SessionStands}
 use Rattle.session_state.specs.declared.sessions.Session.{Session}
 use Rattle.session_txn.specs.Answering.{Decides}
 use Rattle.shared_db.specs.Plans.{PlanIs}
-use Rattle.shared_db.specs.declared.changes.Plan.{Plan}
+use Rattle.shared_db.specs.declared.changes.DecisionPlan.{DecisionPlan}
 use Rattle.serving.specs.Serving.{IsHere}
 use Rattle.serving.specs.declared.meeting.Pending.{Pending}
 use Rattle.serving.specs.declared.meeting.Pending.TheVariants as pending
@@ -46,14 +46,14 @@ pub record HasLooked {D : Type 0} (address : List ℕ → List ℕ) (session : S
   pub later : Lists session.draft.chunks.base (all_chunks look.store)
 
 -- the plan was made on a look at the shared state as it was seen
-pub record IsPlanned {D : Type 0} (address : List ℕ → List ℕ) (session : Session D) (look : Look) (plan : Plan) (p : plain.Session) (t : plain.Transaction) (deciding : Deciding) : Type 0 where
+pub record IsPlanned {D : Type 0} (address : List ℕ → List ℕ) (session : Session D) (look : Look) (plan : DecisionPlan) (p : plain.Session) (t : plain.Transaction) (deciding : Deciding) : Type 0 where
   pub seen : Shared
   pub present : BranchState
   pub decides : Decides address session look p t seen present
   pub is : PlanIs address look seen.commits plan (deciding seen.commits present)
 
 -- and the session stands in these parts, which have all chunks that the look's store has, whatever other sessions did since
-pub record IsPlannedFor {D : Type 0} (address : List ℕ → List ℕ) (session : Session D) (look : Look) (plan : Plan) (p : plain.Session) (t : plain.Transaction) (deciding : Deciding) (parts : Parts) (shared : Shared) : Type 0 where
+pub record IsPlannedFor {D : Type 0} (address : List ℕ → List ℕ) (session : Session D) (look : Look) (plan : DecisionPlan) (p : plain.Session) (t : plain.Transaction) (deciding : Deciding) (parts : Parts) (shared : Shared) : Type 0 where
   pub planned : IsPlanned address session look plan p t deciding
   pub here : IsHere address session parts p shared
   pub grown : Lists (all_chunks look.store) parts.chunks
@@ -75,21 +75,21 @@ UnlessSettled (Ok None) P = P
 UnlessSettled (Err fault) P = P
 
 -- whatever the session stands for in its open transaction, the plan is of the commit rule's decision there; or of the closing call's
-abbrev pub PlansRule : {D : Type 0} → (List ℕ → List ℕ) → Session D → Look → Plan → Type 0
+abbrev pub PlansRule : {D : Type 0} → (List ℕ → List ℕ) → Session D → Look → DecisionPlan → Type 0
 PlansRule address session look plan =
     (p : plain.Session) (t : plain.Transaction) → SessionStands address session p → p.transaction ≡ Some t → IsPlanned address session look plan p t (by_rule p t)
 
-abbrev pub PlansClosing : {D : Type 0} → (List ℕ → List ℕ) → ℤ → Session D → Work → Look → Plan → Type 0
+abbrev pub PlansClosing : {D : Type 0} → (List ℕ → List ℕ) → ℤ → Session D → Work → Look → DecisionPlan → Type 0
 PlansClosing address epoch session asked look plan =
     (p : plain.Session) (t : plain.Transaction) (ending : Ending) → SessionStands address session p → p.transaction ≡ Some t → worked p t asked ≡ Ok (Closes ending)
     → IsPlanned address session look plan p t (by_closing address epoch p t ending)
 
 -- the decision in the open transaction, and the one behind a start
-abbrev pub PlansCommand : {D : Type 0} → (List ℕ → List ℕ) → ℤ → Session D → Command → Look → Plan → Type 0
+abbrev pub PlansCommand : {D : Type 0} → (List ℕ → List ℕ) → ℤ → Session D → Command → Look → DecisionPlan → Type 0
 PlansCommand address epoch session (command.Data asked) look plan = PlansClosing address epoch session asked look plan
 PlansCommand address epoch session other look plan = PlansRule address session look plan
 
-abbrev pub PlansPending : {D : Type 0} → (List ℕ → List ℕ) → ℤ → Session D → Command → Pending → Look → Plan → Type 0
+abbrev pub PlansPending : {D : Type 0} → (List ℕ → List ℕ) → ℤ → Session D → Command → Pending → Look → DecisionPlan → Type 0
 PlansPending address epoch session asked (pending.Between reply) look plan = PlansRule address session look plan
 PlansPending address epoch session asked pending.Closing look plan = PlansCommand address epoch session asked look plan
 
@@ -101,6 +101,6 @@ may_end_open session (command.Data asked) = is_some session.start
 may_end_open session other = false
 
 -- whatever the session stands for in its open transaction, the plan is of the statement's decision there
-abbrev pub PlansOpen : {D : Type 0} → (List ℕ → List ℕ) → ℤ → Session D → Command → Look → Plan → Type 0
+abbrev pub PlansOpen : {D : Type 0} → (List ℕ → List ℕ) → ℤ → Session D → Command → Look → DecisionPlan → Type 0
 PlansOpen address epoch session (command.Data asked) look plan = PlansClosing address epoch session asked look plan
 PlansOpen address epoch session other look plan = PlansRule address session look plan

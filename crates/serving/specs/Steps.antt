@@ -12,13 +12,13 @@ use Rattle.plain_sessions.specs.Records.{BranchState, Shared, state_of, with_bra
 use Rattle.plain_sessions.specs.Replies.{done, refused}
 use Rattle.plain_sessions.specs.Sessions as plain
 use Rattle.session_laws.specs.Changes.{Parts, StateStands}
-use Rattle.session_state.specs.declared.sessions.Place.{Place}
-use Rattle.session_state.specs.declared.sessions.Place.TheVariants as place
+use Rattle.session_state.specs.declared.sessions.Position.{Position}
+use Rattle.session_state.specs.declared.sessions.Position.TheVariants as place
 use Rattle.session_state.specs.declared.sessions.Session.{Session}
 use Rattle.shared_db.specs.Shared.{Db}
 
 -- the number of the statement before or in which a session is
-abbrev pub number_at : Place → ℕ
+abbrev pub number_at : Position → ℕ
 number_at (place.Before number) = number
 number_at (place.Between number) = number
 

@@ -3,7 +3,7 @@
 ghost use Rattle.std.specs.Prelude.{◌≡◌, ◌≢◌, [], None, map, IfOk, IfErr, OnOk};
 ghost use Rattle.std.specs.Arc.{arc_value};
 ghost use Rattle.std.specs.Option.{option_map, option_map_or};
-ghost use Rattle.chunk_store.specs.Chunks.{IsSingle, bytes_at};
+ghost use Rattle.chunk_store.specs.Chunks.{IsSingle, chunk_bytes};
 ghost use Rattle.chunk_store.specs.Clashes.{IsCause};
 ghost use Rattle.chunk_store.specs.Stores.{all_chunks};
 ghost use Rattle.session_laws.specs.Laws.{head_in};
@@ -14,7 +14,7 @@ use chunk_store::{PutFault, Segment, Store};
 use shared_db::SharedDb;
 use std::alloc::{AllocError, Global};
 use std::sync::Arc;
-use table_root::{BranchName, Head, Heads, Look};
+use table_root::{BranchHead, BranchName, Heads, Look};
 use tuple_codec::{Address, BranchRecord};
 
 /// The look at a branch that has this record once the chunks sealed for it are in.
@@ -31,7 +31,7 @@ pub(crate) fn look_ahead(
     ensures heads { IfOk result (λ look. look.heads ≡ map (with_head branch.now rec.head) (map head_in db.now.parts.branches)) }
     ensures chunks { IfOk result (λ look. AreWith db.now.parts.chunks (option_map arc_value sealed.now) (all_chunks look.store)) }
     ensures single { IfOk result (λ look. IsSingle (all_chunks look.store)) }
-    ensures fault { IfErr result (IsCause (bytes_at db.now.parts.chunks) (bytes_at (option_map_or arc_value sealed.now []))) }
+    ensures fault { IfErr result (IsCause (chunk_bytes db.now.parts.chunks) (chunk_bytes (option_map_or arc_value sealed.now []))) }
 {
     let Look {
         branch: name,
@@ -53,7 +53,7 @@ pub(crate) fn look_ahead(
 /// Appends the segment, where there is one.
 fn append_some(store: &mut Store, sealed: &Option<Arc<Segment>>) -> Result<(), PutFault>
     ensures chunks { OnOk result (AreWith (all_chunks store.old) (option_map arc_value sealed.now) (all_chunks store.new)) }
-    ensures fault { IfErr result (IsCause (bytes_at (all_chunks store.old)) (bytes_at (option_map_or arc_value sealed.now []))) }
+    ensures fault { IfErr result (IsCause (chunk_bytes (all_chunks store.old)) (chunk_bytes (option_map_or arc_value sealed.now []))) }
 {
     match sealed {
         Some(segment) => store.append(Arc::try_clone(segment)?),
@@ -79,11 +79,11 @@ fn heads_with(
 }
 
 /// The head, with another commit where its branch has this name.
-fn with_head(seen: Head, branch: &BranchName, head: Address) -> Head
+fn with_head(seen: BranchHead, branch: &BranchName, head: Address) -> BranchHead
     ensures { result ≡ with_head branch.now head seen }
 {
     if seen.branch == *branch {
-        Head {
+        BranchHead {
             branch: seen.branch,
             head,
         }

@@ -22,7 +22,7 @@ use script_text::Reply;
 use session_laws::law_of_states;
 use session_state::Session;
 use session_txn::plan_commit;
-use shared_db::{Change, SharedDb};
+use shared_db::{RecordChange, SharedDb};
 use std::alloc::Global;
 use tuple_codec::Digester;
 
@@ -103,12 +103,12 @@ fn begin_anew<D: Digester>(
     let plan = plan_commit(alloc, session, &look)?;
     let number = number_of(session.position);
     match plan.change {
-        Change::Nothing => {
+        RecordChange::Nothing => {
             let reply = settle(db, session.number, number, &look, plan)?;
             session.start = None;
             Ok(reply)
         }
-        Change::Record(rec) => {
+        RecordChange::Record(rec) => {
             let next = look_ahead(alloc, db, &look.branch, rec, &plan.sealed)?;
             let reply = settle(db, session.number, number, &look, plan)?;
             start_at(alloc, session, next);

@@ -35,7 +35,7 @@ use script_text::Reply;
 use session_laws::{law_of_records, law_of_standing_commits, law_of_states};
 use session_state::Session;
 use session_txn::due;
-use shared_db::{Plan, SharedDb};
+use shared_db::{DecisionPlan, SharedDb};
 use std::alloc::Global;
 use table_root::Look;
 use tuple_codec::Digester;
@@ -136,7 +136,7 @@ pub(crate) fn settle_closing<D: Digester>(
     db: &mut SharedDb,
     session: &Session<D>,
     look: &Look,
-    plan: Plan,
+    plan: DecisionPlan,
 ) -> Result<Option<Reply>, PutFault>
     requires planned { (epoch : ℤ) × (p : plain.Session) × (t : plain.Transaction) × (ending : Ending) × (shared : Shared)
         × IsPlannedFor D.address session.now look.now plan p t (by_closing D.address epoch p t ending) db.old.parts shared }
@@ -167,7 +167,7 @@ pub(crate) fn plan_closing<D: Digester>(
     asked: &Work,
     look: &Look,
     epoch: i64,
-) -> Result<Plan, PutFault>
+) -> Result<DecisionPlan, PutFault>
     requires open { (p : plain.Session) × (t : plain.Transaction) × SessionStands D.address session.now p × (p.transaction ≡ Some t) }
     requires looked { HasLooked D.address session.now look.now }
     requires closes { may_close asked.now ≡ true }

@@ -3,7 +3,7 @@
 ghost use Rattle.std.specs.Prelude.{◌≡◌, ◌≢◌, ◌<◌, true, None, Some, IfOk, IfErr, OnOk, OnErr};
 ghost use Rattle.std.specs.Arc.{arc_value};
 ghost use Rattle.std.specs.Option.{option_map};
-ghost use Rattle.chunk_store.specs.Chunks.{IsSingle, bytes_at};
+ghost use Rattle.chunk_store.specs.Chunks.{IsSingle, chunk_bytes};
 ghost use Rattle.chunk_store.specs.Clashes.{IsCause};
 ghost use Rattle.script_text.specs.Collisions.{IsFault};
 ghost use Rattle.plain_sessions.specs.Records.{Shared};
@@ -22,7 +22,7 @@ use script_text::Reply;
 use session_laws::{law_of_records, law_of_standing_commits, law_of_states};
 use session_state::Session;
 use session_txn::plan_commit;
-use shared_db::{Plan, Settled, SharedDb};
+use shared_db::{DecisionPlan, Settled, SharedDb};
 use std::alloc::Global;
 use table_root::Look;
 use tuple_codec::Digester;
@@ -59,7 +59,7 @@ pub(crate) fn plan_decision<D: Digester>(
     alloc: Global,
     session: &Session<D>,
     look: &Look,
-) -> Result<Plan, PutFault>
+) -> Result<DecisionPlan, PutFault>
     requires open { (p : plain.Session) × (t : plain.Transaction) × SessionStands D.address session.now p × (p.transaction ≡ Some t) }
     requires looked { HasLooked D.address session.now look.now }
     ensures planned { (p : plain.Session) (t : plain.Transaction) → SessionStands D.address session.now p → p.transaction ≡ Some t
@@ -75,7 +75,7 @@ pub(crate) fn settle_decision<D: Digester>(
     db: &mut SharedDb,
     session: &Session<D>,
     look: &Look,
-    plan: Plan,
+    plan: DecisionPlan,
 ) -> Result<Option<Reply>, PutFault>
     requires planned { (p : plain.Session) × (t : plain.Transaction) × (shared : Shared) × IsPlannedFor D.address session.now look.now plan p t (by_rule p t) db.old.parts shared }
     requires moments { 0 < db.old.moments_room }
@@ -103,7 +103,7 @@ pub(crate) fn settle_planned(
     session: u32,
     statement: u32,
     look: &Look,
-    plan: Plan,
+    plan: DecisionPlan,
 ) -> Result<Option<Reply>, PutFault>
     requires moments { 0 < db.old.moments_room }
     requires segments { 0 < db.old.segments_room }
@@ -113,12 +113,12 @@ pub(crate) fn settle_planned(
     ensures single { IfSettled result (λ reply. IsSingle db.new.parts.chunks) }
     ensures looked { IfSettled result (λ reply. record_at look.now.branch db.old.parts.branches ≡ Some look.now.rec) }
     ensures lost { IfLost result (record_at look.now.branch db.old.parts.branches ≢ Some look.now.rec) }
-    ensures fault { IfErr result (IsCause (bytes_at db.old.parts.chunks) (bytes_at (brought plan))) }
+    ensures fault { IfErr result (IsCause (chunk_bytes db.old.parts.chunks) (chunk_bytes (brought plan))) }
     ensures same { UnlessSettled result (db.new.parts ≡ db.old.parts) }
     ensures room { KeepsRoom 1 db.old db.new }
     ensures room_kept { UnlessSettled result (HasRoomStill db.old db.new) }
 {
-    let Plan {
+    let DecisionPlan {
         change,
         reply,
         sealed,
@@ -140,7 +140,7 @@ pub(crate) fn settle(
     session: u32,
     statement: u32,
     look: &Look,
-    plan: Plan,
+    plan: DecisionPlan,
 ) -> Result<Reply, PutFault>
     requires moments { 0 < db.old.moments_room }
     requires segments { 0 < db.old.segments_room }
@@ -148,7 +148,7 @@ pub(crate) fn settle(
     ensures reply { IfOk result (λ reply. reply ≡ plan.reply) }
     ensures settled { OnOk result (IsSettled session statement look.now.branch plan.change (option_map arc_value plan.sealed) db.old.parts db.new.parts) }
     ensures single { OnOk result (IsSingle db.new.parts.chunks) }
-    ensures fault { IfErr result (IsCause (bytes_at db.old.parts.chunks) (bytes_at (brought plan))) }
+    ensures fault { IfErr result (IsCause (chunk_bytes db.old.parts.chunks) (chunk_bytes (brought plan))) }
     ensures same { OnErr result (db.new.parts ≡ db.old.parts) }
     ensures room { KeepsRoom 1 db.old db.new }
     ensures room_kept { OnErr result (HasRoomStill db.old db.new) }

@@ -3,18 +3,18 @@
 ghost use Rattle.std.specs.Prelude.{◌≡◌, ◌<◌, ◌+◌, ◌^◌, ℕ};
 ghost use Rattle.plain_sessions.specs.Sessions as plain;
 ghost use Rattle.session_state.specs.Standing.{IsAt};
-ghost use Rattle.session_state.specs.declared.sessions.Place.TheVariants as place;
+ghost use Rattle.session_state.specs.declared.sessions.Position.TheVariants as place;
 ghost use Rattle.serving.specs.Steps.{number_at};
 
-use session_state::{Place, Session};
+use session_state::{Position, Session};
 use tuple_codec::Digester;
 
 /// The number of the statement before or in which a session is.
-pub(crate) fn number_of(position: Place) -> u32
+pub(crate) fn number_of(position: Position) -> u32
     ensures { result ≡ number_at position }
 {
     match position {
-        Place::Before(number) | Place::Between(number) => number,
+        Position::Before(number) | Position::Between(number) => number,
     }
 }
 
@@ -23,5 +23,5 @@ pub(crate) fn go_on<D: Digester>(session: &mut Session<D>, number: u32)
     requires { number + 1 < 2 ^ 32 }
     ensures { session.new ≡ record session.old { position = place.Before (number + 1) } }
 {
-    session.position = Place::Before(number + 1);
+    session.position = Position::Before(number + 1);
 }

@@ -25,7 +25,7 @@ use plain_sessions::Command;
 use script_text::Reply;
 use session_laws::law_of_states;
 use session_state::Session;
-use shared_db::{Plan, SharedDb};
+use shared_db::{DecisionPlan, SharedDb};
 use std::alloc::{AllocError, Global};
 use table_root::Look;
 use tuple_codec::Digester;
@@ -34,7 +34,7 @@ use tuple_codec::Digester;
 #[derive(Drop)]
 pub struct Planned {
     pub look: Look,
-    pub plan: Plan,
+    pub plan: DecisionPlan,
 }
 
 /// A look at the session's branch, by which its decision can be planned once the database was left.
@@ -198,7 +198,7 @@ pub fn plan_pending<D: Digester>(
     wanted: &Pending,
     look: &Look,
     epoch: i64,
-) -> Result<Plan, PutFault>
+) -> Result<DecisionPlan, PutFault>
     requires between { (parts : Parts) × (q : plain.Session) × (shared : Shared) × IsBetween D.address session.now parts q asked.now wanted.now shared }
     requires looked { HasLooked D.address session.now look.now }
     requires epoch { pos 0 ≤ℤ epoch }
@@ -219,7 +219,7 @@ fn plan_call<D: Digester>(
     asked: &Command,
     look: &Look,
     epoch: i64,
-) -> Result<Plan, PutFault>
+) -> Result<DecisionPlan, PutFault>
     requires between { (parts : Parts) × (q : plain.Session) × (shared : Shared) × IsBetween D.address session.now parts q asked.now pending.Closing shared }
     requires looked { HasLooked D.address session.now look.now }
     requires epoch { pos 0 ≤ℤ epoch }

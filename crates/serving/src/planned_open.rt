@@ -33,7 +33,7 @@ use chunk_store::PutFault;
 use plain_sessions::Command;
 use script_text::Reply;
 use session_state::Session;
-use shared_db::{Plan, SharedDb};
+use shared_db::{DecisionPlan, SharedDb};
 use sql_ast::Setting;
 use std::alloc::Global;
 use table_root::Look;
@@ -44,7 +44,7 @@ pub(crate) fn settle_commit<D: Digester>(
     db: &mut SharedDb,
     session: &mut Session<D>,
     look: &Look,
-    plan: Plan,
+    plan: DecisionPlan,
 ) -> Result<Option<Reply>, PutFault>
     requires open { (p : plain.Session) × (t : plain.Transaction) × (shared : Shared) × IsBefore D.address session.old db.old.parts p shared × (p.transaction ≡ Some t) }
     requires planned { PlansRule D.address session.old look.now plan }
@@ -76,7 +76,7 @@ pub(crate) fn settle_switch<D: Digester>(
     session: &mut Session<D>,
     setting: &Setting,
     look: &Look,
-    plan: Plan,
+    plan: DecisionPlan,
 ) -> Result<Option<Reply>, PutFault>
     requires open { (p : plain.Session) × (t : plain.Transaction) × (shared : Shared) × IsBefore D.address session.old db.old.parts p shared × (p.transaction ≡ Some t) }
     requires planned { PlansRule D.address session.old look.now plan }
@@ -109,7 +109,7 @@ pub(crate) fn settle_call<D: Digester>(
     db: &mut SharedDb,
     session: &mut Session<D>,
     look: &Look,
-    plan: Plan,
+    plan: DecisionPlan,
 ) -> Result<Option<Reply>, PutFault>
     requires closing { (epoch : ℤ) × (asked : Work) × (p : plain.Session) × (t : plain.Transaction) × (ending : Ending) × (shared : Shared)
         × PlansClosing D.address epoch session.old asked look.now plan × IsBefore D.address session.old db.old.parts p shared × (p.transaction ≡ Some t) × (worked p t asked ≡ Ok (Closes ending)) }
@@ -159,7 +159,7 @@ pub fn plan_open<D: Digester>(
     asked: &Command,
     look: &Look,
     epoch: i64,
-) -> Result<Plan, PutFault>
+) -> Result<DecisionPlan, PutFault>
     requires before { (parts : Parts) × (p : plain.Session) × (shared : Shared) × IsBefore D.address session.now parts p shared × (alone None p asked.now ≡ None) }
     requires open { may_end_open session.now asked.now ≡ true }
     requires looked { HasLooked D.address session.now look.now }
@@ -228,7 +228,7 @@ fn settle_open<D: Digester>(
     session: &mut Session<D>,
     asked: &Command,
     look: &Look,
-    plan: Plan,
+    plan: DecisionPlan,
 ) -> Result<Option<Reply>, PutFault>
     requires before { (p : plain.Session) × (shared : Shared) × IsBefore D.address session.old db.old.parts p shared × (alone None p asked.now ≡ None) }
     requires open { may_end_open session.old asked.now ≡ true }

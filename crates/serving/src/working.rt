@@ -16,7 +16,7 @@ use crate::meeting::Met;
 use crate::places::number_of;
 use crate::starting::answer_started;
 use plain_sessions::{Command, Work};
-use session_state::{Place, Session};
+use session_state::{Position, Session};
 use sql_procedures::MergeRequest;
 use std::alloc::Global;
 use tuple_codec::Digester;
@@ -88,7 +88,7 @@ fn pass_on<D: Digester>(session: &mut Session<D>, number: u32, met: &Met)
     ensures { session.new ≡ record session.old { position = place_after number met.now } }
 {
     session.position = match met {
-        Met::Answered(_) => Place::Before(number + 1),
-        Met::Pending(_) => Place::Between(number),
+        Met::Answered(_) => Position::Before(number + 1),
+        Met::Pending(_) => Position::Between(number),
     };
 }

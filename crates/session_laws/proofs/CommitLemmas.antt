@@ -9,7 +9,7 @@ use Rattle.basic_laws.proofs.Options.{some_there as what_is_known}
 use Rattle.schema_model.specs.Limits.{is_database_within_limits}
 use Rattle.schema_model.specs.PlainCommits.{AreGrown, Commits, IsAncestor, IsAncestorBy, IsGrown, PlainCommit, commit_address, has_address, is_known, parents_in, parents_of, plain_commit_bytes, with_commit}
 use Rattle.schema_model.specs.Sameness.{SamenessIsEquality}
-use Rattle.chunk_store.specs.Chunks.{Chunk, Chunks, Extends, bytes_at}
+use Rattle.chunk_store.specs.Chunks.{Chunk, Chunks, Extends, chunk_bytes}
 use Rattle.chunk_store.specs.Kinds.{is_commit}
 use Rattle.chunk_store.specs.Laws.{ChunksFollow}
 use Rattle.chunk_store.proofs.ChunkLemmas.{at_join, either_some}
@@ -141,19 +141,19 @@ module _ (laws : graph.CommitsFollow) (address : List ℕ → List ℕ) where
       same_by commits others (all_among chunks chunks commits others itself_more a b) (all_among chunks chunks others commits itself_more b a) k (commits k) (others k) refl refl
 
 module _ (chunk_laws : ChunksFollow) (laws : graph.CommitsFollow) (address : List ℕ → List ℕ) where
-  in_one : (store more : List Chunk) (k bytes : List ℕ) → bytes_at (store ++ more) k ≡ Some bytes → (bytes_at store k ≡ Some bytes) ⊎ (bytes_at more k ≡ Some bytes)
-  in_one store more k bytes held = either_some (bytes_at store k) (bytes_at more k) bytes (sym (at_join store more k) ∙ held)
+  in_one : (store more : List Chunk) (k bytes : List ℕ) → chunk_bytes (store ++ more) k ≡ Some bytes → (chunk_bytes store k ≡ Some bytes) ⊎ (chunk_bytes more k ≡ Some bytes)
+  in_one store more k bytes held = either_some (chunk_bytes store k) (chunk_bytes more k) bytes (sym (at_join store more k) ∙ held)
 
-  still_there : (store more : List Chunk) (commits : Commits) → ((k bytes : List ℕ) → bytes_at more k ≡ Some bytes → is_commit bytes ≡ true → is_known commits k ≡ true)
-      → CommitsAreThere address (bytes_at store) commits → CommitsAreThere address (bytes_at (store ++ more)) commits
+  still_there : (store more : List Chunk) (commits : Commits) → ((k bytes : List ℕ) → chunk_bytes more k ≡ Some bytes → is_commit bytes ≡ true → is_known commits k ≡ true)
+      → CommitsAreThere address (chunk_bytes store) commits → CommitsAreThere address (chunk_bytes (store ++ more)) commits
   still_there store more commits none there = record {
-    stand = laws.later address (bytes_at store) (bytes_at (store ++ more)) commits (chunk_laws.extends_left store more) there.stand;
+    stand = laws.later address (chunk_bytes store) (chunk_bytes (store ++ more)) commits (chunk_laws.extends_left store more) there.stand;
     no_others = λ k bytes held is. elim (in_one store more k bytes held) [ inl l ↦ there.no_others k bytes l is | inr r ↦ none k bytes r is ];
     within = there.within;
     first = there.first;
   }
 
-  pub there_beside : (store more : List Chunk) (commits : Commits) → HasNoCommit more → CommitsAreThere address (bytes_at store) commits → CommitsAreThere address (bytes_at (store ++ more)) commits
+  pub there_beside : (store more : List Chunk) (commits : Commits) → HasNoCommit more → CommitsAreThere address (chunk_bytes store) commits → CommitsAreThere address (chunk_bytes (store ++ more)) commits
   there_beside store more commits none there = still_there store more commits (λ k bytes held is. absurd (none k bytes held is)) there
 
   -- ---- one more
@@ -186,10 +186,10 @@ module _ (chunk_laws : ChunksFollow) (laws : graph.CommitsFollow) (address : Lis
 
   module _ (same : SamenessIsEquality) where
     one_by : (store more : List Chunk) (commits : Commits) (commit : PlainCommit) (o : Option PlainCommit) → commits (commit_address address commit) ≡ o
-        → CommitsAreThere address (bytes_at store) commits → IsCommitThere address (bytes_at (store ++ more)) (commit_address address commit) commit → IsGrown commits commit
+        → CommitsAreThere address (chunk_bytes store) commits → IsCommitThere address (chunk_bytes (store ++ more)) (commit_address address commit) commit → IsGrown commits commit
         → is_database_within_limits commit.database ≡ true → (parent : List ℕ) → has_address commit.parents parent ≡ true
-        → ((k bytes : List ℕ) → bytes_at more k ≡ Some bytes → is_commit bytes ≡ true → k ≡ commit_address address commit)
-        → (after : Commits) × (added_at (commit_address address commit) commit o commits ≡ Some after) × CommitsAreThere address (bytes_at (store ++ more)) after
+        → ((k bytes : List ℕ) → chunk_bytes more k ≡ Some bytes → is_commit bytes ≡ true → k ≡ commit_address address commit)
+        → (after : Commits) × (added_at (commit_address address commit) commit o commits ≡ Some after) × CommitsAreThere address (chunk_bytes (store ++ more)) after
     one_by store more commits commit None at there is grown within parent has only =
         let k = commit_address address commit in
         let after = with_commit k commit commits in
@@ -199,7 +199,7 @@ module _ (chunk_laws : ChunksFollow) (laws : graph.CommitsFollow) (address : Lis
           after,
           refl,
           record {
-            stand = laws.put address (bytes_at (store ++ more)) commits k commit (laws.later address (bytes_at store) (bytes_at (store ++ more)) commits extends there.stand) is grown;
+            stand = laws.put address (chunk_bytes (store ++ more)) commits k commit (laws.later address (chunk_bytes store) (chunk_bytes (store ++ more)) commits extends there.stand) is grown;
             no_others = λ j bytes held five. elim (in_one store more j bytes held) [
               | inl l ↦ known_among commits after among j (there.no_others j bytes l five)
               | inr r ↦ ap (is_known after) (only j bytes r five) ∙ known
@@ -215,18 +215,18 @@ module _ (chunk_laws : ChunksFollow) (laws : graph.CommitsFollow) (address : Lis
     one_by store more commits commit (Some other) at there is grown within parent has only =
         let k = commit_address address commit in
         let extends = chunk_laws.extends_left store more in
-        let stands = (laws.later address (bytes_at store) (bytes_at (store ++ more)) commits extends there.stand).each k other at in
-        let told = commit_told same commit other (laws.one address (bytes_at (store ++ more)) k commit other is stands) in (
+        let stands = (laws.later address (chunk_bytes store) (chunk_bytes (store ++ more)) commits extends there.stand).each k other at in
+        let told = commit_told same commit other (laws.one address (chunk_bytes (store ++ more)) k commit other is stands) in (
           commits,
           ap (λ b. cond b (Some commits) None) told,
           still_there store more commits (λ j bytes held five. ap (is_known commits) (only j bytes held five) ∙ ap is_some at) there,
         )
 
-    pub there_with_one : (store more : List Chunk) (commits : Commits) (commit : PlainCommit) → CommitsAreThere address (bytes_at store) commits
-        → IsCommitThere address (bytes_at (store ++ more)) (commit_address address commit) commit → IsGrown commits commit → is_database_within_limits commit.database ≡ true
+    pub there_with_one : (store more : List Chunk) (commits : Commits) (commit : PlainCommit) → CommitsAreThere address (chunk_bytes store) commits
+        → IsCommitThere address (chunk_bytes (store ++ more)) (commit_address address commit) commit → IsGrown commits commit → is_database_within_limits commit.database ≡ true
         → (parent : List ℕ) → has_address commit.parents parent ≡ true
-        → ((k bytes : List ℕ) → bytes_at more k ≡ Some bytes → is_commit bytes ≡ true → k ≡ commit_address address commit)
-        → (after : Commits) × (with_new_commit address commit commits ≡ Some after) × CommitsAreThere address (bytes_at (store ++ more)) after
+        → ((k bytes : List ℕ) → chunk_bytes more k ≡ Some bytes → is_commit bytes ≡ true → k ≡ commit_address address commit)
+        → (after : Commits) × (with_new_commit address commit commits ≡ Some after) × CommitsAreThere address (chunk_bytes (store ++ more)) after
     there_with_one store more commits commit = one_by store more commits commit (commits (commit_address address commit)) refl
 
 -- ---- a commit that was made over some of the commits, made over all

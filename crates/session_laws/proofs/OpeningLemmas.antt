@@ -10,7 +10,7 @@ use Rattle.tuple_codec.specs.declared.records.BranchRecord.{BranchRecord}
 use Rattle.schema_model.specs.Limits.{is_database_within_limits, most_branches}
 use Rattle.schema_model.specs.PlainCommits.{Commits, IsGrown, PlainCommit, commit_address, commit_parts, is_known, plain_commit_bytes, with_commit}
 use Rattle.schema_model.specs.WrittenForms.{database_address, database_bytes}
-use Rattle.chunk_store.specs.Chunks.{AreNamed, Chunks, IsSingle, bytes_at}
+use Rattle.chunk_store.specs.Chunks.{AreNamed, Chunks, IsSingle, chunk_bytes}
 use Rattle.chunk_store.specs.Kinds.{is_commit}
 use Rattle.chunk_store.specs.Standing.{IsThere}
 use Rattle.commit_graph.specs.Commits.{IsCommit}
@@ -88,14 +88,14 @@ module _ (address : List ℕ → List ℕ) (chunks : Chunks) (there : IsThere ad
     all_main (name ∷ names) others = all_main names others
 
 pub opening_stands : (address : List ℕ → List ℕ) (epoch : ℤ) (names : List (List ℕ)) (parts : Parts) (rec : BranchRecord) → is_date epoch ≡ true
-    → IsThere address (bytes_at parts.chunks) (plain_commit_bytes address (first_commit epoch)) → IsThere address (bytes_at parts.chunks) (database_bytes address [])
-    → ((k bytes : List ℕ) → bytes_at parts.chunks k ≡ Some bytes → is_commit bytes ≡ true → k ≡ commit_address address (first_commit epoch))
+    → IsThere address (chunk_bytes parts.chunks) (plain_commit_bytes address (first_commit epoch)) → IsThere address (chunk_bytes parts.chunks) (database_bytes address [])
+    → ((k bytes : List ℕ) → chunk_bytes parts.chunks k ≡ Some bytes → is_commit bytes ≡ true → k ≡ commit_address address (first_commit epoch))
     → AreNamed address parts.chunks → IsSingle parts.chunks
     → parts.branches ≡ record { name = codes "main"; rec = rec } ∷ [] → rec.head.0 ≡ commit_address address (first_commit epoch)
     → rec.working.0 ≡ database_address address [] → rec.staged.0 ≡ database_address address [] → rec.merging ≡ None
     → parts.places ≡ map (λ name. codes "main") names → StateStands address parts (opening address epoch names)
 opening_stands address epoch names parts rec date held there only named single branches head working staged merging places =
-    let chunks = bytes_at parts.chunks in
+    let chunks = chunk_bytes parts.chunks in
     let line : BranchStands address parts.chunks (opening address epoch names).commits (record { name = codes "main"; rec = rec })
     (record { name = codes "main"; state = clean_at (commit_address address (first_commit epoch)) [] }) =
     record { name = refl; form = refl; stands = first_record address chunks there epoch date held rec head working staged merging } in

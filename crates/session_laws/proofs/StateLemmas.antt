@@ -11,7 +11,7 @@ use Rattle.schema_model.specs.Limits.{most_branches}
 use Rattle.schema_model.specs.PlainCommits.{Commits, is_known}
 use Rattle.schema_model.specs.PlainTables.{rises}
 use Rattle.schema_model.specs.Sameness.{SamenessIsEquality}
-use Rattle.chunk_store.specs.Chunks.{AreNamed, Chunk, Extends, IsSingle, Lists, bytes_at}
+use Rattle.chunk_store.specs.Chunks.{AreNamed, Chunk, Extends, IsSingle, Lists, chunk_bytes}
 use Rattle.chunk_store.specs.Laws.{ChunksFollow, SegmentsFollow}
 use Rattle.chunk_store.specs.Stores.{IsUnion, all_chunks}
 use Rattle.chunk_store.proofs.ChunkLemmas.{at_join, either_some, listed_finds}
@@ -81,23 +81,23 @@ module _ (address : List ℕ → List ℕ) (chunks : List Chunk) (commits : Comm
   -- the branch of a line that is found
   state_found : (name : List ℕ) (line : BranchLine) (lines : List BranchLine) (branches : List Branch) → Stand lines branches
       → find (λ (other : BranchLine). bytes_eq other.name name) lines ≡ Some line
-      → (state : BranchState) × (state_of branches name ≡ Some state) × RecordStands address (bytes_at chunks) commits line.rec state
+      → (state : BranchState) × (state_of branches name ≡ Some state) × RecordStands address (chunk_bytes chunks) commits line.rec state
   state_found name line [] branches stand found = cc
   state_found name line (x ∷ lines) [] stand found = absurd stand
   state_found name line (x ∷ lines) (b ∷ branches) stand found =
       let rest : find (λ (other : BranchLine). bytes_eq other.name name) lines ≡ Some line
-      → (state : BranchState) × (state_of branches name ≡ Some state) × RecordStands address (bytes_at chunks) commits line.rec state =
+      → (state : BranchState) × (state_of branches name ≡ Some state) × RecordStands address (chunk_bytes chunks) commits line.rec state =
       state_found name line lines branches stand.1 in
       subst (λ n. (state : BranchState) × (option_map (λ (c : Branch). c.state) (cond (bytes_eq n name) (Some b) (find (is_branch name) branches)) ≡ Some state)
-      × RecordStands address (bytes_at chunks) commits line.rec state) stand.0.name
+      × RecordStands address (chunk_bytes chunks) commits line.rec state) stand.0.name
       (by (bytes_eq x.name name) found rest)
     where
       by : (t : Bool) → cond t (Some x) (find (λ (other : BranchLine). bytes_eq other.name name) lines) ≡ Some line
           → (find (λ (other : BranchLine). bytes_eq other.name name) lines ≡ Some line
-          → (state : BranchState) × (state_of branches name ≡ Some state) × RecordStands address (bytes_at chunks) commits line.rec state)
+          → (state : BranchState) × (state_of branches name ≡ Some state) × RecordStands address (chunk_bytes chunks) commits line.rec state)
           → (state : BranchState) × (option_map (λ (c : Branch). c.state) (cond t (Some b) (find (is_branch name) branches)) ≡ Some state)
-          × RecordStands address (bytes_at chunks) commits line.rec state
-      by true here rest = (b.state, refl, subst (λ (l : BranchLine). RecordStands address (bytes_at chunks) commits l.rec b.state) (same_Some x line here) stand.0.stands)
+          × RecordStands address (chunk_bytes chunks) commits line.rec state
+      by true here rest = (b.state, refl, subst (λ (l : BranchLine). RecordStands address (chunk_bytes chunks) commits l.rec b.state) (same_Some x line here) stand.0.stands)
       by false here rest = rest here
 
 module _ (databases : DatabasesStand) (laws : graph.CommitsFollow) (address : List ℕ → List ℕ) where
@@ -112,14 +112,14 @@ module _ (databases : DatabasesStand) (laws : graph.CommitsFollow) (address : Li
   same_branches chunks commits others (line ∷ lines) (x ∷ branches) [] a b = absurd b
   same_branches chunks commits others (line ∷ lines) (x ∷ branches) (y ∷ more) a b =
       let name : x.name ≡ y.name = sym a.0.name ∙ b.0.name in
-      let state : x.state ≡ y.state = one_state databases address (bytes_at chunks) commits others line.rec x.state y.state a.0.stands b.0.stands in
+      let state : x.state ≡ y.state = one_state databases address (chunk_bytes chunks) commits others line.rec x.state y.state a.0.stands b.0.stands in
       let rest : branches ≡ more = same_branches chunks commits others lines branches more a.1 b.1 in
       λ i. record { name = name i; state = state i } ∷ rest i
 
   pub one_shared : (parts : Parts) (shared other : Shared) → StateStands address parts shared → StateStands address parts other → shared ≡ other
   one_shared parts shared other a b =
       let branches : shared.branches ≡ other.branches = same_branches parts.chunks shared.commits other.commits parts.branches shared.branches other.branches a.branches b.branches in
-      let commits : (k : List ℕ) → shared.commits k ≡ other.commits k = same_commits laws address (bytes_at parts.chunks) shared.commits other.commits a.commits b.commits in
+      let commits : (k : List ℕ) → shared.commits k ≡ other.commits k = same_commits laws address (chunk_bytes parts.chunks) shared.commits other.commits a.commits b.commits in
       let places : shared.places ≡ other.places = sym a.places ∙ b.places in
       λ i. record { branches = branches i; commits = λ k. commits k i; places = places i }
 
@@ -133,18 +133,18 @@ module _ (databases : DatabasesStand) (laws : graph.CommitsFollow) (address : Li
       record {
         state = state.0;
         there = state.1;
-        stands = subst (λ (cs : List Chunk). RecordStands address (bytes_at cs) shared.commits look.rec state.0) (sym chunks)
-            (subst (λ (r : BranchRecord). RecordStands address (bytes_at parts.chunks) shared.commits r state.0) (sym rec) state.2);
+        stands = subst (λ (cs : List Chunk). RecordStands address (chunk_bytes cs) shared.commits look.rec state.0) (sym chunks)
+            (subst (λ (r : BranchRecord). RecordStands address (chunk_bytes parts.chunks) shared.commits r state.0) (sym rec) state.2);
         heads = ap (map head_seen) heads ∙ seen_heads address parts.chunks shared.commits parts.branches shared.branches stands.branches;
         heads_known = heads_known address parts.chunks shared.commits parts.branches shared.branches stands.branches;
-        commits = subst (λ (cs : List Chunk). CommitsAreThere address (bytes_at cs) shared.commits) (sym chunks) stands.commits;
+        commits = subst (λ (cs : List Chunk). CommitsAreThere address (chunk_bytes cs) shared.commits) (sym chunks) stands.commits;
         named = subst (AreNamed address) (sym chunks) stands.named;
       }
 
   -- ---- a settled change
 
   line_settled : (old new : List Chunk) (commits after : Commits) (name : List ℕ) (rec : BranchRecord) (state : BranchState) (line : BranchLine) (branch : Branch)
-      → Extends (bytes_at old) (bytes_at new) → ((k : List ℕ) → is_known commits k ≡ true → is_known after k ≡ true) → RecordStands address (bytes_at new) after rec state
+      → Extends (chunk_bytes old) (chunk_bytes new) → ((k : List ℕ) → is_known commits k ≡ true → is_known after k ≡ true) → RecordStands address (chunk_bytes new) after rec state
       → BranchStands address old commits line branch → BranchStands address new after (line_replacing name rec line) (replacing name state branch)
   line_settled old new commits after name rec state line branch more known is stands =
       subst (λ n. BranchStands address new after (line_replacing name rec line) (cond (bytes_eq n name) (record { name = name; state = state }) branch)) stands.name
@@ -156,11 +156,11 @@ module _ (databases : DatabasesStand) (laws : graph.CommitsFollow) (address : Li
       by false e = record {
         name = stands.name;
         form = stands.form;
-        stands = record_later databases address (bytes_at old) (bytes_at new) commits after line.rec branch.state more known stands.stands;
+        stands = record_later databases address (chunk_bytes old) (chunk_bytes new) commits after line.rec branch.state more known stands.stands;
       }
 
   lines_settled : (old new : List Chunk) (commits after : Commits) (name : List ℕ) (rec : BranchRecord) (state : BranchState) (lines : List BranchLine) (branches : List Branch)
-      → Extends (bytes_at old) (bytes_at new) → ((k : List ℕ) → is_known commits k ≡ true → is_known after k ≡ true) → RecordStands address (bytes_at new) after rec state
+      → Extends (chunk_bytes old) (chunk_bytes new) → ((k : List ℕ) → is_known commits k ≡ true → is_known after k ≡ true) → RecordStands address (chunk_bytes new) after rec state
       → Paired (BranchStands address old commits) lines branches → Paired (BranchStands address new after) (with_record name rec lines) (replaced name state branches)
   lines_settled old new commits after name rec state [] [] more known is stand = stand
   lines_settled old new commits after name rec state [] (b ∷ branches) more known is stand = absurd stand
@@ -174,13 +174,13 @@ some_mapped (Some branch) = refl
 
 -- what was planned over a store that the parts list, and what is left of them with what was sealed
 module _ (chunk_laws : ChunksFollow) (store sealed some left : List Chunk) (lists : Lists store some) (union : IsUnion some sealed left) (single : IsSingle left) where
-  planned_held : Extends (bytes_at (store ++ sealed)) (bytes_at left)
-  planned_held k bytes held = elim (either_some (bytes_at store k) (bytes_at sealed k) bytes (sym (at_join store sealed k) ∙ held)) [
+  planned_held : Extends (chunk_bytes (store ++ sealed)) (chunk_bytes left)
+  planned_held k bytes held = elim (either_some (chunk_bytes store k) (chunk_bytes sealed k) bytes (sym (at_join store sealed k) ∙ held)) [
     | inl l ↦ chunk_laws.is_found left k bytes single (union.left k bytes (lists k bytes (chunk_laws.is_listed store k bytes l)))
     | inr r ↦ chunk_laws.is_found left k bytes single (union.right k bytes (chunk_laws.is_listed sealed k bytes r))
   ]
 
-  in_either_part : IsSingle some → (k bytes : List ℕ) → bytes_at left k ≡ Some bytes → (bytes_at some k ≡ Some bytes) ⊎ (bytes_at (store ++ sealed) k ≡ Some bytes)
+  in_either_part : IsSingle some → (k bytes : List ℕ) → chunk_bytes left k ≡ Some bytes → (chunk_bytes some k ≡ Some bytes) ⊎ (chunk_bytes (store ++ sealed) k ≡ Some bytes)
   in_either_part single_some k bytes held = elim (union.only k bytes (chunk_laws.is_listed left k bytes held)) [
     | inl l ↦ inl (chunk_laws.is_found some k bytes single_some l)
     | inr r ↦ (let found = listed_finds (store ++ sealed) k bytes ((chunk_laws.listed_either store sealed).1 k bytes r) in
@@ -189,7 +189,7 @@ module _ (chunk_laws : ChunksFollow) (store sealed some left : List Chunk) (list
 
 module _ (chunk_laws : ChunksFollow) (segments : SegmentsFollow) (databases : DatabasesStand) (same : SamenessIsEquality) (laws : graph.CommitsFollow) (address : List ℕ → List ℕ) where
   pub settle_stands : (store sealed : List Chunk) (look : Commits) (parts left : Parts) (found : Shared) (name head : List ℕ) (rec : BranchRecord) (state : BranchState) (change : Change)
-      → CommitsAreThere address (bytes_at store) look → is_known look head ≡ true → Lists store parts.chunks
+      → CommitsAreThere address (chunk_bytes store) look → is_known look head ≡ true → Lists store parts.chunks
       → ChangeStands address store sealed look rec change
       → StateStands address parts found → state_of found.branches name ≡ Some state
       → left.branches ≡ with_record name rec parts.branches → left.places ≡ parts.places
@@ -199,14 +199,14 @@ module _ (chunk_laws : ChunksFollow) (segments : SegmentsFollow) (databases : Da
       let found_in = chunk_laws.lists_extends parts.chunks left.chunks single union.left in
       let planned_in = planned_held chunk_laws store sealed parts.chunks left.chunks lists union single in
       let after = in_either found.commits changes.after in
-      let made = made_over_all laws same address (bytes_at store) (bytes_at parts.chunks) (bytes_at (store ++ sealed)) (bytes_at left.chunks) look found.commits changes.after
+      let made = made_over_all laws same address (chunk_bytes store) (chunk_bytes parts.chunks) (chunk_bytes (store ++ sealed)) (chunk_bytes left.chunks) look found.commits changes.after
       (chunk_laws.lists_extends store parts.chunks stands.single lists) (chunk_laws.extends_left store sealed) found_in planned_in look_there stands.commits changes.commits_after
       change.made head changes.is known (in_either_part chunk_laws store sealed parts.chunks left.chunks lists union single stands.single) in
       let put : with_branch name change.becomes found.branches ≡ replaced name change.becomes found.branches =
       put_in_place name change.becomes found.branches (sym (branches_rise address parts.chunks found.commits parts.branches found.branches stands.branches) ∙ stands.rise)
       (sym (some_mapped (find (is_branch name) found.branches)) ∙ ap is_some at) in
       let lines = lines_settled databases laws address parts.chunks left.chunks found.commits after name rec change.becomes parts.branches found.branches found_in made.3
-      (record_later databases address (bytes_at (store ++ sealed)) (bytes_at left.chunks) changes.after after rec change.becomes planned_in made.2 changes.stands) stands.branches in
+      (record_later databases address (chunk_bytes (store ++ sealed)) (chunk_bytes left.chunks) changes.after after rec change.becomes planned_in made.2 changes.stands) stands.branches in
       let there : (n : List ℕ) → is_branch_there (with_change name change found after) n ≡ is_branch_there found n =
       λ n. ap (λ l. is_some (state_of l n)) put ∙ still_found name change.becomes n found.branches in (
         after,

@@ -3,7 +3,7 @@ use Rattle.std.proofs.Common.{◌≡◌, ◌∙◌, sym, ap, subst, ℕ, List, [
 use Rattle.std.proofs.lemmas.List.Folds.{list_all-map}
 use Rattle.tuple_codec.specs.declared.records.BranchRecord.{BranchRecord}
 use Rattle.schema_model.specs.PlainCommits.{is_known}
-use Rattle.chunk_store.specs.Chunks.{Chunk, Chunks, bytes_at}
+use Rattle.chunk_store.specs.Chunks.{Chunk, Chunks, chunk_bytes}
 use Rattle.chunk_store.specs.Drafts.{DraftParts, Longer, chunks_of}
 use Rattle.chunk_store.specs.Laws.{DraftsFollow}
 use Rattle.chunk_store.specs.Stores.{all_chunks}
@@ -23,7 +23,7 @@ module _ (databases : DatabasesStand) (drafts : DraftsFollow) (laws : graph.Comm
   at_start : (look kept : Look) (shared : Shared) (look_is : IsLookOf address look shared) → kept.rec ≡ look.rec → kept.heads ≡ look.heads
       → TransactionStands address (record { base = all_chunks look.store; own = [] }) kept look.rec (started_at shared look_is.state)
   at_start look kept shared look_is same_rec same_heads =
-      let alone : bytes_at (all_chunks look.store) ≡ chunks_of (record { base = all_chunks look.store; own = [] }) = ap bytes_at (sym (append-nil (all_chunks look.store))) in
+      let alone : chunk_bytes (all_chunks look.store) ≡ chunks_of (record { base = all_chunks look.store; own = [] }) = ap chunk_bytes (sym (append-nil (all_chunks look.store))) in
       let stands = subst (λ (chunks : Chunks). RecordStands address chunks shared.commits look.rec look_is.state) alone look_is.stands in
       record {
         start = subst (λ (rec : BranchRecord). RecordStands address (chunks_of (record { base = all_chunks look.store; own = [] })) shared.commits rec look_is.state) (sym same_rec) stands;
@@ -41,13 +41,13 @@ module _ (databases : DatabasesStand) (drafts : DraftsFollow) (laws : graph.Comm
     own_stands = is;
     heads = stands.heads;
     heads_known = stands.heads_known;
-    commits = subst (λ (base : List Chunk). CommitsAreThere address (bytes_at base) t.commits) (sym longer.base) stands.commits;
+    commits = subst (λ (base : List Chunk). CommitsAreThere address (chunk_bytes base) t.commits) (sym longer.base) stands.commits;
   }
 
   one_transaction : (draft : DraftParts) (look : Look) (own : BranchRecord) (t other : Transaction)
       → TransactionStands address draft look own t → TransactionStands address draft look own other → t ≡ other
   one_transaction draft look own t other a b =
-      let commits : t.commits ≡ other.commits = λ i k. same_commits laws address (bytes_at draft.base) t.commits other.commits a.commits b.commits k i in
+      let commits : t.commits ≡ other.commits = λ i k. same_commits laws address (chunk_bytes draft.base) t.commits other.commits a.commits b.commits k i in
       ap (λ x. record { start = x; heads = t.heads; commits = t.commits; own = t.own })
       (one_state databases address (chunks_of draft) t.commits other.commits look.rec t.start other.start a.start b.start)
       ∙ ap (λ x. record { start = other.start; heads = x; commits = t.commits; own = t.own }) (sym a.heads ∙ b.heads)

@@ -5,7 +5,7 @@ use Rattle.tuple_codec.specs.declared.records.BranchRecord.{BranchRecord}
 use Rattle.schema_model.specs.Limits.{most_branches}
 use Rattle.schema_model.specs.PlainCommits.{Commits}
 use Rattle.schema_model.specs.PlainTables.{rises}
-use Rattle.chunk_store.specs.Chunks.{AreNamed, Chunk, IsSingle, bytes_at}
+use Rattle.chunk_store.specs.Chunks.{AreNamed, Chunk, IsSingle, chunk_bytes}
 use Rattle.script_text.specs.declared.outputs.BranchLine.{BranchLine}
 use Rattle.script_text.specs.declared.scripts.Moment.{Moment}
 use Rattle.std.specs.Ordering.{nat_cmp}
@@ -21,8 +21,8 @@ use Rattle.session_laws.specs.Records.{RecordStands}
 pub record ChangeStands (address : List ℕ → List ℕ) (store sealed : List Chunk) (commits : Commits) (rec : BranchRecord) (change : Change) : Type 0 where
   pub after : Commits
   pub is : commits_with address change.made commits ≡ Some after
-  pub stands : RecordStands address (bytes_at (store ++ sealed)) after rec change.becomes
-  pub commits_after : CommitsAreThere address (bytes_at (store ++ sealed)) after
+  pub stands : RecordStands address (chunk_bytes (store ++ sealed)) after rec change.becomes
+  pub commits_after : CommitsAreThere address (chunk_bytes (store ++ sealed)) after
   pub named : AreNamed address sealed
 
 -- ---- the shared state
@@ -44,7 +44,7 @@ Paired P xs ys = ⊥
 pub record BranchStands (address : List ℕ → List ℕ) (chunks : List Chunk) (commits : Commits) (line : BranchLine) (branch : Branch) : Type 0 where
   pub name : line.name ≡ branch.name
   pub form : is_branch_name line.name ≡ true
-  pub stands : RecordStands address (bytes_at chunks) commits line.rec branch.state
+  pub stands : RecordStands address (chunk_bytes chunks) commits line.rec branch.state
 
 abbrev pub lines_rise : List BranchLine → Bool
 lines_rise lines = rises (λ a b. slice_cmp nat_cmp a.name b.name) lines
@@ -55,6 +55,6 @@ pub record StateStands (address : List ℕ → List ℕ) (parts : Parts) (shared
   pub few : length parts.branches ≤ most_branches
   pub places : parts.places ≡ shared.places
   pub placed : list_all (is_branch_there shared) shared.places ≡ true
-  pub commits : CommitsAreThere address (bytes_at parts.chunks) shared.commits
+  pub commits : CommitsAreThere address (chunk_bytes parts.chunks) shared.commits
   pub named : AreNamed address parts.chunks
   pub single : IsSingle parts.chunks

@@ -2,7 +2,7 @@
 use Rattle.std.specs.Prelude.{◌≡◌, ℕ, true, List, Some}
 use Rattle.schema_model.specs.Limits.{is_database_within_limits}
 use Rattle.schema_model.specs.PlainCommits.{Commits, PlainCommit, is_known}
-use Rattle.chunk_store.specs.Chunks.{Chunk, Chunks, bytes_at}
+use Rattle.chunk_store.specs.Chunks.{Chunk, Chunks, chunk_bytes}
 use Rattle.chunk_store.specs.Kinds.{is_commit}
 use Rattle.commit_graph.specs.Standing.{CommitsStand}
 use Rattle.plain_sessions.specs.StateLimits.{IsFirst}
@@ -16,7 +16,7 @@ pub record CommitsAreThere (address : List ℕ → List ℕ) (chunks : Chunks) (
 
 -- none of these chunks is a commit
 abbrev pub HasNoCommit : List Chunk → Type 0
-HasNoCommit chunks = (k bytes : List ℕ) → bytes_at chunks k ≡ Some bytes → is_commit bytes ≡ true → ⊥
+HasNoCommit chunks = (k bytes : List ℕ) → chunk_bytes chunks k ≡ Some bytes → is_commit bytes ≡ true → ⊥
 
 -- all commits of the one look-up are in the other
 abbrev pub AreAmong : Commits → Commits → Type 0

@@ -6,14 +6,14 @@ use Rattle.tuple_codec.specs.declared.records.BranchRecord.{BranchRecord}
 use Rattle.schema_model.specs.Limits.{is_database_within_limits}
 use Rattle.schema_model.specs.PlainCommits.{Commits, IsGrown, PlainCommit, commit_address, has_address, is_known, plain_commit_bytes}
 use Rattle.schema_model.specs.WrittenForms.{database_address, database_bytes}
-use Rattle.chunk_store.specs.Chunks.{AreNamed, Chunk, Chunks, Extends, IsSingle, Lists, bytes_at}
+use Rattle.chunk_store.specs.Chunks.{AreNamed, Chunk, Chunks, Extends, IsSingle, Lists, chunk_bytes}
 use Rattle.chunk_store.specs.Drafts.{DraftParts, Longer, chunks_of}
 use Rattle.chunk_store.specs.Standing.{IsThere}
 use Rattle.chunk_store.specs.Stores.{IsUnion, all_chunks}
 use Rattle.chunk_store.specs.Kinds.{is_commit}
 use Rattle.commit_graph.specs.Standing.{IsCommitThere}
 use Rattle.script_text.specs.declared.outputs.BranchLine.{BranchLine}
-use Rattle.table_root.specs.declared.heads.Head.{Head}
+use Rattle.table_root.specs.declared.heads.BranchHead.{BranchHead}
 use Rattle.table_root.specs.declared.heads.Look.{Look}
 use Rattle.plain_sessions.specs.Moments.{Change, commits_with, with_change}
 use Rattle.plain_sessions.specs.Records.{BranchState, Shared, first_commit, is_same_state, opening, state_of, with_new_commit}
@@ -43,14 +43,14 @@ pub record CommitsFollow : Type 0 where
   pub among : (address : List ℕ → List ℕ) (old new : Chunks) (commits others : Commits) → Extends old new → CommitsAreThere address old commits
       → CommitsAreThere address new others → AreAmong commits others
   -- chunks more, of which none is a commit
-  pub beside : (address : List ℕ → List ℕ) (store more : List Chunk) (commits : Commits) → HasNoCommit more → CommitsAreThere address (bytes_at store) commits
-      → CommitsAreThere address (bytes_at (store ++ more)) commits
+  pub beside : (address : List ℕ → List ℕ) (store more : List Chunk) (commits : Commits) → HasNoCommit more → CommitsAreThere address (chunk_bytes store) commits
+      → CommitsAreThere address (chunk_bytes (store ++ more)) commits
   -- chunks more, of which no other than this one is a commit, and it has a parent
-  pub with_one : (address : List ℕ → List ℕ) (store more : List Chunk) (commits : Commits) (commit : PlainCommit) → CommitsAreThere address (bytes_at store) commits
-      → IsCommitThere address (bytes_at (store ++ more)) (commit_address address commit) commit → IsGrown commits commit → is_database_within_limits commit.database ≡ true
+  pub with_one : (address : List ℕ → List ℕ) (store more : List Chunk) (commits : Commits) (commit : PlainCommit) → CommitsAreThere address (chunk_bytes store) commits
+      → IsCommitThere address (chunk_bytes (store ++ more)) (commit_address address commit) commit → IsGrown commits commit → is_database_within_limits commit.database ≡ true
       → (parent : List ℕ) → has_address commit.parents parent ≡ true
-      → ((k bytes : List ℕ) → bytes_at more k ≡ Some bytes → is_commit bytes ≡ true → k ≡ commit_address address commit)
-      → (after : Commits) × (with_new_commit address commit commits ≡ Some after) × CommitsAreThere address (bytes_at (store ++ more)) after
+      → ((k bytes : List ℕ) → chunk_bytes more k ≡ Some bytes → is_commit bytes ≡ true → k ≡ commit_address address commit)
+      → (after : Commits) × (with_new_commit address commit commits ≡ Some after) × CommitsAreThere address (chunk_bytes (store ++ more)) after
 
 -- a transaction that starts at a look stands in a draft over the look's store; and it goes on standing, with whatever own record, where the
 -- draft grew; it is one transaction
@@ -68,7 +68,7 @@ abbrev pub with_record : List ℕ → BranchRecord → List BranchLine → List 
 with_record name rec lines = map (λ line. if bytes_eq line.name name then record { name = line.name; rec = rec } else line) lines
 
 -- the heads of branches, by their names
-abbrev pub head_in : BranchLine → Head
+abbrev pub head_in : BranchLine → BranchHead
 head_in line = record { branch = line.name; head = line.rec.head }
 
 -- what a change that was planned over a store leaves of a state found, whose chunks list the store's; what a look at parts shows; and how
@@ -76,7 +76,7 @@ head_in line = record { branch = line.name; head = line.rec.head }
 pub record StatesFollow : Type 0 where
   -- the look's state has a commit, as its branch's record names one
   pub settled : (address : List ℕ → List ℕ) (store sealed : List Chunk) (look : Commits) (parts left : Parts) (found : Shared) (name head : List ℕ) (rec : BranchRecord) (state : BranchState) (change : Change)
-      → CommitsAreThere address (bytes_at store) look → is_known look head ≡ true → Lists store parts.chunks
+      → CommitsAreThere address (chunk_bytes store) look → is_known look head ≡ true → Lists store parts.chunks
       → ChangeStands address store sealed look rec change
       → StateStands address parts found → state_of found.branches name ≡ Some state
       → left.branches ≡ with_record name rec parts.branches → left.places ≡ parts.places
@@ -90,8 +90,8 @@ pub record StatesFollow : Type 0 where
       → look.heads ≡ map head_in parts.branches → all_chunks look.store ≡ parts.chunks → IsLookOf address look shared
   -- the first commit and the empty database are all that is there at the opening
   pub opened : (address : List ℕ → List ℕ) (epoch : ℤ) (names : List (List ℕ)) (parts : Parts) (rec : BranchRecord) → is_date epoch ≡ true
-      → IsThere address (bytes_at parts.chunks) (plain_commit_bytes address (first_commit epoch)) → IsThere address (bytes_at parts.chunks) (database_bytes address [])
-      → ((k bytes : List ℕ) → bytes_at parts.chunks k ≡ Some bytes → is_commit bytes ≡ true → k ≡ commit_address address (first_commit epoch))
+      → IsThere address (chunk_bytes parts.chunks) (plain_commit_bytes address (first_commit epoch)) → IsThere address (chunk_bytes parts.chunks) (database_bytes address [])
+      → ((k bytes : List ℕ) → chunk_bytes parts.chunks k ≡ Some bytes → is_commit bytes ≡ true → k ≡ commit_address address (first_commit epoch))
       → AreNamed address parts.chunks → IsSingle parts.chunks
       → parts.branches ≡ record { name = codes "main"; rec = rec } ∷ [] → rec.head.0 ≡ commit_address address (first_commit epoch)
       → rec.working.0 ≡ database_address address [] → rec.staged.0 ≡ database_address address [] → rec.merging ≡ None

@@ -6,12 +6,12 @@ use Rattle.plain_sessions.specs.Sessions.{Before, is_before_statement}
 use Rattle.plain_sessions.specs.StateLimits.{is_committer}
 use Rattle.session_laws.specs.Commits.{HasNoCommit}
 use Rattle.session_laws.specs.Transactions.{StartStands}
-use Rattle.session_state.specs.declared.sessions.Place.{Place}
-use Rattle.session_state.specs.declared.sessions.Place.TheVariants as place
+use Rattle.session_state.specs.declared.sessions.Position.{Position}
+use Rattle.session_state.specs.declared.sessions.Position.TheVariants as place
 use Rattle.session_state.specs.declared.sessions.Session.{Session}
 
 -- before a statement, or after its start and before its decision
-abbrev pub IsAt : Place → ℕ → plain.Place → Type 0
+abbrev pub IsAt : Position → ℕ → plain.Place → Type 0
 IsAt (place.Before number) statement there = (number ≡ statement) × (there ≡ Before)
 IsAt (place.Between number) statement there = (number ≡ statement) × (is_before_statement there ≡ false)
 

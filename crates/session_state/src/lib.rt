@@ -3,4 +3,4 @@
 
 mod sessions;
 
-pub use sessions::{Place, Session};
+pub use sessions::{Position, Session};

@@ -15,7 +15,7 @@ use tuple_codec::{Address, BranchRecord, Digester, Text};
 
 /// Where a session stands in its script, by its statement's number from 1.
 #[derive(Clone, Copy, Debug, PartialEq, Eq)]
-pub enum Place {
+pub enum Position {
     Before(u32),
     /// Between the statement's start and its decision.
     Between(u32),
@@ -37,7 +37,7 @@ pub struct Session<D: Digester> {
     pub allow: bool,
     /// `@@dolt_force_transaction_commit`.
     pub force: bool,
-    pub position: Place,
+    pub position: Position,
     pub draft: Draft<D>,
 }
 
@@ -66,7 +66,7 @@ impl<D: Digester> Session<D> {
             autocommit: true,
             allow: false,
             force: false,
-            position: Place::Before(1),
+            position: Position::Before(1),
             draft: Draft::new(Store::new(alloc), pool),
         })
     }

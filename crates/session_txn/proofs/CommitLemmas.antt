@@ -5,10 +5,10 @@ use Rattle.std.specs.Option.{option_map_or}
 use Rattle.std.proofs.lemmas.Bool.Decides.{nat_tests}
 use Rattle.std.proofs.lemmas.Option.{same_Some}
 use Rattle.tuple_codec.specs.declared.records.BranchRecord.{BranchRecord}
-use Rattle.chunk_store.specs.Chunks.{Agree, AreNamed, Chunk, Chunks, Extends, IsSingle, Listed, Lists, bytes_at}
+use Rattle.chunk_store.specs.Chunks.{Agree, AreNamed, Chunk, Chunks, Extends, IsSingle, Listed, Lists, chunk_bytes}
 use Rattle.chunk_store.specs.Clashes.{IsReason}
 use Rattle.chunk_store.specs.Drafts.{AreOfKind, Drafting, DraftParts, Grows, IsSound, chunks_of}
-use Rattle.chunk_store.specs.Kinds.{is_commit}
+use Rattle.chunk_store.specs.Kinds.{is_commit, is_data}
 use Rattle.chunk_store.specs.Laws.{ChunksFollow, DraftsFollow}
 use Rattle.chunk_store.specs.Stores.{IsBrought, Stored, all_chunks, joined}
 use Rattle.chunk_store.specs.declared.faults.PutFault.{PutFault}
@@ -29,8 +29,7 @@ use Rattle.plain_sessions.specs.Replies.{done}
 use Rattle.plain_sessions.specs.Sessions as plain
 use Rattle.plain_sessions.specs.Sessions.{Transaction, Variables}
 use Rattle.root_merge.specs.Deciding.{AreStates, set}
-use Rattle.root_merge.specs.Merging.{is_data}
-use Rattle.root_merge.specs.States.{IsCandidate, StateStands}
+use Rattle.root_merge.specs.States.{BranchStateStands, IsCandidate}
 use Rattle.root_merge.specs.declared.candidates.Candidate.{Candidate}
 use Rattle.root_merge.specs.declared.candidates.Candidate.TheVariants as made
 use Rattle.session_laws.specs.Commits.{AreAmong, CommitsAreThere, HasNoCommit}
@@ -40,7 +39,7 @@ use Rattle.session_laws.specs.Transactions.{StartStands, TransactionStands}
 use Rattle.session_state.specs.Standing.{SessionStands}
 use Rattle.session_state.specs.declared.sessions.Session.{Session}
 use Rattle.shared_db.specs.Plans.{IsRefusedBy, PlanIs, brought}
-use Rattle.shared_db.specs.declared.changes.Plan.{Plan}
+use Rattle.shared_db.specs.declared.changes.DecisionPlan.{DecisionPlan}
 use Rattle.session_txn.specs.Answering.{Decides}
 use Rattle.session_txn.specs.Committing.{IsSealedAs, IsWorkOf}
 
@@ -56,12 +55,12 @@ module _ (laws : ChunksFollow) where
   joined_lists xs ys zs rest k bytes listed =
       elim (listed_either xs ys k bytes listed) [ inl l ↦ (laws.listed_either xs zs).0 k bytes l | inr r ↦ rest k bytes r ]
 
-  same_found : (xs ys : List Chunk) → IsSingle xs → IsSingle ys → Lists xs ys → Lists ys xs → bytes_at xs ≡ bytes_at ys
+  same_found : (xs ys : List Chunk) → IsSingle xs → IsSingle ys → Lists xs ys → Lists ys xs → chunk_bytes xs ≡ chunk_bytes ys
   same_found xs ys single others there back =
-      λ i k. found_both (bytes_at xs k) (bytes_at ys k) (laws.lists_extends xs ys others there k) (laws.lists_extends ys xs single back k) i
+      λ i k. found_both (chunk_bytes xs k) (chunk_bytes ys k) (laws.lists_extends xs ys others there k) (laws.lists_extends ys xs single back k) i
 
   -- beside the store the same is found of what was sealed as of the draft's own
-  pub sealed_found : (store own sealed : List Chunk) → IsSingle (store ++ own) → Lists own sealed → Lists sealed (store ++ own) → bytes_at (store ++ own) ≡ bytes_at (store ++ sealed)
+  pub sealed_found : (store own sealed : List Chunk) → IsSingle (store ++ own) → Lists own sealed → Lists sealed (store ++ own) → chunk_bytes (store ++ own) ≡ chunk_bytes (store ++ sealed)
   sealed_found store own sealed single all only =
       let there : Lists (store ++ own) (store ++ sealed) = joined_lists store own sealed (λ k bytes l. (laws.listed_either store sealed).1 k bytes (all k bytes l)) in
       let back : Lists (store ++ sealed) (store ++ own) = joined_lists store sealed own only in
@@ -81,7 +80,7 @@ data_apart (byte ∷ bytes) h is =
 -- data more are no commits
 pub no_commit_more : ChunksFollow → (own more : List Chunk) → HasNoCommit own → AreOfKind is_data more → HasNoCommit (own ++ more)
 no_commit_more laws own more none all k bytes there is =
-    elim (either_some (bytes_at own k) (bytes_at more k) bytes (sym (at_join own more k) ∙ there)) [
+    elim (either_some (chunk_bytes own k) (chunk_bytes more k) bytes (sym (at_join own more k) ∙ there)) [
       | inl here ↦ none k bytes here is
       | inr here ↦ data_apart bytes (of_kind is_data more k bytes all (laws.is_listed more k bytes here)) is
     ]
@@ -150,10 +149,10 @@ decided_known commits start present own state v own_known known is =
 -- ---- records
 
 state_in : (address : List ℕ → List ℕ) (chunks : Chunks) (commits : Commits) (rec : BranchRecord) (state : BranchState) → RecordStands address chunks commits rec state
-    → StateStands address chunks rec state
+    → BranchStateStands address chunks rec state
 state_in address chunks commits rec state stands = record { head = stands.head; working = stands.working; staged = stands.staged; merging = stands.merging }
 
-record_in : (address : List ℕ → List ℕ) (chunks : Chunks) (commits : Commits) (rec : BranchRecord) (state : BranchState) → StateStands address chunks rec state → Known commits state
+record_in : (address : List ℕ → List ℕ) (chunks : Chunks) (commits : Commits) (rec : BranchRecord) (state : BranchState) → BranchStateStands address chunks rec state → Known commits state
     → RecordStands address chunks commits rec state
 record_in address chunks commits rec state stands known = record {
   head = stands.head;
@@ -193,13 +192,13 @@ decided_so address found session p t present m other stands is stood =
 
 pub work_by : {D : Type 0} (session : Session D) (look : Look) (store : Stored) (result : Result Drafting PutFault) → store.segments ≡ look.store.segments → IsSingle (all_chunks look.store)
     → IfOk result (λ work. work.chunks ≡ record { base = all_chunks store; own = session.draft.chunks.own }) → IfOk result (λ work. work.segments ≡ store.segments)
-    → OnOk result (Agree (bytes_at (all_chunks store)) (bytes_at session.draft.chunks.own)) → IfOk result (λ work. IsWorkOf session look work)
+    → OnOk result (Agree (chunk_bytes (all_chunks store)) (chunk_bytes session.draft.chunks.own)) → IfOk result (λ work. IsWorkOf session look work)
 work_by session look store (Err fault) shared single chunks segments agree = tt
 work_by session look store (Ok work) shared single chunks segments agree = record {
   base = ap (λ (parts : DraftParts). parts.base) chunks ∙ ap joined shared;
   own = ap (λ (parts : DraftParts). parts.own) chunks;
   segments = segments ∙ shared;
-  agree = subst (λ (kept : List (List Chunk)). Agree (bytes_at (joined kept)) (bytes_at session.draft.chunks.own)) shared agree;
+  agree = subst (λ (kept : List (List Chunk)). Agree (chunk_bytes (joined kept)) (chunk_bytes session.draft.chunks.own)) shared agree;
   single = single;
 }
 
@@ -220,29 +219,29 @@ module _ {D : Type 0} (address : List ℕ → List ℕ) (chunks : ChunksFollow) 
   pub stands : TransactionStands address session.draft.chunks start session.own t
   stands = transaction_in address session.draft.chunks session.start session.own p.transaction start t started d.transaction d.session_stands.transaction
 
-  pub base_extends : Extends (bytes_at session.draft.chunks.base) (bytes_at store)
+  pub base_extends : Extends (chunk_bytes session.draft.chunks.base) (chunk_bytes store)
   base_extends = chunks.lists_extends session.draft.chunks.base store w.single d.later
 
-  more : Extends (chunks_of session.draft.chunks) (bytes_at (store ++ own))
+  more : Extends (chunks_of session.draft.chunks) (chunk_bytes (store ++ own))
   more = chunks.joined_extends session.draft.chunks.base store own base_extends w.agree
 
-  at_work : bytes_at (store ++ own) ≡ chunks_of work.chunks
-  at_work = λ i. bytes_at (sym w.base i ++ sym w.own i)
+  at_work : chunk_bytes (store ++ own) ≡ chunks_of work.chunks
+  at_work = λ i. chunk_bytes (sym w.base i ++ sym w.own i)
 
   is_present : d.look_is.state ≡ present
   is_present = same_Some d.look_is.state present (sym d.look_is.there ∙ ap (state_of shared.branches) d.branch ∙ d.present_is)
 
-  pub present_stands : RecordStands address (bytes_at store) shared.commits look.rec present
-  present_stands = subst (λ (state : BranchState). RecordStands address (bytes_at store) shared.commits look.rec state) is_present d.look_is.stands
+  pub present_stands : RecordStands address (chunk_bytes store) shared.commits look.rec present
+  present_stands = subst (λ (state : BranchState). RecordStands address (chunk_bytes store) shared.commits look.rec state) is_present d.look_is.stands
 
   pub states_in : AreStates address (chunks_of work.chunks) start.rec look.rec session.own t.start present t.own
   states_in = subst (λ (found : Chunks). AreStates address found start.rec look.rec session.own t.start present t.own) at_work (record {
-    start_stands = state_in address (bytes_at (store ++ own)) t.commits start.rec t.start
-        (records.later address (chunks_of session.draft.chunks) (bytes_at (store ++ own)) t.commits t.commits start.rec t.start more (λ k known. known) stands.start);
-    present_stands = state_in address (bytes_at (store ++ own)) shared.commits look.rec present
-        (records.later address (bytes_at store) (bytes_at (store ++ own)) shared.commits shared.commits look.rec present (chunks.extends_left store own) (λ k known. known) present_stands);
-    own_stands = state_in address (bytes_at (store ++ own)) t.commits session.own t.own
-        (records.later address (chunks_of session.draft.chunks) (bytes_at (store ++ own)) t.commits t.commits session.own t.own more (λ k known. known) stands.own_stands);
+    start_stands = state_in address (chunk_bytes (store ++ own)) t.commits start.rec t.start
+        (records.later address (chunks_of session.draft.chunks) (chunk_bytes (store ++ own)) t.commits t.commits start.rec t.start more (λ k known. known) stands.start);
+    present_stands = state_in address (chunk_bytes (store ++ own)) shared.commits look.rec present
+        (records.later address (chunk_bytes store) (chunk_bytes (store ++ own)) shared.commits shared.commits look.rec present (chunks.extends_left store own) (λ k known. known) present_stands);
+    own_stands = state_in address (chunk_bytes (store ++ own)) t.commits session.own t.own
+        (records.later address (chunks_of session.draft.chunks) (chunk_bytes (store ++ own)) t.commits t.commits session.own t.own more (λ k known. known) stands.own_stands);
   })
 
   module _ (drafts : DraftsFollow) (after : Drafting) (grown : Grows is_data work after) (sound : IsSound address after.chunks) where
@@ -267,7 +266,7 @@ module _ {D : Type 0} (address : List ℕ → List ℕ) (chunks : ChunksFollow) 
 
     module _ (commits : CommitsFollow) where
       among : AreAmong t.commits shared.commits
-      among = commits.among address (bytes_at session.draft.chunks.base) (bytes_at store) t.commits shared.commits base_extends stands.commits d.look_is.commits
+      among = commits.among address (chunk_bytes session.draft.chunks.base) (chunk_bytes store) t.commits shared.commits base_extends stands.commits d.look_is.commits
 
       own_known : Known shared.commits t.own
       own_known = (
@@ -286,25 +285,25 @@ module _ {D : Type 0} (address : List ℕ → List ℕ) (chunks : ChunksFollow) 
         only : Lists sealed (store ++ after.chunks.own)
         only = subst (λ (kept : List (List Chunk)). Lists sealed (joined kept ++ after.chunks.own)) (grown.segments ∙ w.segments) is_sealed.only
 
-        same : bytes_at (store ++ after.chunks.own) ≡ bytes_at (store ++ sealed)
+        same : chunk_bytes (store ++ after.chunks.own) ≡ chunk_bytes (store ++ sealed)
         same = sealed_found chunks store after.chunks.own sealed single is_sealed.all only
 
         named : AreNamed address sealed
         named = chunks.named_fewer address sealed (store ++ after.chunks.own) only (subst (λ (base : List Chunk). AreNamed address (base ++ after.chunks.own)) after_base all_named)
 
-        there : CommitsAreThere address (bytes_at (store ++ sealed)) shared.commits
+        there : CommitsAreThere address (chunk_bytes (store ++ sealed)) shared.commits
         there = subst (λ (found : Chunks). CommitsAreThere address found shared.commits) same
             (commits.beside address store after.chunks.own shared.commits no_commit d.look_is.commits)
 
-        record_sealed : (rec : BranchRecord) (state : BranchState) → StateStands address (chunks_of after.chunks) rec state → decide t.start present t.own p.variables ≡ Ok state
-            → RecordStands address (bytes_at (store ++ sealed)) shared.commits rec state
+        record_sealed : (rec : BranchRecord) (state : BranchState) → BranchStateStands address (chunks_of after.chunks) rec state → decide t.start present t.own p.variables ≡ Ok state
+            → RecordStands address (chunk_bytes (store ++ sealed)) shared.commits rec state
         record_sealed rec state is decided =
-            record_in address (bytes_at (store ++ sealed)) shared.commits rec state
-            (subst (λ (found : Chunks). StateStands address found rec state) same
-            (subst (λ (base : List Chunk). StateStands address (bytes_at (base ++ after.chunks.own)) rec state) after_base is))
+            record_in address (chunk_bytes (store ++ sealed)) shared.commits rec state
+            (subst (λ (found : Chunks). BranchStateStands address found rec state) same
+            (subst (λ (base : List Chunk). BranchStateStands address (chunk_bytes (base ++ after.chunks.own)) rec state) after_base is))
             (decided_known shared.commits t.start present t.own state p.variables own_known present_stands.head_known decided)
 
-      planned_by : (rec : BranchRecord) (plan : Plan) (outcome : Outcome BranchState) → decide t.start present t.own p.variables ≡ outcome → IsSealedAs after rec plan
+      planned_by : (rec : BranchRecord) (plan : DecisionPlan) (outcome : Outcome BranchState) → decide t.start present t.own p.variables ≡ outcome → IsSealedAs after rec plan
           → IsCandidate address (chunks_of after.chunks) (made.Record rec) outcome
           → PlanIs address look shared.commits plan (and_then outcome (λ (state : BranchState). Ok (without_commit done state)))
       planned_by rec plan (Err number) decided is stood = absurd stood
@@ -321,12 +320,12 @@ module _ {D : Type 0} (address : List ℕ → List ℕ) (chunks : ChunksFollow) 
         };
       }
 
-      planned : (rec : BranchRecord) (plan : Plan) → IsSealedAs after rec plan
+      planned : (rec : BranchRecord) (plan : DecisionPlan) → IsSealedAs after rec plan
           → IsCandidate address (chunks_of after.chunks) (made.Record rec) (decide t.start present t.own p.variables)
           → PlanIs address look shared.commits plan (ruled p t present done)
       planned rec plan is stood = planned_by rec plan (decide t.start present t.own p.variables) refl is stood
 
-      pub planned_told : (m : Candidate) (rec : BranchRecord) (result : Result Plan PutFault) → m ≡ made.Record rec
+      pub planned_told : (m : Candidate) (rec : BranchRecord) (result : Result DecisionPlan PutFault) → m ≡ made.Record rec
           → IsCandidate address (chunks_of after.chunks) m (decided_by session p t present) → IfOk result (λ plan. IsSealedAs after rec plan)
           → IfOk result (λ plan. PlanIs address look shared.commits plan (ruled p t present done))
       planned_told m rec (Err fault) is stood sealed = tt
@@ -335,14 +334,14 @@ module _ {D : Type 0} (address : List ℕ → List ℕ) (chunks : ChunksFollow) 
 
 -- ---- refusals
 
-refused_by : (address : List ℕ → List ℕ) (found : Chunks) (look : Look) (commits : Commits) (number : ℕ) (plan : Plan) (outcome : Outcome BranchState) → IsRefusedBy number plan
+refused_by : (address : List ℕ → List ℕ) (found : Chunks) (look : Look) (commits : Commits) (number : ℕ) (plan : DecisionPlan) (outcome : Outcome BranchState) → IsRefusedBy number plan
     → IsCandidate address found (made.Refused number) outcome
     → PlanIs address look commits plan (and_then outcome (λ (state : BranchState). Ok (without_commit done state)))
 refused_by address found look commits number plan (Err refusal) is same = subst (λ (n : ℕ). IsRefusedBy n plan) same is
 refused_by address found look commits number plan (Ok state) is same = absurd same
 
 pub refused : {D : Type 0} (address : List ℕ → List ℕ) (found : Chunks) (session : Session D) (look : Look) (p : plain.Session) (t : Transaction) (commits : Commits) (present : BranchState)
-    (m : Candidate) (number : ℕ) (plan : Plan) → SessionStands address session p → m ≡ made.Refused number → IsCandidate address found m (decided_by session p t present)
+    (m : Candidate) (number : ℕ) (plan : DecisionPlan) → SessionStands address session p → m ≡ made.Refused number → IsCandidate address found m (decided_by session p t present)
     → IsRefusedBy number plan → PlanIs address look commits plan (ruled p t present done)
 refused address found session look p t commits present m number plan stands same stood is =
     refused_by address found look commits number plan (decide t.start present t.own p.variables) is

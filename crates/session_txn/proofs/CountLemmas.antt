@@ -25,7 +25,7 @@ use Rattle.plain_schemas.specs.Effects.{changed_to, check_allowed, create_effect
 use Rattle.plain_schemas.specs.Lists.{all_allowed}
 use Rattle.plain_schemas.specs.Made.{columns_made, schema_of}
 use Rattle.plain_schemas.specs.Statements.{checks, write_effect}
-use Rattle.plain_schemas.specs.declared.changing.Change.{Change}
+use Rattle.plain_schemas.specs.declared.changing.ColumnChange.{ColumnChange}
 use Rattle.plain_sessions.specs.Statements.{counted_or_done}
 use Rattle.session_txn.specs.Writing.{written_reply}
 
@@ -138,7 +138,7 @@ counts_dropped database drop made is =
     (after_unless IsUncounted (list_any (is_child drop.table) database) 1451 (Ok less) made (same_made IsUncounted less made refl))
     (after_if IsUncounted drop.if_exists (Ok kept) (Err 1146) made (same_made IsUncounted kept made refl) (refused IsUncounted 1146 made)) is
 
-abbrev once_changed : PlainDatabase → Alter → PlainTable → Change → Outcome Effect
+abbrev once_changed : PlainDatabase → Alter → PlainTable → ColumnChange → Outcome Effect
 once_changed database alter table change = and_then (table_after table change) (λ later. Ok (changed_to (replaced alter.table later database)))
 
 counts_altered : (database : PlainDatabase) (alter : Alter) (table : PlainTable) (made : Effect) → altered checks database alter table ≡ Ok made → IsUncounted made

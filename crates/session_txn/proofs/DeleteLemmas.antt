@@ -14,7 +14,7 @@ use Rattle.conflict_tables.specs.Conflicts.{is_among}
 use Rattle.constraint_scan.specs.Scanning.{IsKeptAt}
 use Rattle.edit_laws.proofs.Orders.{apart, greater, less_trans}
 use Rattle.expr_eval.specs.Binding.{Outcome, and_then}
-use Rattle.plain_sessions.specs.Branching.{put_table, table_cmp, without_table}
+use Rattle.plain_sessions.specs.Branching.{put_table, table_cmp}
 use Rattle.plain_sessions.specs.Merging.{Worked, Answers}
 use Rattle.plain_sessions.specs.Records.{BranchState}
 use Rattle.plain_sessions.specs.Replies.{counted}
@@ -32,7 +32,7 @@ use Rattle.sql_ast.specs.declared.statements.Write.{Write}
 use Rattle.sql_ast.specs.declared.statements.Write.TheVariants as write
 use Rattle.sql_rules.specs.Writes.{is_below}
 use Rattle.system_tables.specs.Entries.{conflict_entry, entries_of, violation_entry}
-use Rattle.system_tables.specs.declared.entries.Entry.{Entry}
+use Rattle.system_tables.specs.declared.entries.ListEntry.{ListEntry}
 use Rattle.system_tables.specs.declared.entries.Listed.{Listed}
 use Rattle.system_tables.specs.declared.entries.Listed.TheVariants as listed
 use Rattle.table_root.specs.Standing.{IsTableAt}
@@ -44,6 +44,7 @@ use Rattle.session_txn.specs.Deleting.{chosen_key, chosen_keys, delete_effect, e
 use Rattle.session_txn.specs.Writing.{written_reply}
 use Rattle.session_txn.proofs.CountLemmas.{reply_told}
 use Rattle.tree_laws.proofs.StandingOrder.{lt_trans}
+use Rattle.plain_schemas.specs.Effects.{without_table}
 
 -- ---- keys that rise are apart
 
@@ -93,10 +94,10 @@ module _ {A B : Type 0} (f : A → Outcome (List B)) (x : A) (xs : List A) where
 ok_same_by : {A : Type 0} {x y : A} → x ≡ y → ◌≡◌ {A = Outcome A} (Ok x) (Ok y)
 ok_same_by e = ap Ok e
 
-abbrev pub key_of : {A : Type 0} → (A → Entry) → A → List ℕ
+abbrev pub key_of : {A : Type 0} → (A → ListEntry) → A → List ℕ
 key_of entry x = (entry x).key
 
-module _ {A : Type 0} (entry : A → Entry) (tests : List Meaning) where
+module _ {A : Type 0} (entry : A → ListEntry) (tests : List Meaning) where
   abbrev left_by : List (List ℕ) → List A → List A
   left_by keys xs = filter (λ x. not (is_among keys (key_of entry x))) xs
 

@@ -15,7 +15,7 @@ use Rattle.state_laws.proofs.RecordingLemmas.{violation_total}
 use Rattle.system_tables.specs.declared.entries.Listed.{Listed}
 use Rattle.system_tables.specs.declared.entries.Listed.TheVariants as listed
 use Rattle.table_root.specs.Standing.{IsTableOf, TableValuesStand}
-use Rattle.table_root.specs.declared.records.Table.{Table}
+use Rattle.table_root.specs.declared.records.StoredTable.{StoredTable}
 use Rattle.tuple_codec.specs.Edits.{edited}
 use Rattle.tuple_codec.specs.Nodes.{Item}
 use Rattle.tuple_codec.specs.declared.addresses.Address.{Address}
@@ -48,11 +48,11 @@ is_table_without keys table is = record {
 }
 
 -- the tree of a table's violations
-pub own_tree : (address : List ℕ → List ℕ) (chunks : Chunks) (table : Table) (contents : PlainTable) → IsTableOf address chunks table contents → IsTree address chunks table.violations.0 (violation_items contents)
-own_tree address chunks table contents stands = subst (λ (k : List ℕ). IsTree address chunks k (violation_items contents)) (sym (ap (λ (t : Table). t.violations.0) stands.value)) stands.trees.violations
+pub own_tree : (address : List ℕ → List ℕ) (chunks : Chunks) (table : StoredTable) (contents : PlainTable) → IsTableOf address chunks table contents → IsTree address chunks table.violations.0 (violation_items contents)
+own_tree address chunks table contents stands = subst (λ (k : List ℕ). IsTree address chunks k (violation_items contents)) (sym (ap (λ (t : StoredTable). t.violations.0) stands.value)) stands.trees.violations
 
 -- a table's value with the root of what is left of its violations
-pub without_stands : (keys : List (List ℕ)) (address : List ℕ → List ℕ) (old new : Chunks) → Extends old new → TableValuesStand → (table : Table) (contents : PlainTable) (k : Address) → IsTableOf address old table contents
+pub without_stands : (keys : List (List ℕ)) (address : List ℕ → List ℕ) (old new : Chunks) → Extends old new → TableValuesStand → (table : StoredTable) (contents : PlainTable) (k : Address) → IsTableOf address old table contents
     → IsTree address new k.0 (edited (violation_items contents) (removals keys (violation_items contents)))
     → IsTableOf address new (record { schema = table.schema; rows = table.rows; indexes = table.indexes; conflicts = table.conflicts; violations = k }) (without_violations keys contents)
 without_stands keys address old new more values table contents k was tree =

@@ -6,7 +6,7 @@ use Rattle.schema_model.specs.PlainTables.{PlainDatabase, PlainTable}
 use Rattle.sql_write.specs.Putting.{MayReplace}
 use Rattle.sql_write.proofs.TableLemmas.{kept_listed, listed_later}
 use Rattle.table_root.specs.Standing.{IsTableOf, TablesStand}
-use Rattle.table_root.specs.declared.records.Table.{Table}
+use Rattle.table_root.specs.declared.records.StoredTable.{StoredTable}
 use Rattle.write_laws.specs.Laws.{IsKept}
 use Rattle.write_laws.proofs.DatabaseLemmas.{found_kept, replaced_kept}
 use Rattle.plain_writes.specs.Writes.{replaced}
@@ -23,7 +23,7 @@ found_of address chunks k name database found None is = absurd is
 
 -- the table without some entries may come in its place
 pub may_replace : (address : List ℕ → List ℕ) (old mid : Chunks) (k name : List ℕ) (database : PlainDatabase) (contents : PlainTable) (found : Found) → Extends old mid → TablesStand
-    → IsFound address old k name database contents found → (which : Listed) (keys : List (List ℕ)) (made : Table) → IsTableOf address mid made (without_entries which keys contents)
+    → IsFound address old k name database contents found → (which : Listed) (keys : List (List ℕ)) (made : StoredTable) → IsTableOf address mid made (without_entries which keys contents)
     → MayReplace address mid found.tables.items made database (without_entries which keys contents)
 may_replace address old mid k name database contents found more laws is which keys made stands =
     let listed = kept_listed address old k database found.tables.items is.kept is.listed in
@@ -39,7 +39,7 @@ may_replace address old mid k name database contents found more laws is which ke
 
 -- and the database keeps the limits then
 pub kept_again : (address : List ℕ → List ℕ) (old mid : Chunks) (k name : List ℕ) (database : PlainDatabase) (contents : PlainTable) (found : Found) → IsFound address old k name database contents found
-    → (which : Listed) (keys : List (List ℕ)) (made : Table) → IsTableOf address mid made (without_entries which keys contents)
+    → (which : Listed) (keys : List (List ℕ)) (made : StoredTable) → IsTableOf address mid made (without_entries which keys contents)
     → is_database_within_limits (replaced name (without_entries which keys contents) database) ≡ true
 kept_again address old mid k name database contents found is which keys made stands =
     let kept = is.kept in

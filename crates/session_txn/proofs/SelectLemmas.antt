@@ -16,7 +16,7 @@ use Rattle.plain_sql.specs.declared.sources.NamedType.{NamedType}
 use Rattle.plain_sessions.specs.Sessions.{Transaction, with_own, within}
 use Rattle.plain_sessions.specs.SystemTables.{branches, commit_ancestors, conflicts, conflicts_of, constraint_violations, known, log, status, stored, violations_of}
 use Rattle.sql_select.specs.Sources as sources
-use Rattle.sql_select.specs.Sources.{CanRead, IsReadAt, ReadsSuffice, is_read, known_system, known_table, typed}
+use Rattle.sql_select.specs.Sources.{ReadsSuffice, is_read, known_system, known_table, typed}
 use Rattle.sql_select.specs.declared.sources.NamedAnswer.{NamedAnswer}
 use Rattle.system_tables.specs.Known.{as_named, named_read, system_tables}
 use Rattle.tuple_codec.specs.declared.answers.Answer.{Answer}
@@ -24,6 +24,7 @@ use Rattle.chunk_store.specs.Chunks.{Chunks}
 use Rattle.chunk_store.specs.Drafts.{chunks_of}
 use Rattle.constraint_scan.specs.Scanning.{HasKeptAt, IsKeptAt}
 use Rattle.schema_model.specs.Limits.{is_named_within_limits, most_tables}
+use Rattle.table_root.specs.Standing.{CanRead, IsReadAt}
 use Rattle.expr_eval.specs.Binding.{Outcome, and_then}
 use Rattle.script_text.specs.declared.replies.Reply.{Reply}
 use Rattle.plain_sessions.specs.Merging.{Worked, Answers}

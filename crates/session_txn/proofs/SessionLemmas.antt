@@ -5,7 +5,7 @@ use Rattle.basic_laws.proofs.Options.{some_there as has_one}
 use Rattle.basic_laws.proofs.Truths.{not_true as kept_so}
 use Rattle.tuple_codec.specs.declared.addresses.Address.{Address}
 use Rattle.tuple_codec.specs.declared.records.BranchRecord.{BranchRecord}
-use Rattle.chunk_store.specs.Chunks.{Chunk, bytes_at}
+use Rattle.chunk_store.specs.Chunks.{Chunk, chunk_bytes}
 use Rattle.chunk_store.specs.Drafts.{Drafting, DraftParts, IsNamed, chunks_of}
 use Rattle.chunk_store.specs.Stores.{all_chunks}
 use Rattle.chunk_store.specs.Kinds.{is_commit}

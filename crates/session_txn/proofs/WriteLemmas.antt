@@ -4,9 +4,10 @@ use Rattle.basic_laws.proofs.Options.{some_there as has_one}
 use Rattle.basic_laws.proofs.Truths.{two}
 use Rattle.tuple_codec.specs.declared.addresses.Address.{Address}
 use Rattle.tuple_codec.specs.declared.records.BranchRecord.{BranchRecord}
-use Rattle.chunk_store.specs.Chunks.{Chunk, Chunks, bytes_at}
+use Rattle.chunk_store.specs.Chunks.{Chunk, Chunks, chunk_bytes}
 use Rattle.chunk_store.specs.Clashes.{IsMet}
 use Rattle.chunk_store.specs.Drafts.{AreOfKind, Drafting, DraftParts, Grows, IsNamed, IsSound, Longer, chunks_of, cut_to}
+use Rattle.chunk_store.specs.Kinds.{is_data}
 use Rattle.chunk_store.specs.Laws.{ChunksFollow, DraftsFollow, DraftsGrow}
 use Rattle.constraint_scan.specs.Scanning.{IsKeptAt}
 use Rattle.script_text.specs.Collisions.{TellsTruly}
@@ -17,8 +18,7 @@ use Rattle.sql_ast.specs.declared.statements.Write.{Write}
 use Rattle.expr_eval.specs.Binding.{Outcome}
 use Rattle.plain_writes.specs.Writes.{Effect}
 use Rattle.plain_sessions.specs.Statements.{changed, counted_or_done, worked}
-use Rattle.sql_write.specs.Growing.{is_data}
-use Rattle.sql_write.specs.Writing.{IsWritten, Writes}
+use Rattle.sql_write.specs.Writing.{IsEffectWritten, Writes}
 use Rattle.sql_write.specs.declared.faults.SqlFault.{SqlFault}
 use Rattle.sql_write.specs.declared.faults.SqlFault.TheVariants as fault
 use Rattle.sql_write.specs.declared.writing.Written.{Written}
@@ -39,7 +39,7 @@ use Rattle.session_state.specs.Standing.{SessionStands}
 use Rattle.session_state.specs.declared.sessions.Session.{Session}
 use Rattle.session_txn.specs.Answering.{AnswersAlone}
 use Rattle.session_txn.specs.Deleting.{turn_effect}
-use Rattle.session_txn.specs.Writing.{IsExcused, IsRefusedBy, Turns, written_reply}
+use Rattle.session_txn.specs.Writing.{IsExcused, IsRefusedBy, TurnsRoot, written_reply}
 use Rattle.session_txn.proofs.DeleteLemmas.{IsWell, reply_turned, well_kept, write_turned}
 use Rattle.session_txn.proofs.AloneLemmas.{answers_due, answers_so, collides, starves, takes_none, worked_ill, worked_well}
 use Rattle.session_txn.proofs.SessionLemmas.{own_kept}
@@ -50,7 +50,7 @@ use Rattle.session_txn.proofs.CommitLemmas.{data_apart}
 
 done_by : (address : List ℕ → List ℕ) (old new : Drafting) (before : Address) (tables : PlainDatabase) (w : Write) (written : Written) (outcome : Outcome Effect) (reply : Reply)
     → turn_effect tables w ≡ outcome → Writes address (chunks_of new.chunks) (Ok written) outcome → reply ≡ written_reply w written.rows → Grows is_data old new
-    → Turns address old new before written.root (turn_effect tables w) reply
+    → TurnsRoot address old new before written.root (turn_effect tables w) reply
 done_by address old new before tables w written (Ok made) reply is wrote told grows = inl (record {
   made = made;
   is = is;
@@ -62,7 +62,7 @@ done_by address old new before tables w written (Err number) reply is wrote told
 
 pub turned : (address : List ℕ → List ℕ) (old new : Drafting) (before : Address) (tables : PlainDatabase) (w : Write) (written : Written) (reply : Reply)
     → Writes address (chunks_of new.chunks) (Ok written) (turn_effect tables w) → reply ≡ written_reply w written.rows → Grows is_data old new
-    → Turns address old new before written.root (turn_effect tables w) reply
+    → TurnsRoot address old new before written.root (turn_effect tables w) reply
 turned address old new before tables w written reply wrote told grows = done_by address old new before tables w written (turn_effect tables w) reply refl wrote told grows
 
 excused_by : (address : List ℕ → List ℕ) (chunks : Chunks) (f : SqlFault) (effect : Outcome Effect) (reply : Reply) → Writes address chunks (Err f) effect → IsRefusedBy f reply
@@ -73,7 +73,7 @@ excused_by address chunks (fault.Collision clash) effect reply wrote owed = inr 
 
 pub unturned : (address : List ℕ → List ℕ) (old mid new : Drafting) (before : Address) (mark : ℕ) (f : SqlFault) (effect : Outcome Effect) (reply : Reply) → DraftsFollow
     → Writes address (chunks_of mid.chunks) (Err f) effect → IsRefusedBy f reply → mark ≡ length old.chunks.own → Longer old.chunks mid.chunks → new.chunks ≡ cut_to mark mid.chunks
-    → Turns address old new before before effect reply
+    → TurnsRoot address old new before before effect reply
 unturned address old mid new before mark f effect reply follow wrote owed at longer cut = inr (record {
   chunks = cut ∙ ap (λ (n : ℕ). cut_to n mid.chunks) at ∙ follow.comes_back old.chunks mid.chunks longer;
   root = refl;
@@ -94,29 +94,29 @@ refuses_truly address old mid (fault.Collision clash) effect reply chunks drafts
 
 -- ---- the session
 
-found_either : (xs ys : List Chunk) (k bytes : List ℕ) → bytes_at (xs ++ ys) k ≡ Some bytes → (bytes_at xs k ≡ Some bytes) ⊎ (bytes_at ys k ≡ Some bytes)
+found_either : (xs ys : List Chunk) (k bytes : List ℕ) → chunk_bytes (xs ++ ys) k ≡ Some bytes → (chunk_bytes xs k ≡ Some bytes) ⊎ (chunk_bytes ys k ≡ Some bytes)
 found_either [] ys k bytes h = inr h
 found_either (c ∷ xs) ys k bytes h = two (bytes_eq c.0 k)
-    (λ t. inl (ap (λ (b : Bool). if b then Some c.1 else bytes_at xs k) t ∙ sym (ap (λ (b : Bool). if b then Some c.1 else bytes_at (xs ++ ys) k) t) ∙ h))
-    (λ t. found_in c xs ys k bytes t (found_either xs ys k bytes (sym (ap (λ (b : Bool). if b then Some c.1 else bytes_at (xs ++ ys) k) t) ∙ h)))
+    (λ t. inl (ap (λ (b : Bool). if b then Some c.1 else chunk_bytes xs k) t ∙ sym (ap (λ (b : Bool). if b then Some c.1 else chunk_bytes (xs ++ ys) k) t) ∙ h))
+    (λ t. found_in c xs ys k bytes t (found_either xs ys k bytes (sym (ap (λ (b : Bool). if b then Some c.1 else chunk_bytes (xs ++ ys) k) t) ∙ h)))
   where
-    found_in : (c : Chunk) (xs ys : List Chunk) (k bytes : List ℕ) → bytes_eq c.0 k ≡ false → (bytes_at xs k ≡ Some bytes) ⊎ (bytes_at ys k ≡ Some bytes)
-        → (bytes_at (c ∷ xs) k ≡ Some bytes) ⊎ (bytes_at ys k ≡ Some bytes)
-    found_in c xs ys k bytes t (inl there) = inl (ap (λ (b : Bool). if b then Some c.1 else bytes_at xs k) t ∙ there)
+    found_in : (c : Chunk) (xs ys : List Chunk) (k bytes : List ℕ) → bytes_eq c.0 k ≡ false → (chunk_bytes xs k ≡ Some bytes) ⊎ (chunk_bytes ys k ≡ Some bytes)
+        → (chunk_bytes (c ∷ xs) k ≡ Some bytes) ⊎ (chunk_bytes ys k ≡ Some bytes)
+    found_in c xs ys k bytes t (inl there) = inl (ap (λ (b : Bool). if b then Some c.1 else chunk_bytes xs k) t ∙ there)
     found_in c xs ys k bytes t (inr there) = inr there
 
-of_data : (ys : List Chunk) (k bytes : List ℕ) → AreOfKind is_data ys → bytes_at ys k ≡ Some bytes → is_data bytes ≡ true
+of_data : (ys : List Chunk) (k bytes : List ℕ) → AreOfKind is_data ys → chunk_bytes ys k ≡ Some bytes → is_data bytes ≡ true
 of_data [] k bytes all h = absurd (cc)
 of_data (c ∷ ys) k bytes all h = two (bytes_eq c.0 k)
-    (λ t. let same : Some c.1 ≡ Some bytes = sym (ap (λ (b : Bool). if b then Some c.1 else bytes_at ys k) t) ∙ h in
+    (λ t. let same : Some c.1 ≡ Some bytes = sym (ap (λ (b : Bool). if b then Some c.1 else chunk_bytes ys k) t) ∙ h in
     let is : c.1 ≡ bytes = cc in ap is_data (sym is) ∙ all.0)
-    (λ t. of_data ys k bytes all.1 (sym (ap (λ (b : Bool). if b then Some c.1 else bytes_at ys k) t) ∙ h))
+    (λ t. of_data ys k bytes all.1 (sym (ap (λ (b : Bool). if b then Some c.1 else chunk_bytes ys k) t) ∙ h))
 
 -- data more are no commits
 no_commit_more : (own more : List Chunk) → HasNoCommit own → AreOfKind is_data more → HasNoCommit (own ++ more)
 no_commit_more own more none all k bytes there is = by_place (found_either own more k bytes there)
   where
-    by_place : (bytes_at own k ≡ Some bytes) ⊎ (bytes_at more k ≡ Some bytes) → ⊥
+    by_place : (chunk_bytes own k ≡ Some bytes) ⊎ (chunk_bytes more k ≡ Some bytes) → ⊥
     by_place (inl here) = none k bytes here is
     by_place (inr here) = data_apart bytes (of_data more k bytes all here) is
 
@@ -195,7 +195,7 @@ counted_told (Some rows) = refl
 
 changes_in : {D : Type 0} (address : List ℕ → List ℕ) (old : Session D) (d : Drafting) (root : Address) (p : plain.Session) (t : Transaction) (w : Write) (reply : Reply)
     → DraftsFollow → DraftsGrow → RecordsFollow → TransactionsFollow → IsWell t.own.working → p.transaction ≡ Some t → SessionStands address old p
-    → Turns address old.draft d old.own.working root (turn_effect t.own.working w) reply
+    → TurnsRoot address old.draft d old.own.working root (turn_effect t.own.working w) reply
     → AnswersAlone address p (command.Data (work.Change w)) (at_root old root d) reply
 changes_in address old d root p t w reply drafts growth records follow h there stands (inl done) =
     let state : BranchState = record t.own { working = done.made.database } in
@@ -209,7 +209,7 @@ changes_in address old d root p t w reply drafts growth records follow h there s
 
 pub changes : {D : Type 0} (address : List ℕ → List ℕ) (old : Session D) (d : Drafting) (root : Address) (p : plain.Session) (w : Write) (reply : Reply)
     → DraftsFollow → DraftsGrow → RecordsFollow → TransactionsFollow → is_in_transaction p ≡ true → SessionStands address old p
-    → ((tables : PlainDatabase) → IsKeptAt address (chunks_of old.draft.chunks) old.own.working.0 tables → Turns address old.draft d old.own.working root (turn_effect tables w) reply)
+    → ((tables : PlainDatabase) → IsKeptAt address (chunks_of old.draft.chunks) old.own.working.0 tables → TurnsRoot address old.draft d old.own.working root (turn_effect tables w) reply)
     → AnswersAlone address p (command.Data (work.Change w)) (at_root old root d) reply
 changes address old d root p w reply drafts growth records follow inside stands turns =
     let found = has_one p.transaction inside in

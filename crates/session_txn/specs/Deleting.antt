@@ -15,7 +15,7 @@ use Rattle.sql_ast.specs.declared.statements.Write.{Write}
 use Rattle.sql_ast.specs.declared.statements.Write.TheVariants as write
 use Rattle.sql_rules.specs.Writes.{is_below}
 use Rattle.system_tables.specs.Entries.{columns_of, entries_of}
-use Rattle.system_tables.specs.declared.entries.Entry.{Entry}
+use Rattle.system_tables.specs.declared.entries.ListEntry.{ListEntry}
 use Rattle.system_tables.specs.declared.entries.Listed.{Listed}
 use Rattle.system_tables.specs.declared.entries.Listed.TheVariants as listed
 use Rattle.tuple_codec.specs.KeyBytes.{key_bytes, key_cell}
@@ -33,11 +33,11 @@ list_named name =
 abbrev pub key_if : List ℕ → Bool → List (List ℕ)
 key_if key chosen = if chosen then key ∷ [] else []
 
-abbrev pub chosen_key : List Meaning → Entry → Outcome (List (List ℕ))
+abbrev pub chosen_key : List Meaning → ListEntry → Outcome (List (List ℕ))
 chosen_key tests entry = and_then (passes tests entry.row) (λ chosen. Ok (key_if entry.key chosen))
 
 -- the keys of those that the tests choose
-abbrev pub chosen_keys : List Meaning → List Entry → Outcome (List (List ℕ))
+abbrev pub chosen_keys : List Meaning → List ListEntry → Outcome (List (List ℕ))
 chosen_keys tests entries = all_of (chosen_key tests) entries
 
 abbrev pub violation_key : Violation → List ℕ

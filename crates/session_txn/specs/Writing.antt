@@ -2,12 +2,12 @@
 use Rattle.std.specs.Prelude.{◌≡◌, ◌⊎◌, ℕ, List, Ok, Err}
 use Rattle.tuple_codec.specs.declared.addresses.Address.{Address}
 use Rattle.chunk_store.specs.Drafts.{Drafting, Grows, chunks_of}
+use Rattle.chunk_store.specs.Kinds.{is_data}
 use Rattle.chunk_store.specs.declared.faults.Clash.{Clash}
 use Rattle.constraint_scan.specs.Scanning.{IsKeptAt}
 use Rattle.expr_eval.specs.Binding.{Outcome}
 use Rattle.plain_writes.specs.Writes.{Effect}
 use Rattle.plain_sessions.specs.Statements.{counted_or_done}
-use Rattle.sql_write.specs.Growing.{is_data}
 use Rattle.script_text.specs.declared.replies.Reply.{Reply}
 use Rattle.script_text.specs.declared.replies.Reply.TheVariants.{Done, Count, Refused, Collided}
 use Rattle.sql_ast.specs.declared.statements.Write.{Write}
@@ -48,5 +48,5 @@ pub record IsUndone (old new : Drafting) (before after : Address) (effect : Outc
   pub root : after ≡ before
   pub excused : IsExcused effect reply
 
-abbrev pub Turns : (List ℕ → List ℕ) → Drafting → Drafting → Address → Address → Outcome Effect → Reply → Type 0
-Turns address old new before after effect reply = IsDone address old new after effect reply ⊎ IsUndone old new before after effect reply
+abbrev pub TurnsRoot : (List ℕ → List ℕ) → Drafting → Drafting → Address → Address → Outcome Effect → Reply → Type 0
+TurnsRoot address old new before after effect reply = IsDone address old new after effect reply ⊎ IsUndone old new before after effect reply

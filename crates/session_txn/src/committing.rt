@@ -17,7 +17,7 @@ use root_merge::{Candidate, candidate};
 use script_text::Reply;
 use session_laws::{law_of_records, law_of_standing_commits};
 use session_state::Session;
-use shared_db::{Change, Plan};
+use shared_db::{DecisionPlan, RecordChange};
 use std::alloc::Global;
 use table_root::Look;
 use tuple_codec::{BranchRecord, Digester};
@@ -28,7 +28,7 @@ pub fn plan_commit<D: Digester>(
     alloc: Global,
     session: &Session<D>,
     look: &Look,
-) -> Result<Plan, PutFault>
+) -> Result<DecisionPlan, PutFault>
     requires { (p : plain.Session) × (t : plain.Transaction) × (shared : Shared) × (present : BranchState) × Decides D.address session.now look.now p t shared present }
     ensures planned { (p : plain.Session) (t : plain.Transaction) (shared : Shared) (present : BranchState) → Decides D.address session.now look.now p t shared present
         → IfOk result (λ plan. PlanIs D.address look.now shared.commits plan (ruled p t present done)) }
@@ -69,13 +69,13 @@ fn work_of<D: Digester>(session: &Session<D>, look: &Look) -> Result<Draft<D>, P
 }
 
 /// A decision for this record, with all that was worked.
-fn sealed<D: Digester>(work: Draft<D>, rec: BranchRecord) -> Result<Plan, PutFault>
+fn sealed<D: Digester>(work: Draft<D>, rec: BranchRecord) -> Result<DecisionPlan, PutFault>
     ensures sealed { IfOk result (λ plan. IsSealedAs work rec plan) }
     ensures fault { IfErr result (IsFault D.address) }
 {
     match work.seal_own() {
-        Ok((segment, _)) => Ok(Plan {
-            change: Change::Record(rec),
+        Ok((segment, _)) => Ok(DecisionPlan {
+            change: RecordChange::Record(rec),
             reply: Reply::Done,
             sealed: Some(segment),
         }),
@@ -84,11 +84,11 @@ fn sealed<D: Digester>(work: Draft<D>, rec: BranchRecord) -> Result<Plan, PutFau
 }
 
 /// A decision that changes nothing.
-fn refused(number: u16) -> Plan
+fn refused(number: u16) -> DecisionPlan
     ensures { IsRefusedBy number result }
 {
-    Plan {
-        change: Change::Nothing,
+    DecisionPlan {
+        change: RecordChange::Nothing,
         reply: Reply::Refused(number),
         sealed: None,
     }

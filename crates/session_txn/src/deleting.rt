@@ -4,6 +4,7 @@ ghost use Rattle.std.specs.Prelude.{◌≡◌, IfErr, IfOk, map};
 ghost use Rattle.std.specs.Option.{option_map};
 ghost use Rattle.chunk_store.specs.Clashes.{IsReason};
 ghost use Rattle.chunk_store.specs.Drafts.{Grows, chunks_of};
+ghost use Rattle.chunk_store.specs.Kinds.{is_data};
 ghost use Rattle.conflict_tables.specs.Conflicts.{IsSomeTable};
 ghost use Rattle.constraint_scan.specs.Scanning.{HasKeptAt, IsKeptAt};
 ghost use Rattle.plain_sessions.specs.SystemTables as plain;
@@ -12,7 +13,6 @@ ghost use Rattle.plain_sql.specs.Plans.{meaning, scope_column};
 ghost use Rattle.plain_writes.specs.Writes.{replaced};
 ghost use Rattle.schema_model.specs.PlainTables.{PlainDatabase, PlainTable};
 ghost use Rattle.sql_rules.specs.Writes.{is_below};
-ghost use Rattle.sql_write.specs.Growing.{is_data};
 ghost use Rattle.sql_write.specs.Writing.{Writes};
 ghost use Rattle.system_tables.specs.Entries as shown;
 ghost use Rattle.table_root.specs.Standing.{IsTableOf};
@@ -31,8 +31,8 @@ use schema_model::Schema;
 use sql_ast::Delete;
 use sql_write::{SqlFault, Written};
 use std::alloc::{AllocError, Global};
-use system_tables::{Entry, Listed, columns_of, entries_of};
-use table_root::Table;
+use system_tables::{ListEntry, Listed, columns_of, entries_of};
+use table_root::StoredTable;
 use tuple_codec::{Address, Blob, Digester, Sequence, Text};
 
 fn is_below(name: &[u8], front: &[u8]) -> bool
@@ -88,7 +88,11 @@ fn tests_on(
 }
 
 /// Adds the key of an entry that the tests choose.
-fn chosen_key(alloc: Global, tests: &[BoundExpr], entry: &Entry) -> Result<Sequence<Blob>, Refused>
+fn chosen_key(
+    alloc: Global,
+    tests: &[BoundExpr],
+    entry: &ListEntry,
+) -> Result<Sequence<Blob>, Refused>
     ensures { Gives result (chosen_key (map meaning tests.now) entry.now) }
 {
     let mut keys = Sequence::new(alloc);
@@ -102,7 +106,7 @@ fn chosen_key(alloc: Global, tests: &[BoundExpr], entry: &Entry) -> Result<Seque
 fn chosen_keys(
     alloc: Global,
     tests: &[BoundExpr],
-    entries: &[Entry],
+    entries: &[ListEntry],
 ) -> Result<Sequence<Blob>, Refused>
     ensures { Gives result (chosen_keys (map meaning tests.now) entries.now) }
 {
@@ -119,7 +123,7 @@ fn keys_chosen<D: Digester>(
     draft: &Draft<D>,
     which: Listed,
     delete: &Delete,
-    table: &Table,
+    table: &StoredTable,
 ) -> Result<Sequence<Blob>, Refused>
     requires { IsSomeTable D.address (chunks_of draft.now.chunks) table.now }
     ensures { (contents : PlainTable) → IsTableOf D.address (chunks_of draft.now.chunks) table.now contents → Gives result (keys_chosen which delete.now contents) }

@@ -19,7 +19,7 @@ use prolly_edit::apply;
 use prolly_tree::scan_from;
 use std::alloc::{AllocError, Global};
 use system_tables::Listed;
-use table_root::{Table, law_of_tables};
+use table_root::{StoredTable, law_of_tables};
 use tuple_codec::{Address, Blob, Digester, Edit, Sequence};
 
 fn is_among(keys: &[Blob], key: &[u8]) -> bool
@@ -75,9 +75,9 @@ fn copy_roots(alloc: Global, roots: &[Address]) -> Result<Sequence<Address>, All
 fn drop_violations<D: Digester>(
     alloc: Global,
     draft: &mut Draft<D>,
-    table: &Table,
+    table: &StoredTable,
     keys: &[Blob],
-) -> Result<Table, PutFault>
+) -> Result<StoredTable, PutFault>
     requires { IsSomeTable D.address (chunks_of draft.old.chunks) table.now }
     ensures stands { (contents : PlainTable) → IsTableOf D.address (chunks_of draft.old.chunks) table.now contents
         → IfOk result (λ made. IsTableOf D.address (chunks_of draft.new.chunks) made (without_violations keys.now contents)) }
@@ -89,7 +89,7 @@ fn drop_violations<D: Digester>(
     law_of_tables();
     let edits = removals(alloc, draft, &table.violations, keys)?;
     let violations = apply(alloc, draft, &table.violations, edits.as_slice())?;
-    Ok(Table {
+    Ok(StoredTable {
         schema: copy_schema(alloc, &table.schema)?,
         rows: table.rows,
         indexes: copy_roots(alloc, table.indexes.as_slice())?,
@@ -103,9 +103,9 @@ pub(crate) fn drop_entries<D: Digester>(
     alloc: Global,
     draft: &mut Draft<D>,
     which: Listed,
-    table: &Table,
+    table: &StoredTable,
     keys: &[Blob],
-) -> Result<Table, PutFault>
+) -> Result<StoredTable, PutFault>
     requires { IsSomeTable D.address (chunks_of draft.old.chunks) table.now }
     ensures stands { (contents : PlainTable) → IsTableOf D.address (chunks_of draft.old.chunks) table.now contents
         → IfOk result (λ made. IsTableOf D.address (chunks_of draft.new.chunks) made (without_entries which keys.now contents)) }

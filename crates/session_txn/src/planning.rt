@@ -14,7 +14,7 @@ use chunk_store::Store;
 use script_text::Reply;
 use session_laws::law_of_transactions;
 use session_state::Session;
-use shared_db::{Plan, Settled};
+use shared_db::{DecisionPlan, Settled};
 use std::alloc::Global;
 use table_root::Look;
 use tuple_codec::Digester;
@@ -46,7 +46,7 @@ pub fn plan_begin<D: Digester>(alloc: Global, session: &mut Session<D>, look: Lo
 }
 
 /// Ends a decision as it was settled: the transaction is over where it was done, and stays as it was where it wasn't.
-pub fn finish<D: Digester>(session: &mut Session<D>, plan: Plan, settled: Settled) -> Reply
+pub fn finish<D: Digester>(session: &mut Session<D>, plan: DecisionPlan, settled: Settled) -> Reply
     requires { IsFinal settled }
     ensures finished { IsFinished D.address session.old session.new plan settled result }
     ensures pages { pages_in session.old.draft ≤ pages_in session.new.draft }

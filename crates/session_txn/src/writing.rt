@@ -3,6 +3,7 @@
 ghost use Rattle.std.specs.Prelude.{◌≡◌, ◌≤◌, true};
 ghost use Rattle.chunk_store.specs.Laws.{ChunksFollow, DraftsFollow, DraftsGrow};
 ghost use Rattle.chunk_store.specs.Drafts.{Grows, IsNamed, Longer, chunks_of, pages_in};
+ghost use Rattle.chunk_store.specs.Kinds.{is_data};
 ghost use Rattle.constraint_scan.specs.Scanning.{HasKeptAt, IsKeptAt};
 ghost use Rattle.schema_model.specs.PlainTables.{PlainDatabase};
 ghost use Rattle.script_text.specs.Collisions.{TellsTruly};
@@ -10,7 +11,6 @@ ghost use Rattle.plain_sessions.specs.Moments.{is_in_transaction};
 ghost use Rattle.plain_sessions.specs.Sessions as plain;
 ghost use Rattle.plain_sessions.specs.declared.commands.Command.TheVariants as command;
 ghost use Rattle.plain_sessions.specs.declared.commands.Work.TheVariants as work;
-ghost use Rattle.sql_write.specs.Growing.{is_data};
 ghost use Rattle.sql_write.specs.Writing.{Writes};
 ghost use Rattle.table_root.specs.Standing.{DatabasesStand};
 ghost use Rattle.schema_laws.specs.Laws.{IsFit};
@@ -20,7 +20,7 @@ ghost use Rattle.session_txn.specs.Answering.{AnswersAlone};
 ghost use Rattle.session_txn.specs.Deleting.{delete_effect, list_named, turn_effect};
 ghost use Rattle.sql_ast.specs.declared.statements.Write.TheVariants as kind;
 ghost use Rattle.session_txn.specs.Showing.{is_sound_reply};
-ghost use Rattle.session_txn.specs.Writing.{IsRefusedBy, Turns, written_reply};
+ghost use Rattle.session_txn.specs.Writing.{IsRefusedBy, TurnsRoot, written_reply};
 
 use crate::deleting::{delete_entries, list_named};
 use crate::showing::due;
@@ -67,7 +67,7 @@ fn turn<D: Digester>(
     requires tables { HasKeptAt D.address (chunks_of draft.old.chunks) database.old.0 }
     requires fit { IsFit statement.now }
     ensures turns { (tables : PlainDatabase) → IsKeptAt D.address (chunks_of draft.old.chunks) database.old.0 tables
-        → Turns D.address draft.old draft.new database.old database.new (turn_effect tables statement.now) result }
+        → TurnsRoot D.address draft.old draft.new database.old database.new (turn_effect tables statement.now) result }
     ensures sound { is_sound_reply result ≡ true }
     ensures truly { TellsTruly D.address result }
     ensures base { draft.new.chunks.base ≡ draft.old.chunks.base }

@@ -10,13 +10,13 @@ use Rattle.table_root.specs.Heads.{heads_rise}
 use Rattle.session_laws.specs.Changes.{lines_rise}
 use Rattle.session_laws.specs.Laws.{head_in, with_record}
 use Rattle.session_laws.proofs.StateLemmas.{lines_still_rise as still_rise}
-use Rattle.shared_db.specs.declared.branches.Branch.{Branch}
-use Rattle.shared_db.specs.declared.changes.Change.{Change}
-use Rattle.shared_db.specs.declared.changes.Change.TheVariants as change
+use Rattle.shared_db.specs.declared.branches.NamedBranch.{NamedBranch}
+use Rattle.shared_db.specs.declared.changes.RecordChange.{RecordChange}
+use Rattle.shared_db.specs.declared.changes.RecordChange.TheVariants as change
 use Rattle.shared_db.specs.Shared.{changed_lines}
 use Rattle.shared_db.specs.Members.{branch_head, line_of, lines_of, numbers_of, on_main, places_of, with_rec}
 
-pub heads_are : (branches : List Branch) → map branch_head branches ≡ map head_in (lines_of branches)
+pub heads_are : (branches : List NamedBranch) → map branch_head branches ≡ map head_in (lines_of branches)
 heads_are [] = refl
 heads_are (x ∷ branches) = ap (λ l. branch_head x ∷ l) (heads_are branches)
 
@@ -25,7 +25,7 @@ heads_rise_so [] = refl
 heads_rise_so (x ∷ []) = refl
 heads_rise_so (x ∷ y ∷ lines) = ap (λ b. is_lt (slice_cmp nat_cmp x.name y.name) && b) (heads_rise_so (y ∷ lines))
 
-pub changed_are : (name : List ℕ) (rec : BranchRecord) (branches : List Branch) → lines_of (map (with_rec name rec) branches) ≡ with_record name rec (lines_of branches)
+pub changed_are : (name : List ℕ) (rec : BranchRecord) (branches : List NamedBranch) → lines_of (map (with_rec name rec) branches) ≡ with_record name rec (lines_of branches)
 changed_are name rec [] = refl
 changed_are name rec (x ∷ branches) = by (bytes_eq x.name name) (changed_are name rec branches) where
   by : (t : Bool) → lines_of (map (with_rec name rec) branches) ≡ with_record name rec (lines_of branches)
@@ -42,7 +42,7 @@ pub numbers_are : (statements : List ℕ) → numbers_of (map on_main statements
 numbers_are [] = refl
 numbers_are (n ∷ statements) = ap (λ l. n ∷ l) (numbers_are statements)
 
-pub changed_rise : (name : List ℕ) (change : Change) (lines : List BranchLine) → lines_rise (changed_lines name change lines) ≡ lines_rise lines
+pub changed_rise : (name : List ℕ) (change : RecordChange) (lines : List BranchLine) → lines_rise (changed_lines name change lines) ≡ lines_rise lines
 changed_rise name change.Nothing lines = refl
 changed_rise name (change.Record rec) lines = still_rise name rec lines
 

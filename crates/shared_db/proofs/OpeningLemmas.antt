@@ -5,7 +5,7 @@ use Rattle.std.specs.Cmp.Lexicographic.{bytes_decides}
 use Rattle.std.proofs.lemmas.Int.{ints}
 use Rattle.tuple_codec.specs.declared.addresses.Address.{Address}
 use Rattle.tuple_codec.specs.declared.records.BranchRecord.{BranchRecord}
-use Rattle.chunk_store.specs.Chunks.{AreNamed, Chunk, Chunks, IsHeld, IsSingle, Listed, Lists, bytes_at}
+use Rattle.chunk_store.specs.Chunks.{AreNamed, Chunk, Chunks, IsHeld, IsSingle, Listed, Lists, chunk_bytes}
 use Rattle.chunk_store.specs.Clashes.{IsCause}
 use Rattle.chunk_store.specs.Drafts.{Drafting, DraftParts, Puts, chunks_of, put_in}
 use Rattle.chunk_store.specs.Kinds.{is_commit}
@@ -26,7 +26,7 @@ use Rattle.shared_db.specs.Opening.{HasJust, IsOpened, IsOpeningFault, both_alon
 
 -- what a put was refused for is that other bytes are held at the address of those that were brought
 pub cause_of_put : (a : List ℕ → List ℕ) (bytes : List ℕ) (old new : Drafting) (result : Result Address PutFault) → Puts a bytes old new result
-    → IfErr result (IsCause (chunks_of old.chunks) (bytes_at ((a bytes, bytes) ∷ [])))
+    → IfErr result (IsCause (chunks_of old.chunks) (chunk_bytes ((a bytes, bytes) ∷ [])))
 cause_of_put a bytes old new (Ok k) puts = tt
 cause_of_put a bytes old new (Err Memory) puts = tt
 cause_of_put a bytes old new (Err (Collision clash)) puts =
@@ -52,7 +52,7 @@ module _ (address : List ℕ → List ℕ) (epoch : ℤ) where
   empty = database_bytes address []
 
   -- why the first commit isn't put behind the empty database
-  opening_fault : (fault : PutFault) → IsCause (chunks_of (empty_alone address)) (bytes_at ((address first, first) ∷ [])) fault → IsOpeningFault address epoch fault
+  opening_fault : (fault : PutFault) → IsCause (chunks_of (empty_alone address)) (chunk_bytes ((address first, first) ∷ [])) fault → IsOpeningFault address epoch fault
   opening_fault Memory cause = tt
   opening_fault (Collision clash) cause =
       let held = one_found (address empty) empty clash.address.0 clash.first cause.is_held in
@@ -64,11 +64,11 @@ module _ (address : List ℕ → List ℕ) (epoch : ℤ) where
       }
 
   pub first_faults : {X : Type 0} (old : DraftParts) (parts : CommitParts) (result : Result X PutFault) → old ≡ empty_alone address → parts ≡ commit_parts address (first_commit epoch)
-      → IfErr result (IsCause (chunks_of old) (bytes_at ((address (commit_bytes parts), commit_bytes parts) ∷ []))) → IfErr result (IsOpeningFault address epoch)
+      → IfErr result (IsCause (chunks_of old) (chunk_bytes ((address (commit_bytes parts), commit_bytes parts) ∷ []))) → IfErr result (IsOpeningFault address epoch)
   first_faults old parts (Ok x) alone is cause = tt
   first_faults old parts (Err fault) alone is cause =
-      opening_fault fault (subst (λ (p : CommitParts). IsCause (chunks_of (empty_alone address)) (bytes_at ((address (commit_bytes p), commit_bytes p) ∷ [])) fault) is
-      (subst (λ (d : DraftParts). IsCause (chunks_of d) (bytes_at ((address (commit_bytes parts), commit_bytes parts) ∷ [])) fault) alone cause))
+      opening_fault fault (subst (λ (p : CommitParts). IsCause (chunks_of (empty_alone address)) (chunk_bytes ((address (commit_bytes p), commit_bytes p) ∷ [])) fault) is
+      (subst (λ (d : DraftParts). IsCause (chunks_of d) (chunk_bytes ((address (commit_bytes parts), commit_bytes parts) ∷ [])) fault) alone cause))
 
   both_put : (new : DraftParts) → new ≡ put_in address first (empty_alone address) → chunks_of new (address first) ≡ Some first → new ≡ both_alone address epoch
   both_put new is held = by (bytes_eq (address empty) (address first)) refl is where

@@ -14,7 +14,7 @@ use Rattle.tuple_codec.specs.declared.records.BranchRecord.{BranchRecord}
 use Rattle.schema_model.specs.Limits.{most_branches}
 use Rattle.schema_model.specs.PlainCommits.{Commits, is_known}
 use Rattle.schema_model.specs.PlainTables.{rises}
-use Rattle.chunk_store.specs.Chunks.{Chunk, bytes_at}
+use Rattle.chunk_store.specs.Chunks.{Chunk, chunk_bytes}
 use Rattle.script_text.specs.declared.outputs.BranchLine.{BranchLine}
 use Rattle.expr_eval.specs.Binding.{Outcome, and_then}
 use Rattle.plain_sql.specs.Lists.{has, in_order, or_refuse, placed, unless}
@@ -211,7 +211,7 @@ module _ (address : List ℕ → List ℕ) (old : Parts) (shared : Shared) (stan
   abbrev made : List ℕ → List ℕ → Shared
   made name k = record shared { branches = with_branch name (state_at k) shared.branches }
 
-  module _ (name k : List ℕ) (rec : BranchRecord) (form : is_branch_name name ≡ true) (at : RecordStands address (bytes_at old.chunks) shared.commits rec (state_at k)) where
+  module _ (name k : List ℕ) (rec : BranchRecord) (form : is_branch_name name ≡ true) (at : RecordStands address (chunk_bytes old.chunks) shared.commits rec (state_at k)) where
     abbrev line : BranchLine
     line = record { name = name; rec = rec }
 
@@ -269,13 +269,13 @@ module _ (address : List ℕ → List ℕ) (old : Parts) (shared : Shared) (stan
         subst (λ b. Ends address (unless b 9010 (Ok (made name k))) answer after) (sym f) (well, made_stands e f after (done well) places chunks)))))
 
   pub made_at_point : (name : List ℕ) (point : Option (List ℕ)) (rec : BranchRecord) (answer : BranchReply) (after : Parts) → is_branch_name name ≡ true
-      → IsCleanAt address (bytes_at old.chunks) shared.commits point (Some rec) → answer ≡ making name old.branches
+      → IsCleanAt address (chunk_bytes old.chunks) shared.commits point (Some rec) → answer ≡ making name old.branches
       → (answer ≡ reply.Done → after.branches ≡ placed line_cmp old.branches (record { name = name; rec = rec })) → after.places ≡ old.places → after.chunks ≡ old.chunks
       → Ends address (and_then (or_refuse 9004 point) (made_at shared name)) answer after
   made_at_point name (Some k) rec answer after form at is done places chunks = make_ends name k rec form at answer after is done places chunks
   made_at_point name None rec answer after form at is done places chunks = absurd at
 
-  pub no_point : (name : List ℕ) (point : Option (List ℕ)) (after : Parts) → IsCleanAt address (bytes_at old.chunks) shared.commits point None
+  pub no_point : (name : List ℕ) (point : Option (List ℕ)) (after : Parts) → IsCleanAt address (chunk_bytes old.chunks) shared.commits point None
       → Ends address (and_then (or_refuse 9004 point) (made_at shared name)) reply.NoSuch after
   no_point name (Some k) after at = absurd at
   no_point name None after at = refl

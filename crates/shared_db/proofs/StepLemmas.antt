@@ -7,15 +7,15 @@ use Rattle.std.specs.Cmp.Lexicographic.{bytes_decides, slice_cmp}
 use Rattle.script_text.specs.declared.outputs.BranchLine.{BranchLine}
 use Rattle.plain_sql.specs.Lists.{placed}
 use Rattle.plain_writes.proofs.InsertionLemmas.{two, placed_past, placed_stop}
-use Rattle.shared_db.specs.declared.branches.Branch.{Branch}
 use Rattle.shared_db.specs.declared.branches.Member.{Member}
+use Rattle.shared_db.specs.declared.branches.NamedBranch.{NamedBranch}
 use Rattle.shared_db.specs.Members.{line_of, lines_of, numbers_of, places_of}
 use Rattle.shared_db.specs.Shared.{is_line_of}
 use Rattle.shared_db.specs.Stepping.{line_cmp, place_before, without_line}
 
 -- ---- one line more
 
-map_insert : (branches : List Branch) (i : ℕ) (branch : Branch) → lines_of (insert branches i branch) ≡ insert (lines_of branches) i (line_of branch)
+map_insert : (branches : List NamedBranch) (i : ℕ) (branch : NamedBranch) → lines_of (insert branches i branch) ≡ insert (lines_of branches) i (line_of branch)
 map_insert branches zero branch = refl
 map_insert [] (suc i) branch = refl
 map_insert (x ∷ branches) (suc i) branch = ap (λ l. line_of x ∷ l) (map_insert branches i branch)
@@ -26,7 +26,7 @@ inserted line (x ∷ lines) = two (is_lt (line_cmp line x))
     (λ e. ap (λ b. insert (x ∷ lines) (cond b 0 (suc (place_before line.name lines))) line) e ∙ sym (placed_stop line_cmp line x lines e))
     (λ e. ap (λ b. insert (x ∷ lines) (cond b 0 (suc (place_before line.name lines))) line) e ∙ ap (λ l. x ∷ l) (inserted line lines) ∙ sym (placed_past line_cmp line x lines e))
 
-pub put_in_order : (branches : List Branch) (branch : Branch) → lines_of (insert branches (place_before branch.name (lines_of branches)) branch) ≡ placed line_cmp (lines_of branches) (line_of branch)
+pub put_in_order : (branches : List NamedBranch) (branch : NamedBranch) → lines_of (insert branches (place_before branch.name (lines_of branches)) branch) ≡ placed line_cmp (lines_of branches) (line_of branch)
 put_in_order branches branch = map_insert branches (place_before branch.name (lines_of branches)) branch ∙ inserted (line_of branch) (lines_of branches)
 
 pub place_few : (name : List ℕ) (lines : List BranchLine) → place_before name lines ≤ length lines
@@ -37,10 +37,10 @@ place_few name (x ∷ lines) = two (is_lt (slice_cmp nat_cmp name x.name))
 
 -- ---- one less
 
-abbrev pub is_kept : List ℕ → Branch → Bool
+abbrev pub is_kept : List ℕ → NamedBranch → Bool
 is_kept name branch = not (bytes_eq branch.name name)
 
-pub filtered : (name : List ℕ) (branches : List Branch) → lines_of (filter (is_kept name) branches) ≡ without_line name (lines_of branches)
+pub filtered : (name : List ℕ) (branches : List NamedBranch) → lines_of (filter (is_kept name) branches) ≡ without_line name (lines_of branches)
 filtered name [] = refl
 filtered name (x ∷ branches) = by (bytes_eq x.name name) (filtered name branches) where
   by : (t : Bool) → lines_of (filter (is_kept name) branches) ≡ without_line name (lines_of branches)

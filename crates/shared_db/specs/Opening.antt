@@ -1,7 +1,7 @@
 -- What the shared database is opened with.
 use Rattle.std.specs.Prelude.{◌≡◌, ℕ, ℤ, true, List, [], ◌∷◌, None, Some}
 use Rattle.tuple_codec.specs.declared.records.BranchRecord.{BranchRecord}
-use Rattle.chunk_store.specs.Chunks.{AreNamed, Chunk, IsSingle, Lists, bytes_at}
+use Rattle.chunk_store.specs.Chunks.{AreNamed, Chunk, IsSingle, Lists, chunk_bytes}
 use Rattle.chunk_store.specs.Drafts.{DraftParts}
 use Rattle.chunk_store.specs.Kinds.{is_commit}
 use Rattle.chunk_store.specs.Standing.{IsThere}
@@ -42,9 +42,9 @@ pub record HasJust (own chunks : List Chunk) : Type 0 where
 
 -- the empty database and the first commit are there and nothing else, and the record is that of a branch at this commit
 pub record IsOpened (address : List ℕ → List ℕ) (epoch : ℤ) (chunks : List Chunk) (rec : BranchRecord) : Type 0 where
-  pub commit : IsThere address (bytes_at chunks) (plain_commit_bytes address (first_commit epoch))
-  pub database : IsThere address (bytes_at chunks) (database_bytes address [])
-  pub only : (k bytes : List ℕ) → bytes_at chunks k ≡ Some bytes → is_commit bytes ≡ true → k ≡ commit_address address (first_commit epoch)
+  pub commit : IsThere address (chunk_bytes chunks) (plain_commit_bytes address (first_commit epoch))
+  pub database : IsThere address (chunk_bytes chunks) (database_bytes address [])
+  pub only : (k bytes : List ℕ) → chunk_bytes chunks k ≡ Some bytes → is_commit bytes ≡ true → k ≡ commit_address address (first_commit epoch)
   pub named : AreNamed address chunks
   pub single : IsSingle chunks
   pub head : rec.head.0 ≡ commit_address address (first_commit epoch)

@@ -3,15 +3,15 @@ use Rattle.std.specs.Prelude.{◌≡◌, ℕ, ◌+◌, ◌≤◌, Bool, List, []
 use Rattle.std.specs.List.{find}
 use Rattle.std.specs.Option.{option_map}
 use Rattle.tuple_codec.specs.declared.records.BranchRecord.{BranchRecord}
-use Rattle.chunk_store.specs.Chunks.{Agree, Chunk, bytes_at}
+use Rattle.chunk_store.specs.Chunks.{Agree, Chunk, chunk_bytes}
 use Rattle.chunk_store.specs.Stores.{IsUnion}
 use Rattle.chunk_store.specs.declared.faults.Clash.{Clash}
 use Rattle.script_text.specs.declared.outputs.BranchLine.{BranchLine}
 use Rattle.script_text.specs.declared.scripts.Moment.{Moment}
 use Rattle.session_laws.specs.Changes.{Parts}
 use Rattle.session_laws.specs.Laws.{with_record}
-use Rattle.shared_db.specs.declared.changes.Change.{Change}
-use Rattle.shared_db.specs.declared.changes.Change.TheVariants as change
+use Rattle.shared_db.specs.declared.changes.RecordChange.{RecordChange}
+use Rattle.shared_db.specs.declared.changes.RecordChange.TheVariants as change
 use Rattle.shared_db.specs.declared.changes.Settled.{Settled}
 use Rattle.shared_db.specs.declared.changes.Settled.TheVariants as settled
 
@@ -35,17 +35,17 @@ moment session statement = record { session = session; statement = statement }
 abbrev pub noted : ℕ → ℕ → Parts → Parts
 noted session statement parts = record parts { moments = parts.moments ++ moment session statement ∷ [] }
 
-abbrev pub changed_lines : List ℕ → Change → List BranchLine → List BranchLine
+abbrev pub changed_lines : List ℕ → RecordChange → List BranchLine → List BranchLine
 changed_lines name change.Nothing lines = lines
 changed_lines name (change.Record rec) lines = with_record name rec lines
 
 -- the chunks after a segment came in, or none did
 abbrev pub AreWith : List Chunk → Option (List Chunk) → List Chunk → Type 0
 AreWith old None new = new ≡ old
-AreWith old (Some sealed) new = IsUnion old sealed new × Agree (bytes_at old) (bytes_at sealed)
+AreWith old (Some sealed) new = IsUnion old sealed new × Agree (chunk_bytes old) (chunk_bytes sealed)
 
 -- a decision that was settled: the moment, the branch's record, and the chunks that came in
-pub record IsSettled (session statement : ℕ) (name : List ℕ) (change : Change) (sealed : Option (List Chunk)) (old new : Parts) : Type 0 where
+pub record IsSettled (session statement : ℕ) (name : List ℕ) (change : RecordChange) (sealed : Option (List Chunk)) (old new : Parts) : Type 0 where
   pub branches : new.branches ≡ changed_lines name change old.branches
   pub places : new.places ≡ old.places
   pub numbers : new.numbers ≡ old.numbers

@@ -8,15 +8,15 @@ ghost use Rattle.session_laws.specs.Laws.{head_in, with_record};
 ghost use Rattle.shared_db.specs.Members.{line_of, lines_of, numbers_of, places_of, with_rec};
 ghost use Rattle.shared_db.specs.Shared.{changed_lines, record_at};
 
-use crate::changes::Change;
+use crate::changes::RecordChange;
 use script_text::BranchLine;
 use std::alloc::{AllocError, Global};
-use table_root::{BranchName, Head, Heads};
+use table_root::{BranchHead, BranchName, Heads};
 use tuple_codec::{BranchRecord, Sequence, Text};
 
 /// A branch and its record.
 #[derive(Clone, Copy, Debug)]
-pub struct Branch {
+pub struct NamedBranch {
     pub name: BranchName,
     pub rec: BranchRecord,
 }
@@ -29,7 +29,7 @@ pub struct Member {
 }
 
 /// The record of the branch of this name.
-pub fn record_of(branches: &[Branch], name: &BranchName) -> Option<BranchRecord>
+pub fn record_of(branches: &[NamedBranch], name: &BranchName) -> Option<BranchRecord>
     ensures { result ≡ record_at name.now (lines_of branches.now) }
 {
     for branch in branches {
@@ -41,17 +41,17 @@ pub fn record_of(branches: &[Branch], name: &BranchName) -> Option<BranchRecord>
 }
 
 /// Gives the branch of this name another record, where it changes.
-pub fn change_record(branches: &mut Vec<Branch>, name: &BranchName, change: Change)
+pub fn change_record(branches: &mut Vec<NamedBranch>, name: &BranchName, change: RecordChange)
     ensures lines { lines_of branches.new.items ≡ changed_lines name.now change (lines_of branches.old.items) }
     ensures len { vec_len branches.new ≡ vec_len branches.old }
     ensures capacity { vec_capacity branches.new ≡ vec_capacity branches.old }
 {
-    if let Change::Record(rec) = change {
+    if let RecordChange::Record(rec) = change {
         set_record(branches.as_mut_slice(), name, rec);
     }
 }
 
-fn set_record(branches: &mut [Branch], name: &BranchName, rec: BranchRecord)
+fn set_record(branches: &mut [NamedBranch], name: &BranchName, rec: BranchRecord)
     ensures { lines_of branches.new ≡ with_record name.now rec (lines_of branches.old) }
 {
     for branch in branches.iter_mut() {
@@ -60,11 +60,11 @@ fn set_record(branches: &mut [Branch], name: &BranchName, rec: BranchRecord)
 }
 
 /// The branch, with another record where it has this name.
-fn with_rec(branch: Branch, name: &BranchName, rec: BranchRecord) -> Branch
+fn with_rec(branch: NamedBranch, name: &BranchName, rec: BranchRecord) -> NamedBranch
     ensures { result ≡ with_rec name.now rec branch }
 {
     if branch.name == *name {
-        Branch {
+        NamedBranch {
             name: branch.name,
             rec,
         }
@@ -74,13 +74,13 @@ fn with_rec(branch: Branch, name: &BranchName, rec: BranchRecord) -> Branch
 }
 
 /// The branches' heads.
-pub fn heads_of(alloc: Global, branches: &[Branch]) -> Result<Heads, AllocError>
+pub fn heads_of(alloc: Global, branches: &[NamedBranch]) -> Result<Heads, AllocError>
     requires { lines_rise (lines_of branches.now) ≡ true }
     ensures { IfOk result (λ heads. heads ≡ map head_in (lines_of branches.now)) }
 {
     let mut heads = Vec::with_capacity(alloc, branches.len())?;
     for branch in branches {
-        heads.push(Head {
+        heads.push(BranchHead {
             branch: branch.name,
             head: branch.rec.head,
         })?;
@@ -89,7 +89,10 @@ pub fn heads_of(alloc: Global, branches: &[Branch]) -> Result<Heads, AllocError>
 }
 
 /// The branches' names and records.
-pub fn branch_lines(alloc: Global, branches: &[Branch]) -> Result<Sequence<BranchLine>, AllocError>
+pub fn branch_lines(
+    alloc: Global,
+    branches: &[NamedBranch],
+) -> Result<Sequence<BranchLine>, AllocError>
     ensures { IfOk result (λ lines. lines ≡ lines_of branches.now) }
 {
     let mut lines = Vec::with_capacity(alloc, branches.len())?;
@@ -99,7 +102,7 @@ pub fn branch_lines(alloc: Global, branches: &[Branch]) -> Result<Sequence<Branc
     Ok(Sequence::from_vec(lines))
 }
 
-fn line_of(alloc: Global, branch: &Branch) -> Result<BranchLine, AllocError>
+fn line_of(alloc: Global, branch: &NamedBranch) -> Result<BranchLine, AllocError>
     ensures { IfOk result (λ line. line ≡ line_of branch.now) }
 {
     Ok(BranchLine {
@@ -109,12 +112,12 @@ fn line_of(alloc: Global, branch: &Branch) -> Result<BranchLine, AllocError>
 }
 
 /// The branch `main` alone, in room for as many branches as there may be.
-pub fn main_alone(alloc: Global, rec: BranchRecord) -> Result<Vec<Branch>, AllocError>
+pub fn main_alone(alloc: Global, rec: BranchRecord) -> Result<Vec<NamedBranch>, AllocError>
     ensures lines { IfOk result (λ branches. lines_of branches.items ≡ record { name = codes "main"; rec = rec } ∷ []) }
     ensures room { IfOk result (λ branches. most_branches ≤ vec_capacity branches) }
 {
     let mut branches = Vec::with_capacity(alloc, 1024)?;
-    branches.push_reserved(Branch {
+    branches.push_reserved(NamedBranch {
         name: main_name(),
         rec,
     });

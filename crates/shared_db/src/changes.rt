@@ -8,7 +8,7 @@ use tuple_codec::BranchRecord;
 
 /// What a decision makes of a branch's record.
 #[derive(Clone, Copy, Debug, PartialEq, Eq)]
-pub enum Change {
+pub enum RecordChange {
     Nothing,
     Record(BranchRecord),
 }
@@ -27,8 +27,8 @@ pub enum Settled {
 
 /// A decision as planned: what becomes of the branch's record, what the statement then answers, and the chunks that the record needs.
 #[derive(Debug, Drop)]
-pub struct Plan {
-    pub change: Change,
+pub struct DecisionPlan {
+    pub change: RecordChange,
     pub reply: Reply,
     pub sealed: Option<Arc<Segment>>,
 }

@@ -10,6 +10,6 @@ mod segments;
 mod shared;
 mod steps;
 
-pub use changes::{BranchReply, BranchStep, Change, Plan, Point, Settled};
+pub use changes::{BranchReply, BranchStep, DecisionPlan, Point, RecordChange, Settled};
 pub use laws::law_of_steps;
 pub use shared::SharedDb;

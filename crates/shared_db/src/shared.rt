@@ -3,7 +3,7 @@
 ghost use Rattle.std.specs.Prelude.{◌≡◌, ◌≢◌, ◌<◌, ◌≤◌, ◌≤ℤ◌, ◌+◌, ◌*◌, ℕ, List, [], true, pos, is_some, length, map, set, slice_get, sum, Option, None, Some, IfOk, IfErr};
 ghost use Rattle.std.specs.Arc.{arc_value};
 ghost use Rattle.std.specs.Option.{option_map, option_map_or};
-ghost use Rattle.chunk_store.specs.Chunks.{IsSingle, bytes_at};
+ghost use Rattle.chunk_store.specs.Chunks.{IsSingle, chunk_bytes};
 ghost use Rattle.chunk_store.specs.Clashes.{Differ, IsClash};
 ghost use Rattle.chunk_store.specs.Stores.{all_chunks};
 ghost use Rattle.plain_sessions.specs.Branching.{checkout_step, create_branch, delete_branch, heads_in, point_in, resolved};
@@ -20,9 +20,9 @@ ghost use Rattle.shared_db.specs.declared.changes.Settled.TheVariants as settled
 ghost use Rattle.sql_procedures.specs.declared.requests.CheckoutRequest.TheVariants as checkout;
 
 use crate::branches::{
-    Branch, Member, all_on_main, branch_lines, change_record, heads_of, main_alone, record_of,
+    Member, NamedBranch, all_on_main, branch_lines, change_record, heads_of, main_alone, record_of,
 };
-use crate::changes::{BranchReply, BranchStep, Change, Point, Settled};
+use crate::changes::{BranchReply, BranchStep, Point, RecordChange, Settled};
 use crate::opening::{Opened, all_moments, open_store};
 use crate::segments::append_sealed;
 use crate::steps::{clean_at, commit_at, is_there, make_branch, move_to, place_in, remove_branch};
@@ -40,7 +40,7 @@ use tuple_codec::{Address, BranchRecord, Digester, Sequence};
 #[derive(Debug, Drop)]
 pub struct SharedDb {
     /// By the bytes of their names.
-    branches: Vec<Branch>,
+    branches: Vec<NamedBranch>,
     members: Vec<Member>,
     moments: Vec<Moment>,
     store: Store,
@@ -153,7 +153,7 @@ impl SharedDb {
         session: u32,
         statement: u32,
         look: &Look,
-        change: Change,
+        change: RecordChange,
         sealed: Option<Arc<Segment>>,
     ) -> Settled
         requires moments { 0 < self.old.moments_room }
@@ -162,8 +162,8 @@ impl SharedDb {
         ensures done { result ≡ settled.Done → IsSettled session statement look.now.branch change (option_map arc_value sealed) self.old.parts self.new.parts }
         ensures looked { result ≡ settled.Done → record_at look.now.branch self.old.parts.branches ≡ Some look.now.rec }
         ensures moved { IfMoved result (λ rec. (record_at look.now.branch self.old.parts.branches ≡ Some rec) × (rec ≢ look.now.rec)) }
-        ensures collision { IfCollided result (IsClash (bytes_at self.old.parts.chunks) (bytes_at (option_map_or arc_value sealed []))) }
-        ensures memory { result ≡ settled.Memory → Differ (bytes_at self.old.parts.chunks) (bytes_at (option_map_or arc_value sealed [])) }
+        ensures collision { IfCollided result (IsClash (chunk_bytes self.old.parts.chunks) (chunk_bytes (option_map_or arc_value sealed []))) }
+        ensures memory { result ≡ settled.Memory → Differ (chunk_bytes self.old.parts.chunks) (chunk_bytes (option_map_or arc_value sealed [])) }
         ensures same { result ≢ settled.Done → self.new.parts ≡ self.old.parts }
         ensures kept { result ≢ settled.Done → (self.old.moments_room ≤ self.new.moments_room) × (self.old.segments_room ≤ self.new.segments_room) }
         ensures room { KeepsRoom 1 self.old self.new }
@@ -236,7 +236,7 @@ impl SharedDb {
         requires session { slice_get self.now.parts.places session ≢ None }
         requires state { HasState self.now.parts }
         ensures { (address : List ℕ → List ℕ) (shared : Shared) (p : Session) (name : List ℕ) → StateStands address self.now.parts shared → IsPlaced session p shared
-            → IsCleanAt address (bytes_at self.now.parts.chunks) shared.commits (point_in shared p (new_asked name point.now)) result }
+            → IsCleanAt address (chunk_bytes self.now.parts.chunks) shared.commits (point_in shared p (new_asked name point.now)) result }
     {
         let commit = self.commit_at_point(session, point)?;
         Some(clean_at(&self.store, commit))

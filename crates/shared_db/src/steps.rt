@@ -6,7 +6,7 @@ ghost use Rattle.std.specs.Option.{option_map};
 ghost use Rattle.std.specs.Ordering.{is_lt, nat_cmp};
 ghost use Rattle.std.specs.Cmp.Lexicographic.{slice_cmp};
 ghost use Rattle.std.specs.Vec.{vec_capacity};
-ghost use Rattle.chunk_store.specs.Chunks.{bytes_at};
+ghost use Rattle.chunk_store.specs.Chunks.{chunk_bytes};
 ghost use Rattle.chunk_store.specs.Stores.{all_chunks};
 ghost use Rattle.commit_graph.specs.Commits.{HasCommit};
 ghost use Rattle.plain_sessions.specs.Branching.{commit_named};
@@ -23,7 +23,7 @@ ghost use Rattle.shared_db.specs.declared.changes.BranchReply.TheVariants as rep
 ghost use Rattle.table_root.specs.Names.{is_branch_name};
 ghost use Rattle.tuple_codec.specs.AddressTexts.{IsAddress};
 
-use crate::branches::{Branch, Member, record_of};
+use crate::branches::{Member, NamedBranch, record_of};
 use crate::changes::BranchReply;
 use chunk_store::Store;
 use commit_graph::{is_commit, root_of};
@@ -36,8 +36,8 @@ const MOST: usize = 1024;
 // ---- points
 
 /// The commit that a name tells: the head of the branch of that name, and else the commit that has it as its address's text.
-pub fn commit_at(branches: &[Branch], store: &Store, name: &BranchName) -> Option<Address>
-    ensures { (address : List ℕ → List ℕ) (commits : Commits) → CommitsAreThere address (bytes_at (all_chunks store.now)) commits
+pub fn commit_at(branches: &[NamedBranch], store: &Store, name: &BranchName) -> Option<Address>
+    ensures { (address : List ℕ → List ℕ) (commits : Commits) → CommitsAreThere address (chunk_bytes (all_chunks store.now)) commits
         → option_map (λ k. k.0) result ≡ commit_at commits name.now (lines_of branches.now) }
 {
     match record_of(branches, name) {
@@ -48,7 +48,7 @@ pub fn commit_at(branches: &[Branch], store: &Store, name: &BranchName) -> Optio
 
 /// The commit of the address that has the name as its text.
 fn commit_named(store: &Store, name: &BranchName) -> Option<Address>
-    ensures { (address : List ℕ → List ℕ) (commits : Commits) → CommitsAreThere address (bytes_at (all_chunks store.now)) commits
+    ensures { (address : List ℕ → List ℕ) (commits : Commits) → CommitsAreThere address (chunk_bytes (all_chunks store.now)) commits
         → option_map (λ k. k.0) result ≡ commit_named commits name.now }
 {
     let address = Address::read(name.bytes())?;
@@ -67,9 +67,9 @@ fn know_bytes(_address: Address)
 
 /// The record of a branch at the commit, on which nothing has changed.
 pub fn clean_at(store: &Store, commit: Address) -> BranchRecord
-    requires { HasCommit (bytes_at (all_chunks store.now)) commit.0 }
-    ensures { (address : List ℕ → List ℕ) (commits : Commits) → CommitsAreThere address (bytes_at (all_chunks store.now)) commits → is_known commits commit.0 ≡ true
-        → RecordStands address (bytes_at (all_chunks store.now)) commits result (clean_at commit.0 (root_of commits commit.0)) }
+    requires { HasCommit (chunk_bytes (all_chunks store.now)) commit.0 }
+    ensures { (address : List ℕ → List ℕ) (commits : Commits) → CommitsAreThere address (chunk_bytes (all_chunks store.now)) commits → is_known commits commit.0 ≡ true
+        → RecordStands address (chunk_bytes (all_chunks store.now)) commits result (clean_at commit.0 (root_of commits commit.0)) }
 {
     let root = root_of(store, &commit);
     BranchRecord {
@@ -83,14 +83,18 @@ pub fn clean_at(store: &Store, commit: Address) -> BranchRecord
 // ---- branches
 
 /// Whether there is a branch of this name.
-pub fn is_there(branches: &[Branch], name: &BranchName) -> bool
+pub fn is_there(branches: &[NamedBranch], name: &BranchName) -> bool
     ensures { result ≡ is_some (record_at name.now (lines_of branches.now)) }
 {
     record_of(branches, name).is_some()
 }
 
 /// Makes a branch, unless there is one of its name or there are too many.
-pub fn make_branch(branches: &mut Vec<Branch>, name: &BranchName, rec: BranchRecord) -> BranchReply
+pub fn make_branch(
+    branches: &mut Vec<NamedBranch>,
+    name: &BranchName,
+    rec: BranchRecord,
+) -> BranchReply
     requires { most_branches ≤ vec_capacity branches.old }
     ensures reply { result ≡ making name.now (lines_of branches.old.items) }
     ensures done { result ≡ reply.Done → lines_of branches.new.items ≡ placed line_cmp (lines_of branches.old.items) (record { name = name.now; rec = rec }) }
@@ -105,7 +109,7 @@ pub fn make_branch(branches: &mut Vec<Branch>, name: &BranchName, rec: BranchRec
     if branches.len() >= MOST {
         return BranchReply::Full;
     }
-    put_branch(branches, Branch { name: *name, rec });
+    put_branch(branches, NamedBranch { name: *name, rec });
     BranchReply::Done
 }
 
@@ -117,7 +121,7 @@ fn know_form(name: &BranchName)
 }
 
 /// Puts a branch in its place among those whose names rise, in room that is there.
-fn put_branch(branches: &mut Vec<Branch>, branch: Branch)
+fn put_branch(branches: &mut Vec<NamedBranch>, branch: NamedBranch)
     requires { vec_len branches.old < vec_capacity branches.old }
     ensures lines { lines_of branches.new.items ≡ placed line_cmp (lines_of branches.old.items) (line_of branch) }
     ensures capacity { vec_capacity branches.old ≤ vec_capacity branches.new }
@@ -129,7 +133,7 @@ fn put_branch(branches: &mut Vec<Branch>, branch: Branch)
 }
 
 /// How many branches stand before the first of a greater name.
-fn place_of(branches: &[Branch], name: &BranchName) -> usize
+fn place_of(branches: &[NamedBranch], name: &BranchName) -> usize
     ensures { result ≡ place_before name.now (lines_of branches.now) }
 {
     let mut place = 0;
@@ -150,7 +154,7 @@ fn comes_before(name: &BranchName, other: &BranchName) -> bool
 
 /// Removes the branch of this name, unless there is none or a session is on it.
 pub fn remove_branch(
-    branches: &mut Vec<Branch>,
+    branches: &mut Vec<NamedBranch>,
     members: &[Member],
     name: &BranchName,
 ) -> BranchReply
@@ -181,7 +185,7 @@ fn is_used(members: &[Member], name: &BranchName) -> bool
     false
 }
 
-fn drop_branch(branches: &mut Vec<Branch>, name: &BranchName)
+fn drop_branch(branches: &mut Vec<NamedBranch>, name: &BranchName)
     ensures lines { lines_of branches.new.items ≡ without_line name.now (lines_of branches.old.items) }
     ensures capacity { vec_capacity branches.new ≡ vec_capacity branches.old }
 {

@@ -21,7 +21,7 @@ use Rattle.canonical_laws.specs.Written.{is_name}
 use Rattle.canonical_laws.proofs.StoredTexts.{stores_text}
 use Rattle.tuple_codec.proofs.Utf8Lemmas.{to_test}
 use Rattle.canonical_laws.proofs.TextUtf8.{name_text}
-use Rattle.sound_laws.specs.Laws.{AltersKept, IsKeptAction, CreatesKept, IfGiven, IsKept, IsKeptName}
+use Rattle.sound_laws.specs.Laws.{AltersKept, IsKeptAction, CreatesKept, IfGiven, IsKeptElement, IsKeptName}
 use Rattle.sound_laws.proofs.Readers.{filled_all}
 
 short : (name : List ℕ) → is_long name ≡ false → length name ≤ 64
@@ -45,7 +45,7 @@ names_kept (name ∷ names) are brief =
     let short_ = or_parts (is_long name) (are_long names) brief in
     (name_kept name each.0 short_.0, names_kept names each.1 short_.1)
 
-element_kept : (all : List Element) (e : Element) → element_outside all e ≡ false → element_long e ≡ false → is_element e ≡ true → IsKept e
+element_kept : (all : List Element) (e : Element) → element_outside all e ≡ false → element_long e ≡ false → is_element e ≡ true → IsKeptElement e
 element_kept all (element.Column column) inside brief is = name_kept column.name (and_parts (is_name column.name) (list_all is_attribute column.attributes) is).0 brief
 element_kept all (element.PrimaryKey columns) inside brief is = tt
 element_kept all (element.Unique name columns) inside brief is =
@@ -64,7 +64,7 @@ element_kept all (element.ForeignKey key) inside brief is =
     let first = or_parts (is_long_if key.name) (are_long key.columns) front.0 in
     (given_kept key.name own.0 first.0, name_kept key.parent other.0 front.1, names_kept key.parent_columns (filled_all is_name key.parent_columns other.1) all_but.1)
 
-elements_kept : (all es : List Element) → list_any (element_outside all) es ≡ false → list_any element_long es ≡ false → list_all is_element es ≡ true → AllByRecursion IsKept es
+elements_kept : (all es : List Element) → list_any (element_outside all) es ≡ false → list_any element_long es ≡ false → list_all is_element es ≡ true → AllByRecursion IsKeptElement es
 elements_kept all [] inside brief are = tt
 elements_kept all (e ∷ es) inside brief are =
     let one_ = or_parts (element_outside all e) (list_any (element_outside all) es) inside in

@@ -13,7 +13,7 @@ use Rattle.sql_ast.specs.declared.selects.OrderKey.{OrderKey}
 use Rattle.sql_ast.specs.declared.selects.Query.{Query}
 use Rattle.sql_ast.specs.declared.selects.Select.{Select}
 use Rattle.sql_ast.specs.declared.selects.Sorting.{Sorting}
-use Rattle.sql_ast.specs.declared.selects.Source.{Source}
+use Rattle.sql_ast.specs.declared.selects.TableSource.{TableSource}
 use Rattle.sql_ast.specs.declared.signs.Sign.TheVariants as sign
 use Rattle.sql_ast.specs.declared.words.Keyword.TheVariants as word
 use Rattle.sql_grammar.specs.declared.pieces.Piece.{Piece}
@@ -24,7 +24,7 @@ use Rattle.sql_grammar.specs.Reading.{Outcome, Reader, and_then, behind, eat, ea
 use Rattle.sql_statements.specs.Selects.{added, alias, all_of, all_of_shown, alone, alone_or_stop, begins_all_of, begins_join, bounds, clauses, column_name, direction, filter, first_of, from_clause, groups, item, items, join, joins, joins_from, key, keys, limit, listing, listing_from, named, named_in, offset, one_item, query, selection, sorting, source}
 use Rattle.sql_statements.specs.declared.chosen.Choice.{Choice}
 use Rattle.sql_statements.specs.declared.chosen.Listing.{Listing}
-use Rattle.sql_statements.specs.declared.chosen.Shown.{Shown}
+use Rattle.sql_statements.specs.declared.chosen.ShownItem.{ShownItem}
 use Rattle.grammar_laws.specs.Spelling.{mark}
 use Rattle.grammar_laws.proofs.Local.{Alike, Short, Takes, chosen_by, link_takes, loop_local, short_after, takes_of_short, turned}
 use Rattle.grammar_laws.proofs.LocalRules.{quoted_point_takes, quoted_takes, word_point_takes, word_takes}
@@ -34,50 +34,50 @@ alias_local : IsLocal (Option (List ℕ)) alias
 unfolding alias
 alias_local = bind (eats_keyword word.As) (λ b. chosen b (mapped _ name_one) perhaps_name)
 
-named_local : (x : Expr) → IsLocal Shown (named x)
+named_local : (x : Expr) → IsLocal ShownItem (named x)
 unfolding named
 named_local x = bind (eats_keyword word.As) (λ b. chosen b (mapped _ name_one) (mapped _ perhaps_name))
 
-one_item_local : IsLocal Shown one_item
+one_item_local : IsLocal ShownItem one_item
 unfolding one_item
 one_item_local = bind any_one named_local
 
-all_of_local : IsLocal Shown all_of
+all_of_local : IsLocal ShownItem all_of
 unfolding all_of
 all_of_local = bind name_one (λ n. bind skips (λ u. bind skips (λ v. gives {x = all_of_shown n})))
 
 -- Whether `name . *` comes next shows by three pieces. Where fewer are shared, either reader takes all of them.
 
-one_item_takes : (ts : List Piece) (n : ℕ) → Short Expr n (any ts) → Short Shown n (one_item ts)
+one_item_takes : (ts : List Piece) (n : ℕ) → Short Expr n (any ts) → Short ShownItem n (one_item ts)
 unfolding one_item
-one_item_takes ts n few = short_after Expr Shown n (any ts) named few (λ x. (named_local x).runs)
+one_item_takes ts n few = short_after Expr ShownItem n (any ts) named few (λ x. (named_local x).runs)
 
-word_all : (n : List ℕ) (ts : List Piece) → Short Shown (length ts) (all_of (piece.Word n ∷ ts))
+word_all : (n : List ℕ) (ts : List Piece) → Short ShownItem (length ts) (all_of (piece.Word n ∷ ts))
 unfolding all_of name
-word_all n ts = short {A = Shown} (bind skips (λ u. bind skips (λ v. gives {x = all_of_shown n}))) ts
+word_all n ts = short {A = ShownItem} (bind skips (λ u. bind skips (λ v. gives {x = all_of_shown n}))) ts
 
-quoted_all : (n : List ℕ) (ts : List Piece) → Short Shown (length ts) (all_of (piece.Quoted n ∷ ts))
+quoted_all : (n : List ℕ) (ts : List Piece) → Short ShownItem (length ts) (all_of (piece.Quoted n ∷ ts))
 unfolding all_of name
-quoted_all n ts = short {A = Shown} (bind skips (λ u. bind skips (λ v. gives {x = all_of_shown n}))) ts
+quoted_all n ts = short {A = ShownItem} (bind skips (λ u. bind skips (λ v. gives {x = all_of_shown n}))) ts
 
-word_point_all : (n : List ℕ) (ts : List Piece) → Short Shown (length ts) (all_of (piece.Word n ∷ mark sign.Point ∷ ts))
+word_point_all : (n : List ℕ) (ts : List Piece) → Short ShownItem (length ts) (all_of (piece.Word n ∷ mark sign.Point ∷ ts))
 unfolding all_of name
-word_point_all n ts = short {A = Shown} (bind skips (λ v. gives {x = all_of_shown n})) ts
+word_point_all n ts = short {A = ShownItem} (bind skips (λ v. gives {x = all_of_shown n})) ts
 
-quoted_point_all : (n : List ℕ) (ts : List Piece) → Short Shown (length ts) (all_of (piece.Quoted n ∷ mark sign.Point ∷ ts))
+quoted_point_all : (n : List ℕ) (ts : List Piece) → Short ShownItem (length ts) (all_of (piece.Quoted n ∷ mark sign.Point ∷ ts))
 unfolding all_of name
-quoted_point_all n ts = short {A = Shown} (bind skips (λ v. gives {x = all_of_shown n})) ts
+quoted_point_all n ts = short {A = ShownItem} (bind skips (λ v. gives {x = all_of_shown n})) ts
 
-item_at : (shared behind_ other : List Piece) → Alike Shown shared behind_ other (item (shared ++ behind_)) (item (shared ++ other))
+item_at : (shared behind_ other : List Piece) → Alike ShownItem shared behind_ other (item (shared ++ behind_)) (item (shared ++ other))
 unfolding item any begins_all_of same_sign
-item_at [] behind_ other = chosen_by Shown begins_all_of all_of one_item [] behind_ other all_of_local.runs one_item_local.runs (inr (short all_of_local behind_, short one_item_local behind_))
+item_at [] behind_ other = chosen_by ShownItem begins_all_of all_of one_item [] behind_ other all_of_local.runs one_item_local.runs (inr (short all_of_local behind_, short one_item_local behind_))
 item_at (piece.Word n ∷ []) behind_ other =
-    chosen_by Shown begins_all_of all_of one_item (piece.Word n ∷ []) behind_ other all_of_local.runs one_item_local.runs
+    chosen_by ShownItem begins_all_of all_of one_item (piece.Word n ∷ []) behind_ other all_of_local.runs one_item_local.runs
     (inr (word_all n behind_, one_item_takes (piece.Word n ∷ behind_) (length behind_) (word_takes 64 n behind_)))
 item_at (piece.Quoted n ∷ []) behind_ other =
-    chosen_by Shown begins_all_of all_of one_item (piece.Quoted n ∷ []) behind_ other all_of_local.runs one_item_local.runs
+    chosen_by ShownItem begins_all_of all_of one_item (piece.Quoted n ∷ []) behind_ other all_of_local.runs one_item_local.runs
     (inr (quoted_all n behind_, one_item_takes (piece.Quoted n ∷ behind_) (length behind_) (quoted_takes 64 n behind_)))
-item_at (t ∷ []) behind_ other = chosen_by Shown begins_all_of all_of one_item (t ∷ []) behind_ other all_of_local.runs one_item_local.runs (inl (sure behind_ other))
+item_at (t ∷ []) behind_ other = chosen_by ShownItem begins_all_of all_of one_item (t ∷ []) behind_ other all_of_local.runs one_item_local.runs (inl (sure behind_ other))
   where
     none : (ts : List Piece) → begins_all_of (t ∷ ts) ≡ false
     none [] = refl
@@ -87,12 +87,12 @@ item_at (t ∷ []) behind_ other = chosen_by Shown begins_all_of all_of one_item
     sure : (ts us : List Piece) → begins_all_of (t ∷ ts) ≡ begins_all_of (t ∷ us)
     sure ts us = subst (λ b. begins_all_of (t ∷ ts) ≡ b) (sym (none us)) (none ts)
 item_at (piece.Word n ∷ piece.Sign sign.Point ∷ []) behind_ other =
-    chosen_by Shown begins_all_of all_of one_item (piece.Word n ∷ mark sign.Point ∷ []) behind_ other all_of_local.runs one_item_local.runs
+    chosen_by ShownItem begins_all_of all_of one_item (piece.Word n ∷ mark sign.Point ∷ []) behind_ other all_of_local.runs one_item_local.runs
     (inr (word_point_all n behind_, one_item_takes (piece.Word n ∷ mark sign.Point ∷ behind_) (length behind_) (word_point_takes 64 n behind_)))
 item_at (piece.Quoted n ∷ piece.Sign sign.Point ∷ []) behind_ other =
-    chosen_by Shown begins_all_of all_of one_item (piece.Quoted n ∷ mark sign.Point ∷ []) behind_ other all_of_local.runs one_item_local.runs
+    chosen_by ShownItem begins_all_of all_of one_item (piece.Quoted n ∷ mark sign.Point ∷ []) behind_ other all_of_local.runs one_item_local.runs
     (inr (quoted_point_all n behind_, one_item_takes (piece.Quoted n ∷ mark sign.Point ∷ behind_) (length behind_) (quoted_point_takes 64 n behind_)))
-item_at (t ∷ u ∷ []) behind_ other = chosen_by Shown begins_all_of all_of one_item (t ∷ u ∷ []) behind_ other all_of_local.runs one_item_local.runs (inl (sure behind_ other))
+item_at (t ∷ u ∷ []) behind_ other = chosen_by ShownItem begins_all_of all_of one_item (t ∷ u ∷ []) behind_ other all_of_local.runs one_item_local.runs (inl (sure behind_ other))
   where
     none : (ts : List Piece) → begins_all_of (t ∷ u ∷ ts) ≡ false
     none [] = refl
@@ -100,21 +100,21 @@ item_at (t ∷ u ∷ []) behind_ other = chosen_by Shown begins_all_of all_of on
 
     sure : (ts us : List Piece) → begins_all_of (t ∷ u ∷ ts) ≡ begins_all_of (t ∷ u ∷ us)
     sure ts us = subst (λ b. begins_all_of (t ∷ u ∷ ts) ≡ b) (sym (none us)) (none ts)
-item_at (t ∷ u ∷ v ∷ shared) behind_ other = chosen_by Shown begins_all_of all_of one_item (t ∷ u ∷ v ∷ shared) behind_ other all_of_local.runs one_item_local.runs (inl refl)
+item_at (t ∷ u ∷ v ∷ shared) behind_ other = chosen_by ShownItem begins_all_of all_of one_item (t ∷ u ∷ v ∷ shared) behind_ other all_of_local.runs one_item_local.runs (inl refl)
 
-item_local : IsLocal Shown item
+item_local : IsLocal ShownItem item
 item_local = record { runs = item_at }
 
 -- lists that are counted by the pieces
 
-abbrev more_items : Reader (Option Shown)
+abbrev more_items : Reader (Option ShownItem)
 more_items = behind (eat sign.Comma) item
 
 listing_turns : (n : ℕ) (found : Listing) (ts : List Piece) → listing_from (suc n) found ts ≡ and_then (more_items ts) (turned (listing_from n) added found)
 unfolding listing_from
 listing_turns n found ts = at (eat sign.Comma ts)
   where
-    behind_ : (o : Outcome Shown) → and_then o (λ x. listing_from n (added found x)) ≡ and_then (and_then o (λ x. pure (Some x))) (turned (listing_from n) added found)
+    behind_ : (o : Outcome ShownItem) → and_then o (λ x. listing_from n (added found x)) ≡ and_then (and_then o (λ x. pure (Some x))) (turned (listing_from n) added found)
     behind_ (Ok read) = refl
     behind_ (Err k) = refl
 
@@ -128,15 +128,15 @@ listing_local : IsLocal Listing listing
 unfolding listing listing_from sees
 listing_local =
     bind item_local (λ first. record {
-      runs = loop_local Listing Shown listing_from added more_items (λ s ts. refl) listing_turns (bind (eats sign.Comma) (λ b. chosen b (bind item_local (λ x. gives)) gives)).runs
-          (link_takes Shown (is_sign sign.Comma) item item_local.runs) refl (first_of first);
+      runs = loop_local Listing ShownItem listing_from added more_items (λ s ts. refl) listing_turns (bind (eats sign.Comma) (λ b. chosen b (bind item_local (λ x. gives)) gives)).runs
+          (link_takes ShownItem (is_sign sign.Comma) item item_local.runs) refl (first_of first);
     })
 
 items_local : IsLocal Choice items
 unfolding items
 items_local = bind (eats sign.Star) (λ b. chosen b gives (mapped _ listing_local))
 
-source_local : IsLocal Source source
+source_local : IsLocal TableSource source
 unfolding source
 source_local = bind name_one (λ n. bind alias_local (λ m. gives))
 

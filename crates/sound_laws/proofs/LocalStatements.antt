@@ -5,8 +5,8 @@ use Rattle.sql_ast.specs.declared.signs.Sign.TheVariants as sign
 use Rattle.sql_ast.specs.declared.statements.Assignment.{Assignment}
 use Rattle.sql_ast.specs.declared.statements.Call.{Call}
 use Rattle.sql_ast.specs.declared.statements.Delete.{Delete}
-use Rattle.sql_ast.specs.declared.statements.Entry.{Entry}
 use Rattle.sql_ast.specs.declared.statements.Insert.{Insert}
+use Rattle.sql_ast.specs.declared.statements.InsertCell.{InsertCell}
 use Rattle.sql_ast.specs.declared.statements.Setting.{Setting}
 use Rattle.sql_ast.specs.declared.statements.Statement.{Statement}
 use Rattle.sql_ast.specs.declared.statements.Update.{Update}
@@ -26,11 +26,11 @@ use Rattle.sound_laws.proofs.LocalSelects.{filter_local, selection_local}
 use Rattle.sound_laws.proofs.LocalTables.{alter_local, create_local, drop_local, names_local}
 use Rattle.sound_laws.proofs.LocalWords.{IsLocal, any_one, bind, by_first, chosen, eats, eats_keyword, eats_word, expects, expects_keyword, expects_word, gives, listed, name_one, mapped, short, string_one, views}
 
-entries_local : IsLocal Entry any_entry
+entries_local : IsLocal InsertCell any_entry
 unfolding any_entry
 entries_local = bind (eats_keyword word.Default) (λ b. chosen b gives (mapped _ any_one))
 
-tuple_local : IsLocal (List Entry) tuple
+tuple_local : IsLocal (List InsertCell) tuple
 unfolding tuple
 tuple_local = bind (expects sign.OpenParenthesis) (λ u. bind (listed entries_local) (λ found. bind (expects sign.CloseParenthesis) (λ v. gives)))
 

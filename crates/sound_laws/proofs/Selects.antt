@@ -16,8 +16,8 @@ use Rattle.sql_ast.specs.declared.selects.Clauses.{Clauses}
 use Rattle.sql_ast.specs.declared.selects.ColumnName.{ColumnName}
 use Rattle.sql_ast.specs.declared.selects.Direction.{Direction}
 use Rattle.sql_ast.specs.declared.selects.FromClause.{FromClause}
-use Rattle.sql_ast.specs.declared.selects.Item.{Item}
-use Rattle.sql_ast.specs.declared.selects.Item.TheVariants.{AllOf, One}
+use Rattle.sql_ast.specs.declared.selects.SelectItem.{SelectItem}
+use Rattle.sql_ast.specs.declared.selects.SelectItem.TheVariants.{AllOf, One}
 use Rattle.sql_ast.specs.declared.selects.Items.{Items}
 use Rattle.sql_ast.specs.declared.selects.Items.TheVariants.{All, Listed}
 use Rattle.sql_ast.specs.declared.selects.Join.{Join}
@@ -27,18 +27,18 @@ use Rattle.sql_ast.specs.declared.selects.OrderKey.{OrderKey}
 use Rattle.sql_ast.specs.declared.selects.Query.{Query}
 use Rattle.sql_ast.specs.declared.selects.Select.{Select}
 use Rattle.sql_ast.specs.declared.selects.Sorting.{Sorting}
-use Rattle.sql_ast.specs.declared.selects.Source.{Source}
+use Rattle.sql_ast.specs.declared.selects.TableSource.{TableSource}
 use Rattle.sql_statements.specs.Selects.{alias, all_of, alone, alone_or_stop, begins_all_of, begins_join, bounds, clauses, column_name, direction, filter, from_clause, groups, item, items, join, joins, joins_from, key, keys, limit, listing, listing_from, named, named_from, named_in, offset, one_item, query, selection, sorting, source, added, first_of}
 use Rattle.sql_statements.specs.declared.chosen.Choice.{Choice}
 use Rattle.sql_statements.specs.declared.chosen.Listing.{Listing}
-use Rattle.sql_statements.specs.declared.chosen.Shown.{Shown}
+use Rattle.sql_statements.specs.declared.chosen.ShownItem.{ShownItem}
 use Rattle.canonical_laws.specs.Sound.{is_clauses, is_column_name, is_expr, is_filled, is_from, is_item, is_items, is_join, is_key, is_named as is_named_expr, is_perhaps, is_query, is_select, is_sorting, is_source}
 
 alias_sound : Sound (Option (List ℕ)) (is_perhaps is_name) alias
 unfolding alias
 alias_sound = bind (eats_keyword word.As) (λ b a. chosen b (some names_one) perhaps_named)
 
-abbrev is_shown : Shown → Bool
+abbrev is_shown : ShownItem → Bool
 is_shown x = is_item x.item
 
 abbrev is_listing : Listing → Bool
@@ -47,7 +47,7 @@ is_listing x = is_filled is_item x.items
 abbrev is_choice : Choice → Bool
 is_choice x = is_items x.items
 
-named_sound : (x : Expr) → is_expr x ≡ true → Sound Shown is_shown (named x)
+named_sound : (x : Expr) → is_expr x ≡ true → Sound ShownItem is_shown (named x)
 unfolding named
 named_sound x is =
     bind (eats_keyword word.As) (λ b a. chosen b (bind names_one (λ n one_. gives (and_from _ _ is one_))) (bind perhaps_named (λ n one_. gives (and_from _ _ is one_))))
@@ -59,7 +59,7 @@ point_star t u v ts fine is =
     let parts = and_parts (is_sign sign.Point u) (is_sign sign.Star v) is in
     behind_piece v ts (behind_piece u (v ∷ ts) fine (λ minus. false≢true (ap (is_sign sign.Point) (sym minus) ∙ parts.0))) (λ minus. false≢true (ap (is_sign sign.Star) (sym minus) ∙ parts.1))
 
-all_of_at : (ts : List Piece) → Fine ts → begins_all_of ts ≡ true → Gives Shown is_shown (all_of ts)
+all_of_at : (ts : List Piece) → Fine ts → begins_all_of ts ≡ true → Gives ShownItem is_shown (all_of ts)
 unfolding all_of name begins_all_of
 all_of_at (piece.Word n ∷ u ∷ v ∷ ts) fine is =
     let parts = and_parts (is_name n) (are_given Operand (u ∷ v ∷ ts)) fine in
@@ -73,14 +73,14 @@ all_of_at (piece.Quoted n ∷ u ∷ []) fine is = absurd (cc)
 all_of_at (piece.Quoted n ∷ []) fine is = absurd (cc)
 all_of_at ts fine is = tt
 
-one_item_sound : Sound Shown is_shown one_item
+one_item_sound : Sound ShownItem is_shown one_item
 unfolding one_item
 one_item_sound = bind any_sound (λ x is. named_sound x is)
 
-item_sound : Sound Shown is_shown item
+item_sound : Sound ShownItem is_shown item
 unfolding item
 item_sound = record {
-  runs = λ ts fine. elim (begins_all_of ts) as (λ b. begins_all_of ts ≡ b → Gives Shown is_shown (cond b (all_of ts) (one_item ts))) [
+  runs = λ ts fine. elim (begins_all_of ts) as (λ b. begins_all_of ts ≡ b → Gives ShownItem is_shown (cond b (all_of ts) (one_item ts))) [
     | true ↦ λ is. all_of_at ts fine is
     | false ↦ λ is. one_item_sound.runs ts fine
   ] refl;
@@ -100,7 +100,7 @@ items_sound : Sound Choice is_choice items
 unfolding items same_sign
 items_sound = bind (eats sign.Star refl) (λ b a. chosen b (gives refl) (bind listing_sound (λ found all. gives all)))
 
-source_sound : Sound Source is_source source
+source_sound : Sound TableSource is_source source
 unfolding source
 source_sound = bind names_one (λ n one_. bind alias_sound (λ m two. gives (and_from _ _ one_ two)))
 
@@ -170,7 +170,7 @@ query_sound : (distinct : Bool) (shown : Items) → is_items shown ≡ true → 
 unfolding query
 query_sound distinct shown is = bind from_sound (λ f one_. bind clauses_sound (λ c two. gives (and_from _ _ is (and_from _ _ one_ two))))
 
-named_from_filled : (found : List NamedExpr) (rest : List Item) → is_filled is_named_expr found ≡ true → list_all is_item rest ≡ true → is_perhaps (is_filled is_named_expr) (named_from found rest) ≡ true
+named_from_filled : (found : List NamedExpr) (rest : List SelectItem) → is_filled is_named_expr found ≡ true → list_all is_item rest ≡ true → is_perhaps (is_filled is_named_expr) (named_from found rest) ≡ true
 unfolding named_from
 named_from_filled found [] filled all = filled
 named_from_filled found (AllOf n ∷ rest) filled all = refl

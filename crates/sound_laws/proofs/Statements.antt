@@ -15,7 +15,7 @@ use Rattle.sound_laws.proofs.Readers.{Fine, filled_all, weaken, Gives, IsMinus, 
 use Rattle.sql_ast.specs.declared.statements.Assignment.{Assignment}
 use Rattle.sql_ast.specs.declared.statements.Call.{Call}
 use Rattle.sql_ast.specs.declared.statements.Delete.{Delete}
-use Rattle.sql_ast.specs.declared.statements.Entry.{Entry}
+use Rattle.sql_ast.specs.declared.statements.InsertCell.{InsertCell}
 use Rattle.sql_ast.specs.declared.statements.Insert.{Insert}
 use Rattle.sql_ast.specs.declared.statements.Setting.{Setting}
 use Rattle.sql_ast.specs.declared.statements.Statement.{Statement}
@@ -32,11 +32,11 @@ use Rattle.sound_laws.specs.Laws.{ReadsSound}
 use Rattle.sound_laws.proofs.Selects.{filter_sound, selection_sound}
 use Rattle.sound_laws.proofs.Tables.{alter_sound, create_sound, drop_sound}
 
-entries_sound : Sound Entry is_entry any_entry
+entries_sound : Sound InsertCell is_entry any_entry
 unfolding any_entry
 entries_sound = bind (eats_keyword word.Default) (λ b a. chosen b (gives refl) (bind any_sound (λ x is. gives is)))
 
-tuples_sound : Sound (List Entry) is_tuple tuple
+tuples_sound : Sound (List InsertCell) is_tuple tuple
 unfolding tuple same_sign
 tuples_sound = bind (expects sign.OpenParenthesis refl) (λ u a. bind (list_sound entries_sound) (λ found all. bind (expects sign.CloseParenthesis refl) (λ v b. gives all)))
 

@@ -1,6 +1,6 @@
 -- Statements that are sound, and ones that no text gives.
 use Rattle.std.proofs.Common.{◌≡◌, refl, codes, true, false, None, Some, [], ◌∷◌}
-use Rattle.sql_ast.specs.declared.statements.Entry.TheVariants as entry
+use Rattle.sql_ast.specs.declared.statements.InsertCell.TheVariants as entry
 use Rattle.sql_ast.specs.declared.statements.Statement.TheVariants as statement
 use Rattle.sql_ast.specs.declared.statements.Write.TheVariants as write
 use Rattle.canonical_laws.specs.Sound.{is_sound}

@@ -44,18 +44,18 @@ IfGiven (Some name) = IsKeptName name
 IfGiven None = Unit {0}
 
 -- a CHECK's canonical text is read as what it says
-abbrev pub IsKept : Element → Type 0
-IsKept (element.Column column) = IsKeptName column.name
-IsKept (element.PrimaryKey columns) = Unit {0}
-IsKept (element.Unique name columns) = IfGiven name
-IsKept (element.Index name columns) = IsKeptName name
-IsKept (element.Check name condition) = IfGiven name × (canonical_expression (text condition) ≡ Some (paired condition)) × (is_utf8 (text condition) ≡ true)
-IsKept (element.ForeignKey key) = IfGiven key.name × IsKeptName key.parent × AllByRecursion IsKeptName key.parent_columns
+abbrev pub IsKeptElement : Element → Type 0
+IsKeptElement (element.Column column) = IsKeptName column.name
+IsKeptElement (element.PrimaryKey columns) = Unit {0}
+IsKeptElement (element.Unique name columns) = IfGiven name
+IsKeptElement (element.Index name columns) = IsKeptName name
+IsKeptElement (element.Check name condition) = IfGiven name × (canonical_expression (text condition) ≡ Some (paired condition)) × (is_utf8 (text condition) ≡ true)
+IsKeptElement (element.ForeignKey key) = IfGiven key.name × IsKeptName key.parent × AllByRecursion IsKeptName key.parent_columns
 
 -- of a sound CREATE in the language
 abbrev pub CreatesKept : Type 0
 CreatesKept = (create : CreateTable) → outside (statement.Write (write.Create create)) ≡ false → is_sound (statement.Write (write.Create create)) ≡ true
-    → IsKeptName create.table × AllByRecursion IsKept create.elements
+    → IsKeptName create.table × AllByRecursion IsKeptElement create.elements
 
 abbrev pub IsKeptAction : AlterAction → Type 0
 IsKeptAction (action.Add column) = IsKeptName column.name

@@ -16,8 +16,8 @@ use Rattle.sql_ast.specs.declared.places.Last.TheVariants.{Operand}
 use Rattle.sql_ast.specs.declared.signs.Sign.{Sign}
 use Rattle.sql_ast.specs.declared.signs.Sign.TheVariants as sign
 use Rattle.sql_ast.specs.declared.tokens.TokenKind.TheVariants as kind
-use Rattle.sql_ast.specs.declared.places.Place.{Place}
-use Rattle.sql_ast.specs.declared.places.Place.TheVariants.{Between, InWord, AfterX, InWhole, AtPoint, InDecimal, InString, AfterQuote, AfterSlash, HexEven, HexOdd, AfterBytes, NameStart, InName, AfterName, AfterSign, AfterHalf}
+use Rattle.sql_ast.specs.declared.places.LexerState.{LexerState}
+use Rattle.sql_ast.specs.declared.places.LexerState.TheVariants.{Between, InWord, AfterX, InWhole, AtPoint, InDecimal, InString, AfterQuote, AfterSlash, HexEven, HexOdd, AfterBytes, NameStart, InName, AfterName, AfterSign, AfterHalf}
 use Rattle.sql_ast.specs.declared.tokens.Token.{Token}
 use Rattle.sql_ast.specs.declared.tokens.TokenKind.{TokenKind}
 
@@ -38,7 +38,7 @@ with_blank text from [] at here (within, blank) = (omega arith, blank_more text 
 with_blank text from (t ∷ ts) at here (within, blank, filled, rest) = (within, blank, filled, with_blank text t.end ts at here rest)
 
 -- where a token is open, what is closed goes up to its start, which is before `at`
-abbrev Standing : Place → List ℕ → ℕ → Reading → Type 0
+abbrev Standing : LexerState → List ℕ → ℕ → Reading → Type 0
 Standing Between text at r = AreSlices text 0 r.done at
 Standing AtPoint text at r = AreSlices text 0 r.done r.start × (r.start + 1 < at)
 Standing place text at r = AreSlices text 0 r.done r.start × (r.start < at)
@@ -74,7 +74,7 @@ point_ends text at r before some =
     (whole_ends text (at - 1) r before (omega arith))
     (λ next ends. closed_ends text kind.Sign at (after_sign sign.Point next.last) (record next { start = at - 1 }) ends.1 (omega arith))
 
-ends : (place : Place) (text : List ℕ) (at : ℕ) (r : Reading) → r.place ≡ place → Standing place text at r → IfOk (ended place at r) (Ends text at)
+ends : (place : LexerState) (text : List ℕ) (at : ℕ) (r : Reading) → r.place ≡ place → Standing place text at r → IfOk (ended place at r) (Ends text at)
 ends Between text at r is before = (is, before)
 ends InWord text at r is (before, some) = closed_ends text kind.Word at (after_keyword (keyword_of r.held)) r before some
 ends AfterX text at r is (before, some) = closed_ends text kind.Word at (after_keyword (keyword_of r.held)) r before some
@@ -94,7 +94,7 @@ ends (AfterSign mark) text at r is (before, some) = closed_ends text kind.Sign a
 ends (AfterHalf first) text at r is stands = tt
 
 -- a byte at `at` may be taken into a token at this place
-abbrev IsReady : List ℕ → ℕ → Reading → Place → Type 0
+abbrev IsReady : List ℕ → ℕ → Reading → LexerState → Type 0
 IsReady text at r Between = ⊥
 IsReady text at r AtPoint = AreSlices text 0 r.done r.start × (r.start < at)
 IsReady text at r place = AreSlices text 0 r.done r.start × (r.start ≤ at)
@@ -102,20 +102,20 @@ IsReady text at r place = AreSlices text 0 r.done r.start × (r.start ≤ at)
 abbrev Stands : List ℕ → ℕ → Reading → Type 0
 Stands text at r = Standing r.place text at r
 
-taken_stands : (place : Place) (text : List ℕ) (at byte : ℕ) (r : Reading) → IsReady text at r place → Stands text (at + 1) (taken place byte r)
+taken_stands : (place : LexerState) (text : List ℕ) (at byte : ℕ) (r : Reading) → IsReady text at r place → Stands text (at + 1) (taken place byte r)
 taken_stands Between text at byte r ready = absurd ready
 taken_stands place text at byte r (before, some) = (before, omega arith)
 
-either : (P : Place → Type 0) (test other : Bool) (a b : Place) → P a → P b → IfSome (if test then Some a else on other b) P
+either : (P : LexerState → Type 0) (test other : Bool) (a b : LexerState) → P a → P b → IfSome (if test then Some a else on other b) P
 either P true other a b first second = first
 either P false true a b first second = second
 either P false false a b first second = tt
 
-if_place : (P : Place → Type 0) (test : Bool) (a b : Place) → P a → P b → P (if test then a else b)
+if_place : (P : LexerState → Type 0) (test : Bool) (a b : LexerState) → P a → P b → P (if test then a else b)
 if_place P true a b first second = first
 if_place P false a b first second = second
 
-on_some : (P : Place → Type 0) (test : Bool) (place : Place) → P place → IfSome (on test place) P
+on_some : (P : LexerState → Type 0) (test : Bool) (place : LexerState) → P place → IfSome (on test place) P
 on_some P true place holds = holds
 on_some P false place holds = tt
 
@@ -139,68 +139,68 @@ first_ready : (text : List ℕ) (at byte : ℕ) (r : Reading) → AreSlices text
 first_ready text at byte r before some =
     first_by text at r before some (byte == 120 || byte == 88) (is_word_start byte) (is_digit byte) (byte == 39 || byte == 34) (byte == 96) (byte == 33 || byte == 64) byte (single_sign byte)
 
-next_ready : (place : Place) (text : List ℕ) (at byte : ℕ) (r : Reading) → Standing place text at r → IfSome (next_place place byte) (IsReady text at r)
+next_ready : (place : LexerState) (text : List ℕ) (at byte : ℕ) (r : Reading) → Standing place text at r → IfSome (next_place place byte) (IsReady text at r)
 next_ready Between text at byte r stands = tt
 next_ready InWord text at byte r (before, some) =
-    let P : Place → Type 0 = IsReady text at r in
+    let P : LexerState → Type 0 = IsReady text at r in
     let ready : AreSlices text 0 r.done r.start × (r.start ≤ at) = (before, omega arith) in
     on_some P (is_word_byte byte) InWord ready
 next_ready AfterX text at byte r (before, some) =
-    let P : Place → Type 0 = IsReady text at r in
+    let P : LexerState → Type 0 = IsReady text at r in
     let ready : AreSlices text 0 r.done r.start × (r.start ≤ at) = (before, omega arith) in
     either P (byte == 39) (is_word_byte byte) HexEven InWord ready ready
 next_ready InWhole text at byte r (before, some) =
-    let P : Place → Type 0 = IsReady text at r in
+    let P : LexerState → Type 0 = IsReady text at r in
     let ready : AreSlices text 0 r.done r.start × (r.start ≤ at) = (before, omega arith) in
     either P (byte == 46) (is_digit byte) AtPoint InWhole (before, some) ready
 next_ready AtPoint text at byte r (before, some) =
-    let P : Place → Type 0 = IsReady text at r in
+    let P : LexerState → Type 0 = IsReady text at r in
     let ready : AreSlices text 0 r.done r.start × (r.start ≤ at) = (before, omega arith) in
     on_some P (is_digit byte) InDecimal ready
 next_ready InDecimal text at byte r (before, some) =
-    let P : Place → Type 0 = IsReady text at r in
+    let P : LexerState → Type 0 = IsReady text at r in
     let ready : AreSlices text 0 r.done r.start × (r.start ≤ at) = (before, omega arith) in
     on_some P (is_digit byte) InDecimal ready
 next_ready (InString quote) text at byte r (before, some) =
-    let P : Place → Type 0 = IsReady text at r in
+    let P : LexerState → Type 0 = IsReady text at r in
     let ready : AreSlices text 0 r.done r.start × (r.start ≤ at) = (before, omega arith) in
     if_place P (byte == quote) (AfterQuote quote) (if byte == 92 then AfterSlash quote else InString quote) ready (if_place P (byte == 92) (AfterSlash quote) (InString quote) ready ready)
 next_ready (AfterQuote quote) text at byte r (before, some) =
-    let P : Place → Type 0 = IsReady text at r in
+    let P : LexerState → Type 0 = IsReady text at r in
     let ready : AreSlices text 0 r.done r.start × (r.start ≤ at) = (before, omega arith) in
     on_some P (byte == quote) (InString quote) ready
 next_ready (AfterSlash quote) text at byte r (before, some) =
-    let P : Place → Type 0 = IsReady text at r in
+    let P : LexerState → Type 0 = IsReady text at r in
     let ready : AreSlices text 0 r.done r.start × (r.start ≤ at) = (before, omega arith) in
     ready
 next_ready HexEven text at byte r (before, some) =
-    let P : Place → Type 0 = IsReady text at r in
+    let P : LexerState → Type 0 = IsReady text at r in
     let ready : AreSlices text 0 r.done r.start × (r.start ≤ at) = (before, omega arith) in
     either P (byte == 39) (is_some (hex_value byte)) AfterBytes HexOdd ready ready
 next_ready HexOdd text at byte r (before, some) =
-    let P : Place → Type 0 = IsReady text at r in
+    let P : LexerState → Type 0 = IsReady text at r in
     let ready : AreSlices text 0 r.done r.start × (r.start ≤ at) = (before, omega arith) in
     on_some P (is_some (hex_value byte)) HexEven ready
 next_ready NameStart text at byte r (before, some) =
-    let P : Place → Type 0 = IsReady text at r in
+    let P : LexerState → Type 0 = IsReady text at r in
     let ready : AreSlices text 0 r.done r.start × (r.start ≤ at) = (before, omega arith) in
     on_some P (is_word_start byte) InName ready
 next_ready InName text at byte r (before, some) =
-    let P : Place → Type 0 = IsReady text at r in
+    let P : LexerState → Type 0 = IsReady text at r in
     let ready : AreSlices text 0 r.done r.start × (r.start ≤ at) = (before, omega arith) in
     either P (byte == 96) (is_word_byte byte) AfterName InName ready ready
 next_ready (AfterSign mark) text at byte r (before, some) =
-    let P : Place → Type 0 = IsReady text at r in
+    let P : LexerState → Type 0 = IsReady text at r in
     let ready : AreSlices text 0 r.done r.start × (r.start ≤ at) = (before, omega arith) in
     map_some (λ sign. AfterSign sign) P (double_sign (first_byte mark) byte) (λ sign. ready)
 next_ready (AfterHalf first) text at byte r (before, some) =
-    let P : Place → Type 0 = IsReady text at r in
+    let P : LexerState → Type 0 = IsReady text at r in
     let ready : AreSlices text 0 r.done r.start × (r.start ≤ at) = (before, omega arith) in
     map_some (λ sign. AfterSign sign) P (double_sign first byte) (λ sign. ready)
 next_ready AfterBytes text at byte r stands = tt
 next_ready AfterName text at byte r stands = tt
 
-opened_stands : (first : Option Place) (text : List ℕ) (at byte : ℕ) (r : Reading) → IfSome first (IsReady text at (record r { start = at })) → IfOk (opened first at byte r) (Stands text (at + 1))
+opened_stands : (first : Option LexerState) (text : List ℕ) (at byte : ℕ) (r : Reading) → IfSome first (IsReady text at (record r { start = at })) → IfOk (opened first at byte r) (Stands text (at + 1))
 opened_stands None text at byte r ready = tt
 opened_stands (Some place) text at byte r ready = taken_stands place text at byte (record r { start = at }) ready
 
@@ -208,13 +208,13 @@ begun_by : (test : Bool) (text : List ℕ) (at byte : ℕ) (r : Reading) → is_
     → IfOk (if test then Ok r else opened (first_place byte) at byte r) (Stands text (at + 1))
 begun_by true text at byte r blank here (is, before) =
     let stands : Standing Between text (at + 1) r = with_blank text 0 r.done at (ap is_blank here ∙ blank) before in
-    subst (λ (place : Place). Standing place text (at + 1) r) (sym is) stands
+    subst (λ (place : LexerState). Standing place text (at + 1) r) (sym is) stands
 begun_by false text at byte r blank here (is, before) = opened_stands (first_place byte) text at byte r (first_ready text at byte (record r { start = at }) before (omega arith))
 
 begun_stands : (text : List ℕ) (at byte : ℕ) → slice_index text at ≡ byte → (r : Reading) → Ends text at r → IfOk (begun at byte r) (Stands text (at + 1))
 begun_stands text at byte here r ends = begun_by (is_blank byte) text at byte r refl here ends
 
-gone_on_stands : (next : Option Place) (text : List ℕ) (at byte : ℕ) (r : Reading) → slice_index text at ≡ byte → Stands text at r → IfSome next (IsReady text at r)
+gone_on_stands : (next : Option LexerState) (text : List ℕ) (at byte : ℕ) (r : Reading) → slice_index text at ≡ byte → Stands text at r → IfSome next (IsReady text at r)
     → IfOk (gone_on next at byte r) (Stands text (at + 1))
 gone_on_stands None text at byte r here stands ready =
     and_then_ok (Ends text at) (Stands text (at + 1)) (ended r.place at r) (begun at byte) (ends r.place text at r refl stands) (begun_stands text at byte here)

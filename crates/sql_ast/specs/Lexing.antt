@@ -6,10 +6,10 @@ use Rattle.sql_ast.specs.declared.faults.ReadFault.TheVariants.{Memory, Refused}
 use Rattle.sql_ast.specs.declared.faults.Refusal.{Refusal}
 use Rattle.sql_ast.specs.declared.tokens.Token.{Token}
 
-abbrev pub Reads : {X : Type 0} → Result X Refusal → Result X ReadFault → Type 0
-Reads read (Ok x) = read ≡ Ok x
-Reads read (Err Memory) = Unit {0}
-Reads read (Err (Refused refusal)) = read ≡ Err refusal
+abbrev pub LexingGives : {X : Type 0} → Result X Refusal → Result X ReadFault → Type 0
+LexingGives read (Ok x) = read ≡ Ok x
+LexingGives read (Err Memory) = Unit {0}
+LexingGives read (Err (Refused refusal)) = read ≡ Err refusal
 
 -- the same of tokens that are given as a Vec
 abbrev pub ReadsAll : Result (List Token) Refusal → Result (Vec Token Global) ReadFault → Type 0

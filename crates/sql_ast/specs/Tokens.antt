@@ -9,8 +9,8 @@ use Rattle.sql_ast.specs.declared.faults.Refusal.{Refusal}
 use Rattle.sql_ast.specs.declared.lexer.Reading.{Reading}
 use Rattle.sql_ast.specs.declared.places.Last.{Last}
 use Rattle.sql_ast.specs.declared.places.Last.TheVariants.{Operand, UnaryMinus, Other}
-use Rattle.sql_ast.specs.declared.places.Place.{Place}
-use Rattle.sql_ast.specs.declared.places.Place.TheVariants.{Between, InWord, AfterX, InWhole, AtPoint, InDecimal, InString, AfterQuote, AfterSlash, HexEven, HexOdd, AfterBytes, NameStart, InName, AfterName, AfterSign, AfterHalf}
+use Rattle.sql_ast.specs.declared.places.LexerState.{LexerState}
+use Rattle.sql_ast.specs.declared.places.LexerState.TheVariants.{Between, InWord, AfterX, InWhole, AtPoint, InDecimal, InString, AfterQuote, AfterSlash, HexEven, HexOdd, AfterBytes, NameStart, InName, AfterName, AfterSign, AfterHalf}
 use Rattle.sql_ast.specs.declared.signs.Sign.{Sign}
 use Rattle.sql_ast.specs.declared.signs.Sign.TheVariants as sign
 use Rattle.sql_ast.specs.declared.tokens.Token.{Token}
@@ -35,10 +35,10 @@ large = Err (record { number = 1264; at = 0 })
 
 -- which byte begins a token of which place
 
-abbrev pub first_of_sign : ℕ → Option Place
+abbrev pub first_of_sign : ℕ → Option LexerState
 first_of_sign byte = if byte == 33 || byte == 64 then Some (AfterHalf byte) else option_map (λ sign. AfterSign sign) (single_sign byte)
 
-abbrev pub first_place : ℕ → Option Place
+abbrev pub first_place : ℕ → Option LexerState
 first_place byte =
     if byte == 120 || byte == 88 then Some AfterX else (
     if is_word_start byte then Some InWord else (
@@ -49,10 +49,10 @@ first_place byte =
 
 -- which byte a token goes on with, and at which place it is then
 
-abbrev pub on : Bool → Place → Option Place
+abbrev pub on : Bool → LexerState → Option LexerState
 on test place = if test then Some place else None
 
-abbrev pub in_string : ℕ → ℕ → Place
+abbrev pub in_string : ℕ → ℕ → LexerState
 in_string quote byte = if byte == quote then AfterQuote quote else (if byte == 92 then AfterSlash quote else InString quote)
 
 -- the first byte of a sign
@@ -61,10 +61,10 @@ first_byte sign.Less = 60
 first_byte sign.Greater = 62
 first_byte sign = 0
 
-abbrev pub after_first : ℕ → ℕ → Option Place
+abbrev pub after_first : ℕ → ℕ → Option LexerState
 after_first first byte = option_map (λ sign. AfterSign sign) (double_sign first byte)
 
-abbrev pub next_place : Place → ℕ → Option Place
+abbrev pub next_place : LexerState → ℕ → Option LexerState
 next_place Between byte = None
 next_place InWord byte = on (is_word_byte byte) InWord
 next_place AfterX byte = if byte == 39 then Some HexEven else on (is_word_byte byte) InWord
@@ -91,14 +91,14 @@ with_held byte reading = record reading { held = reading.held ++ lower byte ∷ 
 abbrev pub with_digit : ℕ → Reading → Reading
 with_digit byte reading = record reading { value = min (10 * reading.value + (byte - 48)) (2 ^ 63 + 1); digits = min (reading.digits + 1) 19 }
 
-abbrev pub noted : Place → ℕ → Reading → Reading
+abbrev pub noted : LexerState → ℕ → Reading → Reading
 noted InWord byte reading = with_held byte reading
 noted AfterX byte reading = with_held byte reading
 noted InWhole byte reading = with_digit byte reading
 noted InDecimal byte reading = with_digit byte reading
 noted place byte reading = reading
 
-abbrev pub taken : Place → ℕ → Reading → Reading
+abbrev pub taken : LexerState → ℕ → Reading → Reading
 taken place byte reading = noted place byte (record reading { place = place })
 
 -- how a token ends before a byte at `at`
@@ -156,7 +156,7 @@ end_point at reading = and_then (end_whole (at - 1) reading) (λ next. Ok (with_
 abbrev pub end_decimal : ℕ → Reading → Step
 end_decimal at reading = if nat_le reading.digits 18 then Ok (closed kind.Decimal at Operand reading) else large
 
-abbrev pub ended : Place → ℕ → Reading → Step
+abbrev pub ended : LexerState → ℕ → Reading → Step
 ended Between at reading = Ok reading
 ended InWord at reading = Ok (closed_word at reading)
 ended AfterX at reading = Ok (closed_word at reading)
@@ -177,14 +177,14 @@ ended (AfterHalf first) at reading = bad reading.start
 
 -- a byte at `at`
 
-abbrev pub opened : Option Place → ℕ → ℕ → Reading → Step
+abbrev pub opened : Option LexerState → ℕ → ℕ → Reading → Step
 opened None at byte reading = bad at
 opened (Some place) at byte reading = Ok (taken place byte (record reading { start = at }))
 
 abbrev pub begun : ℕ → ℕ → Reading → Step
 begun at byte reading = if is_blank byte then Ok reading else opened (first_place byte) at byte reading
 
-abbrev pub gone_on : Option Place → ℕ → ℕ → Reading → Step
+abbrev pub gone_on : Option LexerState → ℕ → ℕ → Reading → Step
 gone_on None at byte reading = and_then (ended reading.place at reading) (begun at byte)
 gone_on (Some place) at byte reading = Ok (taken place byte reading)
 

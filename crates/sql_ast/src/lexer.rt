@@ -10,7 +10,7 @@ ghost use Rattle.sql_ast.specs.declared.places.Last.TheVariants.{Operand};
 use crate::bytes::{lower_case, separates};
 use crate::faults::{ReadFault, Refusal};
 use crate::marks::{after_sign_of, after_word, first_place_of, most_whole_after, place_after};
-use crate::places::{Last, Place};
+use crate::places::{Last, LexerState};
 use crate::signs::Sign;
 use crate::tokens::{Token, TokenKind};
 use std::alloc::{AllocError, Global};
@@ -24,7 +24,7 @@ const MOST_DECIMAL_DIGITS: u8 = 18;
 /// What was read of a text: the open token, and the closed ones.
 #[derive(Debug, Drop)]
 pub struct Reading {
-    pub place: Place,
+    pub place: LexerState,
     /// Where the open token begins.
     pub start: u32,
     /// An open word, in lower case.
@@ -85,7 +85,7 @@ impl Reading {
         ensures { result ≡ nothing_read }
     {
         Reading {
-            place: Place::Between,
+            place: LexerState::Between,
             start: 0,
             held: Text::new(alloc),
             value: 0,
@@ -107,12 +107,12 @@ impl Reading {
         self.digits = self.digits.saturating_add(1).min(MOST_DECIMAL_DIGITS + 1);
     }
 
-    fn note(&mut self, place: Place, byte: u8) -> Result<(), AllocError>
+    fn note(&mut self, place: LexerState, byte: u8) -> Result<(), AllocError>
         ensures { OnOk result (self.new ≡ noted place byte self.old) }
     {
         match place {
-            Place::InWord | Place::AfterX => self.held.push(lower_case(byte)),
-            Place::InWhole | Place::InDecimal => {
+            LexerState::InWord | LexerState::AfterX => self.held.push(lower_case(byte)),
+            LexerState::InWhole | LexerState::InDecimal => {
                 self.count_digit(byte);
                 Ok(())
             }
@@ -121,7 +121,7 @@ impl Reading {
     }
 
     /// Takes a byte into the open token, which is at this place then.
-    fn take(&mut self, place: Place, byte: u8) -> Result<(), AllocError>
+    fn take(&mut self, place: LexerState, byte: u8) -> Result<(), AllocError>
         ensures { OnOk result (self.new ≡ taken place byte self.old) }
     {
         self.place = place;
@@ -138,7 +138,7 @@ impl Reading {
         ensures { OnOk result (self.new ≡ closed kind at last self.old) }
     {
         let start = self.start;
-        self.place = Place::Between;
+        self.place = LexerState::Between;
         self.held = Text::new(alloc);
         self.value = 0;
         self.digits = 0;
@@ -212,32 +212,32 @@ impl Reading {
         ensures { Goes (ended self.old.place at self.old) result self.new }
     {
         match self.place {
-            Place::Between => Ok(()),
-            Place::InWord | Place::AfterX => {
+            LexerState::Between => Ok(()),
+            LexerState::InWord | LexerState::AfterX => {
                 self.close_word(alloc, at)?;
                 Ok(())
             }
-            Place::InWhole => self.end_whole_at(alloc, at),
-            Place::AtPoint => self.end_point_at(alloc, at),
-            Place::InDecimal => self.end_decimal_at(alloc, at),
-            Place::AfterQuote(_) => self.close_operand(alloc, TokenKind::Text, at),
-            Place::AfterBytes => self.close_operand(alloc, TokenKind::Bytes, at),
-            Place::AfterName => self.close_operand(alloc, TokenKind::Quoted, at),
-            Place::AfterSign(sign) => {
+            LexerState::InWhole => self.end_whole_at(alloc, at),
+            LexerState::AtPoint => self.end_point_at(alloc, at),
+            LexerState::InDecimal => self.end_decimal_at(alloc, at),
+            LexerState::AfterQuote(_) => self.close_operand(alloc, TokenKind::Text, at),
+            LexerState::AfterBytes => self.close_operand(alloc, TokenKind::Bytes, at),
+            LexerState::AfterName => self.close_operand(alloc, TokenKind::Quoted, at),
+            LexerState::AfterSign(sign) => {
                 self.close_sign(alloc, sign, at)?;
                 Ok(())
             }
-            Place::InString(_)
-            | Place::AfterSlash(_)
-            | Place::HexEven
-            | Place::HexOdd
-            | Place::NameStart
-            | Place::InName
-            | Place::AfterHalf(_) => Err(bad_at(self.start)),
+            LexerState::InString(_)
+            | LexerState::AfterSlash(_)
+            | LexerState::HexEven
+            | LexerState::HexOdd
+            | LexerState::NameStart
+            | LexerState::InName
+            | LexerState::AfterHalf(_) => Err(bad_at(self.start)),
         }
     }
 
-    fn open(&mut self, first: Option<Place>, at: u32, byte: u8) -> Result<(), ReadFault>
+    fn open(&mut self, first: Option<LexerState>, at: u32, byte: u8) -> Result<(), ReadFault>
         ensures { Goes (opened first at byte self.old) result self.new }
     {
         match first {
@@ -263,7 +263,7 @@ impl Reading {
     fn go_on(
         &mut self,
         alloc: Global,
-        next: Option<Place>,
+        next: Option<LexerState>,
         at: u32,
         byte: u8,
     ) -> Result<(), ReadFault>

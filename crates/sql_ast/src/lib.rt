@@ -27,14 +27,14 @@ pub use keywords::keyword_of;
 pub use lexer::lex;
 pub use limits::{MOST_NAME_BYTES, MOST_OPEN};
 pub use selects::{
-    Clauses, ColumnName, Direction, FromClause, Item, Items, Join, Limit, NamedExpr, OrderKey,
-    Query, Select, Sorting, Source,
+    Clauses, ColumnName, Direction, FromClause, Items, Join, Limit, NamedExpr, OrderKey, Query,
+    Select, SelectItem, Sorting, TableSource,
 };
 pub use signing::sign_of;
 pub use signs::Sign;
 pub use statements::{
-    Alter, AlterAction, Assignment, Call, Delete, Entry, Insert, Setting, Statement, Tuple, Update,
-    Write,
+    Alter, AlterAction, Assignment, Call, Delete, Insert, InsertCell, Setting, Statement, Tuple,
+    Update, Write,
 };
 pub use tables::{
     Attribute, ColumnElement, CreateTable, DropTable, Element, ForeignKeyElement, TypeName,

@@ -7,66 +7,69 @@ ghost use Rattle.sql_ast.specs.Words.{keyword_of as keyword_in};
 
 use crate::bytes::{begins_word, continues_word, hex_value, is_decimal_digit};
 use crate::keywords::keyword_of;
-use crate::places::{Last, Place};
+use crate::places::{Last, LexerState};
 use crate::signing::{sign_of_one, sign_of_two};
 use crate::signs::Sign;
 use crate::words::Keyword;
 
 /// The place behind a byte that begins a token.
-pub fn first_place_of(byte: u8) -> Option<Place>
+pub fn first_place_of(byte: u8) -> Option<LexerState>
     ensures { result ≡ first_place byte }
 {
     if byte == b'x' || byte == b'X' {
-        Some(Place::AfterX)
+        Some(LexerState::AfterX)
     } else if begins_word(byte) {
-        Some(Place::InWord)
+        Some(LexerState::InWord)
     } else if is_decimal_digit(byte) {
-        Some(Place::InWhole)
+        Some(LexerState::InWhole)
     } else if byte == b'\'' || byte == b'"' {
-        Some(Place::InString(byte))
+        Some(LexerState::InString(byte))
     } else if byte == b'`' {
-        Some(Place::NameStart)
+        Some(LexerState::NameStart)
     } else {
         first_of_sign_or_half(byte)
     }
 }
 
-fn first_of_sign_or_half(byte: u8) -> Option<Place>
+fn first_of_sign_or_half(byte: u8) -> Option<LexerState>
     ensures { result ≡ first_of_sign byte }
 {
     if byte == b'!' || byte == b'@' {
-        return Some(Place::AfterHalf(byte));
+        return Some(LexerState::AfterHalf(byte));
     }
-    sign_of_one(byte).map(Place::AfterSign)
+    sign_of_one(byte).map(LexerState::AfterSign)
 }
 
 /// The place behind a byte that the open token goes on with.
-pub fn place_after(place: Place, byte: u8) -> Option<Place>
+pub fn place_after(place: LexerState, byte: u8) -> Option<LexerState>
     ensures { result ≡ next_place place byte }
 {
     match place {
-        Place::Between | Place::AfterBytes | Place::AfterName => None,
-        Place::InWord => only_if(continues_word(byte), Place::InWord),
-        Place::AfterX if byte == b'\'' => Some(Place::HexEven),
-        Place::AfterX => only_if(continues_word(byte), Place::InWord),
-        Place::InWhole if byte == b'.' => Some(Place::AtPoint),
-        Place::InWhole => only_if(is_decimal_digit(byte), Place::InWhole),
-        Place::AtPoint | Place::InDecimal => only_if(is_decimal_digit(byte), Place::InDecimal),
-        Place::InString(quote) => Some(place_in_string(quote, byte)),
-        Place::AfterQuote(quote) => only_if(byte == quote, Place::InString(quote)),
-        Place::AfterSlash(quote) => Some(Place::InString(quote)),
-        Place::HexEven if byte == b'\'' => Some(Place::AfterBytes),
-        Place::HexEven => only_if(is_hex_digit(byte), Place::HexOdd),
-        Place::HexOdd => only_if(is_hex_digit(byte), Place::HexEven),
-        Place::NameStart => only_if(begins_word(byte), Place::InName),
-        Place::InName if byte == b'`' => Some(Place::AfterName),
-        Place::InName => only_if(continues_word(byte), Place::InName),
-        Place::AfterSign(sign) => place_after_first(first_byte_of(sign), byte),
-        Place::AfterHalf(first) => place_after_first(first, byte),
+        LexerState::Between | LexerState::AfterBytes | LexerState::AfterName => None,
+        LexerState::InWord => only_if(continues_word(byte), LexerState::InWord),
+        LexerState::AfterX if byte == b'\'' => Some(LexerState::HexEven),
+        LexerState::AfterX => only_if(continues_word(byte), LexerState::InWord),
+        LexerState::InWhole if byte == b'.' => Some(LexerState::AtPoint),
+        LexerState::InWhole => only_if(is_decimal_digit(byte), LexerState::InWhole),
+        LexerState::AtPoint | LexerState::InDecimal => only_if(
+            is_decimal_digit(byte),
+            LexerState::InDecimal,
+        ),
+        LexerState::InString(quote) => Some(place_in_string(quote, byte)),
+        LexerState::AfterQuote(quote) => only_if(byte == quote, LexerState::InString(quote)),
+        LexerState::AfterSlash(quote) => Some(LexerState::InString(quote)),
+        LexerState::HexEven if byte == b'\'' => Some(LexerState::AfterBytes),
+        LexerState::HexEven => only_if(is_hex_digit(byte), LexerState::HexOdd),
+        LexerState::HexOdd => only_if(is_hex_digit(byte), LexerState::HexEven),
+        LexerState::NameStart => only_if(begins_word(byte), LexerState::InName),
+        LexerState::InName if byte == b'`' => Some(LexerState::AfterName),
+        LexerState::InName => only_if(continues_word(byte), LexerState::InName),
+        LexerState::AfterSign(sign) => place_after_first(first_byte_of(sign), byte),
+        LexerState::AfterHalf(first) => place_after_first(first, byte),
     }
 }
 
-fn only_if(test: bool, place: Place) -> Option<Place>
+fn only_if(test: bool, place: LexerState) -> Option<LexerState>
     ensures { result ≡ on test place }
 {
     if test { Some(place) } else { None }
@@ -78,22 +81,22 @@ fn is_hex_digit(byte: u8) -> bool
     hex_value(byte).is_some()
 }
 
-fn place_in_string(quote: u8, byte: u8) -> Place
+fn place_in_string(quote: u8, byte: u8) -> LexerState
     ensures { result ≡ in_string quote byte }
 {
     if byte == quote {
-        Place::AfterQuote(quote)
+        LexerState::AfterQuote(quote)
     } else if byte == b'\\' {
-        Place::AfterSlash(quote)
+        LexerState::AfterSlash(quote)
     } else {
-        Place::InString(quote)
+        LexerState::InString(quote)
     }
 }
 
-fn place_after_first(first: u8, byte: u8) -> Option<Place>
+fn place_after_first(first: u8, byte: u8) -> Option<LexerState>
     ensures { result ≡ after_first first byte }
 {
-    sign_of_two(first, byte).map(Place::AfterSign)
+    sign_of_two(first, byte).map(LexerState::AfterSign)
 }
 
 /// The byte with which a longer sign may begin.

@@ -4,7 +4,7 @@ use crate::signs::Sign;
 
 /// Where the reader of tokens stands: in or behind which part of the token that it reads.
 #[derive(Clone, Copy, Debug, PartialEq, Eq)]
-pub enum Place {
+pub enum LexerState {
     /// No token is open.
     Between,
     InWord,

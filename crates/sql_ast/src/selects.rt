@@ -33,12 +33,12 @@ pub enum Items {
     /// `*`.
     All,
     /// At least one.
-    Listed(Sequence<Item>),
+    Listed(Sequence<SelectItem>),
 }
 
 /// An item of a SELECT.
 #[derive(Debug, Drop)]
-pub enum Item {
+pub enum SelectItem {
     /// All columns of the source of this name.
     AllOf(Text),
     /// An expression, perhaps with a name, before which AS may stand.
@@ -48,13 +48,13 @@ pub enum Item {
 /// The sources: a first one, and those that are joined to it.
 #[derive(Debug, Drop)]
 pub struct FromClause {
-    pub first: Source,
+    pub first: TableSource,
     pub joins: Sequence<Join>,
 }
 
 /// A table, and the name that the statement gives it.
 #[derive(Debug, Drop)]
-pub struct Source {
+pub struct TableSource {
     pub table: Text,
     pub alias: Option<Text>,
 }
@@ -62,7 +62,7 @@ pub struct Source {
 /// A source that is joined, with its condition.
 #[derive(Debug, Drop)]
 pub struct Join {
-    pub source: Source,
+    pub source: TableSource,
     pub on: Expr,
 }
 

@@ -42,11 +42,11 @@ pub struct Insert {
 }
 
 /// A row of an `INSERT`: at least one entry.
-pub type Tuple = Sequence<Entry>;
+pub type Tuple = Sequence<InsertCell>;
 
 /// A cell of an `INSERT`.
 #[derive(Debug, Drop)]
-pub enum Entry {
+pub enum InsertCell {
     Value(Expr),
     Default,
 }

@@ -1,7 +1,7 @@
 //! A statement's tree refused where it is outside the language or misuses a procedure.
 
 ghost use Rattle.std.specs.Prelude.{◌≡◌, IfOk};
-ghost use Rattle.sql_ast.specs.Lexing.{Reads};
+ghost use Rattle.sql_ast.specs.Lexing.{LexingGives};
 ghost use Rattle.sql_parse.specs.Parsing.{judged};
 ghost use Rattle.sql_parse.specs.Parsing as spec;
 
@@ -12,7 +12,7 @@ use std::alloc::{AllocError, Global};
 
 /// The statement, where nothing in it is refused by the text alone.
 pub fn judge(alloc: Global, statement: Statement) -> Result<Statement, ReadFault>
-    ensures { Reads (judged statement) result }
+    ensures { LexingGives (judged statement) result }
 {
     if is_outside(alloc, &statement)? {
         return Err(refused(9013));

@@ -1,7 +1,7 @@
 //! A text read as a statement: its tokens, their values, the grammar and the rules on the tree.
 
 ghost use Rattle.std.specs.Prelude.{◌≡◌, ◌<◌, ◌^◌, length};
-ghost use Rattle.sql_ast.specs.Lexing.{Reads};
+ghost use Rattle.sql_ast.specs.Lexing.{LexingGives};
 ghost use Rattle.sql_parse.specs.Parsing.{parsed, placed, statement_by, statement_in};
 ghost use Rattle.sql_statements.specs.Statements.{statement_of};
 
@@ -18,7 +18,7 @@ use std::alloc::Global;
 /// The statement that a text is, or why it is refused by its text alone.
 pub fn parse(alloc: Global, text: &[u8]) -> Result<Statement, ReadFault>
     requires { length text.now < 2 ^ 32 }
-    ensures { Reads (parsed text.now) result }
+    ensures { LexingGives (parsed text.now) result }
 {
     let tokens = lex(alloc, text)?;
     read_tokens(alloc, text, tokens.as_slice())
@@ -26,7 +26,7 @@ pub fn parse(alloc: Global, text: &[u8]) -> Result<Statement, ReadFault>
 
 fn read_tokens(alloc: Global, text: &[u8], tokens: &[Token]) -> Result<Statement, ReadFault>
     requires { length text.now < 2 ^ 32 }
-    ensures { Reads (statement_in text.now tokens.now) result }
+    ensures { LexingGives (statement_in text.now tokens.now) result }
 {
     let pieces = pieces_of(alloc, text, tokens)?;
     read_pieces(alloc, text, tokens, pieces.as_slice())
@@ -39,7 +39,7 @@ fn read_pieces(
     pieces: &[Piece],
 ) -> Result<Statement, ReadFault>
     requires { length text.now < 2 ^ 32 }
-    ensures { Reads (statement_by text.now tokens.now pieces.now) result }
+    ensures { LexingGives (statement_by text.now tokens.now pieces.now) result }
 {
     if is_beyond_grammar(pieces) {
         return Err(refused(9013));
@@ -56,7 +56,7 @@ fn read_placed(
     pieces: &[Piece],
 ) -> Result<Statement, ReadFault>
     requires { length text.now < 2 ^ 32 }
-    ensures { Reads (placed text.now tokens.now (statement_of pieces.now)) result }
+    ensures { LexingGives (placed text.now tokens.now (statement_of pieces.now)) result }
 {
     match read_statement(alloc, pieces) {
         Ok(statement) => Ok(statement),

@@ -18,29 +18,29 @@ use Rattle.sql_values.specs.declared.assigning.Misfit.{Misfit}
 use Rattle.sql_values.specs.declared.kinds.Kind.{Kind}
 use Rattle.sql_values.specs.declared.kinds.Kind.TheVariants as kind
 use Rattle.sql_rules.specs.Tables.{keys_column, type_of}
+use Rattle.sql_rules.specs.declared.defaults.DefaultValue.{DefaultValue}
 use Rattle.sql_rules.specs.declared.defaults.Definition.{Definition}
-use Rattle.sql_rules.specs.declared.defaults.Given.{Given}
 
-abbrev pub given : Kind → Value → Given
+abbrev pub given : Kind → Value → DefaultValue
 given kind value = record { kind = kind; value = value }
 
 -- numbers that eight bytes hold; the grammar gives no others
-abbrev pub whole : ℕ → Option Given
+abbrev pub whole : ℕ → Option DefaultValue
 whole n = if nat_le n (2 ^ 63 - 1) then Some (given kind.Int (cell.Int (pos n))) else None
 
-abbrev pub negative_whole : ℕ → Option Given
+abbrev pub negative_whole : ℕ → Option DefaultValue
 negative_whole n = if nat_le n (2 ^ 63) then Some (given kind.Int (cell.Int (neg_ℤ (pos n)))) else None
 
-abbrev pub fraction : ℤ → ℕ → Option Given
+abbrev pub fraction : ℤ → ℕ → Option DefaultValue
 fraction units scale = option_map (λ kind. given kind (cell.Decimal units)) (decimal scale)
 
-abbrev pub positive_fraction : ℕ → ℕ → Option Given
+abbrev pub positive_fraction : ℕ → ℕ → Option DefaultValue
 positive_fraction n scale = if nat_le n (2 ^ 63 - 1) then fraction (pos n) scale else None
 
-abbrev pub negative_fraction : ℕ → ℕ → Option Given
+abbrev pub negative_fraction : ℕ → ℕ → Option DefaultValue
 negative_fraction n scale = if nat_le n (2 ^ 63) then fraction (neg_ℤ (pos n)) scale else None
 
-abbrev pub plain_default : Literal → Option Given
+abbrev pub plain_default : Literal → Option DefaultValue
 plain_default (literal.Whole n) = whole n
 plain_default (literal.Decimal n scale) = positive_fraction n scale
 plain_default (literal.Text text) = Some (given kind.Text (cell.Text text))
@@ -49,12 +49,12 @@ plain_default (literal.Bool bit) = Some (given kind.Bool (cell.Bool bit))
 plain_default literal.Null = Some (given kind.Null cell.Null)
 
 -- a minus stands before numbers alone
-abbrev pub negative_default : Literal → Option Given
+abbrev pub negative_default : Literal → Option DefaultValue
 negative_default (literal.Whole n) = negative_whole n
 negative_default (literal.Decimal n scale) = negative_fraction n scale
 negative_default value = None
 
-abbrev pub default_of : Bool → Literal → Option Given
+abbrev pub default_of : Bool → Literal → Option DefaultValue
 default_of minus value = if minus then negative_default value else plain_default value
 
 abbrev pub kept : Result Value Misfit → Option Value
@@ -62,7 +62,7 @@ kept (Ok value) = Some value
 kept (Err misfit) = None
 
 -- what the column keeps of this default, if it can be assigned
-abbrev pub kept_of : SqlType → Bool → Option Given → Option Value
+abbrev pub kept_of : SqlType → Bool → Option DefaultValue → Option Value
 kept_of type not_null (Some default) = kept (stored default.kind type not_null default.value)
 kept_of type not_null None = None
 

@@ -9,10 +9,10 @@ use Rattle.sql_ast.specs.declared.selects.NamedExpr.{NamedExpr}
 use Rattle.sql_ast.specs.declared.selects.Query.{Query}
 use Rattle.sql_ast.specs.declared.selects.Items.{Items}
 use Rattle.sql_ast.specs.declared.selects.Items.TheVariants as items
-use Rattle.sql_ast.specs.declared.selects.Item.{Item}
-use Rattle.sql_ast.specs.declared.selects.Item.TheVariants as item
+use Rattle.sql_ast.specs.declared.selects.SelectItem.{SelectItem}
+use Rattle.sql_ast.specs.declared.selects.SelectItem.TheVariants as item
 use Rattle.sql_ast.specs.declared.selects.FromClause.{FromClause}
-use Rattle.sql_ast.specs.declared.selects.Source.{Source}
+use Rattle.sql_ast.specs.declared.selects.TableSource.{TableSource}
 use Rattle.sql_ast.specs.declared.selects.Join.{Join}
 use Rattle.sql_ast.specs.declared.selects.Clauses.{Clauses}
 use Rattle.sql_ast.specs.declared.selects.ColumnName.{ColumnName}
@@ -25,8 +25,8 @@ use Rattle.sql_ast.specs.declared.statements.Write.TheVariants as write
 use Rattle.sql_ast.specs.declared.statements.AlterAction.{AlterAction}
 use Rattle.sql_ast.specs.declared.statements.AlterAction.TheVariants as action
 use Rattle.sql_ast.specs.declared.statements.Insert.{Insert}
-use Rattle.sql_ast.specs.declared.statements.Entry.{Entry}
-use Rattle.sql_ast.specs.declared.statements.Entry.TheVariants as entry
+use Rattle.sql_ast.specs.declared.statements.InsertCell.{InsertCell}
+use Rattle.sql_ast.specs.declared.statements.InsertCell.TheVariants as entry
 use Rattle.sql_ast.specs.declared.statements.Update.{Update}
 use Rattle.sql_ast.specs.declared.statements.Assignment.{Assignment}
 use Rattle.sql_ast.specs.declared.tables.CreateTable.{CreateTable}
@@ -84,7 +84,7 @@ element_long (element.ForeignKey key) = foreign_key_long key
 abbrev pub create_long : CreateTable → Bool
 create_long create = is_long create.table || list_any element_long create.elements
 
-abbrev pub entry_long : Entry → Bool
+abbrev pub entry_long : InsertCell → Bool
 entry_long (entry.Value value) = names_long value
 entry_long entry.Default = false
 
@@ -113,7 +113,7 @@ write_long (write.Alter alter) = is_long alter.table || action_long alter.action
 abbrev pub named_long : NamedExpr → Bool
 named_long named = names_long named.expr || is_long_if named.name
 
-abbrev pub item_long : Item → Bool
+abbrev pub item_long : SelectItem → Bool
 item_long (item.AllOf source) = is_long source
 item_long (item.One named) = named_long named
 
@@ -121,7 +121,7 @@ abbrev pub items_long : Items → Bool
 items_long items.All = false
 items_long (items.Listed list) = list_any item_long list
 
-abbrev pub source_long : Source → Bool
+abbrev pub source_long : TableSource → Bool
 source_long source = is_long source.table || is_long_if source.alias
 
 abbrev pub join_long : Join → Bool

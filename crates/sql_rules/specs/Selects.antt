@@ -13,10 +13,10 @@ use Rattle.sql_ast.specs.declared.selects.NamedExpr.{NamedExpr}
 use Rattle.sql_ast.specs.declared.selects.Query.{Query}
 use Rattle.sql_ast.specs.declared.selects.Items.{Items}
 use Rattle.sql_ast.specs.declared.selects.Items.TheVariants as items
-use Rattle.sql_ast.specs.declared.selects.Item.{Item}
-use Rattle.sql_ast.specs.declared.selects.Item.TheVariants as item
+use Rattle.sql_ast.specs.declared.selects.SelectItem.{SelectItem}
+use Rattle.sql_ast.specs.declared.selects.SelectItem.TheVariants as item
 use Rattle.sql_ast.specs.declared.selects.FromClause.{FromClause}
-use Rattle.sql_ast.specs.declared.selects.Source.{Source}
+use Rattle.sql_ast.specs.declared.selects.TableSource.{TableSource}
 use Rattle.sql_ast.specs.declared.selects.Join.{Join}
 use Rattle.sql_ast.specs.declared.selects.ColumnName.{ColumnName}
 use Rattle.sql_ast.specs.declared.selects.ColumnName.TheVariants as column
@@ -37,7 +37,7 @@ abbrev pub name_or : List ℕ → Option (List ℕ) → List ℕ
 name_or table (Some alias) = alias
 name_or table None = table
 
-abbrev pub source_name : Source → List ℕ
+abbrev pub source_name : TableSource → List ℕ
 source_name source = name_or source.table source.alias
 
 abbrev pub joined_name : Join → List ℕ
@@ -50,7 +50,7 @@ repeats_source from =
 
 -- The items.
 
-abbrev pub in_item : (Expr → Bool) → Item → Bool
+abbrev pub in_item : (Expr → Bool) → SelectItem → Bool
 in_item test (item.AllOf source) = false
 in_item test (item.One named) = test named.expr
 
@@ -73,11 +73,11 @@ grouped_as groups expr =
     if is_call expr then Some AggregateCall else option_map (λ place. GroupColumn place) (position (is_written_as (out-Expr expr)) groups)
 
 -- what an item of a grouped SELECT is; nothing where it may show no such item
-abbrev pub group_item : List ColumnName → Item → Option GroupItem
+abbrev pub group_item : List ColumnName → SelectItem → Option GroupItem
 group_item groups (item.AllOf source) = None
 group_item groups (item.One named) = grouped_as groups named.expr
 
-abbrev pub is_of_groups : List ColumnName → Item → Bool
+abbrev pub is_of_groups : List ColumnName → SelectItem → Bool
 is_of_groups groups shown = is_some (group_item groups shown)
 
 abbrev pub are_of_groups : List ColumnName → Items → Bool
@@ -96,11 +96,11 @@ is_ungrouped_item_shown query = is_grouped query && not (are_of_groups query.cla
 
 -- The keys of ORDER BY.
 
-abbrev pub is_one : Item → Bool
+abbrev pub is_one : SelectItem → Bool
 is_one (item.AllOf source) = false
 is_one (item.One named) = true
 
-abbrev pub one_numbered : List Item → ℕ → Option Key
+abbrev pub one_numbered : List SelectItem → ℕ → Option Key
 one_numbered list n = if nat_le 1 n && in_given is_one (slice_get list (n - 1)) then Some (AtItem (n - 1)) else None
 
 -- the item of this number, counted from one, where it is no `*`
@@ -119,7 +119,7 @@ abbrev pub is_named_by : List ℕ → Option (List ℕ) → Expr → Bool
 is_named_by name (Some alias) expr = bytes_eq name alias
 is_named_by name None expr = is_column_named name (out-Expr expr)
 
-abbrev pub is_item_named : List ℕ → Item → Bool
+abbrev pub is_item_named : List ℕ → SelectItem → Bool
 is_item_named name (item.AllOf source) = false
 is_item_named name (item.One named) = is_named_by name named.name named.expr
 

@@ -3,8 +3,8 @@ use Rattle.std.specs.Prelude.{ℕ, Bool, false, ◌||◌, ◌&&◌, List, Option
 use Rattle.std.specs.List.{list_any, starts_with}
 use Rattle.sql_ast.specs.declared.expressions.Expr.{Expr}
 use Rattle.sql_ast.specs.declared.statements.Insert.{Insert}
-use Rattle.sql_ast.specs.declared.statements.Entry.{Entry}
-use Rattle.sql_ast.specs.declared.statements.Entry.TheVariants as entry
+use Rattle.sql_ast.specs.declared.statements.InsertCell.{InsertCell}
+use Rattle.sql_ast.specs.declared.statements.InsertCell.TheVariants as entry
 use Rattle.sql_ast.specs.declared.statements.Update.{Update}
 use Rattle.sql_ast.specs.declared.statements.Delete.{Delete}
 use Rattle.sql_features.specs.Features.{has}
@@ -26,7 +26,7 @@ is_below front name = starts_with nat_eq name front && nat_lt (length front) (le
 abbrev pub is_list_of_entries : List ℕ → Bool
 is_list_of_entries name = is_below (codes "dolt_conflicts_") name || is_below (codes "dolt_constraint_violations_") name
 
-abbrev pub entry_outside : Entry → Bool
+abbrev pub entry_outside : InsertCell → Bool
 entry_outside (entry.Value value) = is_misplaced value
 entry_outside entry.Default = false
 

@@ -18,7 +18,7 @@ const MOST_WHOLE: u64 = (1 << 63) - 1;
 
 /// What a default's literal gives.
 #[derive(Drop)]
-pub struct Given {
+pub struct DefaultValue {
     pub kind: Kind,
     pub value: Value,
 }
@@ -158,7 +158,9 @@ fn kept_default(
     ensures { IfOk result (λ value. value ≡ kept_of kind.now not_null (default_of minus literal.now)) }
 {
     match default_given(alloc, minus, literal)? {
-        Some(Given { kind: own, value }) => Ok(value_kept(assign(&own, kind, not_null, value))),
+        Some(DefaultValue { kind: own, value }) => Ok(value_kept(assign(
+            &own, kind, not_null, value,
+        ))),
         None => Ok(None),
     }
 }
@@ -224,7 +226,11 @@ fn define_typed(
 }
 
 /// What a default gives; nothing where a minus stands before anything but a number.
-fn default_given(alloc: Global, minus: bool, literal: &Literal) -> Result<Option<Given>, AllocError>
+fn default_given(
+    alloc: Global,
+    minus: bool,
+    literal: &Literal,
+) -> Result<Option<DefaultValue>, AllocError>
     ensures { IfOk result (λ given. given ≡ default_of minus literal.now) }
 {
     if minus {
@@ -234,7 +240,7 @@ fn default_given(alloc: Global, minus: bool, literal: &Literal) -> Result<Option
     }
 }
 
-fn negative_given(literal: &Literal) -> Option<Given>
+fn negative_given(literal: &Literal) -> Option<DefaultValue>
     ensures { result ≡ negative_default literal.now }
 {
     match literal {
@@ -244,7 +250,7 @@ fn negative_given(literal: &Literal) -> Option<Given>
     }
 }
 
-fn plain_given(alloc: Global, literal: &Literal) -> Result<Option<Given>, AllocError>
+fn plain_given(alloc: Global, literal: &Literal) -> Result<Option<DefaultValue>, AllocError>
     ensures { IfOk result (λ given. given ≡ plain_default literal.now) }
 {
     match literal {
@@ -252,54 +258,54 @@ fn plain_given(alloc: Global, literal: &Literal) -> Result<Option<Given>, AllocE
         Literal::Decimal(number, scale) => Ok(decimal_given(*number, *scale)),
         Literal::Text(text) => {
             let copy = Text::from_slice(alloc, text.as_slice())?;
-            Ok(Some(Given {
+            Ok(Some(DefaultValue {
                 kind: Kind::Text,
                 value: Value::Text(copy),
             }))
         }
         Literal::Bytes(bytes) => {
             let copy = Vec::from_slice(alloc, bytes.as_slice())?;
-            Ok(Some(Given {
+            Ok(Some(DefaultValue {
                 kind: Kind::Bytes,
                 value: Value::Bytes(Sequence::from_vec(copy)),
             }))
         }
-        Literal::Bool(bit) => Ok(Some(Given {
+        Literal::Bool(bit) => Ok(Some(DefaultValue {
             kind: Kind::Bool,
             value: Value::Bool(*bit),
         })),
-        Literal::Null => Ok(Some(Given {
+        Literal::Null => Ok(Some(DefaultValue {
             kind: Kind::Null,
             value: Value::Null,
         })),
     }
 }
 
-fn number_given(number: u64) -> Option<Given>
+fn number_given(number: u64) -> Option<DefaultValue>
     ensures { result ≡ whole number }
 {
     if number > MOST_WHOLE {
         return None;
     }
-    Some(Given {
+    Some(DefaultValue {
         kind: Kind::Int,
         value: Value::Int(number as i64),
     })
 }
 
-fn negative_number(number: u64) -> Option<Given>
+fn negative_number(number: u64) -> Option<DefaultValue>
     ensures { result ≡ negative_whole number }
 {
     if number > MOST_WHOLE + 1 {
         return None;
     }
-    Some(Given {
+    Some(DefaultValue {
         kind: Kind::Int,
         value: Value::Int(-i128::from(number) as i64),
     })
 }
 
-fn decimal_given(number: u64, scale: u8) -> Option<Given>
+fn decimal_given(number: u64, scale: u8) -> Option<DefaultValue>
     ensures { result ≡ positive_fraction number scale }
 {
     if number > MOST_WHOLE {
@@ -308,7 +314,7 @@ fn decimal_given(number: u64, scale: u8) -> Option<Given>
     fraction_given(number as i64, scale)
 }
 
-fn negative_decimal(number: u64, scale: u8) -> Option<Given>
+fn negative_decimal(number: u64, scale: u8) -> Option<DefaultValue>
     ensures { result ≡ negative_fraction number scale }
 {
     if number > MOST_WHOLE + 1 {
@@ -317,11 +323,11 @@ fn negative_decimal(number: u64, scale: u8) -> Option<Given>
     fraction_given(-i128::from(number) as i64, scale)
 }
 
-fn fraction_given(units: i64, scale: u8) -> Option<Given>
+fn fraction_given(units: i64, scale: u8) -> Option<DefaultValue>
     ensures { result ≡ fraction units scale }
 {
     match Kind::decimal(scale) {
-        Some(kind) => Some(Given {
+        Some(kind) => Some(DefaultValue {
             kind,
             value: Value::Decimal(units),
         }),

@@ -5,9 +5,9 @@ ghost use Rattle.std.specs.List.{list_any};
 ghost use Rattle.sql_rules.specs.Names.{action_long, are_long, assignment_long, clauses_long, column_long, contains, create_long, element_long, entry_long, foreign_key_long, from_long, in_given, insert_long, is_long_if, is_long_worded, is_system_name, item_long, items_long, join_long, key_long, named_long, names_long, names_long_if, query_long, repeats, select_long, source_long, update_long, write_long};
 
 use sql_ast::{
-    AlterAction, Assignment, Clauses, ColumnName, CreateTable, Element, Entry, Expr,
-    ForeignKeyElement, FromClause, Insert, Item, Items, Join, NamedExpr, OrderKey, Query, Select,
-    Source, Statement, Tuple, Update, Write,
+    AlterAction, Assignment, Clauses, ColumnName, CreateTable, Element, Expr, ForeignKeyElement,
+    FromClause, Insert, InsertCell, Items, Join, NamedExpr, OrderKey, Query, Select, SelectItem,
+    Statement, TableSource, Tuple, Update, Write,
 };
 use sql_features::{Feature, has_feature, is_long_name};
 use tuple_codec::{Sequence, Text};
@@ -162,18 +162,18 @@ fn some_tuple_has_long(tuples: &[Tuple]) -> bool
         .any(|tuple| some_entry_has_long(tuple.as_slice()))
 }
 
-fn some_entry_has_long(entries: &[Entry]) -> bool
+fn some_entry_has_long(entries: &[InsertCell]) -> bool
     ensures { result ≡ list_any entry_long entries.now }
 {
     entries.iter().any(entry_has_long)
 }
 
-fn entry_has_long(entry: &Entry) -> bool
+fn entry_has_long(entry: &InsertCell) -> bool
     ensures { result ≡ entry_long entry.now }
 {
     match entry {
-        Entry::Value(value) => names_a_long(value),
-        Entry::Default => false,
+        InsertCell::Value(value) => names_a_long(value),
+        InsertCell::Default => false,
     }
 }
 
@@ -233,18 +233,18 @@ fn items_have_long(items: &Items) -> bool
     }
 }
 
-fn some_item_has_long(list: &[Item]) -> bool
+fn some_item_has_long(list: &[SelectItem]) -> bool
     ensures { result ≡ list_any item_long list.now }
 {
     list.iter().any(item_has_long)
 }
 
-fn item_has_long(item: &Item) -> bool
+fn item_has_long(item: &SelectItem) -> bool
     ensures { result ≡ item_long item.now }
 {
     match item {
-        Item::AllOf(source) => is_long_name(source),
-        Item::One(named) => named_has_long(named),
+        SelectItem::AllOf(source) => is_long_name(source),
+        SelectItem::One(named) => named_has_long(named),
     }
 }
 
@@ -266,7 +266,7 @@ fn join_has_long(join: &Join) -> bool
     source_has_long(&join.source) || names_a_long(&join.on)
 }
 
-fn source_has_long(source: &Source) -> bool
+fn source_has_long(source: &TableSource) -> bool
     ensures { result ≡ source_long source.now }
 {
     is_long_name(&source.table) || is_long_given(&source.alias)

@@ -8,7 +8,7 @@ ghost use Rattle.sql_rules.specs.Selects.{is_column_named, is_item_named, is_nam
 ghost use Rattle.sql_rules.specs.Names.{in_given};
 
 use crate::writes::is_out_of_place;
-use sql_ast::{Expr, Item, Items, Literal, OrderKey};
+use sql_ast::{Expr, Items, Literal, OrderKey, SelectItem};
 use tuple_codec::Text;
 
 /// What a key of ORDER BY orders by.
@@ -76,7 +76,7 @@ fn item_numbered(items: &Items, number: u64) -> Option<Key>
     }
 }
 
-fn one_numbered(list: &[Item], number: u64) -> Option<Key>
+fn one_numbered(list: &[SelectItem], number: u64) -> Option<Key>
     ensures { result ≡ spec.one_numbered list.now number }
 {
     if 1 <= number && is_one_at(list, number - 1) {
@@ -86,7 +86,7 @@ fn one_numbered(list: &[Item], number: u64) -> Option<Key>
     }
 }
 
-fn is_one_at(list: &[Item], at: u64) -> bool
+fn is_one_at(list: &[SelectItem], at: u64) -> bool
     ensures { result ≡ in_given is_one (slice_get list.now at) }
 {
     match list.get(at as usize) {
@@ -95,12 +95,12 @@ fn is_one_at(list: &[Item], at: u64) -> bool
     }
 }
 
-fn is_expression(item: &Item) -> bool
+fn is_expression(item: &SelectItem) -> bool
     ensures { result ≡ is_one item.now }
 {
     match item {
-        Item::AllOf(_) => false,
-        Item::One(_) => true,
+        SelectItem::AllOf(_) => false,
+        SelectItem::One(_) => true,
     }
 }
 
@@ -113,18 +113,18 @@ fn item_named(items: &Items, name: &Text) -> Option<usize>
     }
 }
 
-fn first_named(list: &[Item], name: &Text) -> Option<usize>
+fn first_named(list: &[SelectItem], name: &Text) -> Option<usize>
     ensures { result ≡ position (is_item_named name.now) list.now }
 {
     list.iter().position(|item| is_item_of_name(item, name))
 }
 
-fn is_item_of_name(item: &Item, name: &Text) -> bool
+fn is_item_of_name(item: &SelectItem, name: &Text) -> bool
     ensures { result ≡ is_item_named name.now item.now }
 {
     match item {
-        Item::AllOf(_) => false,
-        Item::One(named) => has_name(&named.name, &named.expr, name),
+        SelectItem::AllOf(_) => false,
+        SelectItem::One(named) => has_name(&named.name, &named.expr, name),
     }
 }
 

@@ -15,7 +15,8 @@ ghost use Rattle.sql_rules.specs.Writes.{is_misplaced};
 use crate::order_keys::is_outside_key;
 use crate::writes::{is_given_out_of_place, is_out_of_place};
 use sql_ast::{
-    ColumnName, Expr, FromClause, Item, Items, Join, NamedExpr, OrderKey, Query, Select, Source,
+    ColumnName, Expr, FromClause, Items, Join, NamedExpr, OrderKey, Query, Select, SelectItem,
+    TableSource,
 };
 use sql_features::{Feature, has_feature, is_aggregate_node, nests_aggregates};
 use tuple_codec::Text;
@@ -87,7 +88,7 @@ fn joins_named(joins: &[Join], name: &Text) -> bool
 }
 
 /// The name that a source goes by.
-pub fn source_name(source: &Source) -> &Text
+pub fn source_name(source: &TableSource) -> &Text
     ensures { result.now ≡ spec.source_name source.now }
 {
     match &source.alias {
@@ -111,18 +112,18 @@ fn some_item_has(items: &Items, feature: Feature) -> bool
     }
 }
 
-fn some_listed_has(list: &[Item], feature: Feature) -> bool
+fn some_listed_has(list: &[SelectItem], feature: Feature) -> bool
     ensures { result ≡ list_any (in_item (has feature)) list.now }
 {
     list.iter().any(|item| item_has(item, feature))
 }
 
-fn item_has(item: &Item, feature: Feature) -> bool
+fn item_has(item: &SelectItem, feature: Feature) -> bool
     ensures { result ≡ in_item (has feature) item.now }
 {
     match item {
-        Item::AllOf(_) => false,
-        Item::One(named) => has_feature(&named.expr, feature),
+        SelectItem::AllOf(_) => false,
+        SelectItem::One(named) => has_feature(&named.expr, feature),
     }
 }
 
@@ -135,18 +136,18 @@ fn some_item_nests(items: &Items) -> bool
     }
 }
 
-fn some_listed_nests(list: &[Item]) -> bool
+fn some_listed_nests(list: &[SelectItem]) -> bool
     ensures { result ≡ list_any (in_item nests) list.now }
 {
     list.iter().any(item_nests)
 }
 
-fn item_nests(item: &Item) -> bool
+fn item_nests(item: &SelectItem) -> bool
     ensures { result ≡ in_item nests item.now }
 {
     match item {
-        Item::AllOf(_) => false,
-        Item::One(named) => nests_aggregates(&named.expr),
+        SelectItem::AllOf(_) => false,
+        SelectItem::One(named) => nests_aggregates(&named.expr),
     }
 }
 
@@ -182,25 +183,25 @@ fn are_items_of_groups(items: &Items, groups: &[ColumnName]) -> bool
     }
 }
 
-fn all_are_of_groups(list: &[Item], groups: &[ColumnName]) -> bool
+fn all_are_of_groups(list: &[SelectItem], groups: &[ColumnName]) -> bool
     ensures { result ≡ list_all (is_of_groups groups.now) list.now }
 {
     list.iter().all(|item| is_item_of_groups(item, groups))
 }
 
-fn is_item_of_groups(item: &Item, groups: &[ColumnName]) -> bool
+fn is_item_of_groups(item: &SelectItem, groups: &[ColumnName]) -> bool
     ensures { result ≡ is_of_groups groups.now item.now }
 {
     group_item(groups, item).is_some()
 }
 
 /// What an item of a grouped SELECT is; nothing where such a SELECT may not show it.
-pub fn group_item(groups: &[ColumnName], item: &Item) -> Option<GroupItem>
+pub fn group_item(groups: &[ColumnName], item: &SelectItem) -> Option<GroupItem>
     ensures { result ≡ spec.group_item groups.now item.now }
 {
     match item {
-        Item::AllOf(_) => None,
-        Item::One(named) => group_item_of(groups, &named.expr),
+        SelectItem::AllOf(_) => None,
+        SelectItem::One(named) => group_item_of(groups, &named.expr),
     }
 }
 

@@ -7,7 +7,7 @@ ghost use Rattle.sql_rules.specs.Names.{in_given, repeats_by, repeats};
 ghost use Rattle.sql_rules.specs.Writes.{delete_outside, entry_outside, insert_outside, is_below, is_list_of_entries, is_misplaced, is_misplaced_if, update_outside};
 
 use crate::names::{is_kept_by_system, repeats_name};
-use sql_ast::{Assignment, Delete, Entry, Expr, Insert, Tuple, Update};
+use sql_ast::{Assignment, Delete, Expr, Insert, InsertCell, Tuple, Update};
 use sql_features::{Feature, has_feature};
 use tuple_codec::{Sequence, Text};
 
@@ -52,18 +52,18 @@ fn some_tuple_is_outside(tuples: &[Tuple]) -> bool
         .any(|tuple| some_entry_is_outside(tuple.as_slice()))
 }
 
-fn some_entry_is_outside(entries: &[Entry]) -> bool
+fn some_entry_is_outside(entries: &[InsertCell]) -> bool
     ensures { result ≡ list_any entry_outside entries.now }
 {
     entries.iter().any(is_outside_entry)
 }
 
-fn is_outside_entry(entry: &Entry) -> bool
+fn is_outside_entry(entry: &InsertCell) -> bool
     ensures { result ≡ entry_outside entry.now }
 {
     match entry {
-        Entry::Value(value) => is_out_of_place(value),
-        Entry::Default => false,
+        InsertCell::Value(value) => is_out_of_place(value),
+        InsertCell::Default => false,
     }
 }
 

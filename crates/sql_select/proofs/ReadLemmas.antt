@@ -8,7 +8,7 @@ use Rattle.schema_model.specs.PlainTables as plain
 use Rattle.schema_model.specs.PlainTables.{PlainDatabase}
 use Rattle.sql_ast.specs.declared.selects.FromClause.{FromClause}
 use Rattle.sql_ast.specs.declared.selects.Join.{Join}
-use Rattle.sql_ast.specs.declared.selects.Source.{Source}
+use Rattle.sql_ast.specs.declared.selects.TableSource.{TableSource}
 use Rattle.expr_eval.specs.Binding.{Outcome, and_then}
 use Rattle.plain_sql.specs.Lists.{each, or_refuse}
 use Rattle.plain_sql.specs.Plans.{is_known_as, query_on, read_as, source_read, sources_of}
@@ -55,7 +55,7 @@ found_alike from database system name read =
 
 -- ---- each source is read
 
-read_alike : (from : FromClause) (database : PlainDatabase) (system : List NamedAnswer) (source : Source) → is_read from source.table ≡ true
+read_alike : (from : FromClause) (database : PlainDatabase) (system : List NamedAnswer) (source : TableSource) → is_read from source.table ≡ true
     → source_read (known_read from database system) source ≡ source_read (known database system) source
 unfolding source_read
 read_alike from database system source read =
@@ -70,7 +70,7 @@ any_join (other ∷ joins) more join = or_right (bytes_eq join.source.table othe
     or_right true h = refl
     or_right false h = h
 
-each_alike : (f g : Source → Outcome Read) (x : Source) (xs : List Source) → f x ≡ g x → each f xs ≡ each g xs → each f (x ∷ xs) ≡ each g (x ∷ xs)
+each_alike : (f g : TableSource → Outcome Read) (x : TableSource) (xs : List TableSource) → f x ≡ g x → each f xs ≡ each g xs → each f (x ∷ xs) ≡ each g (x ∷ xs)
 each_alike f g x xs p q = λ i. and_then (p i) (λ y. and_then (q i) (λ ys. Ok (y ∷ ys)))
 
 joins_alike : (from : FromClause) (database : PlainDatabase) (system : List NamedAnswer) (before joins : List Join) → before ++ joins ≡ from.joins

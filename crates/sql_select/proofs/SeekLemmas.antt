@@ -23,7 +23,7 @@ use Rattle.plain_sql.specs.declared.sources.Known.{Known}
 use Rattle.plain_sql.specs.declared.sources.Read.{Read}
 use Rattle.plain_sql.specs.Passing.{IsPassedOver}
 use Rattle.key_seek.specs.Seeking.{Seeks}
-use Rattle.sql_select.specs.Seeks.{AddsServing, AreNeeded, Serves, scope_in}
+use Rattle.sql_select.specs.Seeks.{AddsServing, AreNeeded, ServesQuery, scope_in}
 use Rattle.sql_select.specs.Sources.{known_table}
 
 -- ---- rows that are passed over
@@ -125,7 +125,7 @@ rows_alike query columns rows others filter test alone is bound same =
 
 pub serves : (query : Query) (name : List ℕ) (table : PlainTable) (part : Known) (read : List Cells) → plain.IsTable table → part.name ≡ name
     → part ≡ record { name = part.name; columns = (known_table (record { name = name; table = table })).columns; rows = read }
-    → AreNeeded query table.schema table.rows read → Serves query (known_table (record { name = name; table = table })) part
+    → AreNeeded query table.schema table.rows read → ServesQuery query (known_table (record { name = name; table = table })) part
 serves query name table part read is named made (inl all) =
     (named, inl (made ∙ (λ i. record { name = named i; columns = (known_table (record { name = name; table = table })).columns; rows = all i })))
 serves query name table part read is named made (inr needed) =
@@ -147,18 +147,18 @@ serves query name table part read is named made (inr needed) =
 
 -- ---- tables that serve give the same answer
 
-pub serves_itself : (query : Query) (xs : List Known) → AllZip (Serves query) xs xs
+pub serves_itself : (query : Query) (xs : List Known) → AllZip (ServesQuery query) xs xs
 serves_itself query [] = tt
 serves_itself query (x ∷ xs) = ((refl, inl refl), serves_itself query xs)
 
-pub serve_both : (query : Query) (xs ys us vs : List Known) → AllZip (Serves query) xs ys → AllZip (Serves query) us vs → AllZip (Serves query) (xs ++ us) (ys ++ vs)
+pub serve_both : (query : Query) (xs ys us vs : List Known) → AllZip (ServesQuery query) xs ys → AllZip (ServesQuery query) us vs → AllZip (ServesQuery query) (xs ++ us) (ys ++ vs)
 serve_both query [] [] us vs front back = back
 serve_both query [] (y ∷ ys) us vs front back = absurd (front)
 serve_both query (x ∷ xs) [] us vs front back = absurd (front)
 serve_both query (x ∷ xs) (y ∷ ys) us vs front back = (front.0, serve_both query xs ys us vs front.1 back)
 
 -- with a join, all are as they were
-joined_same : (query : Query) (join : Join) (joins : List Join) → query.from.joins ≡ join ∷ joins → (xs ys : List Known) → AllZip (Serves query) xs ys → ys ≡ xs
+joined_same : (query : Query) (join : Join) (joins : List Join) → query.from.joins ≡ join ∷ joins → (xs ys : List Known) → AllZip (ServesQuery query) xs ys → ys ≡ xs
 joined_same query join joins more [] [] serve = refl
 joined_same query join joins more [] (y ∷ ys) serve = absurd (serve)
 joined_same query join joins more (x ∷ xs) [] serve = absurd (serve)
@@ -184,7 +184,7 @@ one_found : (query : Query) (x y : Known) → (y ≡ x) ⊎ ((query.from.joins �
 one_found query x y (inl same) = ap (λ k. shown_of query (Some k)) same
 one_found query x y (inr alike) = alike.1
 
-found_same : (query : Query) (name : List ℕ) (xs ys : List Known) → AllZip (Serves query) xs ys → shown_of query (find (is_known_as name) ys) ≡ shown_of query (find (is_known_as name) xs)
+found_same : (query : Query) (name : List ℕ) (xs ys : List Known) → AllZip (ServesQuery query) xs ys → shown_of query (find (is_known_as name) ys) ≡ shown_of query (find (is_known_as name) xs)
 found_same query name [] [] serve = refl
 found_same query name [] (y ∷ ys) serve = absurd (serve)
 found_same query name (x ∷ xs) [] serve = absurd (serve)
@@ -201,11 +201,11 @@ found_same query name (x ∷ xs) (y ∷ ys) serve =
 abbrev by_sources : List Known → Query → List Join → Outcome Answer
 by_sources known query joins = and_then (each (source_read known) (query.from.first ∷ map (λ (join : Join). join.source) joins)) (λ sources. query_on sources query)
 
-lone_alike : (query : Query) (xs ys : List Known) → AllZip (Serves query) xs ys → by_sources ys query [] ≡ by_sources xs query []
+lone_alike : (query : Query) (xs ys : List Known) → AllZip (ServesQuery query) xs ys → by_sources ys query [] ≡ by_sources xs query []
 unfolding source_read
 lone_alike query xs ys serve = found_same query query.from.first.table xs ys serve
 
-pub answers_alike : (query : Query) (xs ys : List Known) → AllZip (Serves query) xs ys → answer ys (select.From query) ≡ answer xs (select.From query)
+pub answers_alike : (query : Query) (xs ys : List Known) → AllZip (ServesQuery query) xs ys → answer ys (select.From query) ≡ answer xs (select.From query)
 answers_alike query xs ys serve = by query.from.joins refl
   where
     by : (joins : List Join) → query.from.joins ≡ joins → answer ys (select.From query) ≡ answer xs (select.From query)

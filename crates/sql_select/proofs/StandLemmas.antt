@@ -6,31 +6,31 @@ use Rattle.schema_model.specs.PlainTables as plain
 use Rattle.schema_model.specs.PlainTables.{PlainDatabase, PlainTable}
 use Rattle.chunk_store.specs.Chunks.{Chunks}
 use Rattle.table_root.specs.Databases.{IsDatabaseFound}
-use Rattle.table_root.specs.Standing.{DatabasesStand, IsTableAt, IsTableOf, TableValuesStand, TablesStand, named_tables, table_of_lists}
+use Rattle.table_root.specs.Standing.{AreThere, DatabasesStand, IsReadAt, IsTableAt, IsTableOf, TableValuesStand, TablesStand, named_tables, table_of_lists}
 use Rattle.table_root.specs.Tables.{IsTableFound}
-use Rattle.table_root.specs.declared.records.NamedTable.{NamedTable}
-use Rattle.table_root.specs.declared.records.Table.{Table}
+use Rattle.table_root.specs.declared.records.StoredTable.{StoredTable}
+use Rattle.table_root.specs.declared.records.TableEntry.{TableEntry}
 use Rattle.schema_model.specs.WrittenForms.{table_address}
 use Rattle.plain_sql.specs.declared.sources.Known.{Known}
 use Rattle.sql_ast.specs.declared.selects.Query.{Query}
-use Rattle.sql_select.specs.Seeks.{AddsServing, Serves}
-use Rattle.sql_select.specs.Sources.{AreThere, IsReadAt, known_table}
+use Rattle.sql_select.specs.Seeks.{AddsServing, ServesQuery}
+use Rattle.sql_select.specs.Sources.{known_table}
 
-pub table_found : (address : List ℕ → List ℕ) (chunks : Chunks) (k : List ℕ) → TablesStand → (table : PlainTable) → IsTableAt address chunks k table → (read : Table) × IsTableFound chunks k read
+pub table_found : (address : List ℕ → List ℕ) (chunks : Chunks) (k : List ℕ) → TablesStand → (table : PlainTable) → IsTableAt address chunks k table → (read : StoredTable) × IsTableFound chunks k read
 table_found address chunks k stand table at = (table_of_lists address table, stand.found address chunks k table at)
 
-pub table_same : (address : List ℕ → List ℕ) (chunks : Chunks) (k : List ℕ) → TablesStand → (table : PlainTable) → IsTableAt address chunks k table → (read : Table) → IsTableFound chunks k read
+pub table_same : (address : List ℕ → List ℕ) (chunks : Chunks) (k : List ℕ) → TablesStand → (table : PlainTable) → IsTableAt address chunks k table → (read : StoredTable) → IsTableFound chunks k read
     → read ≡ table_of_lists address table
 table_same address chunks k stand table at read found = stand.same address chunks k table read at found
 
-pub table_of : (address : List ℕ → List ℕ) (chunks : Chunks) (k : List ℕ) → TableValuesStand → (table : PlainTable) → IsTableAt address chunks k table → (read : Table) → IsTableFound chunks k read
+pub table_of : (address : List ℕ → List ℕ) (chunks : Chunks) (k : List ℕ) → TableValuesStand → (table : PlainTable) → IsTableAt address chunks k table → (read : StoredTable) → IsTableFound chunks k read
     → IsTableOf address chunks read table
 table_of address chunks k stand table at read found = stand.read address chunks k table read at found
 
-pub database_found : (address : List ℕ → List ℕ) (chunks : Chunks) (k : List ℕ) → DatabasesStand → (database : PlainDatabase) → IsReadAt address chunks k database → (tables : List NamedTable) × IsDatabaseFound chunks k tables
+pub database_found : (address : List ℕ → List ℕ) (chunks : Chunks) (k : List ℕ) → DatabasesStand → (database : PlainDatabase) → IsReadAt address chunks k database → (tables : List TableEntry) × IsDatabaseFound chunks k tables
 database_found address chunks k stand database at = (named_tables address database, stand.found address chunks k database at.stands at.few)
 
-pub database_there : (address : List ℕ → List ℕ) (chunks : Chunks) (k : List ℕ) → DatabasesStand → (database : PlainDatabase) → IsReadAt address chunks k database → (tables : List NamedTable) → IsDatabaseFound chunks k tables
+pub database_there : (address : List ℕ → List ℕ) (chunks : Chunks) (k : List ℕ) → DatabasesStand → (database : PlainDatabase) → IsReadAt address chunks k database → (tables : List TableEntry) → IsDatabaseFound chunks k tables
     → AreThere address chunks database tables
 database_there address chunks k stand database at tables found =
     let stands = at.stands in
@@ -38,11 +38,11 @@ database_there address chunks k stand database at tables found =
 
 -- ---- the first table, and the others
 
-abbrev entry_of : (List ℕ → List ℕ) → plain.NamedTable → NamedTable
+abbrev entry_of : (List ℕ → List ℕ) → plain.NamedTable → TableEntry
 entry_of address named = record { name = named.name; table = record { 0 = table_address address named.table } }
 
 -- what the first of a list and the others are of
-pub record Parts (address : List ℕ → List ℕ) (chunks : Chunks) (database : PlainDatabase) (first : NamedTable) (rest : List NamedTable) : Type 0 where
+pub record Parts (address : List ℕ → List ℕ) (chunks : Chunks) (database : PlainDatabase) (first : TableEntry) (rest : List TableEntry) : Type 0 where
   pub named : plain.NamedTable
   pub others : PlainDatabase
   pub both : database ≡ named ∷ others
@@ -50,14 +50,14 @@ pub record Parts (address : List ℕ → List ℕ) (chunks : Chunks) (database :
   pub at : IsTableAt address chunks first.table.0 named.table
   pub there : AreThere address chunks others rest
 
-parted : (address : List ℕ → List ℕ) (chunks : Chunks) (named : plain.NamedTable) (others : PlainDatabase) (tables : List NamedTable) (first : NamedTable) → AreThere address chunks (named ∷ others) tables
+parted : (address : List ℕ → List ℕ) (chunks : Chunks) (named : plain.NamedTable) (others : PlainDatabase) (tables : List TableEntry) (first : TableEntry) → AreThere address chunks (named ∷ others) tables
     → first ≡ slice_index_or tables 0 first → Parts address chunks (named ∷ others) first (take (length tables - 1) (drop 1 tables))
 parted address chunks named others tables first there is = record {
   named = named;
   others = others;
   both = refl;
-  name = ap (λ (n : NamedTable). n.name) first_is;
-  at = let stand = there.stand in subst (λ k. IsTableAt address chunks k named.table) (sym (ap (λ (n : NamedTable). n.table.0) first_is)) stand.0;
+  name = ap (λ (n : TableEntry). n.name) first_is;
+  at = let stand = there.stand in subst (λ k. IsTableAt address chunks k named.table) (sym (ap (λ (n : TableEntry). n.table.0) first_is)) stand.0;
   there = let stand = there.stand in record { stand = stand.1; listed = ap (λ l. take (length l - 1) (drop 1 l)) there.listed ∙ rest_is };
 }
   where
@@ -67,7 +67,7 @@ parted address chunks named others tables first there is = record {
     rest_is : take (length (entry_of address named ∷ named_tables address others) - 1) (named_tables address others) ≡ named_tables address others
     rest_is = ap (λ n. take n (named_tables address others)) (one_less (length (named_tables address others))) ∙ take_all (named_tables address others)
 
-pub parts_of : (address : List ℕ → List ℕ) (chunks : Chunks) (database : PlainDatabase) (tables : List NamedTable) (first : NamedTable) → AreThere address chunks database tables
+pub parts_of : (address : List ℕ → List ℕ) (chunks : Chunks) (database : PlainDatabase) (tables : List TableEntry) (first : TableEntry) → AreThere address chunks database tables
     → first ≡ slice_index_or tables 0 first → 1 ≤ length tables → Parts address chunks database first (take (length tables - 1) (drop 1 tables))
 parts_of address chunks [] tables first there is long = absurd (none_long (length tables) long (ap length there.listed))
 parts_of address chunks (named ∷ others) tables first there is long = parted address chunks named others tables first there is
@@ -79,7 +79,7 @@ append_three [] y zs = refl
 append_three (x ∷ xs) y zs = ap (λ l. x ∷ l) (append_three xs y zs)
 
 pub read_first : (query : Query) (p : plain.NamedTable → Bool) (known kept new : List Known) (k : Known) (named : plain.NamedTable) (others database : PlainDatabase) → database ≡ named ∷ others → p named ≡ true
-    → AddsServing query kept new (map known_table (filter p others)) → kept ≡ known ++ k ∷ [] → Serves query (known_table named) k → AddsServing query known new (map known_table (filter p database))
+    → AddsServing query kept new (map known_table (filter p others)) → kept ≡ known ++ k ∷ [] → ServesQuery query (known_table named) k → AddsServing query known new (map known_table (filter p database))
 read_first query p known kept new k named others database both read more is serve =
     subst (λ d. AddsServing query known new (map known_table (filter p d))) (sym both)
     (subst (λ b. AddsServing query known new (map known_table (cond b (named ∷ filter p others) (filter p others)))) (sym read)

@@ -1,14 +1,10 @@
 -- What a SELECT knows of a database and of system tables, and what of it is read.
-use Rattle.std.specs.Prelude.{◌≡◌, ◌<◌, ◌^◌, ℕ, Bool, List, [], ◌∷◌, ◌++◌, map, filter, length, bytes_eq, ◌||◌}
-use Rattle.std.specs.List.{AllByRecursion, list_any}
+use Rattle.std.specs.Prelude.{◌≡◌, ℕ, Bool, List, [], ◌∷◌, ◌++◌, map, filter, bytes_eq, ◌||◌}
+use Rattle.std.specs.List.{list_any}
 use Rattle.tuple_codec.specs.declared.values.SqlType.{SqlType}
 use Rattle.schema_model.specs.declared.schemas.Column.{Column}
 use Rattle.schema_model.specs.PlainTables as plain
 use Rattle.schema_model.specs.PlainTables.{PlainDatabase}
-use Rattle.chunk_store.specs.Chunks.{Chunks}
-use Rattle.schema_model.specs.WrittenForms.{table_address}
-use Rattle.table_root.specs.Standing.{IsDatabaseAt, IsTableAt, named_tables}
-use Rattle.table_root.specs.declared.records.NamedTable.{NamedTable}
 use Rattle.sql_ast.specs.declared.selects.FromClause.{FromClause}
 use Rattle.sql_ast.specs.declared.selects.Query.{Query}
 use Rattle.sql_ast.specs.declared.selects.Select.TheVariants as select
@@ -46,19 +42,6 @@ abbrev pub known_read : FromClause → PlainDatabase → List NamedAnswer → Li
 known_read from database system =
     map known_table (filter (λ named. is_read from named.name) database) ++ map known_system (filter (λ named. is_read from named.name) system)
 
--- the address stands for some database, of fewer tables than a written form holds
-pub record IsReadAt (address : List ℕ → List ℕ) (chunks : Chunks) (k : List ℕ) (database : PlainDatabase) : Type 0 where
-  pub stands : IsDatabaseAt address chunks k database
-  pub few : length database < 2 ^ 16
-
-abbrev pub CanRead : (List ℕ → List ℕ) → Chunks → List ℕ → Type 0
-CanRead address chunks k = (database : PlainDatabase) × IsReadAt address chunks k database
-
 -- what a SELECT shows of all that is known it shows of what it names
 abbrev pub ReadsSuffice : Type 0
 ReadsSuffice = (database : PlainDatabase) (system : List NamedAnswer) (query : Query) → answer (known_read query.from database system) (select.From query) ≡ answer (known database system) (select.From query)
-
--- this list names the tables of the database, which stand
-pub record AreThere (address : List ℕ → List ℕ) (chunks : Chunks) (database : PlainDatabase) (tables : List NamedTable) : Type 0 where
-  pub stand : AllByRecursion (λ named. IsTableAt address chunks (table_address address named.table) named.table) database
-  pub listed : tables ≡ named_tables address database

@@ -2,9 +2,10 @@
 
 ghost use Rattle.schema_model.specs.PlainTables.{PlainDatabase};
 ghost use Rattle.chunk_store.specs.Drafts.{chunks_of};
+ghost use Rattle.table_root.specs.Standing.{CanRead, IsReadAt};
 ghost use Rattle.plain_sql.specs.Plans.{answer};
 ghost use Rattle.sql_select.specs.Gives.{Answers};
-ghost use Rattle.sql_select.specs.Sources.{CanRead, IsReadAt, known};
+ghost use Rattle.sql_select.specs.Sources.{known};
 
 use crate::faults::AskFault;
 use crate::laws::law_of_reading;

@@ -4,11 +4,11 @@ ghost use Rattle.std.specs.Prelude.{◌≡◌, ◌++◌, IfOk, OnOk, bytes_eq, f
 ghost use Rattle.std.specs.List.{list_any};
 ghost use Rattle.schema_model.specs.PlainTables.{PlainDatabase, PlainTable};
 ghost use Rattle.chunk_store.specs.Drafts.{chunks_of};
-ghost use Rattle.table_root.specs.Standing.{IsTableAt};
+ghost use Rattle.table_root.specs.Standing.{AreThere, CanRead, IsReadAt, IsTableAt};
 ghost use Rattle.sql_ast.specs.declared.selects.Select.TheVariants as select;
 ghost use Rattle.plain_sql.specs.Plans.{answer};
-ghost use Rattle.sql_select.specs.Seeks.{AddsServing, Serves};
-ghost use Rattle.sql_select.specs.Sources.{AreThere, CanRead, IsReadAt, is_read, known_read, known_system, known_table, typed, typed_column};
+ghost use Rattle.sql_select.specs.Seeks.{AddsServing, ServesQuery};
+ghost use Rattle.sql_select.specs.Sources.{is_read, known_read, known_system, known_table, typed, typed_column};
 
 use crate::seeking::rows_needed;
 use crate::sources::NamedAnswer;
@@ -17,7 +17,7 @@ use plain_sql::{Known, NamedType};
 use schema_model::Column;
 use sql_ast::{FromClause, Join, Query};
 use std::alloc::{AllocError, Global};
-use table_root::{NamedTable, law_of_databases, law_of_tables, read_database, read_table};
+use table_root::{TableEntry, law_of_databases, law_of_tables, read_database, read_table};
 use tuple_codec::{Address, Digester, Row, Sequence, SqlType, Text, copy_row};
 
 fn is_joined(joins: &[Join], name: &[u8]) -> bool
@@ -58,7 +58,7 @@ fn table_known<D: Digester>(
 ) -> Result<Known, AllocError>
     requires { (contents : PlainTable) × IsTableAt D.address (chunks_of draft.now.chunks) address.now.0 contents }
     ensures { (contents : PlainTable) → IsTableAt D.address (chunks_of draft.now.chunks) address.now.0 contents
-        → IfOk result (λ known. Serves query.now (known_table (record { name = name.now; table = contents })) known) }
+        → IfOk result (λ known. ServesQuery query.now (known_table (record { name = name.now; table = contents })) known) }
 {
     law_of_tables();
     let table = read_table(alloc, draft, address)?;
@@ -75,7 +75,7 @@ fn push_tables<D: Digester>(
     alloc: Global,
     draft: &Draft<D>,
     query: &Query,
-    tables: &[NamedTable],
+    tables: &[TableEntry],
     known: &mut Sequence<Known>,
 ) -> Result<(), AllocError>
     requires { (database : PlainDatabase) × AreThere D.address (chunks_of draft.now.chunks) database tables.now }

@@ -8,7 +8,7 @@ ghost use Rattle.plain_sql.specs.Plans.{scope_column};
 ghost use Rattle.plain_sql.specs.Temporary.{source_name};
 ghost use Rattle.key_seek.specs.Choosing.{IsSeekOf, is_wanted};
 ghost use Rattle.key_seek.specs.declared.choosing.Seek as seeks;
-ghost use Rattle.sql_select.specs.Seeks.{AreNeeded, Seeks, SeeksBy};
+ghost use Rattle.sql_select.specs.Seeks.{AreNeeded, SeeksBy, SeeksSource};
 ghost use Rattle.sql_select.specs.Sources.{typed_column};
 
 use chunk_store::Draft;
@@ -16,9 +16,9 @@ use expr_eval::ScopeColumn;
 use key_seek::{Seek, rows_sought, sought};
 use plain_sql::{Refused, condition};
 use schema_model::{Column, Schema};
-use sql_ast::{Expr, Query, Source};
+use sql_ast::{Expr, Query, TableSource};
 use std::alloc::{AllocError, Global};
-use table_root::Table;
+use table_root::StoredTable;
 use table_rows::read_rows;
 use tuple_codec::{Digester, Row, Sequence, Text};
 
@@ -27,7 +27,7 @@ pub(crate) fn rows_needed<D: Digester>(
     alloc: Global,
     draft: &Draft<D>,
     query: &Query,
-    table: &Table,
+    table: &StoredTable,
 ) -> Result<Sequence<Row>, AllocError>
     requires { (contents : PlainTable) × IsTableOf D.address (chunks_of draft.now.chunks) table.now contents }
     ensures { (contents : PlainTable) → IsTableOf D.address (chunks_of draft.now.chunks) table.now contents
@@ -41,7 +41,7 @@ pub(crate) fn rows_needed<D: Digester>(
 
 /// What the WHERE of the only source seeks. A WHERE that is refused is judged later, in its place.
 fn seek_of(alloc: Global, query: &Query, schema: &Schema) -> Result<Option<Seek>, AllocError>
-    ensures { (seek : seeks.Seek) → IfOk result (λ found. found ≡ Some seek → Seeks query.now schema.now (is_wanted schema.now seek) × IsSeekOf schema.now seek) }
+    ensures { (seek : seeks.Seek) → IfOk result (λ found. found ≡ Some seek → SeeksSource query.now schema.now (is_wanted schema.now seek) × IsSeekOf schema.now seek) }
 {
     if !query.from.joins.as_slice().is_empty() {
         return Ok(None);
@@ -54,7 +54,7 @@ fn seek_of(alloc: Global, query: &Query, schema: &Schema) -> Result<Option<Seek>
 
 fn seek_by(
     alloc: Global,
-    source: &Source,
+    source: &TableSource,
     filter: &Expr,
     schema: &Schema,
 ) -> Result<Option<Seek>, AllocError>
@@ -70,7 +70,7 @@ fn seek_by(
 }
 
 /// The name that a source goes by.
-fn name_of(source: &Source) -> &Text
+fn name_of(source: &TableSource) -> &Text
     ensures { result.now ≡ source_name source.now }
 {
     match &source.alias {

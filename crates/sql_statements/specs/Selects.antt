@@ -15,8 +15,8 @@ use Rattle.sql_ast.specs.declared.selects.ColumnName.TheVariants as column
 use Rattle.sql_ast.specs.declared.selects.Direction.{Direction}
 use Rattle.sql_ast.specs.declared.selects.Direction.TheVariants.{Ascending, Descending}
 use Rattle.sql_ast.specs.declared.selects.FromClause.{FromClause}
-use Rattle.sql_ast.specs.declared.selects.Item.{Item}
-use Rattle.sql_ast.specs.declared.selects.Item.TheVariants.{AllOf, One}
+use Rattle.sql_ast.specs.declared.selects.SelectItem.{SelectItem}
+use Rattle.sql_ast.specs.declared.selects.SelectItem.TheVariants.{AllOf, One}
 use Rattle.sql_ast.specs.declared.selects.Items.{Items}
 use Rattle.sql_ast.specs.declared.selects.Items.TheVariants.{All, Listed}
 use Rattle.sql_ast.specs.declared.selects.Join.{Join}
@@ -27,14 +27,14 @@ use Rattle.sql_ast.specs.declared.selects.Query.{Query}
 use Rattle.sql_ast.specs.declared.selects.Select.{Select}
 use Rattle.sql_ast.specs.declared.selects.Select.TheVariants as select
 use Rattle.sql_ast.specs.declared.selects.Sorting.{Sorting}
-use Rattle.sql_ast.specs.declared.selects.Source.{Source}
+use Rattle.sql_ast.specs.declared.selects.TableSource.{TableSource}
 use Rattle.sql_ast.specs.declared.signs.Sign.TheVariants as sign
 use Rattle.sql_ast.specs.declared.words.Keyword.TheVariants as word
 use Rattle.sql_grammar.specs.declared.pieces.Piece.{Piece}
 use Rattle.sql_grammar.specs.Pieces.{is_named, is_sign}
 use Rattle.sql_grammar.specs.Expressions.{any}
 use Rattle.sql_grammar.specs.Reading.{Reader, ◌>>=◌, ◌>>◌, ◌<$>◌, pure, stop, skip, eat, eat_keyword, eat_word, expect_keyword, name, optional_name, whole, list, turns}
-use Rattle.sql_statements.specs.declared.chosen.Shown.{Shown}
+use Rattle.sql_statements.specs.declared.chosen.ShownItem.{ShownItem}
 use Rattle.sql_statements.specs.declared.chosen.Listing.{Listing}
 use Rattle.sql_statements.specs.declared.chosen.Choice.{Choice}
 
@@ -46,17 +46,17 @@ alias = do
 
 -- ---- what is shown. Without FROM no item is all columns, or has a name without AS.
 
-abbrev pub shown_one : Expr → Option (List ℕ) → Bool → Shown
+abbrev pub shown_one : Expr → Option (List ℕ) → Bool → ShownItem
 shown_one x n wants_from = record { item = One (record { expr = x; name = n }); wants_from = wants_from }
 
-abbrev pub with_name : Expr → List ℕ → Shown
+abbrev pub with_name : Expr → List ℕ → ShownItem
 with_name x n = shown_one x (Some n) false
 
-abbrev pub with_bare_name : Expr → Option (List ℕ) → Shown
+abbrev pub with_bare_name : Expr → Option (List ℕ) → ShownItem
 with_bare_name x n = shown_one x n (is_some n)
 
 -- behind an item's expression
-unfoldable pub named : Expr → Reader Shown
+unfoldable pub named : Expr → Reader ShownItem
 named x = do
   given ← eat_keyword word.As
   if given then with_name x <$> name else with_bare_name x <$> optional_name
@@ -66,28 +66,28 @@ unfoldable pub begins_all_of : List Piece → Bool
 begins_all_of (t ∷ u ∷ v ∷ ts) = is_named t && is_sign sign.Point u && is_sign sign.Star v
 begins_all_of ts = false
 
-abbrev pub all_of_shown : List ℕ → Shown
+abbrev pub all_of_shown : List ℕ → ShownItem
 all_of_shown n = record { item = AllOf n; wants_from = true }
 
-unfoldable pub all_of : Reader Shown
+unfoldable pub all_of : Reader ShownItem
 all_of = do
   source ← name
   skip
   skip
   pure (all_of_shown source)
 
-unfoldable pub one_item : Reader Shown
+unfoldable pub one_item : Reader ShownItem
 one_item = do
   x ← any
   named x
 
-unfoldable pub item : Reader Shown
+unfoldable pub item : Reader ShownItem
 item = λ ts. if begins_all_of ts then all_of ts else one_item ts
 
-abbrev pub first_of : Shown → Listing
+abbrev pub first_of : ShownItem → Listing
 first_of x = record { items = x.item ∷ []; wants_from = x.wants_from }
 
-abbrev pub added : Listing → Shown → Listing
+abbrev pub added : Listing → ShownItem → Listing
 added found x = record { items = found.items ++ x.item ∷ []; wants_from = found.wants_from || x.wants_from }
 
 unfoldable pub listing_from : ℕ → Listing → Reader Listing
@@ -114,7 +114,7 @@ items = do
 
 -- ---- sources
 
-unfoldable pub source : Reader Source
+unfoldable pub source : Reader TableSource
 source = do
   table ← name
   other ← alias
@@ -223,7 +223,7 @@ query distinct shown = do
   pure (record { distinct = distinct; items = shown; from = sources; clauses = others })
 
 -- the items, where each is an expression
-unfoldable pub named_from : List NamedExpr → List Item → Option (List NamedExpr)
+unfoldable pub named_from : List NamedExpr → List SelectItem → Option (List NamedExpr)
 named_from found [] = Some found
 named_from found (AllOf n ∷ rest) = None
 named_from found (One x ∷ rest) = named_from (found ++ x ∷ []) rest

@@ -13,8 +13,8 @@ use Rattle.sql_ast.specs.declared.signs.Sign.TheVariants as sign
 use Rattle.sql_ast.specs.declared.statements.Assignment.{Assignment}
 use Rattle.sql_ast.specs.declared.statements.Call.{Call}
 use Rattle.sql_ast.specs.declared.statements.Delete.{Delete}
-use Rattle.sql_ast.specs.declared.statements.Entry.{Entry}
-use Rattle.sql_ast.specs.declared.statements.Entry.TheVariants as entry
+use Rattle.sql_ast.specs.declared.statements.InsertCell.{InsertCell}
+use Rattle.sql_ast.specs.declared.statements.InsertCell.TheVariants as entry
 use Rattle.sql_ast.specs.declared.statements.Insert.{Insert}
 use Rattle.sql_ast.specs.declared.statements.Setting.{Setting}
 use Rattle.sql_ast.specs.declared.statements.Statement.{Statement}
@@ -36,12 +36,12 @@ use Rattle.sql_statements.specs.declared.heads.Opening.TheVariants as opening
 
 -- ---- rows
 
-unfoldable pub any_entry : Reader Entry
+unfoldable pub any_entry : Reader InsertCell
 any_entry = do
   default ← eat_keyword word.Default
   if default then pure entry.Default else entry.Value <$> any
 
-unfoldable pub tuple : Reader (List Entry)
+unfoldable pub tuple : Reader (List InsertCell)
 tuple = do
   expect sign.OpenParenthesis
   found ← list any_entry

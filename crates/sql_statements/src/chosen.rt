@@ -4,22 +4,22 @@ ghost use Rattle.std.specs.Prelude.{◌≡◌, [], OnOk, IfOk};
 ghost use Rattle.sql_grammar.specs.Reading.{Reads};
 ghost use Rattle.sql_statements.specs.Selects as spec;
 
-use sql_ast::{Expr, Item, Items, Keyword, NamedExpr, Sign};
+use sql_ast::{Expr, Items, Keyword, NamedExpr, SelectItem, Sign};
 use sql_grammar::{Cursor, Stop, is_named, is_sign, read_any};
 use std::alloc::{AllocError, Global};
 use tuple_codec::{Sequence, Text};
 
 /// An item, and whether it stands only before FROM.
 #[derive(Debug, Drop)]
-pub struct Shown {
-    pub item: Item,
+pub struct ShownItem {
+    pub item: SelectItem,
     pub wants_from: bool,
 }
 
 /// Items, and whether one of them stands only before FROM.
 #[derive(Debug, Drop)]
 pub struct Listing {
-    pub items: Sequence<Item>,
+    pub items: Sequence<SelectItem>,
     pub wants_from: bool,
 }
 
@@ -30,17 +30,17 @@ pub struct Choice {
     pub wants_from: bool,
 }
 
-fn shown_one(expr: Expr, name: Option<Text>, wants_from: bool) -> Shown
+fn shown_one(expr: Expr, name: Option<Text>, wants_from: bool) -> ShownItem
     ensures { result ≡ spec.shown_one expr name wants_from }
 {
-    Shown {
-        item: Item::One(NamedExpr { expr, name }),
+    ShownItem {
+        item: SelectItem::One(NamedExpr { expr, name }),
         wants_from,
     }
 }
 
 #[tactic(auto, unfolding(crate::specs::Selects::named))]
-fn named(alloc: Global, cursor: &mut Cursor<'_>, expr: Expr) -> Result<Shown, Stop>
+fn named(alloc: Global, cursor: &mut Cursor<'_>, expr: Expr) -> Result<ShownItem, Stop>
     ensures { Reads (spec.named expr cursor.old) result cursor.new }
 {
     if cursor.eat_keyword(Keyword::As) {
@@ -65,20 +65,20 @@ fn begins_all_of(cursor: &Cursor<'_>) -> bool
 }
 
 #[tactic(auto, unfolding(crate::specs::Selects::all_of))]
-fn all_of(alloc: Global, cursor: &mut Cursor<'_>) -> Result<Shown, Stop>
+fn all_of(alloc: Global, cursor: &mut Cursor<'_>) -> Result<ShownItem, Stop>
     ensures { Reads (spec.all_of cursor.old) result cursor.new }
 {
     let source = cursor.name(alloc)?;
     cursor.skip();
     cursor.skip();
-    Ok(Shown {
-        item: Item::AllOf(source),
+    Ok(ShownItem {
+        item: SelectItem::AllOf(source),
         wants_from: true,
     })
 }
 
 #[tactic(auto, unfolding(crate::specs::Selects::one_item))]
-fn one_item(alloc: Global, cursor: &mut Cursor<'_>) -> Result<Shown, Stop>
+fn one_item(alloc: Global, cursor: &mut Cursor<'_>) -> Result<ShownItem, Stop>
     ensures { Reads (spec.one_item cursor.old) result cursor.new }
 {
     let expr = read_any(alloc, cursor)?;
@@ -86,7 +86,7 @@ fn one_item(alloc: Global, cursor: &mut Cursor<'_>) -> Result<Shown, Stop>
 }
 
 #[tactic(auto, unfolding(crate::specs::Selects::item))]
-fn item(alloc: Global, cursor: &mut Cursor<'_>) -> Result<Shown, Stop>
+fn item(alloc: Global, cursor: &mut Cursor<'_>) -> Result<ShownItem, Stop>
     ensures { Reads (spec.item cursor.old) result cursor.new }
 {
     if begins_all_of(cursor) {
@@ -96,7 +96,7 @@ fn item(alloc: Global, cursor: &mut Cursor<'_>) -> Result<Shown, Stop>
     }
 }
 
-fn first_of(alloc: Global, shown: Shown) -> Result<Listing, AllocError>
+fn first_of(alloc: Global, shown: ShownItem) -> Result<Listing, AllocError>
     ensures { IfOk result (λ found. found ≡ spec.first_of shown) }
 {
     let mut items = Sequence::new(alloc);
@@ -107,7 +107,7 @@ fn first_of(alloc: Global, shown: Shown) -> Result<Listing, AllocError>
     })
 }
 
-fn add(found: &mut Listing, shown: Shown) -> Result<(), AllocError>
+fn add(found: &mut Listing, shown: ShownItem) -> Result<(), AllocError>
     ensures { OnOk result (found.new ≡ spec.added found.old shown) }
 {
     found.items.push(shown.item)?;
@@ -147,14 +147,17 @@ pub fn items(alloc: Global, cursor: &mut Cursor<'_>) -> Result<Choice, Stop>
 }
 
 #[tactic(auto, unfolding(crate::specs::Selects::named_from))]
-fn named_from(alloc: Global, items: Vec<Item>) -> Result<Option<Sequence<NamedExpr>>, AllocError>
+fn named_from(
+    alloc: Global,
+    items: Vec<SelectItem>,
+) -> Result<Option<Sequence<NamedExpr>>, AllocError>
     ensures { IfOk result (λ found. found ≡ spec.named_from [] items.items) }
 {
     let mut found = Sequence::new(alloc);
     for item in items {
         match item {
-            Item::One(named) => found.push(named)?,
-            Item::AllOf(_) => return Ok(None),
+            SelectItem::One(named) => found.push(named)?,
+            SelectItem::AllOf(_) => return Ok(None),
         }
     }
     Ok(Some(found))

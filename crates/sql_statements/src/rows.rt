@@ -6,24 +6,24 @@ ghost use Rattle.sql_statements.specs.Statements as spec;
 
 use crate::clauses::read_filter;
 use crate::elements::read_names;
-use sql_ast::{Assignment, Delete, Entry, Insert, Keyword, Sign, Tuple, Update};
+use sql_ast::{Assignment, Delete, Insert, InsertCell, Keyword, Sign, Tuple, Update};
 use sql_grammar::{Cursor, Stop, read_any};
 use std::alloc::Global;
 use tuple_codec::{Sequence, Text};
 
 #[tactic(auto, unfolding(crate::specs::Statements::any_entry))]
-fn any_entry(alloc: Global, cursor: &mut Cursor<'_>) -> Result<Entry, Stop>
+fn any_entry(alloc: Global, cursor: &mut Cursor<'_>) -> Result<InsertCell, Stop>
     ensures { Reads (spec.any_entry cursor.old) result cursor.new }
 {
     if cursor.eat_keyword(Keyword::Default) {
-        Ok(Entry::Default)
+        Ok(InsertCell::Default)
     } else {
-        Ok(Entry::Value(read_any(alloc, cursor)?))
+        Ok(InsertCell::Value(read_any(alloc, cursor)?))
     }
 }
 
 #[tactic(auto, unfolding(sql_grammar::specs::Reading::list, sql_grammar::specs::Reading::chain_from))]
-fn entries(alloc: Global, cursor: &mut Cursor<'_>) -> Result<Sequence<Entry>, Stop>
+fn entries(alloc: Global, cursor: &mut Cursor<'_>) -> Result<Sequence<InsertCell>, Stop>
     ensures { Reads (reading.list spec.any_entry cursor.old) result cursor.new }
 {
     let mut found = Sequence::new(alloc);

@@ -5,7 +5,7 @@ ghost use Rattle.sql_grammar.specs.Reading as reading;
 ghost use Rattle.sql_grammar.specs.Reading.{Reads};
 ghost use Rattle.sql_statements.specs.Selects as spec;
 
-use sql_ast::{FromClause, Join, Keyword, Source};
+use sql_ast::{FromClause, Join, Keyword, TableSource};
 use sql_grammar::{Cursor, Stop, read_any};
 use std::alloc::Global;
 use tuple_codec::{Sequence, Text};
@@ -21,12 +21,12 @@ fn alias(alloc: Global, cursor: &mut Cursor<'_>) -> Result<Option<Text>, Stop>
 }
 
 #[tactic(auto, unfolding(crate::specs::Selects::source))]
-fn source(alloc: Global, cursor: &mut Cursor<'_>) -> Result<Source, Stop>
+fn source(alloc: Global, cursor: &mut Cursor<'_>) -> Result<TableSource, Stop>
     ensures { Reads (spec.source cursor.old) result cursor.new }
 {
     let table = cursor.name(alloc)?;
     let alias = alias(alloc, cursor)?;
-    Ok(Source { table, alias })
+    Ok(TableSource { table, alias })
 }
 
 #[tactic(auto, unfolding(crate::specs::Selects::join))]

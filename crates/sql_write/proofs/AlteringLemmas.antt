@@ -23,13 +23,13 @@ use Rattle.chunk_store.specs.declared.faults.PutFault.TheVariants as put
 use Rattle.chunk_store.specs.Standing.{IsTree}
 use Rattle.table_rows.specs.Rows.{AreRowsAt}
 use Rattle.table_root.specs.Standing.{IsTableOf, TablesStand, named_tables}
-use Rattle.table_root.specs.declared.records.NamedTable.{NamedTable}
-use Rattle.table_root.specs.declared.records.Table.{Table}
+use Rattle.table_root.specs.declared.records.StoredTable.{StoredTable}
+use Rattle.table_root.specs.declared.records.TableEntry.{TableEntry}
 use Rattle.plain_sql.specs.Lists.{each, or_refuse, unless}
 use Rattle.plain_writes.specs.Violations.{Checks, is_called, table_in}
 use Rattle.plain_writes.specs.Writes.{Effect, replaced}
 use Rattle.plain_schemas.specs.Altered.{alter_effect, altered, change_of, is_open, schema_after, small_row_after, table_after}
-use Rattle.plain_schemas.specs.declared.changing.Change.{Change}
+use Rattle.plain_schemas.specs.declared.changing.ColumnChange.{ColumnChange}
 use Rattle.plain_schemas.specs.Effects.{changed_to}
 use Rattle.constraint_scan.specs.Scanning.{IsKeptAt}
 use Rattle.index_keep.specs.Keeping.{table_of_rows}
@@ -47,18 +47,18 @@ use Rattle.write_laws.proofs.OutcomeLemmas.{ok_same, then_so, unless_so}
 use Rattle.sql_write.specs.Putting.{AreListed}
 use Rattle.sql_write.specs.Skeletons.{SchemasSuffice, table_altered, with_altered}
 
-module _ (address : List ℕ → List ℕ) (chunks : Chunks) (table : Table) (contents : PlainTable) (stands : IsTableOf address chunks table contents) where
+module _ (address : List ℕ → List ℕ) (chunks : Chunks) (table : StoredTable) (contents : PlainTable) (stands : IsTableOf address chunks table contents) where
   pub schema_same : table.schema ≡ contents.schema
-  schema_same = ap (λ (t : Table). t.schema) stands.value
+  schema_same = ap (λ (t : StoredTable). t.schema) stands.value
 
   pub rows_tree : IsTree address chunks table.rows.0 (row_items contents)
-  rows_tree = subst (λ (k : List ℕ). IsTree address chunks k (row_items contents)) (sym (ap (λ (t : Table). t.rows.0) stands.value)) stands.trees.rows
+  rows_tree = subst (λ (k : List ℕ). IsTree address chunks k (row_items contents)) (sym (ap (λ (t : StoredTable). t.rows.0) stands.value)) stands.trees.rows
 
   pub conflicts_tree : IsTree address chunks table.conflicts.0 (conflict_items contents)
-  conflicts_tree = subst (λ (k : List ℕ). IsTree address chunks k (conflict_items contents)) (sym (ap (λ (t : Table). t.conflicts.0) stands.value)) stands.trees.conflicts
+  conflicts_tree = subst (λ (k : List ℕ). IsTree address chunks k (conflict_items contents)) (sym (ap (λ (t : StoredTable). t.conflicts.0) stands.value)) stands.trees.conflicts
 
   pub violations_tree : IsTree address chunks table.violations.0 (violation_items contents)
-  violations_tree = subst (λ (k : List ℕ). IsTree address chunks k (violation_items contents)) (sym (ap (λ (t : Table). t.violations.0) stands.value)) stands.trees.violations
+  violations_tree = subst (λ (k : List ℕ). IsTree address chunks k (violation_items contents)) (sym (ap (λ (t : StoredTable). t.violations.0) stands.value)) stands.trees.violations
 
   pub rows_at : AreRowsAt address chunks table.rows.0 table.schema contents.rows
   rows_at = subst (λ (s : Schema). AreRowsAt address chunks table.rows.0 s contents.rows) (sym schema_same) (record { fit = stands.is_table.rows; tree = rows_tree })
@@ -73,11 +73,11 @@ some_violations contents b e = e ∙ ap (λ n. not (n == 0)) (length-map content
 
 -- ---- the whole
 
-pub altered_is : (checks : Checks) (before : PlainDatabase) (alter : Alter) (contents : PlainTable) (change : Change) → is_open contents ≡ false
+pub altered_is : (checks : Checks) (before : PlainDatabase) (alter : Alter) (contents : PlainTable) (change : ColumnChange) → is_open contents ≡ false
     → change_of checks before alter.table contents.schema alter.action ≡ Ok change → table_altered checks before alter contents ≡ table_after contents change
 altered_is checks before alter contents change closed e =
     ap (λ open_. unless open_ 9011 (and_then (change_of checks before alter.table contents.schema alter.action) (λ change. table_after contents change))) closed
-    ∙ ap (λ (o : Outcome Change). and_then o (λ change. table_after contents change)) e
+    ∙ ap (λ (o : Outcome ColumnChange). and_then o (λ change. table_after contents change)) e
 
 -- a table after a change has nothing open
 bare_if : (schema : Schema) (rows : Outcome (List Cells)) (wrong : Bool) (t : PlainTable) → and_then rows (λ rows. unless wrong 9010 (Ok (table_of_rows schema rows))) ≡ Ok t → t ≡ table_of_rows t.schema t.rows
@@ -108,7 +108,7 @@ alters follow checks database alter table t found e =
     ∙ follow.alter checks database alter table
     ∙ ap (λ (o : Outcome PlainTable). and_then o (with_altered database alter.table)) e
 
-pub may_rebuild : SchemasSuffice → SchemasKeep → (address : List ℕ → List ℕ) (chunks : Chunks) (k : List ℕ) (checks : Checks) (database : PlainDatabase) (alter : Alter) (tables : List NamedTable) (table t : PlainTable)
+pub may_rebuild : SchemasSuffice → SchemasKeep → (address : List ℕ → List ℕ) (chunks : Chunks) (k : List ℕ) (checks : Checks) (database : PlainDatabase) (alter : Alter) (tables : List TableEntry) (table t : PlainTable)
     → IsFit (write.Alter alter) → IsKeptAt address chunks k database → tables ≡ named_tables address database → table_in database alter.table ≡ Some table → table_altered checks database alter table ≡ Ok t
     → CanRebuild address chunks tables t.schema t.rows database
 may_rebuild follow keep address chunks k checks database alter tables table t fit kept listed found e =
@@ -127,7 +127,7 @@ pub found_parts : (address : List ℕ → List ℕ) (chunks : Chunks) (k name : 
 found_parts address chunks k name database found None h = absurd h
 found_parts address chunks k name database found (Some t) h = (t, refl, h.stands, h.listed)
 
-pub listed_later : (address : List ℕ → List ℕ) (old new : Chunks) → Extends old new → TablesStand → (tables : List NamedTable) (database : PlainDatabase) → AreListed address old tables database → AreListed address new tables database
+pub listed_later : (address : List ℕ → List ℕ) (old new : Chunks) → Extends old new → TablesStand → (tables : List TableEntry) (database : PlainDatabase) → AreListed address old tables database → AreListed address new tables database
 listed_later address old new more laws tables database are = record {
   is_database = are.is_database;
   few = are.few;

@@ -14,8 +14,8 @@ use Rattle.schema_model.specs.PlainTables.{row_item}
 use Rattle.schema_model.specs.declared.schemas.Schema.{Schema}
 use Rattle.tuple_codec.specs.Edits.{added, against, changed, order, removed, replaced}
 use Rattle.tuple_codec.specs.Nodes.{Item, Rise, RiseAfter}
-use Rattle.tuple_codec.specs.declared.edits.Change.{Change}
 use Rattle.tuple_codec.specs.declared.edits.Edit.{Edit}
+use Rattle.tuple_codec.specs.declared.edits.ItemChange.{ItemChange}
 use Rattle.edit_laws.specs.ByKey.{as_edit, as_edits}
 use Rattle.edit_laws.proofs.Orders.{greater, less_trans}
 use Rattle.sql_write.specs.Differences.{meeting, row_edits}
@@ -99,24 +99,24 @@ join_step item other items more others rest both put removed_ = by (order other.
       (if b then changed (items ++ more) (others ++ rest) else replaced item other ∷ changed (items ++ more) (others ++ rest)) (removed item ∷ changed (items ++ more) (other ∷ (others ++ rest)))
       ≡ match_ordering o (added other ∷ changed (item ∷ items) others)
       (if b then changed items others else replaced item other ∷ changed items others) (removed item ∷ changed items (other ∷ others)) ++ changed more rest
-  by Less b = ap (λ (l : List Change). added other ∷ l) put
+  by Less b = ap (λ (l : List ItemChange). added other ∷ l) put
   by Equal true = both
-  by Equal false = ap (λ (l : List Change). replaced item other ∷ l) both
-  by Greater b = ap (λ (l : List Change). removed item ∷ l) removed_
+  by Equal false = ap (λ (l : List ItemChange). replaced item other ∷ l) both
+  by Greater b = ap (λ (l : List ItemChange). removed item ∷ l) removed_
 
 joined : (items more others rest : List Item) → Apart items rest → Apart others more → Joins items more others rest
 joined [] more [] rest first second = refl
-joined [] [] (other ∷ others) rest first second = ap (λ (l : List Change). added other ∷ l) (joined [] [] others rest tt second.1)
+joined [] [] (other ∷ others) rest first second = ap (λ (l : List ItemChange). added other ∷ l) (joined [] [] others rest tt second.1)
 joined [] (next ∷ more) (other ∷ others) rest first second =
     ap (λ o. match_ordering o (added other ∷ changed (next ∷ more) (others ++ rest))
     (if bytes_eq other.body next.body then changed more (others ++ rest) else replaced next other ∷ changed more (others ++ rest)) (removed next ∷ changed more (other ∷ (others ++ rest)))) second.0.0
-    ∙ ap (λ (l : List Change). added other ∷ l) (joined [] (next ∷ more) others rest tt second.1)
-joined (item ∷ items) more [] [] first second = ap (λ (l : List Change). removed item ∷ l) (joined items more [] [] first.1 tt)
+    ∙ ap (λ (l : List ItemChange). added other ∷ l) (joined [] (next ∷ more) others rest tt second.1)
+joined (item ∷ items) more [] [] first second = ap (λ (l : List ItemChange). removed item ∷ l) (joined items more [] [] first.1 tt)
 joined (item ∷ items) more [] (next ∷ rest) first second =
     ap (λ o. match_ordering o (added next ∷ changed (item ∷ (items ++ more)) rest)
     (if bytes_eq next.body item.body then changed (items ++ more) rest else replaced item next ∷ changed (items ++ more) rest) (removed item ∷ changed (items ++ more) (next ∷ rest)))
     (greater item.key next.key first.0.0)
-    ∙ ap (λ (l : List Change). removed item ∷ l) (joined items more [] (next ∷ rest) first.1 tt)
+    ∙ ap (λ (l : List ItemChange). removed item ∷ l) (joined items more [] (next ∷ rest) first.1 tt)
 joined (item ∷ items) more (other ∷ others) rest first second =
     join_step item other items more others rest (joined items more others rest first.1 second.1) (joined (item ∷ items) more others rest first second.1) (joined items more (other ∷ others) rest first.1 second)
 
@@ -199,7 +199,7 @@ module _ (schema : Schema) where
       let old_behind = behind_it it.key (items_of (before fates)) old_rest in
       let new_behind = behind_it it.key (items_of (after fates)) new_rest in
       joined old (it ∷ items_of (before fates)) new (it ∷ items_of (after fates)) (apart_from it old (items_of (after fates)) old_before new_behind) (apart_from it new (items_of (before fates)) new_before old_behind)
-      ∙ ap (λ (l : List Change). changed old new ++ l)
+      ∙ ap (λ (l : List ItemChange). changed old new ++ l)
       (same_first it (items_of (before fates)) (items_of (after fates))
       ∙ woven_behind fates [] [] (free_rise (Some it.key) (items_of (before fates)) old_rest) (free_rise (Some it.key) (items_of (after fates)) new_rest))
       ∙ sym (joined old (items_of (gone fates)) new (items_of (come fates)) (apart_by it old (items_of (come fates)) old_before (come_have (λ item. order it.key item.key ≡ Less) fates new_behind))

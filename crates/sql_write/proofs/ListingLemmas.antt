@@ -10,7 +10,7 @@ use Rattle.schema_model.specs.PlainTables as plain
 use Rattle.schema_model.specs.PlainTables.{PlainDatabase, PlainTable}
 use Rattle.schema_model.specs.WrittenForms.{table_address}
 use Rattle.table_root.specs.Standing.{named_tables}
-use Rattle.table_root.specs.declared.records.NamedTable.{NamedTable}
+use Rattle.table_root.specs.declared.records.TableEntry.{TableEntry}
 use Rattle.plain_writes.specs.Violations.{is_called, table_in}
 use Rattle.plain_schemas.specs.Effects.{is_there, placed_in, without_table}
 use Rattle.write_laws.proofs.OrderLemmas.{left_not, right_not}
@@ -18,18 +18,18 @@ use Rattle.sql_write.specs.Listing.{count_before, placed, without}
 
 -- ---- placing
 
-place_if : (b : Bool) (new named : NamedTable) (more : List NamedTable) (count : ℕ) → placed new more ≡ insert more count new
+place_if : (b : Bool) (new named : TableEntry) (more : List TableEntry) (count : ℕ) → placed new more ≡ insert more count new
     → (if b then new ∷ named ∷ more else named ∷ placed new more) ≡ insert (named ∷ more) (if b then 0 else 1 + count) new
 place_if true new named more count e = refl
 place_if false new named more count e =
     let at : suc count ≡ 1 + count = omega arith in
     ap (λ rest. named ∷ rest) e ∙ ap (λ n. insert (named ∷ more) n new) at
 
-pub placed_at : (new : NamedTable) (tables : List NamedTable) → placed new tables ≡ insert tables (count_before new.name tables) new
+pub placed_at : (new : TableEntry) (tables : List TableEntry) → placed new tables ≡ insert tables (count_before new.name tables) new
 placed_at new [] = refl
 placed_at new (named ∷ more) = place_if (is_lt (order new.name named.name)) new named more (count_before new.name more) (placed_at new more)
 
-place_named : (b : Bool) (address : List ℕ → List ℕ) (new named : plain.NamedTable) (database : PlainDatabase) (rest : List NamedTable) → rest ≡ named_tables address (placed_in new database)
+place_named : (b : Bool) (address : List ℕ → List ℕ) (new named : plain.NamedTable) (database : PlainDatabase) (rest : List TableEntry) → rest ≡ named_tables address (placed_in new database)
     → (if b then record { name = new.name; table = record { 0 = table_address address new.table } } ∷ named_tables address (named ∷ database) else record { name = named.name; table = record { 0 = table_address address named.table } } ∷ rest)
     ≡ named_tables address (if b then new ∷ named ∷ database else named ∷ placed_in new database)
 place_named true address new named database rest e = refl
@@ -63,7 +63,7 @@ found_new name table (named ∷ database) none =
 
 -- ---- removing
 
-left_named : (b : Bool) (address : List ℕ → List ℕ) (named : plain.NamedTable) (database left : PlainDatabase) (rest : List NamedTable) → rest ≡ named_tables address left
+left_named : (b : Bool) (address : List ℕ → List ℕ) (named : plain.NamedTable) (database left : PlainDatabase) (rest : List TableEntry) → rest ≡ named_tables address left
     → cond b (record { name = named.name; table = record { 0 = table_address address named.table } } ∷ rest) rest ≡ named_tables address (cond b (named ∷ left) left)
 left_named true address named database left rest e = ap (λ rest. record { name = named.name; table = record { 0 = table_address address named.table } } ∷ rest) e
 left_named false address named database left rest e = e

@@ -12,7 +12,7 @@ use Rattle.plain_sql.specs.Gives.{Gives}
 use Rattle.plain_sql.specs.declared.faults.Refused.{Refused}
 use Rattle.plain_sql.specs.declared.faults.Refused.TheVariants as refused
 use Rattle.table_root.specs.Standing.{IsTableAt, TablesStand}
-use Rattle.table_root.specs.declared.records.NamedTable.{NamedTable}
+use Rattle.table_root.specs.declared.records.TableEntry.{TableEntry}
 use Rattle.plain_writes.specs.Writes.{Effect}
 use Rattle.plain_schemas.specs.Effects.{changed_to, empty_table, with_table}
 use Rattle.constraint_scan.specs.Scanning.{IsKeptAt}
@@ -58,15 +58,15 @@ made_same address chunks root database outcome e kept = made_of address chunks (
 pub can_build_empty : (schema : Schema) → IsKeptTable (empty_table schema) → CanBuild schema []
 can_build_empty schema kept = record { is_table = kept.is_table; limits = refl; few = omega arith }
 
-pub added_listed : (address : List ℕ → List ℕ) (old new : Chunks) → Extends old new → TablesStand → (tables made : List NamedTable) (name text : List ℕ) (schema : Schema) (k : Address) (database : PlainDatabase)
+pub added_listed : (address : List ℕ → List ℕ) (old new : Chunks) → Extends old new → TablesStand → (tables made : List TableEntry) (name text : List ℕ) (schema : Schema) (k : Address) (database : PlainDatabase)
     → CanAdd address old tables name schema database → IsTableAt address new k.0 (empty_table schema) → text ≡ name → made ≡ placed (record { name = text; table = k }) tables
     → AreListed address new made (with_table database name schema)
 added_listed address old new more laws tables made name text schema k database can at same is =
     let one : plain.NamedTable = record { name = name; table = empty_table schema } in
     let own : IsTableAt address new (table_address address (empty_table schema)) (empty_table schema) = subst (λ (a : List ℕ). IsTableAt address new a (empty_table schema)) (sym at.named) at in
-    let first : NamedTable = record { name = text; table = k } in
-    let second : NamedTable = record { name = name; table = record { 0 = table_address address (empty_table schema) } } in
+    let first : TableEntry = record { name = text; table = k } in
+    let second : TableEntry = record { name = name; table = record { 0 = table_address address (empty_table schema) } } in
     let entry : first ≡ second = λ i. record { name = same i; table = record { 0 = sym at.named i } } in
     listed_kept address new made (with_table database name schema) can.kept
     (all_placed (λ named. IsTableAt address new (table_address address named.table) named.table) one database own (stand_later address old new more laws database can.listed.stand))
-    (is ∙ ap (λ (e : NamedTable). placed e tables) entry ∙ ap (placed (record { name = name; table = record { 0 = table_address address (empty_table schema) } })) can.listed.listed ∙ named_placed address one database)
+    (is ∙ ap (λ (e : TableEntry). placed e tables) entry ∙ ap (placed (record { name = name; table = record { 0 = table_address address (empty_table schema) } })) can.listed.listed ∙ named_placed address one database)

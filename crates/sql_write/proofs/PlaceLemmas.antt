@@ -13,7 +13,7 @@ use Rattle.schema_model.specs.declared.schemas.Schema.{Schema}
 use Rattle.chunk_store.specs.Chunks.{Chunks}
 use Rattle.chunk_store.specs.Standing.{IsTree}
 use Rattle.table_root.specs.Standing.{IsTableOf}
-use Rattle.table_root.specs.declared.records.Table.{Table}
+use Rattle.table_root.specs.declared.records.StoredTable.{StoredTable}
 use Rattle.table_rows.specs.Rows.{RowItemsFollow}
 use Rattle.index_keep.specs.Entries.{AreSorted}
 use Rattle.sql_ast.specs.declared.statements.Insert.{Insert}
@@ -46,11 +46,11 @@ pub found_table : (address : List ℕ → List ℕ) (chunks : Chunks) (k name : 
     → IsFound address chunks k name database contents found → IsKeptTable contents
 found_table address chunks k name database contents found is = found_kept name database contents (is_kept address chunks k database is.kept) is.named
 
-pub rows_tree : (address : List ℕ → List ℕ) (chunks : Chunks) (table : Table) (contents : PlainTable) → IsTableOf address chunks table contents → IsTree address chunks table.rows.0 (row_items contents)
-rows_tree address chunks table contents of = subst (λ (k : List ℕ). IsTree address chunks k (row_items contents)) (sym (ap (λ (t : Table). t.rows.0) of.value)) of.trees.rows
+pub rows_tree : (address : List ℕ → List ℕ) (chunks : Chunks) (table : StoredTable) (contents : PlainTable) → IsTableOf address chunks table contents → IsTree address chunks table.rows.0 (row_items contents)
+rows_tree address chunks table contents of = subst (λ (k : List ℕ). IsTree address chunks k (row_items contents)) (sym (ap (λ (t : StoredTable). t.rows.0) of.value)) of.trees.rows
 
-pub schema_same : (address : List ℕ → List ℕ) (chunks : Chunks) (table : Table) (contents : PlainTable) → IsTableOf address chunks table contents → table.schema ≡ contents.schema
-schema_same address chunks table contents of = ap (λ (t : Table). t.schema) of.value
+pub schema_same : (address : List ℕ → List ℕ) (chunks : Chunks) (table : StoredTable) (contents : PlainTable) → IsTableOf address chunks table contents → table.schema ≡ contents.schema
+schema_same address chunks table contents of = ap (λ (t : StoredTable). t.schema) of.value
 
 -- ---- by keys
 

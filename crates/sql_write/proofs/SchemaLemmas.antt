@@ -13,7 +13,7 @@ use Rattle.sql_ast.specs.declared.tables.DropTable.{DropTable}
 use Rattle.expr_eval.specs.Binding.{Outcome, and_then}
 use Rattle.chunk_store.specs.Chunks.{Chunks}
 use Rattle.table_root.specs.Standing.{IsTableAt, named_tables}
-use Rattle.table_root.specs.declared.records.NamedTable.{NamedTable}
+use Rattle.table_root.specs.declared.records.TableEntry.{TableEntry}
 use Rattle.plain_writes.specs.Violations.{own_scope, table_in}
 use Rattle.plain_writes.specs.Writes.{Effect}
 use Rattle.plain_schemas.specs.Effects.{changed_to, check_allowed, create_effect, drop_effect, empty_table, foreign_allowed, is_there, key_lists, with_table, without_table}
@@ -36,7 +36,7 @@ use Rattle.sql_write.proofs.TableLemmas.{kept_short}
 kept_of : (address : List ℕ → List ℕ) (chunks : Chunks) (k : List ℕ) (database : PlainDatabase) → IsKeptAt address chunks k database → IsKept database
 kept_of address chunks k database kept = record { is_database = kept.stands.is_database; within = kept.within }
 
-pub listed_kept : (address : List ℕ → List ℕ) (chunks : Chunks) (tables : List NamedTable) (database : PlainDatabase) → IsKept database
+pub listed_kept : (address : List ℕ → List ℕ) (chunks : Chunks) (tables : List TableEntry) (database : PlainDatabase) → IsKept database
     → AllByRecursion (λ named. IsTableAt address chunks (table_address address named.table) named.table) database → tables ≡ named_tables address database
     → AreListed address chunks tables database
 listed_kept address chunks tables database kept stand is = record {
@@ -53,7 +53,7 @@ pub drops : (follow : SchemasSuffice) (database : PlainDatabase) (statement : Dr
     → drop_effect database statement ≡ Ok (changed_to (without_if database statement.table goes))
 drops follow database statement goes e = follow.drop database statement ∙ ap (λ found. and_then found (λ goes. Ok (changed_to (without_if database statement.table goes)))) e
 
-pub dropped_listed : SchemasSuffice → SchemasKeep → (address : List ℕ → List ℕ) (chunks : Chunks) (k : List ℕ) (database : PlainDatabase) (statement : DropTable) (tables left : List NamedTable)
+pub dropped_listed : SchemasSuffice → SchemasKeep → (address : List ℕ → List ℕ) (chunks : Chunks) (k : List ℕ) (database : PlainDatabase) (statement : DropTable) (tables left : List TableEntry)
     → IsKeptAt address chunks k database → AreListed address chunks tables database → table_goes database statement ≡ Ok true → left ≡ without statement.table tables
     → AreListed address chunks left (without_table statement.table database)
 dropped_listed follow keep address chunks k database statement tables left kept are goes is =
@@ -120,7 +120,7 @@ drop_refused follow database statement number e = follow.drop database statement
 pub create_refused : SchemasSuffice → (database : PlainDatabase) (create : CreateTable) (number : ℕ) → schema_created database create ≡ Err number → create_effect database create ≡ Err number
 create_refused follow database create number e = follow.create database create ∙ ap (λ found. and_then found (λ made. Ok (changed_to (with_schema database create.table made)))) e
 
-pub may_add : SchemasSuffice → SchemasKeep → (address : List ℕ → List ℕ) (chunks : Chunks) (k : List ℕ) (database : PlainDatabase) (create : CreateTable) (tables : List NamedTable) (schema : Schema)
+pub may_add : SchemasSuffice → SchemasKeep → (address : List ℕ → List ℕ) (chunks : Chunks) (k : List ℕ) (database : PlainDatabase) (create : CreateTable) (tables : List TableEntry) (schema : Schema)
     → IsFit (write.Create create) → IsKeptAt address chunks k database → AreListed address chunks tables database → schema_created database create ≡ Ok (Some schema)
     → CanAdd address chunks tables create.table schema database
 may_add follow keep address chunks k database create tables schema fit kept are e = record {

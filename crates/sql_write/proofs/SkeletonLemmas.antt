@@ -25,7 +25,7 @@ use Rattle.plain_schemas.specs.Altered.{altered, change_of, is_open, table_after
 use Rattle.plain_schemas.specs.Effects.{changed_to, check_allowed, create_effect, drop_effect, foreign_allowed, if_within, is_child, is_there, judged, key_allowed, key_lists, refers_to_other, refers_well, with_table, without_table}
 use Rattle.plain_schemas.specs.Lists.{all_allowed, kinds_at, places}
 use Rattle.plain_schemas.specs.Made.{columns_made, schema_of}
-use Rattle.plain_schemas.specs.declared.changing.Change.TheVariants as change
+use Rattle.plain_schemas.specs.declared.changing.ColumnChange.TheVariants as change
 use Rattle.constraint_scan.specs.Scanning.{empty_named, empty_table, skeleton}
 use Rattle.sql_write.specs.Skeletons.{SchemasSuffice, schema_created, schema_judged, schema_within, table_altered, table_goes, with_altered, with_schema, without_if}
 use Rattle.sql_write.proofs.TurningLemmas.{under}

@@ -12,11 +12,11 @@ use Rattle.schema_model.specs.WrittenForms.{table_address}
 use Rattle.schema_model.proofs.SizeLemmas.{kept_few, short_names as short_in}
 use Rattle.chunk_store.specs.Chunks.{Chunks, Extends}
 use Rattle.table_root.specs.Databases.{has_short_name, names_rise as heads_rise}
-use Rattle.table_root.specs.Standing.{DatabasesStand, IsTableAt, TablesStand, named_tables}
-use Rattle.table_root.specs.declared.records.NamedTable.{NamedTable}
+use Rattle.table_root.specs.Standing.{DatabasesStand, IsReadAt, IsTableAt, TablesStand, named_tables}
+use Rattle.table_root.specs.declared.records.TableEntry.{TableEntry}
 use Rattle.plain_writes.specs.Violations.{is_called, table_in}
 use Rattle.plain_writes.specs.Writes.{replaced, replaced_in}
-use Rattle.constraint_scan.specs.Scanning.{IsKeptAt, IsReadAt}
+use Rattle.constraint_scan.specs.Scanning.{IsKeptAt}
 use Rattle.write_laws.proofs.DatabaseLemmas.{length_same, names_by, names_rise, tables_are}
 use Rattle.write_laws.proofs.OrderLemmas.{right_so, two}
 use Rattle.sql_write.specs.Putting.{AreListed, AreListedAt, address_in, readdress, readdressed}
@@ -32,7 +32,7 @@ kept_short database h = short_in database (right_so (nat_le (length database) mo
 pub kept_read : (address : List ℕ → List ℕ) (chunks : Chunks) (k : List ℕ) (database : PlainDatabase) → IsKeptAt address chunks k database → IsReadAt address chunks k database
 kept_read address chunks k database kept = record { stands = kept.stands; few = few_read database (kept_few database kept.within) }
 
-pub kept_listed : (address : List ℕ → List ℕ) (chunks : Chunks) (k : List ℕ) (database : PlainDatabase) (tables : List NamedTable) → IsKeptAt address chunks k database
+pub kept_listed : (address : List ℕ → List ℕ) (chunks : Chunks) (k : List ℕ) (database : PlainDatabase) (tables : List TableEntry) → IsKeptAt address chunks k database
     → tables ≡ named_tables address database → AreListedAt address chunks k tables database
 kept_listed address chunks k database tables kept is = record {
   at = kept_read address chunks k database kept;
@@ -63,7 +63,7 @@ stand_later address old new more laws [] h = tt
 stand_later address old new more laws (named ∷ database) h =
     (laws.later address old new (table_address address named.table) named.table more h.0, stand_later address old new more laws database h.1)
 
-pub listed_later : (address : List ℕ → List ℕ) (old new : Chunks) → Extends old new → TablesStand → (tables : List NamedTable) (database : PlainDatabase)
+pub listed_later : (address : List ℕ → List ℕ) (old new : Chunks) → Extends old new → TablesStand → (tables : List TableEntry) (database : PlainDatabase)
     → AreListed address old tables database → AreListed address new tables database
 listed_later address old new more laws tables database are = record {
   is_database = are.is_database;
@@ -123,7 +123,7 @@ pub all_readdressed : (address : List ℕ → List ℕ) (name : List ℕ) (conte
 all_readdressed address name contents [] = refl
 all_readdressed address name contents (named ∷ database) = λ i. one_readdressed address name contents named i ∷ all_readdressed address name contents database i
 
-pub listed_put : (address : List ℕ → List ℕ) (old new : Chunks) → Extends old new → TablesStand → (tables made : List NamedTable) (name : List ℕ) (database : PlainDatabase) (contents : PlainTable) (k : Address)
+pub listed_put : (address : List ℕ → List ℕ) (old new : Chunks) → Extends old new → TablesStand → (tables made : List TableEntry) (name : List ℕ) (database : PlainDatabase) (contents : PlainTable) (k : Address)
     → AreListed address old tables database → IsTableAt address new k.0 contents → made ≡ readdressed name k tables → AreListed address new made (replaced name contents database)
 listed_put address old new more laws tables made name database contents k are at is = record {
   is_database = record {

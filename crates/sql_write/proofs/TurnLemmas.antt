@@ -25,7 +25,7 @@ use Rattle.plain_writes.specs.Writes.{Assign, Effect, bound_assignment, by_key, 
 use Rattle.plain_writes.specs.declared.updating.Later.{Later}
 use Rattle.table_root.specs.Standing.{IsTableOf}
 use Rattle.table_rows.specs.Rows.{AreRowsAt, RowItemsFollow}
-use Rattle.table_root.specs.declared.records.Table.{Table}
+use Rattle.table_root.specs.declared.records.StoredTable.{StoredTable}
 use Rattle.write_laws.proofs.DatabaseLemmas.{IsKeptTable, by_key_so, keyed_total, limits_so, rows_good}
 use Rattle.write_laws.proofs.OrderLemmas.{left_so, right_so, two}
 use Rattle.write_laws.proofs.OutcomeLemmas.{each_have, ok_same, then_so}
@@ -85,12 +85,12 @@ deleted_good schema rows delete turned good e =
 
 -- ---- rows read
 
-pub rows_at : (address : List ℕ → List ℕ) (chunks : Chunks) (table : Table) (contents : PlainTable) → IsTableOf address chunks table contents → AreRowsAt address chunks table.rows.0 table.schema contents.rows
+pub rows_at : (address : List ℕ → List ℕ) (chunks : Chunks) (table : StoredTable) (contents : PlainTable) → IsTableOf address chunks table contents → AreRowsAt address chunks table.rows.0 table.schema contents.rows
 rows_at address chunks table contents of =
     subst (λ (s : Schema). AreRowsAt address chunks table.rows.0 s contents.rows) (sym (schema_same address chunks table contents of))
     (record { fit = of.is_table.rows; tree = rows_tree address chunks table contents of })
 
-pub valid_schema : (address : List ℕ → List ℕ) (chunks : Chunks) (table : Table) (contents : PlainTable) → IsTableOf address chunks table contents → is_schema table.schema ≡ true
+pub valid_schema : (address : List ℕ → List ℕ) (chunks : Chunks) (table : StoredTable) (contents : PlainTable) → IsTableOf address chunks table contents → is_schema table.schema ≡ true
 valid_schema address chunks table contents of = ap is_schema (schema_same address chunks table contents of) ∙ of.is_table.schema
 
 -- ---- what was read, among what wasn't

@@ -13,13 +13,13 @@ use Rattle.plain_writes.specs.Seen.{setting_seen}
 use Rattle.plain_writes.specs.Violations.{own_scope}
 use Rattle.plain_writes.specs.Writes.{Assign, bound_assignment, tests_of}
 use Rattle.sql_write.specs.Passing.{AreRead, sets_key}
-use Rattle.sql_write.specs.declared.turning.Change.{Change}
+use Rattle.sql_write.specs.declared.turning.BoundUpdate.{BoundUpdate}
 
 pub record Turning : Type 0 where
   pub sets : List Assign
   pub tests : List Meaning
 
-abbrev pub change_seen : Change → Turning
+abbrev pub change_seen : BoundUpdate → Turning
 change_seen change = record { sets = map setting_seen change.settings; tests = map meaning change.tests }
 
 -- with bound assignments

@@ -14,4 +14,3 @@ pub mod Building
 pub mod Listing
 pub mod Adding
 pub mod Altering
-pub mod Growing

@@ -6,7 +6,7 @@ use Rattle.schema_model.specs.Limits.{most_rows}
 use Rattle.schema_model.specs.PlainTables.{PlainDatabase, PlainTable, rises}
 use Rattle.chunk_store.specs.Chunks.{Chunks}
 use Rattle.table_root.specs.Standing.{IsTableOf}
-use Rattle.table_root.specs.declared.records.Table.{Table}
+use Rattle.table_root.specs.declared.records.StoredTable.{StoredTable}
 use Rattle.plain_writes.specs.Writes.{keyed_cmp}
 use Rattle.sql_write.specs.Finding.{IsFound}
 use Rattle.sql_write.specs.Inserting.{is_good}
@@ -15,7 +15,7 @@ use Rattle.sql_write.specs.declared.finding.Found.{Found}
 use Rattle.sql_write.specs.declared.turning.Turned.{Turned}
 
 -- a table that was found, and some of its rows
-pub record HasSome (address : List ℕ → List ℕ) (chunks : Chunks) (table : Table) (old : List Cells) (contents : PlainTable) : Type 0 where
+pub record HasSome (address : List ℕ → List ℕ) (chunks : Chunks) (table : StoredTable) (old : List Cells) (contents : PlainTable) : Type 0 where
   pub stands : IsTableOf address chunks table contents
   pub some : length old ≤ length contents.rows
   pub few : length contents.rows ≤ most_rows

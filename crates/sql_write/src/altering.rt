@@ -6,18 +6,18 @@ ghost use Rattle.schema_model.specs.PlainTables.{PlainDatabase, PlainTable};
 ghost use Rattle.tuple_codec.specs.Nodes.{Item};
 ghost use Rattle.chunk_store.specs.Clashes.{IsReason};
 ghost use Rattle.chunk_store.specs.Drafts.{Grows, chunks_of};
+ghost use Rattle.chunk_store.specs.Kinds.{is_data};
 ghost use Rattle.chunk_store.specs.Standing.{IsTree};
-ghost use Rattle.table_root.specs.Standing.{IsTableOf};
+ghost use Rattle.table_root.specs.Standing.{IsReadAt, IsTableOf};
 ghost use Rattle.plain_sql.specs.Gives.{GivesBy};
 ghost use Rattle.plain_writes.specs.Seen.{table_seen};
 ghost use Rattle.plain_writes.specs.Writes.{replaced};
 ghost use Rattle.plain_schemas.specs.Altered.{alter_effect, has_type, is_open, table_after};
 ghost use Rattle.plain_schemas.specs.Statements.{checks};
-ghost use Rattle.constraint_scan.specs.Scanning.{HasKeptAt, IsKeptAt, IsReadAt};
+ghost use Rattle.constraint_scan.specs.Scanning.{HasKeptAt, IsKeptAt};
 ghost use Rattle.index_keep.specs.Keeping.{table_of_rows};
 ghost use Rattle.schema_laws.specs.Laws.{IsFit};
 ghost use Rattle.sql_write.specs.Altering.{CanRebuild};
-ghost use Rattle.sql_write.specs.Growing.{is_data};
 ghost use Rattle.sql_write.specs.Making.{Makes};
 ghost use Rattle.sql_write.specs.Skeletons.{table_altered};
 
@@ -30,7 +30,7 @@ use crate::tables::put_table;
 use crate::writing::Written;
 use chunk_store::{Draft, PutFault};
 use constraint_scan::{CanonicalChecks, read_schemas};
-use plain_schemas::{Change, change_of, table_after};
+use plain_schemas::{ColumnChange, change_of, table_after};
 use plain_sql::Refused;
 use plain_writes::copy_schema;
 use prolly_tree::count;
@@ -38,7 +38,7 @@ use schema_laws::schemas_keep;
 use schema_model::Schema;
 use sql_ast::Alter;
 use std::alloc::Global;
-use table_root::{NamedTable, Table};
+use table_root::{StoredTable, TableEntry};
 use table_rows::read_rows;
 use tuple_codec::{Address, Digester, Row, Sequence};
 
@@ -51,7 +51,7 @@ fn has_rows<D: Digester>(draft: &Draft<D>, root: &Address) -> bool
 }
 
 /// Whether a merge has left something open in a table.
-fn is_open<D: Digester>(draft: &Draft<D>, table: &Table) -> bool
+fn is_open<D: Digester>(draft: &Draft<D>, table: &StoredTable) -> bool
     requires { (contents : PlainTable) × IsTableOf D.address (chunks_of draft.now.chunks) table.now contents }
     ensures { (contents : PlainTable) → IsTableOf D.address (chunks_of draft.now.chunks) table.now contents → result ≡ is_open contents }
 {
@@ -64,8 +64,8 @@ fn is_open<D: Digester>(draft: &Draft<D>, table: &Table) -> bool
 fn changed<D: Digester>(
     alloc: Global,
     draft: &Draft<D>,
-    table: &Table,
-    change: &Change,
+    table: &StoredTable,
+    change: &ColumnChange,
 ) -> Result<plain_writes::Table, Refused>
     requires typed { has_type change.now ≡ true }
     requires table { (contents : PlainTable) × IsTableOf D.address (chunks_of draft.now.chunks) table.now contents }
@@ -87,7 +87,7 @@ fn altered<D: Digester>(
     alloc: Global,
     draft: &Draft<D>,
     database: &Address,
-    table: &Table,
+    table: &StoredTable,
     alter: &Alter,
 ) -> Result<plain_writes::Table, Refused>
     requires kept { HasKeptAt D.address (chunks_of draft.now.chunks) database.now.0 }
@@ -115,7 +115,7 @@ fn altered<D: Digester>(
 fn rebuild_table<D: Digester>(
     alloc: Global,
     draft: &mut Draft<D>,
-    tables: Vec<NamedTable>,
+    tables: Vec<TableEntry>,
     name: &[u8],
     schema: Schema,
     rows: &[Row],

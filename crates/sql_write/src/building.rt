@@ -14,7 +14,7 @@ use index_keep::indexes_of;
 use node_chunker::build;
 use schema_model::Schema;
 use std::alloc::Global;
-use table_root::Table;
+use table_root::StoredTable;
 use table_rows::{law_of_row_items, row_items};
 use tuple_codec::{Digester, Row, Sequence};
 
@@ -24,7 +24,7 @@ pub(crate) fn new_table<D: Digester>(
     draft: &mut Draft<D>,
     schema: Schema,
     rows: &[Row],
-) -> Result<Table, PutFault>
+) -> Result<StoredTable, PutFault>
     requires { CanBuild schema rows.now }
     ensures stands { IfOk result (λ table. IsTableOf D.address (chunks_of draft.new.chunks) table (table_of_rows schema rows.now)) }
     ensures grows { Grows is_node draft.old draft.new }
@@ -36,7 +36,7 @@ pub(crate) fn new_table<D: Digester>(
     let root = build(alloc, draft, items.as_slice())?;
     let none = build(alloc, draft, &[])?;
     let indexes = indexes_of(alloc, draft, &schema, &root)?;
-    Ok(Table {
+    Ok(StoredTable {
         schema,
         rows: root,
         indexes: Sequence::from_vec(indexes),

@@ -5,11 +5,12 @@ ghost use Rattle.schema_model.specs.PlainTables.{PlainDatabase};
 ghost use Rattle.sql_ast.specs.declared.statements.Write.TheVariants as write;
 ghost use Rattle.chunk_store.specs.Clashes.{IsReason};
 ghost use Rattle.chunk_store.specs.Drafts.{Grows, chunks_of};
+ghost use Rattle.chunk_store.specs.Kinds.{is_data};
+ghost use Rattle.table_root.specs.Standing.{IsReadAt};
 ghost use Rattle.plain_schemas.specs.Effects.{create_effect, with_table};
-ghost use Rattle.constraint_scan.specs.Scanning.{HasKeptAt, IsKeptAt, IsReadAt};
+ghost use Rattle.constraint_scan.specs.Scanning.{HasKeptAt, IsKeptAt};
 ghost use Rattle.schema_laws.specs.Laws.{IsFit};
 ghost use Rattle.sql_write.specs.Adding.{CanAdd};
-ghost use Rattle.sql_write.specs.Growing.{is_data};
 ghost use Rattle.sql_write.specs.Making.{Makes};
 
 use crate::building::new_table;
@@ -25,14 +26,14 @@ use schema_laws::schemas_keep;
 use schema_model::Schema;
 use sql_ast::CreateTable;
 use std::alloc::Global;
-use table_root::NamedTable;
+use table_root::TableEntry;
 use tuple_codec::{Address, Digester, Text};
 
 /// Puts an empty table of this schema into a database: the new database's address.
 fn add_table<D: Digester>(
     alloc: Global,
     draft: &mut Draft<D>,
-    tables: Vec<NamedTable>,
+    tables: Vec<TableEntry>,
     name: &[u8],
     schema: Schema,
 ) -> Result<Address, PutFault>
@@ -45,7 +46,7 @@ fn add_table<D: Digester>(
     laws_of_growth();
     let table = new_table(alloc, draft, schema, &[])?;
     let address = keep_table(alloc, draft, &table)?;
-    let new = NamedTable {
+    let new = TableEntry {
         name: Text::from_slice(alloc, name)?,
         table: address,
     };

@@ -10,14 +10,14 @@ use crate::faults::SqlFault;
 use crate::tables::{read_tables, table_at, table_in};
 use chunk_store::Draft;
 use std::alloc::Global;
-use table_root::{NamedTable, Table};
+use table_root::{StoredTable, TableEntry};
 use tuple_codec::{Address, Digester};
 
 /// A table of a database, with the names and addresses of all of its tables.
 #[derive(Drop)]
 pub(crate) struct Found {
-    pub(crate) tables: Vec<NamedTable>,
-    pub(crate) table: Table,
+    pub(crate) tables: Vec<TableEntry>,
+    pub(crate) table: StoredTable,
 }
 
 /// The table of a name in the database at an address; refused with 1146 where there is none.

@@ -7,6 +7,7 @@ ghost use Rattle.tuple_codec.specs.Rows.{Cells};
 ghost use Rattle.schema_model.specs.PlainTables.{PlainDatabase, PlainTable};
 ghost use Rattle.schema_model.specs.Schemas.{is_schema};
 ghost use Rattle.chunk_store.specs.Drafts.{Grows, chunks_of};
+ghost use Rattle.chunk_store.specs.Kinds.{is_data};
 ghost use Rattle.chunk_store.specs.Standing.{IsTree};
 ghost use Rattle.prolly_tree.specs.Lists.{StandsForRows};
 ghost use Rattle.plain_sql.specs.Gives.{Gives};
@@ -14,7 +15,6 @@ ghost use Rattle.plain_writes.specs.Writes.{insert_effect, inserted, result_of};
 ghost use Rattle.plain_schemas.specs.Statements.{checks};
 ghost use Rattle.constraint_scan.specs.Scanning.{HasKeptAt, IsKeptAt};
 ghost use Rattle.sql_write.specs.Finding.{IsFound};
-ghost use Rattle.sql_write.specs.Growing.{is_data};
 ghost use Rattle.sql_write.specs.Inserting.{MayInsert, is_good, rows_said};
 ghost use Rattle.sql_write.specs.Making.{Makes};
 

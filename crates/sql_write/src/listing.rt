@@ -6,7 +6,7 @@ ghost use Rattle.tuple_codec.specs.Edits.{order};
 ghost use Rattle.sql_write.specs.Listing.{count_before, placed, without};
 
 use std::alloc::{AllocError, Global};
-use table_root::NamedTable;
+use table_root::TableEntry;
 
 fn comes_before(name: &[u8], other: &[u8]) -> bool
     ensures { result ≡ is_lt (order name.now other.now) }
@@ -15,7 +15,7 @@ fn comes_before(name: &[u8], other: &[u8]) -> bool
 }
 
 /// How many stand before the first of a greater name. There are few tables, so the calls don't go deep.
-fn count_before(name: &[u8], tables: &[NamedTable]) -> usize
+fn count_before(name: &[u8], tables: &[TableEntry]) -> usize
     ensures is { result ≡ count_before name.now tables.now }
     ensures at_most { result ≤ length tables.now }
 {
@@ -33,9 +33,9 @@ fn count_before(name: &[u8], tables: &[NamedTable]) -> usize
 
 /// The list with a table more, in its place by name.
 pub(crate) fn placed(
-    mut tables: Vec<NamedTable>,
-    new: NamedTable,
-) -> Result<Vec<NamedTable>, AllocError>
+    mut tables: Vec<TableEntry>,
+    new: TableEntry,
+) -> Result<Vec<TableEntry>, AllocError>
     ensures { IfOk result (λ made. made.items ≡ placed new tables.items) }
 {
     let at = count_before(new.name.as_slice(), tables.as_slice());
@@ -46,9 +46,9 @@ pub(crate) fn placed(
 /// The list without the table of a name.
 pub(crate) fn without(
     alloc: Global,
-    tables: Vec<NamedTable>,
+    tables: Vec<TableEntry>,
     name: &[u8],
-) -> Result<Vec<NamedTable>, AllocError>
+) -> Result<Vec<TableEntry>, AllocError>
     ensures { IfOk result (λ left. left.items ≡ without name.now tables.items) }
 {
     let mut left = Vec::new(alloc);

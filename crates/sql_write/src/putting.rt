@@ -6,11 +6,11 @@ ghost use Rattle.schema_model.specs.Limits.{most_rows};
 ghost use Rattle.schema_model.specs.PlainTables.{PlainDatabase, PlainTable};
 ghost use Rattle.chunk_store.specs.Clashes.{IsReason};
 ghost use Rattle.chunk_store.specs.Drafts.{Grows, chunks_of};
+ghost use Rattle.chunk_store.specs.Kinds.{is_data};
+ghost use Rattle.table_root.specs.Standing.{CanRead, IsReadAt};
 ghost use Rattle.plain_writes.specs.Violations.{first_violation};
 ghost use Rattle.plain_writes.specs.Writes.{effect_if, filled, replaced, with_rows};
 ghost use Rattle.plain_schemas.specs.Statements.{checks};
-ghost use Rattle.constraint_scan.specs.Scanning.{CanRead, IsReadAt};
-ghost use Rattle.sql_write.specs.Growing.{is_data};
 ghost use Rattle.sql_write.specs.Making.{Makes};
 ghost use Rattle.sql_write.specs.Putting.{CanFill, CanPut};
 
@@ -23,7 +23,7 @@ use constraint_scan::first_violation;
 use index_keep::apply_with_indexes;
 use schema_model::limits::MOST_ROWS;
 use std::alloc::Global;
-use table_root::{NamedTable, Table};
+use table_root::{StoredTable, TableEntry};
 use tuple_codec::{Address, Digester, Edit};
 
 /// Edits the rows of the table of this name, with the lists of its indexes, and writes it into the database: the new database's address.
@@ -31,9 +31,9 @@ use tuple_codec::{Address, Digester, Edit};
 pub(crate) fn put_rows<D: Digester>(
     alloc: Global,
     draft: &mut Draft<D>,
-    tables: Vec<NamedTable>,
+    tables: Vec<TableEntry>,
     name: &[u8],
-    table: &Table,
+    table: &StoredTable,
     edits: &[Edit],
 ) -> Result<Address, PutFault>
     requires { (database : PlainDatabase) × (contents : PlainTable) × (rows : List Cells) × CanPut D.address (chunks_of draft.old.chunks) tables.items table.now edits.now database contents rows }
@@ -81,9 +81,9 @@ pub(crate) fn fill_table<D: Digester>(
     alloc: Global,
     draft: &mut Draft<D>,
     database: &Address,
-    tables: Vec<NamedTable>,
+    tables: Vec<TableEntry>,
     name: &[u8],
-    table: &Table,
+    table: &StoredTable,
     edits: &[Edit],
     rows: u64,
     count: u64,

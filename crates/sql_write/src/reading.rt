@@ -11,7 +11,7 @@ ghost use Rattle.sql_write.specs.Changes.{AreToTurn, change_seen};
 ghost use Rattle.sql_write.specs.Passing.{AreRead, LeavesOthers};
 
 use crate::finding::Found;
-use crate::turning::{Change, sets_key};
+use crate::turning::{BoundUpdate, sets_key};
 use chunk_store::Draft;
 use expr_eval::BoundExpr;
 use key_seek::{Seek, rows_sought, sought};
@@ -70,7 +70,7 @@ pub(crate) fn rows_to_turn<D: Digester>(
     alloc: Global,
     draft: &Draft<D>,
     found: &Found,
-    change: &Change,
+    change: &BoundUpdate,
 ) -> Result<Sequence<Row>, AllocError>
     requires { (contents : PlainTable) × IsTableOf D.address (chunks_of draft.now.chunks) found.now.table contents }
     ensures { (contents : PlainTable) → IsTableOf D.address (chunks_of draft.now.chunks) found.now.table contents

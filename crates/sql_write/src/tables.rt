@@ -4,16 +4,17 @@ ghost use Rattle.std.specs.Prelude.{◌≡◌, IfErr, IfOk};
 ghost use Rattle.schema_model.specs.PlainTables.{PlainDatabase, PlainTable};
 ghost use Rattle.chunk_store.specs.Clashes.{IsReason};
 ghost use Rattle.chunk_store.specs.Drafts.{Grows, chunks_of};
-ghost use Rattle.table_root.specs.Standing.{IsTableAt, IsTableOf};
+ghost use Rattle.chunk_store.specs.Kinds.{is_data};
+ghost use Rattle.table_root.specs.Standing.{IsReadAt, IsTableAt, IsTableOf};
 ghost use Rattle.plain_writes.specs.Writes.{replaced};
-ghost use Rattle.constraint_scan.specs.Scanning.{HasKeptAt, IsKeptAt, IsReadAt};
-ghost use Rattle.sql_write.specs.Growing.{is_data};
-ghost use Rattle.sql_write.specs.Putting.{AreListed, AreListedAt, MayReplace, MayStand, address_in, readdress, readdressed};
+ghost use Rattle.constraint_scan.specs.Recording.{MayStand};
+ghost use Rattle.constraint_scan.specs.Scanning.{HasKeptAt, IsKeptAt};
+ghost use Rattle.sql_write.specs.Putting.{AreListed, AreListedAt, MayReplace, address_in, readdress, readdressed};
 
 use crate::laws::laws_of_growth;
 use chunk_store::{Draft, PutFault};
 use std::alloc::{AllocError, Global};
-use table_root::{NamedTable, Table, read_database, read_table, write_database, write_table};
+use table_root::{StoredTable, TableEntry, read_database, read_table, write_database, write_table};
 use tuple_codec::{Address, Digester};
 
 /// The names and addresses of the tables of the database at an address, by rising name.
@@ -21,7 +22,7 @@ pub(crate) fn read_tables<D: Digester>(
     alloc: Global,
     draft: &Draft<D>,
     database: &Address,
-) -> Result<Vec<NamedTable>, AllocError>
+) -> Result<Vec<TableEntry>, AllocError>
     requires { HasKeptAt D.address (chunks_of draft.now.chunks) database.now.0 }
     ensures { (contents : PlainDatabase) → IsKeptAt D.address (chunks_of draft.now.chunks) database.now.0 contents
         → IfOk result (λ tables. AreListedAt D.address (chunks_of draft.now.chunks) database.now.0 tables.items contents) }
@@ -31,7 +32,7 @@ pub(crate) fn read_tables<D: Digester>(
 }
 
 /// The address of the table of a name.
-pub(crate) fn table_in(tables: &[NamedTable], name: &[u8]) -> Option<Address>
+pub(crate) fn table_in(tables: &[TableEntry], name: &[u8]) -> Option<Address>
     ensures { result ≡ address_in tables.now name.now }
 {
     for named in tables {
@@ -47,7 +48,7 @@ pub(crate) fn table_at<D: Digester>(
     alloc: Global,
     draft: &Draft<D>,
     address: &Address,
-) -> Result<Table, AllocError>
+) -> Result<StoredTable, AllocError>
     requires { (contents : PlainTable) × IsTableAt D.address (chunks_of draft.now.chunks) address.now.0 contents }
     ensures { (contents : PlainTable) → IsTableAt D.address (chunks_of draft.now.chunks) address.now.0 contents
         → IfOk result (λ table. IsTableOf D.address (chunks_of draft.now.chunks) table contents) }
@@ -59,10 +60,10 @@ pub(crate) fn table_at<D: Digester>(
 /// Puts an address under a name, in place of that which stood there.
 fn readdressed(
     alloc: Global,
-    tables: Vec<NamedTable>,
+    tables: Vec<TableEntry>,
     name: &[u8],
     table: Address,
-) -> Result<Vec<NamedTable>, AllocError>
+) -> Result<Vec<TableEntry>, AllocError>
     ensures { IfOk result (λ made. made.items ≡ readdressed name.now table tables.items) }
 {
     let mut made = Vec::with_capacity(alloc, tables.len())?;
@@ -72,11 +73,11 @@ fn readdressed(
     Ok(made)
 }
 
-fn readdress(named: NamedTable, name: &[u8], table: Address) -> NamedTable
+fn readdress(named: TableEntry, name: &[u8], table: Address) -> TableEntry
     ensures { result ≡ readdress name.now table named }
 {
     if named.name.as_slice() == name {
-        NamedTable {
+        TableEntry {
             name: named.name,
             table,
         }
@@ -89,7 +90,7 @@ fn readdress(named: NamedTable, name: &[u8], table: Address) -> NamedTable
 pub(crate) fn put_database<D: Digester>(
     alloc: Global,
     draft: &mut Draft<D>,
-    tables: &[NamedTable],
+    tables: &[TableEntry],
 ) -> Result<Address, PutFault>
     requires { (database : PlainDatabase) × AreListed D.address (chunks_of draft.old.chunks) tables.now database }
     ensures stands { (database : PlainDatabase) → AreListed D.address (chunks_of draft.old.chunks) tables.now database
@@ -106,7 +107,7 @@ pub(crate) fn put_database<D: Digester>(
 pub(crate) fn keep_table<D: Digester>(
     alloc: Global,
     draft: &mut Draft<D>,
-    table: &Table,
+    table: &StoredTable,
 ) -> Result<Address, PutFault>
     requires { (contents : PlainTable) × MayStand D.address (chunks_of draft.old.chunks) table.now contents }
     ensures stands { (contents : PlainTable) → MayStand D.address (chunks_of draft.old.chunks) table.now contents
@@ -123,9 +124,9 @@ pub(crate) fn keep_table<D: Digester>(
 pub(crate) fn put_table<D: Digester>(
     alloc: Global,
     draft: &mut Draft<D>,
-    tables: Vec<NamedTable>,
+    tables: Vec<TableEntry>,
     name: &[u8],
-    table: &Table,
+    table: &StoredTable,
 ) -> Result<Address, PutFault>
     requires { (database : PlainDatabase) × (contents : PlainTable) × MayReplace D.address (chunks_of draft.old.chunks) tables.items table.now database contents }
     ensures stands { (database : PlainDatabase) (contents : PlainTable) → MayReplace D.address (chunks_of draft.old.chunks) tables.items table.now database contents

@@ -16,7 +16,7 @@ ghost use Rattle.sql_write.specs.Turning.{RowsComeFirst, rows_deleted_by, rows_t
 use expr_eval::{BoundExpr, ScopeColumn};
 use plain_sql::Refused;
 use plain_writes::{
-    Later, Setting, all_chosen, all_turned, assignments, by_key, own_scope, tests_of,
+    BoundAssignment, Later, all_chosen, all_turned, assignments, by_key, own_scope, tests_of,
 };
 use schema_model::Schema;
 use sql_ast::{Delete, Expr, Update};
@@ -100,26 +100,30 @@ pub(crate) fn deleted_by(
 
 /// What an UPDATE asks of a row, and what it sets, with names and kinds known.
 #[derive(Drop)]
-pub(crate) struct Change {
+pub(crate) struct BoundUpdate {
     pub(crate) tests: Sequence<BoundExpr>,
-    pub(crate) settings: Sequence<Setting>,
+    pub(crate) settings: Sequence<BoundAssignment>,
 }
 
 fn change_by(
     alloc: Global,
     scope: &[ScopeColumn],
-    settings: Sequence<Setting>,
+    settings: Sequence<BoundAssignment>,
     filter: &Option<Expr>,
-) -> Result<Change, Refused>
+) -> Result<BoundUpdate, Refused>
     ensures settings { IfOk result (λ change. change.settings ≡ settings) }
     ensures is { GivesBy change_seen result (change_with scope.now filter.now (map setting_seen settings)) }
 {
     let tests = tests_of(alloc, scope, filter)?;
-    Ok(Change { tests, settings })
+    Ok(BoundUpdate { tests, settings })
 }
 
 /// What an UPDATE asks and sets, or its first refusal up to there.
-pub(crate) fn change_of(alloc: Global, schema: &Schema, update: &Update) -> Result<Change, Refused>
+pub(crate) fn change_of(
+    alloc: Global,
+    schema: &Schema,
+    update: &Update,
+) -> Result<BoundUpdate, Refused>
     requires { is_schema schema.now ≡ true }
     ensures typed { IfOk result (λ change. list_all (λ one. is_type one.column.kind) change.settings ≡ true) }
     ensures is { GivesBy change_seen result (change_of schema.now update.now) }
@@ -138,7 +142,7 @@ pub(crate) fn change_of(alloc: Global, schema: &Schema, update: &Update) -> Resu
 pub(crate) fn updated_by(
     alloc: Global,
     schema: &Schema,
-    change: &Change,
+    change: &BoundUpdate,
     rows: &[Row],
 ) -> Result<Turned, Refused>
     requires { list_all (λ one. is_type one.column.kind) change.now.settings ≡ true }
@@ -151,7 +155,7 @@ pub(crate) fn updated_by(
 }
 
 /// Whether an UPDATE sets a column of the primary key.
-pub(crate) fn sets_key(schema: &Schema, settings: &[Setting]) -> bool
+pub(crate) fn sets_key(schema: &Schema, settings: &[BoundAssignment]) -> bool
     ensures { result ≡ sets_key schema.now (map setting_seen settings.now) }
 {
     for position in schema.key.as_slice() {
@@ -162,7 +166,7 @@ pub(crate) fn sets_key(schema: &Schema, settings: &[Setting]) -> bool
     false
 }
 
-fn assigns(settings: &[Setting], place: usize) -> bool
+fn assigns(settings: &[BoundAssignment], place: usize) -> bool
     ensures { result ≡ assigns (map setting_seen settings.now) place }
 {
     match settings {

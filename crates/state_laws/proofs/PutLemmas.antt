@@ -14,7 +14,8 @@ use Rattle.schema_model.specs.Schemas.{is_name}
 use Rattle.plain_sql.specs.Lists.{has, in_order, placed}
 use Rattle.plain_writes.specs.Violations.{is_called, table_in}
 use Rattle.plain_writes.proofs.SortLemmas.{risen_once}
-use Rattle.plain_sessions.specs.Branching.{is_in, names_in, put_table, table_cmp, taking, taking_all, without_table}
+use Rattle.plain_schemas.specs.Effects.{without_table}
+use Rattle.plain_sessions.specs.Branching.{is_in, names_in, put_table, table_cmp, taking, taking_all}
 use Rattle.schema_laws.proofs.ListLemmas.{filter_few, filter_have, filter_keep}
 use Rattle.write_laws.proofs.OrderLemmas.{both_so, either_way, in_order_length, in_order_rises, neither_so, placed_past, placed_stop, two}
 use Rattle.state_laws.proofs.KeptLemmas.{AreKept, IsKeptNamed, by_name, have_so}

@@ -19,7 +19,7 @@ use Rattle.schema_model.specs.WrittenForms.{table_address}
 use Rattle.schema_model.proofs.SizeLemmas.{few_tables as few_kept}
 use Rattle.table_root.specs.Databases.{HasDatabase, IsDatabaseFound}
 use Rattle.table_root.specs.Standing.{DatabasesStand, IsTableAt, TablesStand, named_tables}
-use Rattle.table_root.specs.declared.records.NamedTable.{NamedTable}
+use Rattle.table_root.specs.declared.records.TableEntry.{TableEntry}
 use Rattle.tuple_codec.specs.Edits.{order}
 use Rattle.tuple_codec.specs.Rows.{AreTold, Cells}
 use Rattle.tuple_codec.specs.declared.addresses.Address.{Address}
@@ -31,7 +31,7 @@ module _ (address : List ℕ → List ℕ) (chunks : Chunks) where
   pub kept_found : DatabasesStand → (k : List ℕ) (database : PlainDatabase) → IsKeptAt address chunks k database → HasDatabase chunks k
   kept_found laws k database kept = (named_tables address database, laws.found address chunks k database kept.stands (few_kept database kept.within))
 
-  pub kept_same : DatabasesStand → (k : List ℕ) (database : PlainDatabase) → IsKeptAt address chunks k database → (tables : List NamedTable) → IsDatabaseFound chunks k tables
+  pub kept_same : DatabasesStand → (k : List ℕ) (database : PlainDatabase) → IsKeptAt address chunks k database → (tables : List TableEntry) → IsDatabaseFound chunks k tables
       → tables ≡ named_tables address database
   kept_same laws k database kept tables found = laws.same address chunks k database tables kept.stands (few_kept database kept.within) found
 
@@ -93,13 +93,13 @@ module _ (address : List ℕ → List ℕ) (chunks : Chunks) where
     names_same (named ∷ database) = ap (λ (names : List (List ℕ)). named.name ∷ names) (names_same database)
 
     module _ (t : Transaction) (head : AreTables (own_root t)) (staged : AreTables t.own.staged) (working : AreTables t.own.working) where
-      abbrev old_tables : List NamedTable
+      abbrev old_tables : List TableEntry
       old_tables = named_tables address (own_root t)
 
-      abbrev staged_tables : List NamedTable
+      abbrev staged_tables : List TableEntry
       staged_tables = named_tables address t.own.staged
 
-      abbrev own_tables : List NamedTable
+      abbrev own_tables : List TableEntry
       own_tables = named_tables address t.own.working
 
       both_same : (name : List ℕ) → changed_rows old_tables staged_tables own_tables name ≡ status_rows t name
@@ -119,7 +119,7 @@ module _ (address : List ℕ → List ℕ) (chunks : Chunks) where
       rows_same = ap (all_changed_rows old_tables staged_tables own_tables) all_names_same ∙ each_same (all_keys order (names_of (own_root t)) (names_of t.own.staged) (names_of t.own.working))
 
     -- what differs between tables that were read is what the status shows
-    pub status_shown : (t : Transaction) (kh ks kw : List ℕ) → AreStates address chunks kh ks kw t → (head staged working : List NamedTable) (rows : List Cells) → head ≡ named_tables address (own_root t)
+    pub status_shown : (t : Transaction) (kh ks kw : List ℕ) → AreStates address chunks kh ks kw t → (head staged working : List TableEntry) (rows : List Cells) → head ≡ named_tables address (own_root t)
         → staged ≡ named_tables address t.own.staged → working ≡ named_tables address t.own.working
         → rows ≡ all_changed_rows head staged working (all_keys order (names_in head) (names_in staged) (names_in working)) → rows ≡ (plain.status t).rows
     status_shown t kh ks kw states head staged working rows h s w is =

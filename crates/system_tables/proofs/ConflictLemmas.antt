@@ -10,11 +10,11 @@ use Rattle.conflict_tables.specs.declared.entries.ConflictEntry.{ConflictEntry}
 use Rattle.schema_model.specs.PlainTables.{Conflict, PlainTable, is_conflict, is_row, is_side_at, key_types, primary_key}
 use Rattle.schema_model.specs.declared.schemas.Schema.{Schema}
 use Rattle.table_root.specs.Standing.{IsTableOf}
-use Rattle.table_root.specs.declared.records.Table.{Table}
+use Rattle.table_root.specs.declared.records.StoredTable.{StoredTable}
 use Rattle.tuple_codec.specs.KeyBytes.{key_bytes}
 use Rattle.tuple_codec.specs.Rows.{AreTold, Cells, fits_all, key_cmp, same_cells}
 use Rattle.system_tables.specs.Entries.{AreConflictsOf, IsConflictOf, IsSideOf, conflict_entry}
-use Rattle.system_tables.specs.declared.entries.Entry.{Entry}
+use Rattle.system_tables.specs.declared.entries.ListEntry.{ListEntry}
 
 module _ (told : AreTold same_cells) (schema : Schema) where
   side_of : (key : Cells) (side : Option Cells) → is_side_at schema key side ≡ true → IsSideOf schema (key_bytes key) (written_side schema side) side
@@ -51,21 +51,21 @@ module _ (told : AreTold same_cells) (schema : Schema) where
       subst (λ (l : List ConflictEntry). IsConflictOf schema (get_or l i d) (get_or conflicts i e)) (sym of.are) (conflict_at conflicts i d e (few list conflicts of i within) of.conflicts_are)
 
   -- the entries of one more
-  pub one_more : (list : List ConflictEntry) (conflicts : List Conflict) → AreConflictsOf schema list conflicts → (i : ℕ) (e : Conflict) → i < length list → (done next : List Entry)
+  pub one_more : (list : List ConflictEntry) (conflicts : List Conflict) → AreConflictsOf schema list conflicts → (i : ℕ) (e : Conflict) → i < length list → (done next : List ListEntry)
       → done ++ map (conflict_entry schema) (drop i conflicts) ≡ map (conflict_entry schema) conflicts → next ≡ done ++ conflict_entry schema (get_or conflicts i e) ∷ []
       → next ++ map (conflict_entry schema) (drop (i + 1) conflicts) ≡ map (conflict_entry schema) conflicts
   one_more list conflicts of i e within done next so_far is =
-      ap (λ (l : List Entry). l ++ map (conflict_entry schema) (drop (i + 1) conflicts)) is
+      ap (λ (l : List ListEntry). l ++ map (conflict_entry schema) (drop (i + 1) conflicts)) is
       ∙ append_assoc done (conflict_entry schema (get_or conflicts i e) ∷ []) (map (conflict_entry schema) (drop (i + 1) conflicts))
       ∙ ap (λ (l : List Conflict). done ++ map (conflict_entry schema) l) (sym (drop_more conflicts i e (few list conflicts of i within)))
       ∙ so_far
 
 -- conflicts that were read are those of a table that stands
-pub read_of : (address : List ℕ → List ℕ) (chunks : Chunks) (table : Table) (contents : PlainTable) → IsTableOf address chunks table contents → (list : List ConflictEntry) → list ≡ written_conflicts contents
+pub read_of : (address : List ℕ → List ℕ) (chunks : Chunks) (table : StoredTable) (contents : PlainTable) → IsTableOf address chunks table contents → (list : List ConflictEntry) → list ≡ written_conflicts contents
     → AreConflictsOf table.schema list contents.conflicts
 read_of address chunks table contents of list are =
-    subst (λ (schema : Schema). AreConflictsOf schema list contents.conflicts) (sym (ap (λ (t : Table). t.schema) of.value)) (record { are = are; conflicts_are = of.is_table.conflicts })
+    subst (λ (schema : Schema). AreConflictsOf schema list contents.conflicts) (sym (ap (λ (t : StoredTable). t.schema) of.value)) (record { are = are; conflicts_are = of.is_table.conflicts })
 
-pub shown_of : (address : List ℕ → List ℕ) (chunks : Chunks) (table : Table) (contents : PlainTable) → IsTableOf address chunks table contents → (entries : List Entry)
+pub shown_of : (address : List ℕ → List ℕ) (chunks : Chunks) (table : StoredTable) (contents : PlainTable) → IsTableOf address chunks table contents → (entries : List ListEntry)
     → entries ≡ map (conflict_entry table.schema) contents.conflicts → entries ≡ map (conflict_entry contents.schema) contents.conflicts
-shown_of address chunks table contents of entries are = are ∙ ap (λ (t : Table). map (conflict_entry t.schema) contents.conflicts) of.value
+shown_of address chunks table contents of entries are = are ∙ ap (λ (t : StoredTable). map (conflict_entry t.schema) contents.conflicts) of.value

@@ -2,7 +2,7 @@
 use Rattle.std.proofs.Common.{◌≡◌, ◌∙◌, ap, subst, sym, refl, ℕ, true, List, Option, None, Some}
 use Rattle.std.proofs.lemmas.Option.{same_Some}
 use Rattle.chunk_store.specs.Drafts.{DraftParts, chunks_of}
-use Rattle.chunk_store.specs.Chunks.{bytes_at}
+use Rattle.chunk_store.specs.Chunks.{chunk_bytes}
 use Rattle.chunk_store.specs.Laws.{ChunksFollow}
 use Rattle.commit_graph.specs.Standing.{CommitsFollow, CommitsStand}
 use Rattle.constraint_scan.specs.Scanning.{IsKeptAt}
@@ -44,7 +44,7 @@ module _ {D : Type 0} (address : List ℕ → List ℕ) (session : Session D) (p
         let b = begun in
         let s = b.stands in
         let d = session.draft.chunks in
-        commits.later address (bytes_at d.base) (chunks_of d) t.commits (chunks.extends_left d.base d.own) s.commits.stand
+        commits.later address (chunk_bytes d.base) (chunks_of d) t.commits (chunks.extends_left d.base d.own) s.commits.stand
 
     head_known : is_known t.commits session.own.head.0 ≡ true
     head_known = let b = begun in let s = b.stands in ap (is_known t.commits) s.own_stands.head ∙ s.own_stands.head_known

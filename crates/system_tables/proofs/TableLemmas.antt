@@ -10,11 +10,11 @@ use Rattle.schema_model.specs.PlainTables.{PlainDatabase, PlainTable, conflict_i
 use Rattle.schema_model.specs.declared.schemas.Schema.{Schema}
 use Rattle.table_root.specs.Standing.{IsTableAt, IsTableOf, TablesStand, TableValuesStand, table_of_lists}
 use Rattle.table_root.specs.Tables.{HasTable, IsTableFound}
-use Rattle.table_root.specs.declared.records.Table.{Table}
+use Rattle.table_root.specs.declared.records.StoredTable.{StoredTable}
 use Rattle.tuple_codec.specs.Nodes.{Item}
 use Rattle.tuple_codec.specs.Rows.{Cells}
 use Rattle.system_tables.specs.Entries.{HasTableAt, count_in, counted_row, counted_rows, counts_of, counts_shown, entries_of, known_list, list_shown, rows_of, violation_entry, conflict_entry}
-use Rattle.system_tables.specs.declared.entries.Entry.{Entry}
+use Rattle.system_tables.specs.declared.entries.ListEntry.{ListEntry}
 use Rattle.system_tables.specs.declared.entries.Listed.{Listed}
 use Rattle.system_tables.specs.declared.entries.Listed.TheVariants as listed
 use Rattle.plain_sessions.specs.SystemTables.{conflict_row, count_row, violation_row}
@@ -23,17 +23,17 @@ module _ (address : List ℕ → List ℕ) (chunks : Chunks) (k : List ℕ) wher
   pub found_at : TablesStand → HasTableAt address chunks k → HasTable chunks k
   found_at stand has = (table_of_lists address has.0, stand.found address chunks k has.0 has.1)
 
-  pub read_at : TableValuesStand → (contents : PlainTable) → IsTableAt address chunks k contents → (table : Table) → IsTableFound chunks k table → IsTableOf address chunks table contents
+  pub read_at : TableValuesStand → (contents : PlainTable) → IsTableAt address chunks k contents → (table : StoredTable) → IsTableFound chunks k table → IsTableOf address chunks table contents
   read_at values contents at table found = values.read address chunks k contents table at found
 
 -- ---- counts
 
-module _ (address : List ℕ → List ℕ) (chunks : Chunks) (table : Table) (contents : PlainTable) (of : IsTableOf address chunks table contents) where
+module _ (address : List ℕ → List ℕ) (chunks : Chunks) (table : StoredTable) (contents : PlainTable) (of : IsTableOf address chunks table contents) where
   pub conflict_tree : IsTree address chunks table.conflicts.0 (conflict_items contents)
-  conflict_tree = subst (λ (k : List ℕ). IsTree address chunks k (conflict_items contents)) (sym (ap (λ (t : Table). t.conflicts.0) of.value)) (let trees = of.trees in trees.conflicts)
+  conflict_tree = subst (λ (k : List ℕ). IsTree address chunks k (conflict_items contents)) (sym (ap (λ (t : StoredTable). t.conflicts.0) of.value)) (let trees = of.trees in trees.conflicts)
 
   pub violation_tree : IsTree address chunks table.violations.0 (violation_items contents)
-  violation_tree = subst (λ (k : List ℕ). IsTree address chunks k (violation_items contents)) (sym (ap (λ (t : Table). t.violations.0) of.value)) (let trees = of.trees in trees.violations)
+  violation_tree = subst (λ (k : List ℕ). IsTree address chunks k (violation_items contents)) (sym (ap (λ (t : StoredTable). t.violations.0) of.value)) (let trees = of.trees in trees.violations)
 
   pub few_in : (n : ℕ) (items : List Item) (k : List ℕ) → IsTree address chunks k items → n ≡ length items → n < 2 ^ 63
   few_in n items k tree is = subst (λ m. m < 2 ^ 63) (sym is) (let rows = tree.are_rows in rows.few)
@@ -90,10 +90,10 @@ whole_list listed.Conflicts name table =
 whole_list listed.Violations name table =
     ap (λ (rows : List Cells). record (known_list listed.Violations name table.schema []) { rows = rows }) (violations_shown table.schema table.violations)
 
-pub list_is : (which : Listed) (name : List ℕ) (address : List ℕ → List ℕ) (chunks : Chunks) (table : Table) (contents : PlainTable) → IsTableOf address chunks table contents → (entries : List Entry)
+pub list_is : (which : Listed) (name : List ℕ) (address : List ℕ → List ℕ) (chunks : Chunks) (table : StoredTable) (contents : PlainTable) → IsTableOf address chunks table contents → (entries : List ListEntry)
     → entries ≡ entries_of which contents → (known : Known) → known ≡ known_list which name table.schema entries → known ≡ list_shown which (record { name = name; table = contents })
 list_is which name address chunks table contents of entries are known is =
     is
-    ∙ ap (λ (l : List Entry). known_list which name table.schema l) are
-    ∙ ap (λ (t : Table). known_list which name t.schema (entries_of which contents)) of.value
+    ∙ ap (λ (l : List ListEntry). known_list which name table.schema l) are
+    ∙ ap (λ (t : StoredTable). known_list which name t.schema (entries_of which contents)) of.value
     ∙ whole_list which name contents

@@ -14,7 +14,7 @@ use Rattle.schema_model.specs.declared.schemas.Schema.{Schema}
 use Rattle.schema_model.proofs.FitLemmas.{key_types_fit}
 use Rattle.schema_model.proofs.TellingLemmas.{violation_is}
 use Rattle.table_root.specs.Standing.{IsTableOf}
-use Rattle.table_root.specs.declared.records.Table.{Table}
+use Rattle.table_root.specs.declared.records.StoredTable.{StoredTable}
 use Rattle.table_rows.specs.Rows.{IsRowOf}
 use Rattle.table_rows.proofs.ReadingLemmas.{from_first}
 use Rattle.tuple_codec.specs.KeyBytes.{key_bytes, key_cell}
@@ -26,7 +26,7 @@ use Rattle.tuple_codec.specs.declared.values.SqlType.TheVariants as kind
 use Rattle.tuple_codec.specs.declared.values.Value.{Value}
 use Rattle.tuple_codec.specs.declared.values.Value.TheVariants as cell
 use Rattle.system_tables.specs.Entries.{IsListed, IsListedKey, listed_types, violation_entry}
-use Rattle.system_tables.specs.declared.entries.Entry.{Entry}
+use Rattle.system_tables.specs.declared.entries.ListEntry.{ListEntry}
 use lib.Seq.{drop-append_seam}
 
 -- ---- its parts
@@ -87,7 +87,7 @@ behind_is name key bytes n are short at =
 
 module _ (schema : Schema) (violations : List Violation) where
   -- some were read, and those that are left follow
-  pub record IsReading (done : List Entry) (rest : List (List ℕ × List ℕ)) : Type 0 where
+  pub record IsReading (done : List ListEntry) (rest : List (List ℕ × List ℕ)) : Type 0 where
     pub left : List Violation
     pub fit : list_all (is_violation schema) left ≡ true
     pub whole : done ++ map (violation_entry schema) left ≡ map (violation_entry schema) violations
@@ -97,12 +97,12 @@ module _ (schema : Schema) (violations : List Violation) where
   begins fit rest e = record { left = violations; fit = fit; whole = refl; follow = e ∙ ap (λ (l : List Item). map pair_of l) (from_first (map (violation_item schema) violations)) }
 
   -- the first that is left, and what is left behind it
-  pub record IsFirst (done : List Entry) (pair : List ℕ × List ℕ) (rest : List (List ℕ × List ℕ)) : Type 0 where
+  pub record IsFirst (done : List ListEntry) (pair : List ℕ × List ℕ) (rest : List (List ℕ × List ℕ)) : Type 0 where
     pub violation : Violation
     pub is : IsListed schema pair.0 pair.1 violation
     pub reading : IsReading (done ++ violation_entry schema violation ∷ []) rest
 
-  first_of : (done : List Entry) (left : List Violation) (pair : List ℕ × List ℕ) (rest : List (List ℕ × List ℕ)) → list_all (is_violation schema) left ≡ true
+  first_of : (done : List ListEntry) (left : List Violation) (pair : List ℕ × List ℕ) (rest : List (List ℕ × List ℕ)) → list_all (is_violation schema) left ≡ true
       → done ++ map (violation_entry schema) left ≡ map (violation_entry schema) violations → (pair ∷ rest) ≡ map pair_of (map (violation_item schema) left) → IsFirst done pair rest
   first_of done [] pair rest fit whole e = absurd (cc)
   first_of done (violation ∷ left) pair rest fit whole e =
@@ -120,33 +120,33 @@ module _ (schema : Schema) (violations : List Violation) where
         };
       }
 
-  pub first : (done : List Entry) (all rest : List (List ℕ × List ℕ)) (pair : List ℕ × List ℕ) → IsReading done all → all ≡ pair ∷ rest → IsFirst done pair rest
+  pub first : (done : List ListEntry) (all rest : List (List ℕ × List ℕ)) (pair : List ℕ × List ℕ) → IsReading done all → all ≡ pair ∷ rest → IsFirst done pair rest
   first done all rest pair reading e = first_of done reading.left pair rest reading.fit reading.whole (sym e ∙ reading.follow)
 
-  over_by : (done : List Entry) (left : List Violation) → done ++ map (violation_entry schema) left ≡ map (violation_entry schema) violations
+  over_by : (done : List ListEntry) (left : List Violation) → done ++ map (violation_entry schema) left ≡ map (violation_entry schema) violations
       → [] ≡ map pair_of (map (violation_item schema) left) → done ≡ map (violation_entry schema) violations
   over_by done [] whole e = sym (append-nil done) ∙ whole
   over_by done (violation ∷ left) whole e = absurd (cc)
 
-  pub over : (done : List Entry) (all : List (List ℕ × List ℕ)) → IsReading done all → all ≡ [] → done ≡ map (violation_entry schema) violations
+  pub over : (done : List ListEntry) (all : List (List ℕ × List ℕ)) → IsReading done all → all ≡ [] → done ≡ map (violation_entry schema) violations
   over done all reading e = over_by done reading.left reading.whole (sym e ∙ reading.follow)
 
 -- ---- those of a table that stands
 
-module _ (address : List ℕ → List ℕ) (chunks : Chunks) (table : Table) (contents : PlainTable) (of : IsTableOf address chunks table contents) where
+module _ (address : List ℕ → List ℕ) (chunks : Chunks) (table : StoredTable) (contents : PlainTable) (of : IsTableOf address chunks table contents) where
   pub own_tree : IsTree address chunks table.violations.0 (map (violation_item table.schema) contents.violations)
   own_tree =
-      subst (λ (schema : Schema). IsTree address chunks table.violations.0 (map (violation_item schema) contents.violations)) (sym (ap (λ (t : Table). t.schema) of.value))
-      (subst (λ (k : List ℕ). IsTree address chunks k (violation_items contents)) (sym (ap (λ (t : Table). t.violations.0) of.value)) (let trees = of.trees in trees.violations))
+      subst (λ (schema : Schema). IsTree address chunks table.violations.0 (map (violation_item schema) contents.violations)) (sym (ap (λ (t : StoredTable). t.schema) of.value))
+      (subst (λ (k : List ℕ). IsTree address chunks k (violation_items contents)) (sym (ap (λ (t : StoredTable). t.violations.0) of.value)) (let trees = of.trees in trees.violations))
 
   pub own_fit : list_all (is_violation table.schema) contents.violations ≡ true
-  own_fit = subst (λ (schema : Schema). list_all (is_violation schema) contents.violations ≡ true) (sym (ap (λ (t : Table). t.schema) of.value)) (let is = of.is_table in is.violations)
+  own_fit = subst (λ (schema : Schema). list_all (is_violation schema) contents.violations ≡ true) (sym (ap (λ (t : StoredTable). t.schema) of.value)) (let is = of.is_table in is.violations)
 
   pub schema_is : is_schema table.schema ≡ true
-  schema_is = subst (λ (schema : Schema). is_schema schema ≡ true) (sym (ap (λ (t : Table). t.schema) of.value)) (let is = of.is_table in is.schema)
+  schema_is = subst (λ (schema : Schema). is_schema schema ≡ true) (sym (ap (λ (t : StoredTable). t.schema) of.value)) (let is = of.is_table in is.schema)
 
-  pub shown_of : (entries : List Entry) → entries ≡ map (violation_entry table.schema) contents.violations → entries ≡ map (violation_entry contents.schema) contents.violations
-  shown_of entries are = are ∙ ap (λ (t : Table). map (violation_entry t.schema) contents.violations) of.value
+  pub shown_of : (entries : List ListEntry) → entries ≡ map (violation_entry table.schema) contents.violations → entries ≡ map (violation_entry contents.schema) contents.violations
+  shown_of entries are = are ∙ ap (λ (t : StoredTable). map (violation_entry t.schema) contents.violations) of.value
 
 -- ---- a list's first and the rest
 

@@ -8,15 +8,15 @@ use Rattle.plain_sessions.specs.Sessions.{Transaction, own_root}
 use Rattle.plain_sessions.specs.SystemTables.{row_if}
 use Rattle.schema_model.specs.Limits.{is_database_within_limits}
 use Rattle.schema_model.specs.PlainCommits.{PlainCommit, is_known}
-use Rattle.table_root.specs.declared.records.NamedTable.{NamedTable}
+use Rattle.table_root.specs.declared.records.TableEntry.{TableEntry}
 use Rattle.tuple_codec.specs.Rows.{Cells}
 use Rattle.tuple_codec.specs.declared.addresses.Address.{Address}
 
-abbrev pub names_in : List NamedTable → List (List ℕ)
+abbrev pub names_in : List TableEntry → List (List ℕ)
 names_in tables = map (λ named. named.name) tables
 
 -- the address of the table of a name
-abbrev pub address_in : List ℕ → List NamedTable → Option Address
+abbrev pub address_in : List ℕ → List TableEntry → Option Address
 address_in name [] = None
 address_in name (named ∷ tables) = if bytes_eq named.name name then Some named.table else address_in name tables
 
@@ -27,15 +27,15 @@ change_at None (Some new) = Some (codes "new table")
 change_at (Some old) None = Some (codes "deleted")
 change_at (Some old) (Some new) = if bytes_eq old.0 new.0 then None else Some (codes "modified")
 
-abbrev pub changed_row : Bool → List NamedTable → List NamedTable → List ℕ → List Cells
+abbrev pub changed_row : Bool → List TableEntry → List TableEntry → List ℕ → List Cells
 changed_row staged old new name = row_if name staged (change_at (address_in name old) (address_in name new))
 
 -- from the head to staged, then from staged to working
-abbrev pub changed_rows : List NamedTable → List NamedTable → List NamedTable → List ℕ → List Cells
+abbrev pub changed_rows : List TableEntry → List TableEntry → List TableEntry → List ℕ → List Cells
 changed_rows head staged working name = changed_row true head staged name ++ changed_row false staged working name
 
 -- the same of some names
-abbrev pub all_changed_rows : List NamedTable → List NamedTable → List NamedTable → List (List ℕ) → List Cells
+abbrev pub all_changed_rows : List TableEntry → List TableEntry → List TableEntry → List (List ℕ) → List Cells
 all_changed_rows head staged working names = flat_map (changed_rows head staged working) names
 
 -- the head of a transaction, whose commits stand and have databases within the limits

@@ -19,7 +19,7 @@ use Rattle.tuple_codec.specs.Rows.{Cells, fits_all}
 use Rattle.tuple_codec.specs.declared.values.SqlType.{SqlType}
 use Rattle.tuple_codec.specs.declared.values.SqlType.TheVariants as kind
 use Rattle.tuple_codec.specs.declared.values.Value.TheVariants as cell
-use Rattle.system_tables.specs.declared.entries.Entry.{Entry}
+use Rattle.system_tables.specs.declared.entries.ListEntry.{ListEntry}
 use Rattle.system_tables.specs.declared.entries.Listed.{Listed}
 use Rattle.system_tables.specs.declared.entries.Listed.TheVariants as listed
 
@@ -28,20 +28,20 @@ HasTableAt address chunks k = (table : PlainTable) × IsTableAt address chunks k
 
 -- ---- entries
 
-abbrev pub conflict_entry : Schema → Conflict → Entry
+abbrev pub conflict_entry : Schema → Conflict → ListEntry
 conflict_entry schema conflict = record { key = key_bytes conflict.key; row = conflict_row schema conflict }
 
-abbrev pub violation_entry : Schema → Violation → Entry
+abbrev pub violation_entry : Schema → Violation → ListEntry
 violation_entry schema violation = record { key = violation.kind ∷ (key_cell (cell.Text violation.constraint) ++ key_bytes violation.key); row = violation_row violation }
 
 -- the entries of one of a table's lists
-abbrev pub entries_of : Listed → PlainTable → List Entry
+abbrev pub entries_of : Listed → PlainTable → List ListEntry
 entries_of listed.Conflicts table = map (conflict_entry table.schema) table.conflicts
 entries_of listed.Violations table = map (violation_entry table.schema) table.violations
 
 -- their rows
-abbrev pub rows_of : List Entry → List Cells
-rows_of entries = map (λ (entry : Entry). entry.row) entries
+abbrev pub rows_of : List ListEntry → List Cells
+rows_of entries = map (λ (entry : ListEntry). entry.row) entries
 
 -- ---- the tables that show them
 
@@ -87,7 +87,7 @@ columns_of listed.Conflicts schema = plain.conflict_columns schema
 columns_of listed.Violations schema = plain.violation_columns schema
 
 -- such a table, with these entries
-abbrev pub known_list : Listed → List ℕ → Schema → List Entry → Known
+abbrev pub known_list : Listed → List ℕ → Schema → List ListEntry → Known
 known_list which name schema entries = record { name = front_of which ++ name; columns = columns_of which schema; rows = rows_of entries }
 
 abbrev pub count_columns : List ℕ → List NamedType

@@ -7,7 +7,7 @@ use Rattle.plain_sessions.specs.Sessions.{Transaction}
 use Rattle.plain_sessions.specs.SystemTables.{branch_row, committed, hash, parent_rows}
 use Rattle.schema_model.specs.PlainCommits.{Commits, is_known}
 use Rattle.session_laws.specs.Transactions.{head_seen}
-use Rattle.table_root.specs.declared.heads.Head.{Head}
+use Rattle.table_root.specs.declared.heads.BranchHead.{BranchHead}
 use Rattle.tuple_codec.specs.Rows.{Cells}
 use Rattle.tuple_codec.specs.declared.addresses.Address.{Address}
 
@@ -33,11 +33,11 @@ commit_rows commits ks = map (commit_row commits) ks
 abbrev pub all_parent_rows : Commits → List (List ℕ) → List Cells
 all_parent_rows commits ks = flat_map (parent_rows commits) ks
 
-abbrev pub heads_of : List Head → List (List ℕ)
-heads_of heads = map (λ (head : Head). head.head.0) heads
+abbrev pub heads_of : List BranchHead → List (List ℕ)
+heads_of heads = map (λ (head : BranchHead). head.head.0) heads
 
-abbrev pub branch_rows : Commits → List Head → List Cells
-branch_rows commits heads = map (λ (head : Head). branch_row commits (head_seen head)) heads
+abbrev pub branch_rows : Commits → List BranchHead → List Cells
+branch_rows commits heads = map (λ (head : BranchHead). branch_row commits (head_seen head)) heads
 
 -- the commits of a transaction stand, and so does its head among them
 pub record IsAtHead (address : List ℕ → List ℕ) (chunks : Chunks) (k : List ℕ) (t : Transaction) : Type 0 where
@@ -49,10 +49,10 @@ abbrev pub IsSomeHead : (List ℕ → List ℕ) → Chunks → List ℕ → Type
 IsSomeHead address chunks k = (t : Transaction) × IsAtHead address chunks k t
 
 -- these are the heads of a transaction's branches at its start, and commits that stand
-pub record AreHeadsOf (address : List ℕ → List ℕ) (chunks : Chunks) (heads : List Head) (t : Transaction) : Type 0 where
+pub record AreHeadsOf (address : List ℕ → List ℕ) (chunks : Chunks) (heads : List BranchHead) (t : Transaction) : Type 0 where
   pub stand : CommitsStand address chunks t.commits
   pub are : map head_seen heads ≡ t.heads
   pub known : list_all (λ head. is_known t.commits head.commit) t.heads ≡ true
 
-abbrev pub AreSomeHeads : (List ℕ → List ℕ) → Chunks → List Head → Type 0
+abbrev pub AreSomeHeads : (List ℕ → List ℕ) → Chunks → List BranchHead → Type 0
 AreSomeHeads address chunks heads = (t : Transaction) × AreHeadsOf address chunks heads t

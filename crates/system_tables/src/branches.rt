@@ -14,7 +14,7 @@ use crate::commits::push_committed;
 use chunk_store::Draft;
 use plain_sql::{Known, NamedType};
 use std::alloc::{AllocError, Global};
-use table_root::Head;
+use table_root::BranchHead;
 use tuple_codec::{Digester, Row, Sequence, Text, Value};
 
 fn branch_columns(alloc: Global) -> Result<Sequence<NamedType>, AllocError>
@@ -39,7 +39,7 @@ fn branches_of(alloc: Global, rows: Sequence<Row>) -> Result<Known, AllocError>
     })
 }
 
-fn branch_name(alloc: Global, head: &Head) -> Result<Value, AllocError>
+fn branch_name(alloc: Global, head: &BranchHead) -> Result<Value, AllocError>
     ensures { IfOk result (λ value. value ≡ cell.Text head.now.branch) }
 {
     Ok(Value::Text(Text::from_slice(alloc, head.branch.bytes())?))
@@ -49,7 +49,7 @@ fn branch_name(alloc: Global, head: &Head) -> Result<Value, AllocError>
 fn push_branch<D: Digester>(
     alloc: Global,
     draft: &Draft<D>,
-    head: &Head,
+    head: &BranchHead,
     rows: &mut Sequence<Row>,
 ) -> Result<(), AllocError>
     requires { AreSomeKnown D.address (chunks_of draft.now.chunks) (head.now.head.0 ∷ []) }
@@ -67,7 +67,7 @@ fn push_branch<D: Digester>(
 fn branch_rows<D: Digester>(
     alloc: Global,
     draft: &Draft<D>,
-    heads: &[Head],
+    heads: &[BranchHead],
 ) -> Result<Sequence<Row>, AllocError>
     requires { AreSomeKnown D.address (chunks_of draft.now.chunks) (heads_of heads.now) }
     ensures { (commits : Commits) → AreKnown D.address (chunks_of draft.now.chunks) commits (heads_of heads.now)
@@ -84,7 +84,7 @@ fn branch_rows<D: Digester>(
 pub(crate) fn branches<D: Digester>(
     alloc: Global,
     draft: &Draft<D>,
-    heads: &[Head],
+    heads: &[BranchHead],
 ) -> Result<Known, AllocError>
     requires { AreSomeHeads D.address (chunks_of draft.now.chunks) heads.now }
     ensures { (t : Transaction) → AreHeadsOf D.address (chunks_of draft.now.chunks) heads.now t → IfOk result (λ known. known ≡ plain.branches t) }

@@ -20,7 +20,7 @@ use commit_graph::{law_of_commits, law_of_standing_commits, read_commit};
 use plain_sql::{Known, NamedType};
 use schema_model::law_of_sameness;
 use std::alloc::{AllocError, Global};
-use table_root::{NamedTable, law_of_databases, law_of_tables, read_database};
+use table_root::{TableEntry, law_of_databases, law_of_tables, read_database};
 use tuple_codec::{Address, Digester, Row, Sequence, Text, Value};
 
 fn status_columns(alloc: Global) -> Result<Sequence<NamedType>, AllocError>
@@ -44,7 +44,7 @@ fn status_of(alloc: Global, rows: Sequence<Row>) -> Result<Known, AllocError>
 }
 
 /// The address of the table of a name. There are few tables, so the calls don't go deep.
-fn address_in(name: &[u8], tables: &[NamedTable]) -> Option<Address>
+fn address_in(name: &[u8], tables: &[TableEntry]) -> Option<Address>
     ensures { result ≡ address_in name.now tables.now }
 {
     match tables {
@@ -99,8 +99,8 @@ fn status_row(alloc: Global, name: &Text, staged: bool, change: Text) -> Result<
 fn push_changed(
     alloc: Global,
     staged: bool,
-    old: &[NamedTable],
-    new: &[NamedTable],
+    old: &[TableEntry],
+    new: &[TableEntry],
     name: &Text,
     rows: &mut Sequence<Row>,
 ) -> Result<(), AllocError>
@@ -117,9 +117,9 @@ fn push_changed(
 /// Adds the rows for the tables of a name.
 fn push_both(
     alloc: Global,
-    head: &[NamedTable],
-    staged: &[NamedTable],
-    working: &[NamedTable],
+    head: &[TableEntry],
+    staged: &[TableEntry],
+    working: &[TableEntry],
     name: &Text,
     rows: &mut Sequence<Row>,
 ) -> Result<(), AllocError>
@@ -131,9 +131,9 @@ fn push_both(
 
 fn changed_rows(
     alloc: Global,
-    head: &[NamedTable],
-    staged: &[NamedTable],
-    working: &[NamedTable],
+    head: &[TableEntry],
+    staged: &[TableEntry],
+    working: &[TableEntry],
     names: &[Text],
 ) -> Result<Sequence<Row>, AllocError>
     ensures { IfOk result (λ rows. rows ≡ all_changed_rows head.now staged.now working.now names.now) }
@@ -182,7 +182,7 @@ pub(crate) fn tables_of<D: Digester>(
     alloc: Global,
     draft: &Draft<D>,
     database: &Address,
-) -> Result<Vec<NamedTable>, AllocError>
+) -> Result<Vec<TableEntry>, AllocError>
     requires { HasKeptAt D.address (chunks_of draft.now.chunks) database.now.0 }
     ensures { (contents : PlainDatabase) → IsKeptAt D.address (chunks_of draft.now.chunks) database.now.0 contents
         → IfOk result (λ tables. tables.items ≡ named_tables D.address contents) }
@@ -218,9 +218,9 @@ fn status_rows<D: Digester>(
 
 fn rows_between(
     alloc: Global,
-    head: &[NamedTable],
-    staged: &[NamedTable],
-    working: &[NamedTable],
+    head: &[TableEntry],
+    staged: &[TableEntry],
+    working: &[TableEntry],
 ) -> Result<Sequence<Row>, AllocError>
     ensures { IfOk result (λ rows. rows ≡ all_changed_rows head.now staged.now working.now
         (all_keys order (names_in head.now) (names_in staged.now) (names_in working.now))) }

@@ -14,12 +14,12 @@ ghost use Rattle.system_tables.specs.Entries.{AreConflictsOf, HasConflict, HasCo
 ghost use Rattle.system_tables.specs.declared.entries.Listed.TheVariants as listed;
 
 use crate::cells::{copy_bytes, push_cells};
-use crate::entries::Entry;
+use crate::entries::ListEntry;
 use chunk_store::Draft;
 use conflict_tables::{ConflictEntry, conflicts};
 use schema_model::{Column, Schema};
 use std::alloc::{AllocError, Global};
-use table_root::Table;
+use table_root::StoredTable;
 use table_rows::row_of;
 use tuple_codec::{Blob, Digester, Row, Sequence, Text, Value, same_cells_are_one};
 
@@ -115,13 +115,13 @@ fn conflict_entry(
     alloc: Global,
     schema: &Schema,
     entry: &ConflictEntry,
-) -> Result<Entry, AllocError>
+) -> Result<ListEntry, AllocError>
     requires schema { is_schema schema.now ≡ true }
     requires entry { HasConflict schema.now entry.now }
     ensures { (conflict : Conflict) → IsConflictOf schema.now entry.now conflict → IfOk result (λ made. made ≡ conflict_entry schema.now conflict) }
 {
     let row = conflict_row(alloc, schema, entry)?;
-    Ok(Entry {
+    Ok(ListEntry {
         key: copy_bytes(alloc, entry.key.as_slice())?,
         row,
     })
@@ -131,7 +131,7 @@ fn entries_of(
     alloc: Global,
     schema: &Schema,
     list: &[ConflictEntry],
-) -> Result<Sequence<Entry>, AllocError>
+) -> Result<Sequence<ListEntry>, AllocError>
     requires schema { is_schema schema.now ≡ true }
     requires list { HasConflicts schema.now list.now }
     ensures { (conflicts : List Conflict) → AreConflictsOf schema.now list.now conflicts
@@ -149,8 +149,8 @@ fn entries_of(
 pub(crate) fn conflict_entries<D: Digester>(
     alloc: Global,
     draft: &Draft<D>,
-    table: &Table,
-) -> Result<Sequence<Entry>, AllocError>
+    table: &StoredTable,
+) -> Result<Sequence<ListEntry>, AllocError>
     requires { IsSomeTable D.address (chunks_of draft.now.chunks) table.now }
     ensures { (contents : PlainTable) → IsTableOf D.address (chunks_of draft.now.chunks) table.now contents
         → IfOk result (λ entries. entries ≡ entries_of listed.Conflicts contents) }

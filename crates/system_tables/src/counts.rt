@@ -2,9 +2,8 @@
 
 ghost use Rattle.std.specs.Prelude.{◌≡◌, ◌++◌, ◌<◌, ◌^◌, IfOk, OnOk};
 ghost use Rattle.chunk_store.specs.Drafts.{chunks_of};
-ghost use Rattle.constraint_scan.specs.Scanning.{AreThere};
 ghost use Rattle.schema_model.specs.PlainTables.{PlainDatabase, PlainTable};
-ghost use Rattle.table_root.specs.Standing.{IsTableAt};
+ghost use Rattle.table_root.specs.Standing.{AreThere, IsTableAt};
 ghost use Rattle.system_tables.specs.Entries.{HasTableAt, count_columns, count_in, counted_row, counted_rows, counts_of, counts_shown};
 
 use crate::cells::{number_column, text_column};
@@ -14,7 +13,7 @@ use chunk_store::Draft;
 use plain_sql::{Known, NamedType};
 use prolly_tree::count;
 use std::alloc::{AllocError, Global};
-use table_root::NamedTable;
+use table_root::TableEntry;
 use tuple_codec::{Address, Digester, Row, Sequence, Text, Value};
 
 /// How many entries such a list of the table at an address has. No entry is read.
@@ -60,7 +59,7 @@ fn push_counts<D: Digester>(
     alloc: Global,
     draft: &Draft<D>,
     which: Listed,
-    tables: &[NamedTable],
+    tables: &[TableEntry],
     rows: &mut Sequence<Row>,
 ) -> Result<(), AllocError>
     requires { (database : PlainDatabase) × AreThere D.address (chunks_of draft.now.chunks) database tables.now }
@@ -104,7 +103,7 @@ pub(crate) fn counts_shown<D: Digester>(
     alloc: Global,
     draft: &Draft<D>,
     which: Listed,
-    tables: &[NamedTable],
+    tables: &[TableEntry],
 ) -> Result<Known, AllocError>
     requires { (database : PlainDatabase) × AreThere D.address (chunks_of draft.now.chunks) database tables.now }
     ensures { (database : PlainDatabase) → AreThere D.address (chunks_of draft.now.chunks) database tables.now

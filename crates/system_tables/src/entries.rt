@@ -15,14 +15,17 @@ pub enum Listed {
 
 /// An entry of one of a table's lists.
 #[derive(Debug, Drop)]
-pub struct Entry {
+pub struct ListEntry {
     /// The key of its item in the list's tree.
     pub key: Blob,
     /// The row that shows it.
     pub row: Row,
 }
 
-pub(crate) fn rows_of(alloc: Global, entries: Sequence<Entry>) -> Result<Sequence<Row>, AllocError>
+pub(crate) fn rows_of(
+    alloc: Global,
+    entries: Sequence<ListEntry>,
+) -> Result<Sequence<Row>, AllocError>
     ensures { IfOk result (λ rows. rows ≡ rows_of entries) }
 {
     let mut rows = Sequence::new(alloc);

@@ -3,12 +3,11 @@
 ghost use Rattle.std.specs.Prelude.{◌≡◌, ◌++◌, ◌∷◌, [], OnOk, Some, map};
 ghost use Rattle.std.specs.List.{list_any};
 ghost use Rattle.chunk_store.specs.Drafts.{chunks_of};
-ghost use Rattle.constraint_scan.specs.Scanning.{AreThere};
 ghost use Rattle.plain_sessions.specs.Sessions as plain;
 ghost use Rattle.plain_sessions.specs.Sessions.{Transaction};
 ghost use Rattle.schema_model.specs.PlainTables.{PlainDatabase, PlainTable};
 ghost use Rattle.session_state.specs.Standing.{IsInTransaction, SessionStands};
-ghost use Rattle.table_root.specs.Standing.{IsTableAt};
+ghost use Rattle.table_root.specs.Standing.{AreThere, IsTableAt};
 ghost use Rattle.system_tables.specs.Entries.{HasTableAt, counts_name, counts_shown, list_shown};
 ghost use Rattle.system_tables.specs.Known.{as_named, entry_tables, entry_tables_of, named_read};
 ghost use Rattle.system_tables.specs.Naming.{is_entry_name, reads_entries};
@@ -23,7 +22,7 @@ use session_state::Session;
 use sql_ast::FromClause;
 use sql_select::NamedAnswer;
 use std::alloc::{AllocError, Global};
-use table_root::NamedTable;
+use table_root::TableEntry;
 use tuple_codec::{Digester, Sequence};
 
 /// The names of tables of conflicts and of violations begin so, and no stored table's does.
@@ -63,7 +62,7 @@ fn push_counts<D: Digester>(
     alloc: Global,
     draft: &Draft<D>,
     which: Listed,
-    tables: &[NamedTable],
+    tables: &[TableEntry],
     from: &FromClause,
     sources: &mut Sequence<NamedAnswer>,
 ) -> Result<(), AllocError>
@@ -82,7 +81,7 @@ fn push_list<D: Digester>(
     alloc: Global,
     draft: &Draft<D>,
     which: Listed,
-    named: &NamedTable,
+    named: &TableEntry,
     from: &FromClause,
     sources: &mut Sequence<NamedAnswer>,
 ) -> Result<(), AllocError>
@@ -102,7 +101,7 @@ fn push_shown<D: Digester>(
     alloc: Global,
     draft: &Draft<D>,
     which: Listed,
-    named: &NamedTable,
+    named: &TableEntry,
     sources: &mut Sequence<NamedAnswer>,
 ) -> Result<(), AllocError>
     requires { HasTableAt D.address (chunks_of draft.now.chunks) named.now.table.0 }
@@ -118,7 +117,7 @@ fn push_lists<D: Digester>(
     alloc: Global,
     draft: &Draft<D>,
     which: Listed,
-    tables: &[NamedTable],
+    tables: &[TableEntry],
     from: &FromClause,
     sources: &mut Sequence<NamedAnswer>,
 ) -> Result<(), AllocError>
@@ -136,7 +135,7 @@ fn push_lists<D: Digester>(
 fn push_all<D: Digester>(
     alloc: Global,
     draft: &Draft<D>,
-    tables: &[NamedTable],
+    tables: &[TableEntry],
     from: &FromClause,
     sources: &mut Sequence<NamedAnswer>,
 ) -> Result<(), AllocError>

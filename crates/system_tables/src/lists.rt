@@ -10,13 +10,13 @@ ghost use Rattle.system_tables.specs.Entries.{HasTableAt, columns_of, entries_of
 
 use crate::cells::text_column;
 use crate::conflicts::conflict_entries;
-use crate::entries::{Entry, Listed, rows_of};
+use crate::entries::{ListEntry, Listed, rows_of};
 use crate::violations::violation_entries;
 use chunk_store::Draft;
 use plain_sql::{Known, NamedType};
 use schema_model::{Column, Schema};
 use std::alloc::{AllocError, Global};
-use table_root::{NamedTable, Table, law_of_tables, read_table};
+use table_root::{StoredTable, TableEntry, law_of_tables, read_table};
 use tuple_codec::{Address, Digester, Sequence, Text};
 
 /// The table at an address.
@@ -24,7 +24,7 @@ pub(crate) fn table_of<D: Digester>(
     alloc: Global,
     draft: &Draft<D>,
     address: &Address,
-) -> Result<Table, AllocError>
+) -> Result<StoredTable, AllocError>
     requires { HasTableAt D.address (chunks_of draft.now.chunks) address.now.0 }
     ensures { (contents : PlainTable) → IsTableAt D.address (chunks_of draft.now.chunks) address.now.0 contents
         → IfOk result (λ table. IsTableOf D.address (chunks_of draft.now.chunks) table contents) }
@@ -39,8 +39,8 @@ pub fn entries_of<D: Digester>(
     alloc: Global,
     draft: &Draft<D>,
     which: Listed,
-    table: &Table,
-) -> Result<Sequence<Entry>, AllocError>
+    table: &StoredTable,
+) -> Result<Sequence<ListEntry>, AllocError>
     requires { IsSomeTable D.address (chunks_of draft.now.chunks) table.now }
     ensures { (contents : PlainTable) → IsTableOf D.address (chunks_of draft.now.chunks) table.now contents
         → IfOk result (λ entries. entries ≡ entries_of which contents) }
@@ -136,7 +136,7 @@ pub(crate) fn list_shown<D: Digester>(
     alloc: Global,
     draft: &Draft<D>,
     which: Listed,
-    named: &NamedTable,
+    named: &TableEntry,
 ) -> Result<Known, AllocError>
     requires { HasTableAt D.address (chunks_of draft.now.chunks) named.now.table.0 }
     ensures { (table : PlainTable) → IsTableAt D.address (chunks_of draft.now.chunks) named.now.table.0 table
@@ -152,7 +152,7 @@ fn known_list(
     which: Listed,
     name: &Text,
     schema: &Schema,
-    entries: Sequence<Entry>,
+    entries: Sequence<ListEntry>,
 ) -> Result<Known, AllocError>
     ensures { IfOk result (λ known. known ≡ known_list which name.now schema.now entries) }
 {

@@ -7,10 +7,10 @@ ghost use Rattle.system_tables.specs.Changes.{names_in};
 
 use std::alloc::{AllocError, Global};
 use std::cmp::Ordering;
-use table_root::NamedTable;
+use table_root::TableEntry;
 use tuple_codec::Text;
 
-fn copies(alloc: Global, tables: &[NamedTable]) -> Result<Vec<Text>, AllocError>
+fn copies(alloc: Global, tables: &[TableEntry]) -> Result<Vec<Text>, AllocError>
     ensures { IfOk result (λ names. names.items ≡ names_in tables.now) }
 {
     let mut names = Vec::new(alloc);
@@ -80,9 +80,9 @@ fn names_with(alloc: Global, names: &[Text], others: &[Text]) -> Result<Vec<Text
 /// The names of three databases, in order and each once.
 pub(crate) fn all_names(
     alloc: Global,
-    base: &[NamedTable],
-    ours: &[NamedTable],
-    theirs: &[NamedTable],
+    base: &[TableEntry],
+    ours: &[TableEntry],
+    theirs: &[TableEntry],
 ) -> Result<Vec<Text>, AllocError>
     ensures { IfOk result (λ names. names.items ≡ all_keys order (names_in base.now) (names_in ours.now) (names_in theirs.now)) }
 {

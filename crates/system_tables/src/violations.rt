@@ -15,12 +15,12 @@ ghost use Rattle.system_tables.specs.Entries.{HasListed, HasListedKey, IsListed,
 ghost use Rattle.system_tables.specs.declared.entries.Listed.TheVariants as listed;
 
 use crate::cells::{copy_bytes, push_cells};
-use crate::entries::Entry;
+use crate::entries::ListEntry;
 use chunk_store::Draft;
 use prolly_tree::scan_from;
 use schema_model::Schema;
 use std::alloc::{AllocError, Global};
-use table_root::Table;
+use table_root::StoredTable;
 use table_rows::row_of;
 use tuple_codec::{
     Digester, Row, Sequence, SqlType, Text, Value, cell_at, decode_key, key_cell_size,
@@ -111,7 +111,7 @@ fn violation_entry(
     types: &[SqlType],
     key: &[u8],
     value: &[u8],
-) -> Result<Entry, AllocError>
+) -> Result<ListEntry, AllocError>
     requires schema { is_schema schema.now ≡ true }
     requires types { types.now ≡ listed_types schema.now }
     requires listed { HasListed schema.now key.now value.now }
@@ -120,7 +120,7 @@ fn violation_entry(
     match key {
         [kind, rest @ ..] => {
             let row = violation_row(alloc, schema, types, *kind, rest, value)?;
-            Ok(Entry {
+            Ok(ListEntry {
                 key: copy_bytes(alloc, key)?,
                 row,
             })
@@ -133,8 +133,8 @@ fn violation_entry(
 pub(crate) fn violation_entries<D: Digester>(
     alloc: Global,
     draft: &Draft<D>,
-    table: &Table,
-) -> Result<Sequence<Entry>, AllocError>
+    table: &StoredTable,
+) -> Result<Sequence<ListEntry>, AllocError>
     requires { IsSomeTable D.address (chunks_of draft.now.chunks) table.now }
     ensures { (contents : PlainTable) → IsTableOf D.address (chunks_of draft.now.chunks) table.now contents
         → IfOk result (λ entries. entries ≡ entries_of listed.Violations contents) }

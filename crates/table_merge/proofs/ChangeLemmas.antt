@@ -7,7 +7,7 @@ use Rattle.basic_laws.proofs.Options.{some_is, none_mapped as nothing}
 use Rattle.tuple_codec.specs.Edits.{EditsRiseAfter, edited, putting, value_at}
 use Rattle.tuple_codec.specs.Nodes.{Item, Rise, leaf_item}
 use Rattle.tuple_codec.specs.Trees.{IsRow}
-use Rattle.tuple_codec.specs.declared.edits.Change.{Change}
+use Rattle.tuple_codec.specs.declared.edits.ItemChange.{ItemChange}
 use Rattle.edit_laws.specs.ByKey.{AreLeafRows, as_edits, between, change_at, edit_at, over}
 use Rattle.edit_laws.proofs.Rising.{edited_all, edited_rise}
 use Rattle.edit_laws.proofs.Values.{edited_value, edits_above, same_rows}
@@ -22,7 +22,7 @@ pair old new = (old, new)
 
 -- ---- the edits
 
-edit_there : (target : List Item) (key : List ℕ) (changes : List Change) → edit_at key (edits_to target changes) ≡ option_map (λ (both : Both). value_at key target) (change_at key changes)
+edit_there : (target : List Item) (key : List ℕ) (changes : List ItemChange) → edit_at key (edits_to target changes) ≡ option_map (λ (both : Both). value_at key target) (change_at key changes)
 edit_there target key [] = refl
 edit_there target key (change ∷ changes) = by (bytes_eq change.key key) refl (edit_there target key changes) where
   by : (b : Bool) → bytes_eq change.key key ≡ b → edit_at key (edits_to target changes) ≡ option_map (λ (both : Both). value_at key target) (change_at key changes)
@@ -31,12 +31,12 @@ edit_there target key (change ∷ changes) = by (bytes_eq change.key key) refl (
   by true e more = ap (λ (k : List ℕ). Some (value_at k target)) (eq_key change.key key e)
   by false e more = more
 
-pub edits_up : (target : List Item) (changes : List Change) (before : Option (List ℕ)) → EditsRiseAfter before (as_edits changes) → EditsRiseAfter before (edits_to target changes)
+pub edits_up : (target : List Item) (changes : List ItemChange) (before : Option (List ℕ)) → EditsRiseAfter before (as_edits changes) → EditsRiseAfter before (edits_to target changes)
 edits_up target [] before rise = tt
 edits_up target (change ∷ changes) before rise = (rise.0, edits_up target changes (Some change.key) rise.1)
 
 -- where the lists differ at the changes' keys alone, the edits make the one of the other
-pub made : (rows target : List Item) (changes : List Change) → Rise rows → Rise target → AreLeafRows rows → AreLeafRows target → EditsRiseAfter None (as_edits changes)
+pub made : (rows target : List Item) (changes : List ItemChange) → Rise rows → Rise target → AreLeafRows rows → AreLeafRows target → EditsRiseAfter None (as_edits changes)
     → ((key : List ℕ) → change_at key changes ≡ None → value_at key rows ≡ value_at key target) → edited rows (edits_to target changes) ≡ target
 made rows target changes one two leaves others up same =
     let edits = edits_to target changes in
@@ -57,7 +57,7 @@ put_row (row ∷ rows) key h = by (bytes_eq row.key key) refl h.0 (put_row rows 
   by true e is more = (subst (λ (k : List ℕ). IsRow (leaf_item k row.body)) (eq_key row.key key e) (record { key = is.key; size = is.size; one = refl }), tt)
   by false e is more = more
 
-pub puts_rows : (rows : List Item) (changes : List Change) → AllByRecursion IsRow rows → AllByRecursion PutsRow (edits_to rows changes)
+pub puts_rows : (rows : List Item) (changes : List ItemChange) → AllByRecursion IsRow rows → AllByRecursion PutsRow (edits_to rows changes)
 puts_rows rows [] h = tt
 puts_rows rows (change ∷ changes) h = (put_row rows change.key h, puts_rows rows changes h)
 
@@ -67,7 +67,7 @@ leaves_of (row ∷ rows) h = (let is = h.0 in is.one, leaves_of rows h.1)
 
 -- ---- changes
 
-edit_of_change : (key : List ℕ) (changes : List Change) → edit_at key (as_edits changes) ≡ option_map (λ (both : Both). both.1) (change_at key changes)
+edit_of_change : (key : List ℕ) (changes : List ItemChange) → edit_at key (as_edits changes) ≡ option_map (λ (both : Both). both.1) (change_at key changes)
 edit_of_change key [] = refl
 edit_of_change key (change ∷ changes) = by (bytes_eq change.key key) (edit_of_change key changes) where
   by : (b : Bool) → edit_at key (as_edits changes) ≡ option_map (λ (both : Both). both.1) (change_at key changes)
@@ -75,18 +75,18 @@ edit_of_change key (change ∷ changes) = by (bytes_eq change.key key) (edit_of_
   by true more = refl
   by false more = more
 
-changes_above : (key : List ℕ) (changes : List Change) → EditsRiseAfter (Some key) (as_edits changes) → change_at key changes ≡ None
+changes_above : (key : List ℕ) (changes : List ItemChange) → EditsRiseAfter (Some key) (as_edits changes) → change_at key changes ≡ None
 changes_above key changes rise = nothing (λ (both : Both). both.1) (change_at key changes) (sym (edit_of_change key changes) ∙ edits_above key (as_edits changes) rise)
 
 -- what holds of each change that is found holds of all
-pub all_found : (P : Change → Type 0) (changes : List Change) (before : Option (List ℕ)) → EditsRiseAfter before (as_edits changes)
-    → ((change : Change) → change_at change.key changes ≡ Some (change.old, change.new) → P change) → AllByRecursion P changes
+pub all_found : (P : ItemChange → Type 0) (changes : List ItemChange) (before : Option (List ℕ)) → EditsRiseAfter before (as_edits changes)
+    → ((change : ItemChange) → change_at change.key changes ≡ Some (change.old, change.new) → P change) → AllByRecursion P changes
 all_found P [] before rise h = tt
 all_found P (first ∷ changes) before rise h = (
   h first (ap (λ (b : Bool). if b then Some (first.old, first.new) else change_at first.key changes) (itself first.key)),
   all_found P changes (Some first.key) rise.1 (λ change e. h change (later change (bytes_eq first.key change.key) refl e)),
 ) where
-  later : (change : Change) (b : Bool) → bytes_eq first.key change.key ≡ b → change_at change.key changes ≡ Some (change.old, change.new)
+  later : (change : ItemChange) (b : Bool) → bytes_eq first.key change.key ≡ b → change_at change.key changes ≡ Some (change.old, change.new)
       → (if b then Some (first.old, first.new) else change_at change.key changes) ≡ Some (change.old, change.new)
   later change false e f = f
   later change true e f =
@@ -94,7 +94,7 @@ all_found P (first ∷ changes) before rise h = (
       absurd (cc)
 
 -- what holds of all holds of each key that is found
-pub found_all : (P : List ℕ → Type 0) (changes : List Change) → AllByRecursion (λ change. P change.key) changes → (key : List ℕ) (both : Both) → change_at key changes ≡ Some both → P key
+pub found_all : (P : List ℕ → Type 0) (changes : List ItemChange) → AllByRecursion (λ change. P change.key) changes → (key : List ℕ) (both : Both) → change_at key changes ≡ Some both → P key
 found_all P [] h key both e = absurd (cc)
 found_all P (change ∷ changes) h key both e = by (bytes_eq change.key key) refl e (found_all P changes h.1 key both) where
   by : (b : Bool) → bytes_eq change.key key ≡ b → (if b then Some (change.old, change.new) else change_at key changes) ≡ Some both → (change_at key changes ≡ Some both → P key) → P key

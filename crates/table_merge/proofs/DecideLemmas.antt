@@ -10,8 +10,8 @@ use Rattle.tuple_codec.specs.KeyBytes.{key_bytes}
 use Rattle.tuple_codec.specs.Nodes.{Item, leaf_item}
 use Rattle.tuple_codec.specs.RowRule.{row3}
 use Rattle.tuple_codec.specs.Rows.{Cells, fits_all}
-use Rattle.tuple_codec.specs.declared.edits.Change.{Change}
 use Rattle.tuple_codec.specs.declared.edits.Edit.{Edit}
+use Rattle.tuple_codec.specs.declared.edits.ItemChange.{ItemChange}
 use Rattle.schema_model.specs.PlainTables.{body_bytes, conflict_items, is_row, key_types, row_item, row_items}
 use Rattle.schema_model.specs.declared.schemas.Schema.{Schema}
 use Rattle.node_format.specs.Views.{leaf_of}
@@ -21,7 +21,7 @@ use Rattle.plain_merge.specs.TableMerge.{Three, conflict_if, row_at, table_of}
 use Rattle.table_rows.specs.Rows.{IsRowOf}
 use Rattle.table_merge.specs.Rising.{IsAt}
 use Rattle.table_merge.specs.Skipping.{AreDecided, AreShortAt, AreThreeKept, CanDecide, CanDecideAll, DecidesAt, IsChangeOf, IsKeyOf, IsShortAt, IsValueOf, edit_to, edits_to}
-use Rattle.table_merge.specs.Walking.{Decides, is_row_perhaps, sides_of}
+use Rattle.table_merge.specs.Walking.{DecidesRow, is_row_perhaps, sides_of}
 use Rattle.table_merge.specs.declared.changing.Merged.{Merged}
 use Rattle.table_merge.specs.declared.deciding.Decided.{Decided}
 use Rattle.table_merge.specs.declared.faults.Stop.{Stop}
@@ -72,7 +72,7 @@ module _ (s : Schema) (rows : List Cells) (cells : Cells) where
 
 -- ---- a change
 
-module _ (s : Schema) (three : Three) (kept_all : AreThreeKept s three) (change : Change) (is : IsChangeOf s three change) where
+module _ (s : Schema) (three : Three) (kept_all : AreThreeKept s three) (change : ItemChange) (is : IsChangeOf s three change) where
   value_at_key : (rows : List Cells) → list_all (is_row s) rows ≡ true → (value : Option (List ℕ)) → value ≡ value_at change.key (map (row_item s) rows) → IsValueOf s rows is.cells value
   value_at_key rows fit value e =
       let key = is.key in
@@ -107,16 +107,16 @@ module _ (s : Schema) (three : Three) (kept_all : AreThreeKept s three) (change 
       ∙ perhaps s is.cells _ (row_after_is s three (three_kept s three kept_all) is.cells)
 
   pub decided_is : (result : Result Decided Stop) (key : Cells) (b o t : Option Cells) → key ≡ is.cells → b ≡ row_at s is.cells three.base → o ≡ row_at s is.cells three.ours → t ≡ row_at s is.cells three.theirs
-      → Decides result s (kept o (row3 b o t)) (conflict_if (sides_of key b o t) (row3 b o t)) → DecidesAt result s three change.key
+      → DecidesRow result s (kept o (row3 b o t)) (conflict_if (sides_of key b o t) (row3 b o t)) → DecidesAt result s three change.key
   decided_is result key b o t k e f g d =
       let cells = is.cells in
       let rb = row_at s cells three.base in
       let ro = row_at s cells three.ours in
       decides_at s three kept_all change.key cells is.key result
-      (subst (λ (x : Option Cells). Decides result s (kept ro (row3 rb ro x)) (conflict_if (sides_of cells rb ro x) (row3 rb ro x))) g
-      (subst (λ (x : Option Cells). Decides result s (kept x (row3 rb x t)) (conflict_if (sides_of cells rb x t) (row3 rb x t))) f
-      (subst (λ (x : Option Cells). Decides result s (kept o (row3 x o t)) (conflict_if (sides_of cells x o t) (row3 x o t))) e
-      (subst (λ (x : Cells). Decides result s (kept o (row3 b o t)) (conflict_if (sides_of x b o t) (row3 b o t))) k d))))
+      (subst (λ (x : Option Cells). DecidesRow result s (kept ro (row3 rb ro x)) (conflict_if (sides_of cells rb ro x) (row3 rb ro x))) g
+      (subst (λ (x : Option Cells). DecidesRow result s (kept x (row3 rb x t)) (conflict_if (sides_of cells rb x t) (row3 rb x t))) f
+      (subst (λ (x : Option Cells). DecidesRow result s (kept o (row3 x o t)) (conflict_if (sides_of cells x o t) (row3 x o t))) e
+      (subst (λ (x : Cells). DecidesRow result s (kept o (row3 b o t)) (conflict_if (sides_of x b o t) (row3 b o t))) k d))))
 
 -- ---- changes one after another
 
@@ -125,18 +125,18 @@ each_at P [] h at x below is = absurd (omega (arith, below))
 each_at P (y ∷ xs) h zero x below is = subst P (sym is) h.0
 each_at P (y ∷ xs) h (suc at) x below is = each_at P xs h.1 at x (omega (arith, below)) is
 
-pub can_decide : (address : List ℕ → List ℕ) (chunks : Chunks) (ours : List ℕ) (s : Schema) (three : Three) (changes : List Change) → CanDecideAll address chunks ours s three changes
-    → (at : ℕ) (change : Change) → at < length changes → change ≡ get_or changes at change → CanDecide address chunks ours s three change
+pub can_decide : (address : List ℕ → List ℕ) (chunks : Chunks) (ours : List ℕ) (s : Schema) (three : Three) (changes : List ItemChange) → CanDecideAll address chunks ours s three changes
+    → (at : ℕ) (change : ItemChange) → at < length changes → change ≡ get_or changes at change → CanDecide address chunks ours s three change
 can_decide address chunks ours s three changes can at change below is =
     record { kept = can.kept; tree = can.tree; change_is = each_at (IsChangeOf s three) changes can.changes_are at change below is }
 
 -- these changes are left; the edits and the conflicts' items are made of those before them
-pub record Deciding (s : Schema) (three : Three) (left all : List Change) (edits : List Edit) (conflicts : List Item) : Type 0 where
+pub record Deciding (s : Schema) (three : Three) (left all : List ItemChange) (edits : List Edit) (conflicts : List Item) : Type 0 where
   pub edits_are : edits ++ edits_to (row_items (table_of s three)) left ≡ edits_to (row_items (table_of s three)) all
   pub conflicts_are : conflicts ++ puts (edits_to (conflict_items (table_of s three)) left) ≡ puts (edits_to (conflict_items (table_of s three)) all)
   pub short : AreShortAt s three left → AreShortAt s three all
 
-pub begun : (s : Schema) (three : Three) (all : List Change) (edits : List Edit) (conflicts : List Item) → edits ≡ [] → conflicts ≡ [] → Deciding s three all all edits conflicts
+pub begun : (s : Schema) (three : Three) (all : List ItemChange) (edits : List Edit) (conflicts : List Item) → edits ≡ [] → conflicts ≡ [] → Deciding s three all all edits conflicts
 begun s three all edits conflicts e c = record {
   edits_are = ap (λ (l : List Edit). l ++ edits_to (row_items (table_of s three)) all) e;
   conflicts_are = ap (λ (l : List Item). l ++ puts (edits_to (conflict_items (table_of s three)) all)) c;
@@ -147,7 +147,7 @@ put_first : (key : List ℕ) (value : Option (List ℕ)) (rows : List Item) → 
 put_first key None rows = refl
 put_first key (Some value) rows = refl
 
-step : (s : Schema) (three : Three) (change : Change) (left all : List Change) (edits : List Edit) (conflicts : List Item) → Deciding s three (change ∷ left) all edits conflicts
+step : (s : Schema) (three : Three) (change : ItemChange) (left all : List ItemChange) (edits : List Edit) (conflicts : List Item) → Deciding s three (change ∷ left) all edits conflicts
     → (edit : Edit) (conflict : Option Item) (more_edits : List Edit) (more_conflicts : List Item) → edit ≡ edit_to (row_items (table_of s three)) change
     → conflict ≡ option_map (leaf_item change.key) (value_at change.key (conflict_items (table_of s three))) → IsShortAt s three change.key
     → more_edits ≡ edits ++ edit ∷ [] → more_conflicts ≡ conflicts ++ option_to_list conflict → Deciding s three left all more_edits more_conflicts
@@ -162,22 +162,22 @@ step s three change left all edits conflicts d edit conflict more_edits more_con
       short = λ h. d.short (short, h);
     }
 
-pub decided_on : (s : Schema) (three : Three) (changes : List Change) (at : ℕ) (change : Change) (edits : List Edit) (conflicts : List Item) → at < length changes → change ≡ get_or changes at change
+pub decided_on : (s : Schema) (three : Three) (changes : List ItemChange) (at : ℕ) (change : ItemChange) (edits : List Edit) (conflicts : List Item) → at < length changes → change ≡ get_or changes at change
     → Deciding s three (drop at changes) changes edits conflicts → (decided : Decided) → DecidesAt (Ok decided) s three change.key
     → (edit : Edit) (conflict : Option Item) (more_edits : List Edit) (more_conflicts : List Item) → edit ≡ edit_to (row_items (table_of s three)) change
     → conflict ≡ option_map (leaf_item change.key) (value_at change.key (conflict_items (table_of s three)))
     → more_edits ≡ edits ++ edit ∷ [] → more_conflicts ≡ conflicts ++ option_to_list conflict → Deciding s three (drop (at + 1) changes) changes more_edits more_conflicts
 decided_on s three changes at change edits conflicts below is d decided h edit conflict more_edits more_conflicts e c me mc =
-    let next : drop at changes ≡ change ∷ drop (at + 1) changes = drop_more changes at change below ∙ ap (λ (x : Change). x ∷ drop (at + 1) changes) (sym is) in
-    step s three change (drop (at + 1) changes) changes edits conflicts (subst (λ (l : List Change). Deciding s three l changes edits conflicts) next d) edit conflict more_edits more_conflicts e c h.2 me mc
+    let next : drop at changes ≡ change ∷ drop (at + 1) changes = drop_more changes at change below ∙ ap (λ (x : ItemChange). x ∷ drop (at + 1) changes) (sym is) in
+    step s three change (drop (at + 1) changes) changes edits conflicts (subst (λ (l : List ItemChange). Deciding s three l changes edits conflicts) next d) edit conflict more_edits more_conflicts e c h.2 me mc
 
-pub decided_all : (s : Schema) (three : Three) (changes : List Change) (at : ℕ) (merged : Merged) (conflicts : List Item) → length changes ≤ at → conflicts ≡ map leaf_of merged.conflicts.items
+pub decided_all : (s : Schema) (three : Three) (changes : List ItemChange) (at : ℕ) (merged : Merged) (conflicts : List Item) → length changes ≤ at → conflicts ≡ map leaf_of merged.conflicts.items
     → Deciding s three (drop at changes) changes merged.edits.items conflicts → AreDecided (Ok merged) s three changes
 decided_all s three changes at merged conflicts past e d =
-    let last = subst (λ (l : List Change). Deciding s three l changes merged.edits.items conflicts) (drop_of_length-le changes past) d in
+    let last = subst (λ (l : List ItemChange). Deciding s three l changes merged.edits.items conflicts) (drop_of_length-le changes past) d in
     (sym (append-nil merged.edits.items) ∙ last.edits_are, sym e ∙ sym (append-nil conflicts) ∙ last.conflicts_are, last.short tt)
 
-pub decided_stops : (s : Schema) (three : Three) (changes : List Change) (key : List ℕ) (result : Result Merged Stop) (cause : Stop) → DecidesAt (Err cause) s three key
+pub decided_stops : (s : Schema) (three : Three) (changes : List ItemChange) (key : List ℕ) (result : Result Merged Stop) (cause : Stop) → DecidesAt (Err cause) s three key
     → IsErr result × IsErrAnd result (λ found. found ≡ cause) → AreDecided result s three changes
 decided_stops s three changes key (Ok merged) cause h e = absurd e.1
 decided_stops s three changes key (Err found) cause h e = subst (λ (one : Stop). AreDecided (Err one) s three changes) (sym e.1) (by cause h) where

@@ -8,7 +8,7 @@ use Rattle.chunk_store.specs.declared.faults.PutFault.TheVariants as put
 use Rattle.schema_model.specs.PlainTables.{PlainTable}
 use Rattle.schema_model.specs.declared.schemas.Schema.{Schema}
 use Rattle.plain_merge.specs.TableMerge.{table_of}
-use Rattle.table_root.specs.declared.records.Table.{Table}
+use Rattle.table_root.specs.declared.records.StoredTable.{StoredTable}
 use Rattle.table_merge.specs.Merging.{AreSides, IsFaultOf, IsMergeReason, PlainSides, fault_of_put, fault_of_stop, merged_contents}
 use Rattle.table_merge.specs.Steps.{AnswersSchema, AreListsWithin, wanted_schema}
 use Rattle.table_merge.specs.declared.faults.MergeFault.{MergeFault}
@@ -22,7 +22,7 @@ pub err_of : {A F : Type 0} (P : F → Type 0) (result : Result A F) (why : F) �
 err_of P (Ok value) why h p = tt
 err_of P (Err found) why h p = subst P (sym h.1) p
 
-pub schema_fault : (address : List ℕ → List ℕ) (chunks : Chunks) (base : Option Table) (ours theirs : Table) (contents : PlainSides) → AreSides address chunks base ours theirs contents
+pub schema_fault : (address : List ℕ → List ℕ) (chunks : Chunks) (base : Option StoredTable) (ours theirs : StoredTable) (contents : PlainSides) → AreSides address chunks base ours theirs contents
     → (why : MergeFault) → AnswersSchema (Err why) (wanted_schema base ours theirs) → IsFaultOf (merged_contents contents) why
 schema_fault address chunks base ours theirs contents are fault.Memory h = tt
 schema_fault address chunks base ours theirs contents are (fault.Schema table part) h = (h.0, in_conflict address chunks base ours theirs contents are part h.1)

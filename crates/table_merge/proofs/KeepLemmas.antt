@@ -15,9 +15,9 @@ use Rattle.plain_merge.specs.TableMerge.{table_of}
 use Rattle.node_format.specs.Views.{leaf_of}
 use Rattle.node_format.specs.declared.items.LeafItem.{LeafItem}
 use Rattle.table_root.specs.Standing.{IsUnindexedOf}
-use Rattle.table_root.specs.declared.records.Table.{Table}
-use Rattle.table_merge.specs.Merging.{IsMerged, PassesLimit, PlainSides, is_short_merged, keeps_limits, merged_contents}
-use Rattle.table_merge.specs.Steps.{AreFew, AreListsWithin, AreTreeRows, IsKept}
+use Rattle.table_root.specs.declared.records.StoredTable.{StoredTable}
+use Rattle.table_merge.specs.Merging.{IsMergedTable, PassesTableLimit, PlainSides, is_short_merged, keeps_limits, merged_contents}
+use Rattle.table_merge.specs.Steps.{AreFew, AreListsWithin, AreTreeRows, HasItemTrees}
 use Rattle.table_merge.specs.Walking.{AreListsOf, are_short}
 use Rattle.table_merge.specs.declared.faults.Stop.{Stop}
 use Rattle.table_merge.specs.declared.faults.Stop.TheVariants as stop
@@ -35,8 +35,8 @@ tree_rows seen own e are few =
 own_tree : (address : List ℕ → List ℕ) (chunks : Chunks) (k : List ℕ) (items : List Item) → IsTree address chunks k items → IsTree address chunks (root address items) items
 own_tree address chunks k items tree = subst (λ (at : List ℕ). IsTree address chunks at items) (sym tree.named) tree
 
-pub kept_stands : (address : List ℕ → List ℕ) (chunks : Chunks) (table : Table) (contents : PlainTable) (rows conflicts : List Item) → IsTable contents → contents.violations ≡ []
-    → rows ≡ row_items contents → conflicts ≡ conflict_items contents → IsKept address chunks table contents.schema rows conflicts → IsUnindexedOf address chunks table contents
+pub kept_stands : (address : List ℕ → List ℕ) (chunks : Chunks) (table : StoredTable) (contents : PlainTable) (rows conflicts : List Item) → IsTable contents → contents.violations ≡ []
+    → rows ≡ row_items contents → conflicts ≡ conflict_items contents → HasItemTrees address chunks table contents.schema rows conflicts → IsUnindexedOf address chunks table contents
 kept_stands address chunks table contents rows conflicts is none r c kept =
     let rows_tree = subst (IsTree address chunks table.rows.0) r kept.rows_stand in
     let conflicts_tree = subst (IsTree address chunks table.conflicts.0) c kept.conflicts_stand in
@@ -100,9 +100,9 @@ module _ (schema : Schema) (contents : PlainSides) (known : Known schema content
   rows_many : (rows : List LeafItem) → map leaf_of rows ≡ row_items merged → length rows ≡ length merged.rows
   rows_many rows e = sym (length-map rows leaf_of) ∙ ap length e ∙ length-map merged.rows (row_item schema)
 
-  pub is_merged : (address : List ℕ → List ℕ) (chunks : Chunks) (table : Table) (rows conflicts : List LeafItem)
+  pub is_merged : (address : List ℕ → List ℕ) (chunks : Chunks) (table : StoredTable) (rows conflicts : List LeafItem)
       → map leaf_of rows ≡ row_items merged → map leaf_of conflicts ≡ conflict_items merged → keeps_limits merged ≡ true
-      → IsKept address chunks table schema (map leaf_of rows) (map leaf_of conflicts) → IsMerged address chunks table (merged_contents contents)
+      → HasItemTrees address chunks table schema (map leaf_of rows) (map leaf_of conflicts) → IsMergedTable address chunks table (merged_contents contents)
   is_merged address chunks table rows conflicts r c keeps kept = record {
     contents = merged;
     is = known.is;
@@ -110,7 +110,7 @@ module _ (schema : Schema) (contents : PlainSides) (known : Known schema content
     limits = keeps;
   }
 
-  pub passes : keeps_limits merged ≡ false → PassesLimit (merged_contents contents)
+  pub passes : keeps_limits merged ≡ false → PassesTableLimit (merged_contents contents)
   passes e = record { contents = merged; is = known.is; limits = e }
 
   pub passes_schema : is_within_limits schema ≡ false → keeps_limits merged ≡ false

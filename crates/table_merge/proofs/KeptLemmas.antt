@@ -26,10 +26,10 @@ use Rattle.schema_merge.specs.Projecting.{cell_or_default, projected, projected_
 use Rattle.prolly_edit.specs.Editing.{CanEdit}
 use Rattle.plain_merge.specs.KeyByKey.{before, gathered, key_among, keys_with}
 use Rattle.plain_merge.specs.TableMerge.{Three, keys_of, row_after, rows_on, rows_on_or_none, table_of}
-use Rattle.table_root.specs.declared.records.Table.{Table}
-use Rattle.table_merge.specs.Merging.{AreKeptSides, IsFaultOf, IsMerged, IsSide, IsSidePerhaps, PassesLimit, PlainSides, fault_of_stop, is_short_merged, merged_contents}
-use Rattle.table_merge.specs.Skipping.{AreKept, AreMerged, AreThreeKept, CanSkip, HaveSchema, Merges}
-use Rattle.table_merge.specs.Steps.{AreTreeRows, IsKept, wanted_schema}
+use Rattle.table_root.specs.declared.records.StoredTable.{StoredTable}
+use Rattle.table_merge.specs.Merging.{AreKeptSides, IsFaultOf, IsMergedTable, IsSide, IsSidePerhaps, PassesTableLimit, PlainSides, fault_of_stop, is_short_merged, merged_contents}
+use Rattle.table_merge.specs.Skipping.{AreKeptRows, AreMerged, AreThreeKept, CanSkip, HaveSchema, Merges}
+use Rattle.table_merge.specs.Steps.{AreTreeRows, HasItemTrees, wanted_schema}
 use Rattle.table_merge.specs.Walking.{are_short}
 use Rattle.table_merge.specs.declared.changing.Merged.{Merged}
 use Rattle.table_merge.specs.declared.faults.Stop.{Stop}
@@ -72,7 +72,7 @@ short_rows s (row ∷ rows) h =
     let key = and_parts (is_short_key (primary_key s row)) (list_all (is_short_in row) s.indexes) body.0 in
     and_from _ _ (and_from _ _ key.0 body.1) (short_rows s rows one.1)
 
-table_kept : (contents : PlainTable) → IsTable contents → is_table_within_limits contents ≡ true → AreKept contents.schema contents.rows
+table_kept : (contents : PlainTable) → IsTable contents → is_table_within_limits contents ≡ true → AreKeptRows contents.schema contents.rows
 table_kept contents is limits =
     let s = contents.schema in
     let four = and_parts (is_within_limits s && nat_le (length contents.rows) most_rows && list_all (is_row_within_limits s) contents.rows && list_all (is_conflict_within_limits s) contents.conflicts)
@@ -83,12 +83,12 @@ table_kept contents is limits =
     record { fit = is.rows; rise = rise_of (primary_key s) contents.rows is.keys; few = one.1; short = short_rows s contents.rows two.1 }
 
 -- rows that stand on the schema, and keep the limits
-pub record StandKept (address : List ℕ → List ℕ) (chunks : Chunks) (table : Table) (schema : Schema) (rows : List Cells) : Type 0 where
-  pub kept : AreKept schema rows
+pub record StandKept (address : List ℕ → List ℕ) (chunks : Chunks) (table : StoredTable) (schema : Schema) (rows : List Cells) : Type 0 where
+  pub kept : AreKeptRows schema rows
   pub tree : IsTree address chunks table.rows.0 (map (row_item schema) rows)
 
 module _ (address : List ℕ → List ℕ) (chunks : Chunks) (schema : Schema) where
-  side_stands : (table : Table) (contents : PlainTable) → IsSide address chunks table contents → is_table_within_limits contents ≡ true → table.schema ≡ schema
+  side_stands : (table : StoredTable) (contents : PlainTable) → IsSide address chunks table contents → is_table_within_limits contents ≡ true → table.schema ≡ schema
       → StandKept address chunks table schema (rows_on schema contents)
   side_stands table contents side limits has =
       let is = side.stands.is_table in
@@ -98,21 +98,21 @@ module _ (address : List ℕ → List ℕ) (chunks : Chunks) (schema : Schema) w
       let same : contents.rows ≡ rows_on schema contents =
       sym (rows_stay contents.schema contents.rows form.apart is.rows) ∙ ap (λ (s : Schema). map (projected contents.schema s) contents.rows) own in
       subst (StandKept address chunks table schema) same (record {
-        kept = subst (λ (s : Schema). AreKept s contents.rows) own (table_kept contents is limits);
+        kept = subst (λ (s : Schema). AreKeptRows s contents.rows) own (table_kept contents is limits);
         tree = subst (λ (s : Schema). IsTree address chunks table.rows.0 (map (row_item s) contents.rows)) has at.tree;
       })
 
-  base_stands : (table : Table) (contents : Option PlainTable) → IsSidePerhaps address chunks (Some table) contents → option_map_or is_table_within_limits contents true ≡ true → table.schema ≡ schema
+  base_stands : (table : StoredTable) (contents : Option PlainTable) → IsSidePerhaps address chunks (Some table) contents → option_map_or is_table_within_limits contents true ≡ true → table.schema ≡ schema
       → StandKept address chunks table schema (rows_on_or_none schema contents)
   base_stands table None side limits has = absurd side
   base_stands table (Some contents) side limits has = side_stands table contents side limits has
 
-  pub within : (base ours theirs : Table) (contents : PlainSides) → AreKeptSides address chunks (Some base) ours theirs contents → HaveSchema schema base ours theirs → is_within_limits schema ≡ true
+  pub within : (base ours theirs : StoredTable) (contents : PlainSides) → AreKeptSides address chunks (Some base) ours theirs contents → HaveSchema schema base ours theirs → is_within_limits schema ≡ true
   within base ours theirs contents are have =
       let sides = are.sides in
       ap is_within_limits (sym have.ours_has) ∙ side_within address chunks ours contents.ours sides.our_side
 
-  pub can_skip : (base ours theirs : Table) (contents : PlainSides) → AreKeptSides address chunks (Some base) ours theirs contents → HaveSchema schema base ours theirs → is_schema schema ≡ true
+  pub can_skip : (base ours theirs : StoredTable) (contents : PlainSides) → AreKeptSides address chunks (Some base) ours theirs contents → HaveSchema schema base ours theirs → is_schema schema ≡ true
       → CanSkip address chunks base.rows.0 ours.rows.0 theirs.rows.0 schema (three_of schema contents)
   can_skip base ours theirs contents are have valid =
       let sides = are.sides in
@@ -175,9 +175,9 @@ module _ (schema : Schema) (contents : PlainSides) (k : Known schema contents) w
   items_many : (items : List Item) → items ≡ row_items merged → length items ≡ length merged.rows
   items_many items e = ap length e ∙ length-map merged.rows (row_item schema)
 
-  pub is_merged : (address : List ℕ → List ℕ) (chunks : Chunks) (table : Table) (rows conflicts : List Item) → rows ≡ row_items merged → conflicts ≡ conflict_items merged
-      → is_within_limits schema ≡ true → nat_le (length rows) most_rows ≡ true → are_short merged ≡ true → IsKept address chunks table schema rows conflicts
-      → IsMerged address chunks table (merged_contents contents)
+  pub is_merged : (address : List ℕ → List ℕ) (chunks : Chunks) (table : StoredTable) (rows conflicts : List Item) → rows ≡ row_items merged → conflicts ≡ conflict_items merged
+      → is_within_limits schema ≡ true → nat_le (length rows) most_rows ≡ true → are_short merged ≡ true → HasItemTrees address chunks table schema rows conflicts
+      → IsMergedTable address chunks table (merged_contents contents)
   is_merged address chunks table rows conflicts r c within few short kept = record {
     contents = merged;
     is = k.is;
@@ -186,7 +186,7 @@ module _ (schema : Schema) (contents : PlainSides) (k : Known schema contents) w
         within (ap (λ (n : ℕ). nat_le n most_rows) (sym (items_many rows r)) ∙ few) short;
   }
 
-  pub passes_many : (rows : List Item) → rows ≡ row_items merged → nat_le (length rows) most_rows ≡ false → PassesLimit (merged_contents contents)
+  pub passes_many : (rows : List Item) → rows ≡ row_items merged → nat_le (length rows) most_rows ≡ false → PassesTableLimit (merged_contents contents)
   passes_many rows r many = record {
     contents = merged;
     is = k.is;
@@ -216,12 +216,12 @@ conflicts_stand schema three kept merged is =
 
 -- ---- what is known of tables of one schema that merge to it
 
-pub record Ready (address : List ℕ → List ℕ) (chunks : Chunks) (base ours theirs : Table) (schema : Schema) (contents : PlainSides) : Type 0 where
+pub record Ready (address : List ℕ → List ℕ) (chunks : Chunks) (base ours theirs : StoredTable) (schema : Schema) (contents : PlainSides) : Type 0 where
   pub known_is : Known schema contents
   pub can : CanSkip address chunks base.rows.0 ours.rows.0 theirs.rows.0 schema (three_of schema contents)
   pub limits : is_within_limits schema ≡ true
 
-pub ready : (address : List ℕ → List ℕ) (chunks : Chunks) (base ours theirs : Table) (schema : Schema) → SamenessIsEquality → wanted_schema (Some base) ours theirs ≡ Ok schema
+pub ready : (address : List ℕ → List ℕ) (chunks : Chunks) (base ours theirs : StoredTable) (schema : Schema) → SamenessIsEquality → wanted_schema (Some base) ours theirs ≡ Ok schema
     → HaveSchema schema base ours theirs → (contents : PlainSides) → AreKeptSides address chunks (Some base) ours theirs contents → Ready address chunks base ours theirs schema contents
 ready address chunks base ours theirs schema same wanted have contents are =
     let k = known address chunks (Some base) ours theirs contents are.sides same schema wanted in

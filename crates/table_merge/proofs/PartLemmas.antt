@@ -11,7 +11,7 @@ use Rattle.tuple_codec.specs.RowRule.{same_option, three_way}
 use Rattle.schema_model.specs.Schemas.{are_distinct}
 use Rattle.schema_model.specs.declared.schemas.Column.{Column}
 use Rattle.schema_model.specs.declared.schemas.Schema.{Schema}
-use Rattle.schema_merge.specs.Parts.{Kind, Sides, find}
+use Rattle.schema_merge.specs.Parts.{PartKind, Sides, find}
 use Rattle.schema_merge.specs.Merging.{merged_by, names3, others, part3, same_pair, stands, step, taken}
 use Rattle.table_merge.proofs.NameLemmas.{false_true}
 
@@ -37,27 +37,27 @@ three_gives same base ours theirs x e = by (same theirs base) (same ours base) (
   by false false false e = absurd (cc)
 
 -- ours or theirs has a part of that name, which stands so among merged columns
-pub record Came {P : Type 0} (called : P → List ℕ) (kind : Kind P) (all : Sides) (columns : List Column) (name : List ℕ) (part : P) : Type 0 where
+pub record Came {P : Type 0} (called : P → List ℕ) (kind : PartKind P) (all : Sides) (columns : List Column) (name : List ℕ) (part : P) : Type 0 where
   pub side : Schema
   pub is_side : (side ≡ all.ours) ⊎ (side ≡ all.theirs)
   pub old : P
   pub there : find called name (kind.parts side) ≡ Some old
   pub moved : kind.moved all columns side old ≡ Some part
 
-stood : {P : Type 0} (called : P → List ℕ) (kind : Kind P) (name : List ℕ) (schema : Schema) (pair : Schema × P) → Some pair ≡ stands called kind name (Some schema)
+stood : {P : Type 0} (called : P → List ℕ) (kind : PartKind P) (name : List ℕ) (schema : Schema) (pair : Schema × P) → Some pair ≡ stands called kind name (Some schema)
     → (pair.0 ≡ schema) × (find called name (kind.parts schema) ≡ Some pair.1)
 stood {P} called kind name schema pair e =
     let m = map_some (λ (part : P). (schema, part)) (find called name (kind.parts schema)) pair (sym e) in
     (sym (ap (λ (p : Schema × P). p.0) m.2), m.1 ∙ ap (λ (p : Schema × P). Some p.1) m.2)
 
-taken_some : {P : Type 0} (kind : Kind P) (all : Sides) (columns : List Column) (o : Option (Schema × P)) (part : P) → taken kind all columns o ≡ Some (Some part)
+taken_some : {P : Type 0} (kind : PartKind P) (all : Sides) (columns : List Column) (o : Option (Schema × P)) (part : P) → taken kind all columns o ≡ Some (Some part)
     → (pair : Schema × P) × (o ≡ Some pair) × (kind.moved all columns pair.0 pair.1 ≡ Some part)
 taken_some kind all columns None part e = absurd (cc)
 taken_some {P} kind all columns (Some pair) part e =
     let m = map_some (λ (part : P). Some part) (kind.moved all columns pair.0 pair.1) (Some part) e in
     (pair, refl, m.1 ∙ ap (λ (part : P). Some part) (some_is m.0 part m.2))
 
-pub came : {P : Type 0} (called : P → List ℕ) (kind : Kind P) (all : Sides) (columns : List Column) (name : List ℕ) (part : P)
+pub came : {P : Type 0} (called : P → List ℕ) (kind : PartKind P) (all : Sides) (columns : List Column) (name : List ℕ) (part : P)
     → part3 called kind all columns name ≡ Some (Some part) → Came called kind all columns name part
 came {P} called kind all columns name part e =
     let same = same_option (same_pair kind) in

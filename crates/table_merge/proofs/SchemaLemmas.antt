@@ -16,7 +16,7 @@ use Rattle.schema_model.specs.declared.schemas.IndexDef.{IndexDef}
 use Rattle.schema_model.specs.declared.schemas.CheckDef.{CheckDef}
 use Rattle.schema_model.specs.declared.schemas.ForeignKey.{ForeignKey}
 use Rattle.schema_model.specs.declared.schemas.Schema.{Schema}
-use Rattle.schema_merge.specs.Parts.{Kind, Sides, covers_all, find, if_so, keeps, keeps_places, name_at, of_checks, of_columns, of_foreign, of_indexes, sides}
+use Rattle.schema_merge.specs.Parts.{PartKind, Sides, covers_all, find, if_so, keeps, keeps_places, name_at, of_checks, of_columns, of_foreign, of_indexes, sides}
 use Rattle.schema_merge.specs.Merging.{and_then, columns_at, keys_agree, over_columns, part3, parts3, same_pair, schema3, schema_of, stands, taken}
 use Rattle.schema_merge.proofs.MergeLemmas.{few_parts as parts_length}
 use Rattle.table_merge.proofs.NameLemmas.{find_all, find_named, named_apart}
@@ -118,10 +118,10 @@ form_of s h =
 
 -- ---- parts of any kind
 
-pub KeepsName : {P : Type 0} → (P → List ℕ) → Kind P → Sides → List Column → Type 0
+pub KeepsName : {P : Type 0} → (P → List ℕ) → PartKind P → Sides → List Column → Type 0
 KeepsName {P} called kind all columns = (side : Schema) (old part : P) → kind.moved all columns side old ≡ Some part → called part ≡ called old
 
-pub parts_named : {P : Type 0} (called : P → List ℕ) (kind : Kind P) (all : Sides) (columns : List Column) → KeepsName called kind all columns → AreNamed called (part3 called kind all columns)
+pub parts_named : {P : Type 0} (called : P → List ℕ) (kind : PartKind P) (all : Sides) (columns : List Column) → KeepsName called kind all columns → AreNamed called (part3 called kind all columns)
 unfolding KeepsName
 parts_named called kind all columns keeps_name name part e =
     let c = came called kind all columns name part e in
@@ -132,7 +132,7 @@ by_side Q all side (inl e) p q = subst Q (sym e) p
 by_side Q all side (inr e) p q = subst Q (sym e) q
 
 -- each passes a test where a side's parts pass one of their own
-pub parts_pass : {P : Type 0} (called : P → List ℕ) (kind : Kind P) (all : Sides) (columns : List Column) (before : Schema → P → Bool) (test : P → Bool) (parts : List P)
+pub parts_pass : {P : Type 0} (called : P → List ℕ) (kind : PartKind P) (all : Sides) (columns : List Column) (before : Schema → P → Bool) (test : P → Bool) (parts : List P)
     → list_all (before all.ours) (kind.parts all.ours) ≡ true → list_all (before all.theirs) (kind.parts all.theirs) ≡ true
     → ((side : Schema) (old part : P) → (side ≡ all.ours) ⊎ (side ≡ all.theirs) → before side old ≡ true → kind.moved all columns side old ≡ Some part → test part ≡ true)
     → parts3 called kind all columns ≡ Ok parts → list_all test parts ≡ true
@@ -143,13 +143,13 @@ parts_pass {P} called kind all columns before test parts p q go e = merged_all (
       go c.side c.old part c.is_side
       (find_all called (before c.side) name (kind.parts c.side) c.old (by_side (λ (s : Schema). list_all (before s) (kind.parts s) ≡ true) all c.side c.is_side p q) c.there) c.moved
 
-pub parts_apart : {P : Type 0} (called : P → List ℕ) (kind : Kind P) (all : Sides) (columns : List Column) (parts : List P) → KeepsName called kind all columns
+pub parts_apart : {P : Type 0} (called : P → List ℕ) (kind : PartKind P) (all : Sides) (columns : List Column) (parts : List P) → KeepsName called kind all columns
     → are_distinct (λ (a b : P). bytes_eq (called a) (called b)) (kind.parts all.ours) ≡ true → are_distinct (λ (a b : P). bytes_eq (called a) (called b)) (kind.parts all.theirs) ≡ true
     → parts3 called kind all columns ≡ Ok parts → are_distinct (λ (a b : P). bytes_eq (called a) (called b)) parts ≡ true
 parts_apart called kind all columns parts keeps_name p q e =
     merged_distinct called (part3 called kind all columns) (parts_named called kind all columns keeps_name) _ parts e (names_distinct called (kind.parts all.ours) (kind.parts all.theirs) p q)
 
-pub parts_few : {P : Type 0} (called : P → List ℕ) (kind : Kind P) (all : Sides) (columns : List Column) (parts : List P) → length (kind.parts all.ours) ≤ 64 → length (kind.parts all.theirs) ≤ 64
+pub parts_few : {P : Type 0} (called : P → List ℕ) (kind : PartKind P) (all : Sides) (columns : List Column) (parts : List P) → length (kind.parts all.ours) ≤ 64 → length (kind.parts all.theirs) ≤ 64
     → parts3 called kind all columns ≡ Ok parts → are_few parts ≡ true
 parts_few called kind all columns parts p q e = let n = parts_length called kind all columns parts e in lt-ltb (length parts) 256 (omega (arith, n, p, q))
 

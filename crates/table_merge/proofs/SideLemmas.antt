@@ -10,7 +10,7 @@ use Rattle.schema_model.specs.declared.schemas.Schema.{Schema}
 use Rattle.schema_merge.specs.Merging.{and_then, schema3}
 use Rattle.schema_merge.specs.Projecting.{projected}
 use Rattle.plain_merge.specs.TableMerge.{Three, rows_on, rows_on_or_none, table3, table_of, three_on}
-use Rattle.table_root.specs.declared.records.Table.{Table}
+use Rattle.table_root.specs.declared.records.StoredTable.{StoredTable}
 use Rattle.table_rows.specs.Rows.{AreRowsAt}
 use Rattle.table_merge.specs.Laws.{IsTablePerhaps}
 use Rattle.table_merge.specs.Merging.{AreSides, IsSide, IsSidePerhaps, PlainSides, merged_contents}
@@ -22,33 +22,33 @@ use Rattle.table_merge.proofs.TableLemmas.{merges_are_tables, three_stand}
 -- ---- one side
 
 module _ (address : List ℕ → List ℕ) (chunks : Chunks) where
-  pub side_schema : (table : Table) (contents : PlainTable) → IsSide address chunks table contents → table.schema ≡ contents.schema
-  side_schema table contents side = let stands = side.stands in ap (λ (t : Table). t.schema) stands.value
+  pub side_schema : (table : StoredTable) (contents : PlainTable) → IsSide address chunks table contents → table.schema ≡ contents.schema
+  side_schema table contents side = let stands = side.stands in ap (λ (t : StoredTable). t.schema) stands.value
 
-  pub side_is_schema : (table : Table) (contents : PlainTable) → IsSide address chunks table contents → is_schema table.schema ≡ true
+  pub side_is_schema : (table : StoredTable) (contents : PlainTable) → IsSide address chunks table contents → is_schema table.schema ≡ true
   side_is_schema table contents side = let is = side.stands.is_table in ap is_schema (side_schema table contents side) ∙ is.schema
 
-  pub side_within : (table : Table) (contents : PlainTable) → IsSide address chunks table contents → is_within_limits table.schema ≡ true
+  pub side_within : (table : StoredTable) (contents : PlainTable) → IsSide address chunks table contents → is_within_limits table.schema ≡ true
   side_within table contents side = ap is_within_limits (side_schema table contents side) ∙ side.limits
 
-  pub side_rows : (table : Table) (contents : PlainTable) → IsSide address chunks table contents → AreRowsAt address chunks table.rows.0 table.schema contents.rows
+  pub side_rows : (table : StoredTable) (contents : PlainTable) → IsSide address chunks table contents → AreRowsAt address chunks table.rows.0 table.schema contents.rows
   side_rows table contents side =
       let stands = side.stands in
       let is = stands.is_table in
       let trees = stands.trees in
-      subst (λ (t : Table). AreRowsAt address chunks t.rows.0 t.schema contents.rows) (sym stands.value) (record { fit = is.rows; tree = trees.rows })
+      subst (λ (t : StoredTable). AreRowsAt address chunks t.rows.0 t.schema contents.rows) (sym stands.value) (record { fit = is.rows; tree = trees.rows })
 
-  pub side_keyed : (table : Table) (contents : PlainTable) (to : Schema) (rows : List Cells) → IsSide address chunks table contents → rows ≡ contents.rows
+  pub side_keyed : (table : StoredTable) (contents : PlainTable) (to : Schema) (rows : List Cells) → IsSide address chunks table contents → rows ≡ contents.rows
       → keyed_rows to (map (projected table.schema to) rows) ≡ keyed_rows to (rows_on to contents)
   side_keyed table contents to rows side same =
       ap (λ (l : List Cells). keyed_rows to (map (projected table.schema to) l)) same
       ∙ ap (λ (from : Schema). keyed_rows to (map (projected from to) contents.rows)) (side_schema table contents side)
 
-  pub there : (table : Table) (contents : Option PlainTable) → IsSidePerhaps address chunks (Some table) contents → (one : PlainTable) × IsSide address chunks table one
+  pub there : (table : StoredTable) (contents : Option PlainTable) → IsSidePerhaps address chunks (Some table) contents → (one : PlainTable) × IsSide address chunks table one
   there table None h = absurd h
   there table (Some one) h = (one, h)
 
-  pub read_there : (P : List Cells → Type 0) (table : Table) (to : Schema) → ((one : PlainTable) → IsSide address chunks table one → P (rows_on to one))
+  pub read_there : (P : List Cells → Type 0) (table : StoredTable) (to : Schema) → ((one : PlainTable) → IsSide address chunks table one → P (rows_on to one))
       → (contents : Option PlainTable) → IsSidePerhaps address chunks (Some table) contents → P (rows_on_or_none to contents)
   read_there P table to h None side = absurd side
   read_there P table to h (Some one) side = h one side
@@ -57,14 +57,14 @@ module _ (address : List ℕ → List ℕ) (chunks : Chunks) where
   read_none to None side = refl
   read_none to (Some one) side = absurd side
 
-  perhaps_schema : (table : Option Table) (contents : Option PlainTable) → IsSidePerhaps address chunks table contents
+  perhaps_schema : (table : Option StoredTable) (contents : Option PlainTable) → IsSidePerhaps address chunks table contents
       → option_map (λ (one : PlainTable). one.schema) contents ≡ schema_perhaps table
   perhaps_schema None None side = refl
   perhaps_schema (Some table) (Some contents) side = ap (λ (s : Schema). Some s) (sym (side_schema table contents side))
   perhaps_schema None (Some contents) side = absurd side
   perhaps_schema (Some table) None side = absurd side
 
-  perhaps_table : (table : Option Table) (contents : Option PlainTable) → IsSidePerhaps address chunks table contents → IsTablePerhaps contents
+  perhaps_table : (table : Option StoredTable) (contents : Option PlainTable) → IsSidePerhaps address chunks table contents → IsTablePerhaps contents
   perhaps_table None None side = tt
   perhaps_table (Some table) (Some contents) side = side.stands.is_table
   perhaps_table None (Some contents) side = absurd side
@@ -81,7 +81,7 @@ pub record Known (schema : Schema) (contents : PlainSides) : Type 0 where
   pub is_table : IsTable (table_of schema (three_of schema contents))
   pub three : AreThree schema (three_of schema contents)
 
-module _ (address : List ℕ → List ℕ) (chunks : Chunks) (base : Option Table) (ours theirs : Table) (contents : PlainSides) (are : AreSides address chunks base ours theirs contents) where
+module _ (address : List ℕ → List ℕ) (chunks : Chunks) (base : Option StoredTable) (ours theirs : StoredTable) (contents : PlainSides) (are : AreSides address chunks base ours theirs contents) where
   same_wanted : schema3 (option_map (λ (one : PlainTable). one.schema) contents.base) contents.ours.schema contents.theirs.schema ≡ wanted_schema base ours theirs
   same_wanted =
       ap (λ (b : Option Schema). schema3 b contents.ours.schema contents.theirs.schema) (perhaps_schema address chunks base contents.base are.base_side)

@@ -11,7 +11,7 @@ use Rattle.tuple_codec.specs.KeyBytes.{key_bytes}
 use Rattle.tuple_codec.specs.Nodes.{Item, Rise, leaf_item}
 use Rattle.tuple_codec.specs.Rows.{Cells, fits_all}
 use Rattle.tuple_codec.specs.Trees.{IsRow}
-use Rattle.tuple_codec.specs.declared.edits.Change.{Change}
+use Rattle.tuple_codec.specs.declared.edits.ItemChange.{ItemChange}
 use Rattle.tuple_codec.proofs.Orders.{cells_told}
 use Rattle.schema_model.specs.Limits.{is_conflict_within_limits}
 use Rattle.schema_model.specs.PlainTables.{Conflict, body_bytes, conflict_item, conflict_items, key_types, primary_key, row_item, row_items, side_bytes}
@@ -25,8 +25,8 @@ use Rattle.prolly_edit.specs.Editing.{PutsRow}
 use Rattle.plain_merge.specs.TableMerge.{Three, answer_at, conflict_at, keys_of, row_after, row_at, sides_at, table_of}
 use Rattle.table_merge.specs.Merging.{is_short_merged}
 use Rattle.table_merge.specs.Rising.{IsAt}
-use Rattle.table_merge.specs.Skipping.{AreDecided, AreKept, AreMerged, AreShortAt, AreThreeKept, DecidesAt, IsChangeOf, IsKeyOf, IsShortAt}
-use Rattle.table_merge.specs.Walking.{Decides, are_short, are_short_at}
+use Rattle.table_merge.specs.Skipping.{AreDecided, AreKeptRows, AreMerged, AreShortAt, AreThreeKept, DecidesAt, IsChangeOf, IsKeyOf, IsShortAt}
+use Rattle.table_merge.specs.Walking.{DecidesRow, are_short, are_short_at}
 use Rattle.table_merge.specs.declared.changing.Merged.{Merged}
 use Rattle.table_merge.specs.declared.deciding.Decided.{Decided}
 use Rattle.table_merge.specs.declared.faults.Stop.{Stop}
@@ -39,7 +39,7 @@ use Rattle.table_merge.proofs.RiseLemmas.{gathered_all}
 
 -- ---- the rows that are merged
 
-pub rows_kept : (s : Schema) (rows : List Cells) → AreKept s rows → AreRows s rows
+pub rows_kept : (s : Schema) (rows : List Cells) → AreKeptRows s rows → AreRows s rows
 rows_kept s rows kept = record { fit = kept.fit; rise = kept.rise }
 
 pub three_kept : (s : Schema) (three : Three) → AreThreeKept s three → AreThree s three
@@ -122,7 +122,7 @@ module _ (s : Schema) (three : Three) (kept : AreThreeKept s three) where
       let same = ap (bytes_eq (key_bytes cells)) is.bytes ∙ itself (key_bytes cells) in
       (cells_told cells other).0 (sym (key_told (key_types s) cells other (key_types_fit s kept.valid) f is.fits) ∙ same)
 
-  pub decides_at : (key : List ℕ) (cells : Cells) → IsKeyOf s key cells → (result : Result Decided Stop) → Decides result s (row_after s three cells) (conflict_at s three cells)
+  pub decides_at : (key : List ℕ) (cells : Cells) → IsKeyOf s key cells → (result : Result Decided Stop) → DecidesRow result s (row_after s three cells) (conflict_at s three cells)
       → DecidesAt result s three key
   decides_at key cells is (Ok decided) d = subst (λ (k : List ℕ). DecidesAt (Ok decided) s three k) is.bytes (
     d.0 ∙ item_at (primary_key s) (body_bytes s) cells (row_after s three cells) (row_named cells) ∙ ap (option_map (leaf_item (key_bytes cells))) (sym (rows_value cells is.fits)),
@@ -167,7 +167,7 @@ module _ (s : Schema) (three : Three) (kept : AreThreeKept s three) where
   -- ---- all changes
 
   module _ (base_rise : Rise (base_items s three)) (their_rise : Rise (their_items s three)) where
-    abbrev changes : List Change
+    abbrev changes : List ItemChange
     changes = changed (base_items s three) (their_items s three)
 
     changes_up : EditsRiseAfter None (as_edits changes)

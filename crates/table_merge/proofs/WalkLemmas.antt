@@ -20,7 +20,7 @@ use Rattle.plain_merge.specs.KeyByKey.{all_keys, before, gathered, kept, keys_wi
 use Rattle.plain_merge.specs.TableMerge.{Three, answer_at, conflict_at, conflict_if, keys_of, row_after, row_at, sides_at, table_of}
 use Rattle.table_merge.specs.Merging.{is_short_merged}
 use Rattle.table_merge.specs.Rising.{IsAt, RiseFrom}
-use Rattle.table_merge.specs.Walking.{AreKeyed, AreListsOf, Decides, are_short, are_short_at, found, is_row_perhaps, keyed_rows, keys_in, conflicts_of, rows_in, three_in}
+use Rattle.table_merge.specs.Walking.{AreKeyed, AreListsOf, DecidesRow, are_short, are_short_at, found, is_row_perhaps, keyed_rows, keys_in, conflicts_of, rows_in, three_in}
 use Rattle.table_merge.specs.declared.faults.Stop.{Stop}
 use Rattle.table_merge.specs.declared.faults.Stop.TheVariants as stop
 use Rattle.table_merge.specs.declared.keyed.KeyedRow.{KeyedRow}
@@ -206,7 +206,7 @@ count_on s three keys at key count more within is e counting = record {
 
 -- ---- where a key's items passed a limit
 
-stops : (s : Schema) (three : Three) (row : Option Cells) (conflict : Option Conflict) (cause : Stop) → Decides (Err cause) s row conflict
+stops : (s : Schema) (three : Three) (row : Option Cells) (conflict : Option Conflict) (cause : Stop) → DecidesRow (Err cause) s row conflict
     → (are_short_at s row conflict ≡ false → are_short (table_of s three) ≡ false) → AreListsOf (Err cause) (table_of s three)
 stops s three row conflict stop.Memory h long = tt
 stops s three row conflict stop.Limit h long = long h
@@ -221,7 +221,7 @@ counted_all s three keys at count past counting =
     let none : count ≡ count + 0 = omega arith in
     none ∙ last.sum
 
-pub stops_with : (s : Schema) (three : Three) (row : Option Cells) (conflict : Option Conflict) (result : Result Lists Stop) (cause : Stop) → Decides (Err cause) s row conflict
+pub stops_with : (s : Schema) (three : Three) (row : Option Cells) (conflict : Option Conflict) (result : Result Lists Stop) (cause : Stop) → DecidesRow (Err cause) s row conflict
     → (are_short_at s row conflict ≡ false → are_short (table_of s three) ≡ false) → IsErr result × IsErrAnd result (λ found. found ≡ cause) → AreListsOf result (table_of s three)
 stops_with s three row conflict (Ok lists) cause h long e = absurd e.1
 stops_with s three row conflict (Err found) cause h long e = subst (λ (one : Stop). AreListsOf (Err one) (table_of s three)) (sym e.1) (stops s three row conflict cause h long)

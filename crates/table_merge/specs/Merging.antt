@@ -12,7 +12,7 @@ use Rattle.chunk_store.specs.declared.faults.PutFault.{PutFault}
 use Rattle.chunk_store.specs.declared.faults.PutFault.TheVariants as put
 use Rattle.plain_merge.specs.TableMerge.{table3}
 use Rattle.table_root.specs.Standing.{IsTableOf, IsUnindexedOf}
-use Rattle.table_root.specs.declared.records.Table.{Table}
+use Rattle.table_root.specs.declared.records.StoredTable.{StoredTable}
 use Rattle.table_merge.specs.declared.faults.MergeFault.{MergeFault}
 use Rattle.table_merge.specs.declared.faults.MergeFault.TheVariants as fault
 use Rattle.table_merge.specs.declared.faults.Stop.{Stop}
@@ -21,12 +21,12 @@ use Rattle.table_merge.specs.declared.faults.Stop.TheVariants as stop
 -- ---- what is merged
 
 -- a table that stands, with a schema within the limits
-pub record IsSide (address : List ℕ → List ℕ) (chunks : Chunks) (table : Table) (contents : PlainTable) : Type 0 where
+pub record IsSide (address : List ℕ → List ℕ) (chunks : Chunks) (table : StoredTable) (contents : PlainTable) : Type 0 where
   pub stands : IsTableOf address chunks table contents
   pub limits : is_within_limits contents.schema ≡ true
 
 -- the same of a table that may be absent
-abbrev pub IsSidePerhaps : (List ℕ → List ℕ) → Chunks → Option Table → Option PlainTable → Type 0
+abbrev pub IsSidePerhaps : (List ℕ → List ℕ) → Chunks → Option StoredTable → Option PlainTable → Type 0
 IsSidePerhaps address chunks None None = Unit {0}
 IsSidePerhaps address chunks (Some table) (Some contents) = IsSide address chunks table contents
 IsSidePerhaps address chunks table contents = ⊥
@@ -38,13 +38,13 @@ pub record PlainSides : Type 0 where
   pub theirs : PlainTable
 
 -- these tables stand for them
-pub record AreSides (address : List ℕ → List ℕ) (chunks : Chunks) (base : Option Table) (ours theirs : Table) (contents : PlainSides) : Type 0 where
+pub record AreSides (address : List ℕ → List ℕ) (chunks : Chunks) (base : Option StoredTable) (ours theirs : StoredTable) (contents : PlainSides) : Type 0 where
   pub base_side : IsSidePerhaps address chunks base contents.base
   pub our_side : IsSide address chunks ours contents.ours
   pub their_side : IsSide address chunks theirs contents.theirs
 
 -- the same tables, each of which keeps the limits on data
-pub record AreKeptSides (address : List ℕ → List ℕ) (chunks : Chunks) (base : Option Table) (ours theirs : Table) (contents : PlainSides) : Type 0 where
+pub record AreKeptSides (address : List ℕ → List ℕ) (chunks : Chunks) (base : Option StoredTable) (ours theirs : StoredTable) (contents : PlainSides) : Type 0 where
   pub sides : AreSides address chunks base ours theirs contents
   pub base_kept : option_map_or is_table_within_limits contents.base true ≡ true
   pub ours_kept : is_table_within_limits contents.ours ≡ true
@@ -68,14 +68,14 @@ keeps_limits table =
 -- ---- what a merge answers
 
 -- the table is one that the definition gives, within the limits
-pub record IsMerged (address : List ℕ → List ℕ) (chunks : Chunks) (table : Table) (wanted : Result PlainTable (List ℕ)) : Type 0 where
+pub record IsMergedTable (address : List ℕ → List ℕ) (chunks : Chunks) (table : StoredTable) (wanted : Result PlainTable (List ℕ)) : Type 0 where
   pub contents : PlainTable
   pub is : wanted ≡ Ok contents
   pub stands : IsUnindexedOf address chunks table contents
   pub limits : keeps_limits contents ≡ true
 
 -- the definition gives a table that passes a limit
-pub record PassesLimit (wanted : Result PlainTable (List ℕ)) : Type 0 where
+pub record PassesTableLimit (wanted : Result PlainTable (List ℕ)) : Type 0 where
   pub contents : PlainTable
   pub is : wanted ≡ Ok contents
   pub limits : keeps_limits contents ≡ false
@@ -84,7 +84,7 @@ pub record PassesLimit (wanted : Result PlainTable (List ℕ)) : Type 0 where
 abbrev pub IsFaultOf : Result PlainTable (List ℕ) → MergeFault → Type 0
 IsFaultOf wanted fault.Memory = Unit {0}
 IsFaultOf wanted (fault.Collision clash) = Unit {0}
-IsFaultOf wanted fault.Limit = PassesLimit wanted
+IsFaultOf wanted fault.Limit = PassesTableLimit wanted
 IsFaultOf wanted (fault.Schema table part) = (table ≡ []) × (wanted ≡ Err part)
 
 -- a collision's two byte strings: the first is found at the address, the second was brought for it

@@ -6,8 +6,8 @@ use Rattle.tuple_codec.specs.Edits.{edited, puts, value_at}
 use Rattle.tuple_codec.specs.KeyBytes.{key_bytes}
 use Rattle.tuple_codec.specs.Nodes.{Item, leaf_item}
 use Rattle.tuple_codec.specs.Rows.{Cells, fits_all}
-use Rattle.tuple_codec.specs.declared.edits.Change.{Change}
 use Rattle.tuple_codec.specs.declared.edits.Edit.{Edit}
+use Rattle.tuple_codec.specs.declared.edits.ItemChange.{ItemChange}
 use Rattle.schema_model.specs.Limits.{most_rows}
 use Rattle.schema_model.specs.PlainTables.{conflict_items, is_row, key_types, primary_key, row_item, row_items}
 use Rattle.schema_model.specs.Schemas.{is_schema}
@@ -17,7 +17,7 @@ use Rattle.chunk_store.specs.Chunks.{Chunks}
 use Rattle.chunk_store.specs.Standing.{IsTree}
 use Rattle.prolly_edit.specs.Editing.{AreEdits}
 use Rattle.plain_merge.specs.TableMerge.{Three, conflict_at, row_after, table_of}
-use Rattle.table_root.specs.declared.records.Table.{Table}
+use Rattle.table_root.specs.declared.records.StoredTable.{StoredTable}
 use Rattle.table_merge.specs.Merging.{is_short_merged}
 use Rattle.table_merge.specs.Rising.{RiseFrom}
 use Rattle.table_merge.specs.Walking.{are_short, are_short_at}
@@ -29,7 +29,7 @@ use Rattle.table_merge.specs.declared.faults.Stop.TheVariants as stop
 -- ---- the rows that are merged
 
 -- rows of a schema by rising key, which keep the limits
-pub record AreKept (schema : Schema) (rows : List Cells) : Type 0 where
+pub record AreKeptRows (schema : Schema) (rows : List Cells) : Type 0 where
   pub fit : list_all (is_row schema) rows ≡ true
   pub rise : RiseFrom None (map (primary_key schema) rows)
   pub few : nat_le (length rows) most_rows ≡ true
@@ -38,9 +38,9 @@ pub record AreKept (schema : Schema) (rows : List Cells) : Type 0 where
 -- three lists of such rows of one schema
 pub record AreThreeKept (schema : Schema) (three : Three) : Type 0 where
   pub valid : is_schema schema ≡ true
-  pub base : AreKept schema three.base
-  pub ours : AreKept schema three.ours
-  pub theirs : AreKept schema three.theirs
+  pub base : AreKeptRows schema three.base
+  pub ours : AreKeptRows schema three.ours
+  pub theirs : AreKeptRows schema three.theirs
 
 -- the trees of these lists stand at three addresses
 pub record CanSkip (address : List ℕ → List ℕ) (chunks : Chunks) (base ours theirs : List ℕ) (schema : Schema) (three : Three) : Type 0 where
@@ -50,7 +50,7 @@ pub record CanSkip (address : List ℕ → List ℕ) (chunks : Chunks) (base our
   pub their_tree : IsTree address chunks theirs (map (row_item schema) three.theirs)
 
 -- tables that all have this schema
-pub record HaveSchema (schema : Schema) (base ours theirs : Table) : Type 0 where
+pub record HaveSchema (schema : Schema) (base ours theirs : StoredTable) : Type 0 where
   pub base_has : base.schema ≡ schema
   pub ours_has : ours.schema ≡ schema
   pub theirs_has : theirs.schema ≡ schema
@@ -70,14 +70,14 @@ pub record IsKeyOf (schema : Schema) (key : List ℕ) (cells : Cells) : Type 0 w
   pub bytes : key_bytes cells ≡ key
 
 -- a change from base to theirs, at a key
-pub record IsChangeOf (schema : Schema) (three : Three) (change : Change) : Type 0 where
+pub record IsChangeOf (schema : Schema) (three : Three) (change : ItemChange) : Type 0 where
   pub cells : Cells
   pub key : IsKeyOf schema change.key cells
   pub old : change.old ≡ value_at change.key (map (row_item schema) three.base)
   pub new : change.new ≡ value_at change.key (map (row_item schema) three.theirs)
 
 -- such a change, and the tree of our rows stands
-pub record CanDecide (address : List ℕ → List ℕ) (chunks : Chunks) (ours : List ℕ) (schema : Schema) (three : Three) (change : Change) : Type 0 where
+pub record CanDecide (address : List ℕ → List ℕ) (chunks : Chunks) (ours : List ℕ) (schema : Schema) (three : Three) (change : ItemChange) : Type 0 where
   pub kept : AreThreeKept schema three
   pub tree : IsTree address chunks ours (map (row_item schema) three.ours)
   pub change_is : IsChangeOf schema three change
@@ -98,23 +98,23 @@ DecidesAt (Err stop.Limit) schema three key = are_short (table_of schema three) 
 -- ---- all changes
 
 -- what stands at the changes' keys in a list, put in place of what stood there
-abbrev pub edit_to : List Item → Change → Edit
+abbrev pub edit_to : List Item → ItemChange → Edit
 edit_to target change = record { key = change.key; value = value_at change.key target }
 
-abbrev pub edits_to : List Item → List Change → List Edit
+abbrev pub edits_to : List Item → List ItemChange → List Edit
 edits_to target changes = map (edit_to target) changes
 
 -- changes from base to theirs, and the tree of our rows stands
-pub record CanDecideAll (address : List ℕ → List ℕ) (chunks : Chunks) (ours : List ℕ) (schema : Schema) (three : Three) (changes : List Change) : Type 0 where
+pub record CanDecideAll (address : List ℕ → List ℕ) (chunks : Chunks) (ours : List ℕ) (schema : Schema) (three : Three) (changes : List ItemChange) : Type 0 where
   pub kept : AreThreeKept schema three
   pub tree : IsTree address chunks ours (map (row_item schema) three.ours)
   pub changes_are : AllByRecursion (IsChangeOf schema three) changes
 
-abbrev pub AreShortAt : Schema → Three → List Change → Type 0
+abbrev pub AreShortAt : Schema → Three → List ItemChange → Type 0
 AreShortAt schema three changes = AllByRecursion (λ change. IsShortAt schema three change.key) changes
 
 -- all changes were decided, or the merged table passes a limit
-abbrev pub AreDecided : Result Merged Stop → Schema → Three → List Change → Type 0
+abbrev pub AreDecided : Result Merged Stop → Schema → Three → List ItemChange → Type 0
 AreDecided (Ok merged) schema three changes =
     (merged.edits.items ≡ edits_to (row_items (table_of schema three)) changes)
     × (map leaf_of merged.conflicts.items ≡ puts (edits_to (conflict_items (table_of schema three)) changes))

@@ -12,7 +12,7 @@ use Rattle.schema_merge.specs.Merging.{schema3}
 use Rattle.chunk_store.specs.Chunks.{Chunks}
 use Rattle.chunk_store.specs.Standing.{IsTree}
 use Rattle.plain_merge.specs.TableMerge.{rows_on, rows_on_or_none}
-use Rattle.table_root.specs.declared.records.Table.{Table}
+use Rattle.table_root.specs.declared.records.StoredTable.{StoredTable}
 use Rattle.table_merge.specs.Merging.{PlainSides, keeps_limits}
 use Rattle.table_merge.specs.Walking.{keyed_rows}
 use Rattle.table_merge.specs.declared.faults.MergeFault.{MergeFault}
@@ -24,10 +24,10 @@ use Rattle.table_merge.specs.declared.walking.Lists.{Lists}
 
 -- ---- schemas
 
-abbrev pub schema_perhaps : Option Table → Option Schema
-schema_perhaps table = option_map (λ (one : Table). one.schema) table
+abbrev pub schema_perhaps : Option StoredTable → Option Schema
+schema_perhaps table = option_map (λ (one : StoredTable). one.schema) table
 
-abbrev pub wanted_schema : Option Table → Table → Table → Result Schema (List ℕ)
+abbrev pub wanted_schema : Option StoredTable → StoredTable → StoredTable → Result Schema (List ℕ)
 wanted_schema base ours theirs = schema3 (schema_perhaps base) ours.schema theirs.schema
 
 -- the merged schema, or the part in conflict
@@ -69,7 +69,7 @@ pub record AreTreeRows (items : List Item) : Type 0 where
   pub rise : Rise items
 
 -- a table of this schema, with the trees of these items and none besides
-pub record IsKept (address : List ℕ → List ℕ) (chunks : Chunks) (table : Table) (schema : Schema) (rows conflicts : List Item) : Type 0 where
+pub record HasItemTrees (address : List ℕ → List ℕ) (chunks : Chunks) (table : StoredTable) (schema : Schema) (rows conflicts : List Item) : Type 0 where
   pub schema_is : table.schema ≡ schema
   pub rows_stand : IsTree address chunks table.rows.0 rows
   pub conflicts_stand : IsTree address chunks table.conflicts.0 conflicts

@@ -68,13 +68,13 @@ abbrev pub are_short_at : Schema → Option Cells → Option Conflict → Bool
 are_short_at schema row conflict = option_map_or (is_short_merged schema) row true && option_map_or (is_conflict_within_limits schema) conflict true
 
 -- the items of both were made, or one of them passes a limit
-abbrev pub Decides : Result Decided Stop → Schema → Option Cells → Option Conflict → Type 0
-Decides (Ok decided) schema row conflict =
+abbrev pub DecidesRow : Result Decided Stop → Schema → Option Cells → Option Conflict → Type 0
+DecidesRow (Ok decided) schema row conflict =
     (option_map leaf_of decided.row ≡ option_map (row_item schema) row)
     × (option_map leaf_of decided.conflict ≡ option_map (conflict_item schema) conflict)
     × (are_short_at schema row conflict ≡ true)
-Decides (Err stop.Memory) schema row conflict = Unit {0}
-Decides (Err stop.Limit) schema row conflict = are_short_at schema row conflict ≡ false
+DecidesRow (Err stop.Memory) schema row conflict = Unit {0}
+DecidesRow (Err stop.Limit) schema row conflict = are_short_at schema row conflict ≡ false
 
 -- ---- what becomes of all keys
 

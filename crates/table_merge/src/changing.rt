@@ -15,13 +15,13 @@ use crate::faults::Stop;
 use crate::walking::push_perhaps;
 use chunk_store::Draft;
 use node_format::LeafItem;
-use pair_walk::{Reads, changes};
+use pair_walk::{ReadCount, changes};
 use prolly_tree::get;
 use schema_model::Schema;
 use std::alloc::{AllocError, Global};
 use table_rows::row_of;
 use tuple_codec::{
-    Address, Blob, Change, Digester, Edit, Row, Sequence, decode_key, keys_are_one_spelling,
+    Address, Blob, Digester, Edit, ItemChange, Row, Sequence, decode_key, keys_are_one_spelling,
 };
 
 /// The edits that make merged rows of ours, and the items of the conflicts, by rising key.
@@ -45,7 +45,7 @@ pub(crate) fn merge_changes<D: Digester>(
     ensures { (three : Three) → CanSkip D.address (chunks_of draft.now.chunks) base.now.0 ours.now.0 theirs.now.0 schema.now three
         → AreMerged result schema.now three }
 {
-    let mut reads = Reads::new();
+    let mut reads = ReadCount::new();
     let changes = changes(alloc, draft, base, theirs, &mut reads)?;
     decide_changes(alloc, draft, schema, ours, changes.as_slice())
 }
@@ -56,7 +56,7 @@ fn decide_changes<D: Digester>(
     draft: &Draft<D>,
     schema: &Schema,
     ours: &Address,
-    changes: &[Change],
+    changes: &[ItemChange],
 ) -> Result<Merged, Stop>
     requires { (three : Three) × CanDecideAll D.address (chunks_of draft.now.chunks) ours.now.0 schema.now three changes.now }
     ensures { (three : Three) → CanDecideAll D.address (chunks_of draft.now.chunks) ours.now.0 schema.now three changes.now
@@ -78,7 +78,7 @@ fn decide_change<D: Digester>(
     draft: &Draft<D>,
     schema: &Schema,
     ours: &Address,
-    change: &Change,
+    change: &ItemChange,
 ) -> Result<Decided, Stop>
     requires { (three : Three) × CanDecide D.address (chunks_of draft.now.chunks) ours.now.0 schema.now three change.now }
     ensures { (three : Three) → CanDecide D.address (chunks_of draft.now.chunks) ours.now.0 schema.now three change.now
@@ -141,7 +141,7 @@ fn row_at(
 }
 
 /// The edit that puts what is left at a change's key.
-fn edit_of(alloc: Global, change: &Change, row: Option<LeafItem>) -> Result<Edit, AllocError>
+fn edit_of(alloc: Global, change: &ItemChange, row: Option<LeafItem>) -> Result<Edit, AllocError>
     ensures { (value : Option (List ℕ)) → option_map leaf_of row ≡ option_map (leaf_item change.now.key) value
         → IfOk result (λ edit. edit ≡ record { key = change.now.key; value = value }) }
 {

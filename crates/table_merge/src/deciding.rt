@@ -12,7 +12,7 @@ ghost use Rattle.plain_merge.specs.KeyByKey.{kept};
 ghost use Rattle.plain_merge.specs.TableMerge.{conflict_if};
 ghost use Rattle.table_merge.specs.Merging.{is_short_merged};
 ghost use Rattle.table_merge.specs.Rising.{IsAt};
-ghost use Rattle.table_merge.specs.Walking.{AddsSide, Decides, IsItemOf, IsItemPerhaps, is_row_perhaps, sides_of};
+ghost use Rattle.table_merge.specs.Walking.{AddsSide, DecidesRow, IsItemOf, IsItemPerhaps, is_row_perhaps, sides_of};
 
 use crate::faults::Stop;
 use cell_merge::{RowOutcome, merge_row};
@@ -46,7 +46,7 @@ pub(crate) fn decide(
     requires theirs { is_row_perhaps schema.now (option_copied theirs) ≡ true }
     requires merged { is_row_perhaps schema.now (kept (option_copied ours) (row3 (option_copied base) (option_copied ours) (option_copied theirs))) ≡ true }
     ensures { let b = option_copied base.entry in let o = option_copied ours.entry in let t = option_copied theirs.entry in
-        Decides result schema.now (kept o (row3 b o t)) (conflict_if (sides_of key.now b o t) (row3 b o t)) }
+        DecidesRow result schema.now (kept o (row3 b o t)) (conflict_if (sides_of key.now b o t) (row3 b o t)) }
 {
     let outcome = merge_row(alloc, base, ours, theirs)?;
     let row = item_perhaps(alloc, schema, kept(ours, &outcome))?;

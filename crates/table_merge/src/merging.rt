@@ -9,8 +9,8 @@ ghost use Rattle.chunk_store.specs.Kinds.{is_node};
 ghost use Rattle.schema_model.specs.Limits.{is_within_limits};
 ghost use Rattle.schema_model.specs.PlainTables.{PlainTable};
 ghost use Rattle.plain_merge.specs.TableMerge.{table_of, three_on};
-ghost use Rattle.table_merge.specs.Merging.{AreSides, IsFaultOf, IsMergeReason, IsMerged, PlainSides, merged_contents};
-ghost use Rattle.table_merge.specs.Steps.{AnswersSchema, AreFew, AreListsWithin, AreTreeRows, IsKept, schema_perhaps, wanted_schema};
+ghost use Rattle.table_merge.specs.Merging.{AreSides, IsFaultOf, IsMergeReason, IsMergedTable, PlainSides, merged_contents};
+ghost use Rattle.table_merge.specs.Steps.{AnswersSchema, AreFew, AreListsWithin, AreTreeRows, HasItemTrees, schema_perhaps, wanted_schema};
 ghost use Rattle.table_merge.specs.Walking.{AreListsOf};
 
 use crate::faults::{MergeFault, Stop};
@@ -23,7 +23,7 @@ use schema_merge::{SchemaFault, merge};
 use schema_model::limits::MOST_ROWS;
 use schema_model::{Schema, law_of_sameness};
 use std::alloc::{AllocError, Global};
-use table_root::Table;
+use table_root::StoredTable;
 use tuple_codec::{Digester, Sequence, Text};
 
 /// What two tables come to, each having been taken on from a base, or from none. Its indexes are still to be made.
@@ -32,13 +32,13 @@ use tuple_codec::{Digester, Sequence, Text};
 pub fn merge_table<D: Digester>(
     alloc: Global,
     draft: &mut Draft<D>,
-    base: Option<&Table>,
-    ours: &Table,
-    theirs: &Table,
-) -> Result<Table, MergeFault>
+    base: Option<&StoredTable>,
+    ours: &StoredTable,
+    theirs: &StoredTable,
+) -> Result<StoredTable, MergeFault>
     requires sides { (contents : PlainSides) × AreSides D.address (chunks_of draft.old.chunks) (option_copied base) ours.now theirs.now contents }
     ensures merged { (contents : PlainSides) → AreSides D.address (chunks_of draft.old.chunks) (option_copied base.entry) ours.now theirs.now contents
-        → IfOk result (λ table. IsMerged D.address (chunks_of draft.new.chunks) table (merged_contents contents)) }
+        → IfOk result (λ table. IsMergedTable D.address (chunks_of draft.new.chunks) table (merged_contents contents)) }
     ensures fault { (contents : PlainSides) → AreSides D.address (chunks_of draft.old.chunks) (option_copied base.entry) ours.now theirs.now contents
         → IfErr result (IsFaultOf (merged_contents contents)) }
     ensures grows { Grows is_node draft.old draft.new }
@@ -57,9 +57,9 @@ pub fn merge_table<D: Digester>(
 pub fn count_conflicts<D: Digester>(
     alloc: Global,
     draft: &Draft<D>,
-    base: Option<&Table>,
-    ours: &Table,
-    theirs: &Table,
+    base: Option<&StoredTable>,
+    ours: &StoredTable,
+    theirs: &StoredTable,
 ) -> Result<u64, AllocError>
     requires { (contents : PlainSides) × AreSides D.address (chunks_of draft.now.chunks) (option_copied base) ours.now theirs.now contents
         × (table : PlainTable) × (merged_contents contents ≡ Ok table) }
@@ -76,9 +76,9 @@ pub fn count_conflicts<D: Digester>(
 
 pub(crate) fn merged_schema(
     alloc: Global,
-    base: Option<&Table>,
-    ours: &Table,
-    theirs: &Table,
+    base: Option<&StoredTable>,
+    ours: &StoredTable,
+    theirs: &StoredTable,
 ) -> Result<Schema, MergeFault>
     requires ours { is_within_limits ours.now.schema ≡ true }
     requires theirs { is_within_limits theirs.now.schema ≡ true }
@@ -94,7 +94,7 @@ pub(crate) fn merged_schema(
     }
 }
 
-fn schema_perhaps(table: Option<&Table>) -> Option<&Schema>
+fn schema_perhaps(table: Option<&StoredTable>) -> Option<&Schema>
     ensures { option_copied result ≡ schema_perhaps (option_copied table.entry) }
 {
     match table {
@@ -107,15 +107,15 @@ fn schema_perhaps(table: Option<&Table>) -> Option<&Schema>
 pub(crate) fn merge_on<D: Digester>(
     alloc: Global,
     draft: &mut Draft<D>,
-    base: Option<&Table>,
-    ours: &Table,
-    theirs: &Table,
+    base: Option<&StoredTable>,
+    ours: &StoredTable,
+    theirs: &StoredTable,
     schema: Schema,
-) -> Result<Table, MergeFault>
+) -> Result<StoredTable, MergeFault>
     requires { (contents : PlainSides) × AreSides D.address (chunks_of draft.old.chunks) (option_copied base) ours.now theirs.now contents
         × (wanted_schema (option_copied base) ours.now theirs.now ≡ Ok schema) }
     ensures merged { (contents : PlainSides) → AreSides D.address (chunks_of draft.old.chunks) (option_copied base.entry) ours.now theirs.now contents
-        → IfOk result (λ table. IsMerged D.address (chunks_of draft.new.chunks) table (merged_contents contents)) }
+        → IfOk result (λ table. IsMergedTable D.address (chunks_of draft.new.chunks) table (merged_contents contents)) }
     ensures fault { (contents : PlainSides) → AreSides D.address (chunks_of draft.old.chunks) (option_copied base.entry) ours.now theirs.now contents
         → IfErr result (IsFaultOf (merged_contents contents)) }
     ensures grows { Grows is_node draft.old draft.new }
@@ -130,9 +130,9 @@ pub(crate) fn merge_on<D: Digester>(
 fn count_on<D: Digester>(
     alloc: Global,
     draft: &Draft<D>,
-    base: Option<&Table>,
-    ours: &Table,
-    theirs: &Table,
+    base: Option<&StoredTable>,
+    ours: &StoredTable,
+    theirs: &StoredTable,
     schema: &Schema,
 ) -> Result<u64, AllocError>
     requires { (contents : PlainSides) × AreSides D.address (chunks_of draft.now.chunks) (option_copied base) ours.now theirs.now contents
@@ -155,9 +155,9 @@ fn count_on<D: Digester>(
 fn lists_within<D: Digester>(
     alloc: Global,
     draft: &Draft<D>,
-    base: Option<&Table>,
-    ours: &Table,
-    theirs: &Table,
+    base: Option<&StoredTable>,
+    ours: &StoredTable,
+    theirs: &StoredTable,
     schema: &Schema,
 ) -> Result<Lists, Stop>
     requires { (contents : PlainSides) × AreSides D.address (chunks_of draft.now.chunks) (option_copied base) ours.now theirs.now contents
@@ -191,9 +191,9 @@ fn few(lists: Lists) -> Result<Lists, Stop>
 fn lists_on<D: Digester>(
     alloc: Global,
     draft: &Draft<D>,
-    base: Option<&Table>,
-    ours: &Table,
-    theirs: &Table,
+    base: Option<&StoredTable>,
+    ours: &StoredTable,
+    theirs: &StoredTable,
     schema: &Schema,
 ) -> Result<Lists, Stop>
     requires { (contents : PlainSides) × AreSides D.address (chunks_of draft.now.chunks) (option_copied base) ours.now theirs.now contents
@@ -218,10 +218,10 @@ fn keep<D: Digester>(
     draft: &mut Draft<D>,
     schema: Schema,
     lists: &Lists,
-) -> Result<Table, PutFault>
+) -> Result<StoredTable, PutFault>
     requires rows { AreTreeRows (map leaf_of lists.now.rows.items) }
     requires conflicts { AreTreeRows (map leaf_of lists.now.conflicts.items) }
-    ensures kept { IfOk result (λ table. IsKept D.address (chunks_of draft.new.chunks) table schema (map leaf_of lists.now.rows.items) (map leaf_of lists.now.conflicts.items)) }
+    ensures kept { IfOk result (λ table. HasItemTrees D.address (chunks_of draft.new.chunks) table schema (map leaf_of lists.now.rows.items) (map leaf_of lists.now.conflicts.items)) }
     ensures grows { Grows is_node draft.old draft.new }
     ensures cause { IfErr result (IsReason D.address (chunks_of draft.new.chunks)) }
 {
@@ -230,7 +230,7 @@ fn keep<D: Digester>(
     let rows = build(alloc, draft, lists.rows.as_slice())?;
     let conflicts = build(alloc, draft, lists.conflicts.as_slice())?;
     let violations = build(alloc, draft, &[])?;
-    Ok(Table {
+    Ok(StoredTable {
         schema,
         rows,
         indexes: Sequence::new(alloc),

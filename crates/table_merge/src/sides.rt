@@ -13,7 +13,7 @@ use crate::keyed::{KeyedRow, keyed_rows};
 use chunk_store::Draft;
 use schema_model::Schema;
 use std::alloc::{AllocError, Global};
-use table_root::Table;
+use table_root::StoredTable;
 use table_rows::read_rows;
 use tuple_codec::Digester;
 
@@ -29,9 +29,9 @@ pub(crate) struct Sides {
 pub(crate) fn read_sides<D: Digester>(
     alloc: Global,
     draft: &Draft<D>,
-    base: Option<&Table>,
-    ours: &Table,
-    theirs: &Table,
+    base: Option<&StoredTable>,
+    ours: &StoredTable,
+    theirs: &StoredTable,
     schema: &Schema,
 ) -> Result<Sides, AllocError>
     requires { (contents : PlainSides) × AreSides D.address (chunks_of draft.now.chunks) (option_copied base) ours.now theirs.now contents }
@@ -48,7 +48,7 @@ pub(crate) fn read_sides<D: Digester>(
 fn rows_on_or_none<D: Digester>(
     alloc: Global,
     draft: &Draft<D>,
-    table: Option<&Table>,
+    table: Option<&StoredTable>,
     schema: &Schema,
 ) -> Result<Vec<KeyedRow>, AllocError>
     requires { (contents : Option PlainTable) × IsSidePerhaps D.address (chunks_of draft.now.chunks) (option_copied table) contents }
@@ -65,7 +65,7 @@ fn rows_on_or_none<D: Digester>(
 fn rows_on<D: Digester>(
     alloc: Global,
     draft: &Draft<D>,
-    table: &Table,
+    table: &StoredTable,
     schema: &Schema,
 ) -> Result<Vec<KeyedRow>, AllocError>
     requires { (contents : PlainTable) × IsSide D.address (chunks_of draft.now.chunks) table.now contents }

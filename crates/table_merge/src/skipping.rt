@@ -14,9 +14,9 @@ ghost use Rattle.chunk_store.specs.Drafts.{Grows, chunks_of};
 ghost use Rattle.chunk_store.specs.Kinds.{is_node};
 ghost use Rattle.chunk_store.specs.Standing.{IsTree};
 ghost use Rattle.prolly_edit.specs.Editing.{CanEdit};
-ghost use Rattle.table_merge.specs.Merging.{AreKeptSides, IsFaultOf, IsMergeReason, IsMerged, PlainSides, merged_contents};
+ghost use Rattle.table_merge.specs.Merging.{AreKeptSides, IsFaultOf, IsMergeReason, IsMergedTable, PlainSides, merged_contents};
 ghost use Rattle.table_merge.specs.Skipping.{HaveSchema};
-ghost use Rattle.table_merge.specs.Steps.{AreTreeRows, IsKept, wanted_schema};
+ghost use Rattle.table_merge.specs.Steps.{AreTreeRows, HasItemTrees, wanted_schema};
 
 use crate::changing::{Merged, merge_changes};
 use crate::faults::MergeFault;
@@ -29,7 +29,7 @@ use prolly_tree::count;
 use schema_model::limits::MOST_ROWS;
 use schema_model::{Schema, law_of_sameness, law_of_schemas, write_schema};
 use std::alloc::{AllocError, Global};
-use table_root::Table;
+use table_root::StoredTable;
 use tuple_codec::{Address, Digester, Sequence};
 
 /// What two tables that keep the limits on data come to, as [`merge_table`](crate::merge_table) gives it.
@@ -39,13 +39,13 @@ use tuple_codec::{Address, Digester, Sequence};
 pub fn merge_kept_table<D: Digester>(
     alloc: Global,
     draft: &mut Draft<D>,
-    base: Option<&Table>,
-    ours: &Table,
-    theirs: &Table,
-) -> Result<Table, MergeFault>
+    base: Option<&StoredTable>,
+    ours: &StoredTable,
+    theirs: &StoredTable,
+) -> Result<StoredTable, MergeFault>
     requires sides { (contents : PlainSides) × AreKeptSides D.address (chunks_of draft.old.chunks) (option_copied base) ours.now theirs.now contents }
     ensures merged { (contents : PlainSides) → AreKeptSides D.address (chunks_of draft.old.chunks) (option_copied base.entry) ours.now theirs.now contents
-        → IfOk result (λ table. IsMerged D.address (chunks_of draft.new.chunks) table (merged_contents contents)) }
+        → IfOk result (λ table. IsMergedTable D.address (chunks_of draft.new.chunks) table (merged_contents contents)) }
     ensures fault { (contents : PlainSides) → AreKeptSides D.address (chunks_of draft.old.chunks) (option_copied base.entry) ours.now theirs.now contents
         → IfErr result (IsFaultOf (merged_contents contents)) }
     ensures grows { Grows is_node draft.old draft.new }
@@ -62,15 +62,15 @@ pub fn merge_kept_table<D: Digester>(
 fn merge_kept_on<D: Digester>(
     alloc: Global,
     draft: &mut Draft<D>,
-    base: Option<&Table>,
-    ours: &Table,
-    theirs: &Table,
+    base: Option<&StoredTable>,
+    ours: &StoredTable,
+    theirs: &StoredTable,
     schema: Schema,
-) -> Result<Table, MergeFault>
+) -> Result<StoredTable, MergeFault>
     requires { (contents : PlainSides) × AreKeptSides D.address (chunks_of draft.old.chunks) (option_copied base) ours.now theirs.now contents
         × (wanted_schema (option_copied base) ours.now theirs.now ≡ Ok schema) }
     ensures merged { (contents : PlainSides) → AreKeptSides D.address (chunks_of draft.old.chunks) (option_copied base.entry) ours.now theirs.now contents
-        → IfOk result (λ table. IsMerged D.address (chunks_of draft.new.chunks) table (merged_contents contents)) }
+        → IfOk result (λ table. IsMergedTable D.address (chunks_of draft.new.chunks) table (merged_contents contents)) }
     ensures fault { (contents : PlainSides) → AreKeptSides D.address (chunks_of draft.old.chunks) (option_copied base.entry) ours.now theirs.now contents
         → IfErr result (IsFaultOf (merged_contents contents)) }
     ensures grows { Grows is_node draft.old draft.new }
@@ -86,15 +86,15 @@ fn merge_kept_on<D: Digester>(
 fn merge_from<D: Digester>(
     alloc: Global,
     draft: &mut Draft<D>,
-    base: &Table,
-    ours: &Table,
-    theirs: &Table,
+    base: &StoredTable,
+    ours: &StoredTable,
+    theirs: &StoredTable,
     schema: Schema,
-) -> Result<Table, MergeFault>
+) -> Result<StoredTable, MergeFault>
     requires { (contents : PlainSides) × AreKeptSides D.address (chunks_of draft.old.chunks) (Some base.now) ours.now theirs.now contents
         × (wanted_schema (Some base.now) ours.now theirs.now ≡ Ok schema) }
     ensures merged { (contents : PlainSides) → AreKeptSides D.address (chunks_of draft.old.chunks) (Some base.now) ours.now theirs.now contents
-        → IfOk result (λ table. IsMerged D.address (chunks_of draft.new.chunks) table (merged_contents contents)) }
+        → IfOk result (λ table. IsMergedTable D.address (chunks_of draft.new.chunks) table (merged_contents contents)) }
     ensures fault { (contents : PlainSides) → AreKeptSides D.address (chunks_of draft.old.chunks) (Some base.now) ours.now theirs.now contents
         → IfErr result (IsFaultOf (merged_contents contents)) }
     ensures grows { Grows is_node draft.old draft.new }
@@ -113,9 +113,9 @@ fn merge_from<D: Digester>(
 fn have_schema(
     alloc: Global,
     schema: &Schema,
-    base: &Table,
-    ours: &Table,
-    theirs: &Table,
+    base: &StoredTable,
+    ours: &StoredTable,
+    theirs: &StoredTable,
 ) -> Result<bool, AllocError>
     requires schema { is_schema schema.now ≡ true }
     requires base { (is_schema base.now.schema ≡ true) × (is_within_limits base.now.schema ≡ true) }
@@ -148,16 +148,16 @@ fn has_bytes(alloc: Global, schema: &Schema, bytes: &[u8]) -> Result<bool, Alloc
 fn merge_by_changes<D: Digester>(
     alloc: Global,
     draft: &mut Draft<D>,
-    base: &Table,
-    ours: &Table,
-    theirs: &Table,
+    base: &StoredTable,
+    ours: &StoredTable,
+    theirs: &StoredTable,
     schema: Schema,
-) -> Result<Table, MergeFault>
+) -> Result<StoredTable, MergeFault>
     requires sides { (contents : PlainSides) × AreKeptSides D.address (chunks_of draft.old.chunks) (Some base.now) ours.now theirs.now contents
         × (wanted_schema (Some base.now) ours.now theirs.now ≡ Ok schema) }
     requires shared { HaveSchema schema base.now ours.now theirs.now }
     ensures merged { (contents : PlainSides) → AreKeptSides D.address (chunks_of draft.old.chunks) (Some base.now) ours.now theirs.now contents
-        → IfOk result (λ table. IsMerged D.address (chunks_of draft.new.chunks) table (merged_contents contents)) }
+        → IfOk result (λ table. IsMergedTable D.address (chunks_of draft.new.chunks) table (merged_contents contents)) }
     ensures fault { (contents : PlainSides) → AreKeptSides D.address (chunks_of draft.old.chunks) (Some base.now) ours.now theirs.now contents
         → IfErr result (IsFaultOf (merged_contents contents)) }
     ensures grows { Grows is_node draft.old draft.new }
@@ -181,11 +181,11 @@ fn keep_merged<D: Digester>(
     schema: Schema,
     ours: &Address,
     merged: &Merged,
-) -> Result<Table, PutFault>
+) -> Result<StoredTable, PutFault>
     requires rows { (rows : List Item) × CanEdit D.address (chunks_of draft.old.chunks) ours.now.0 merged.now.edits.items rows }
     requires conflicts { AreTreeRows (map leaf_of merged.now.conflicts.items) }
     ensures kept { (rows : List Item) → IsTree D.address (chunks_of draft.old.chunks) ours.now.0 rows
-        → IfOk result (λ table. IsKept D.address (chunks_of draft.new.chunks) table schema (edited rows merged.now.edits.items) (map leaf_of merged.now.conflicts.items)) }
+        → IfOk result (λ table. HasItemTrees D.address (chunks_of draft.new.chunks) table schema (edited rows merged.now.edits.items) (map leaf_of merged.now.conflicts.items)) }
     ensures grows { Grows is_node draft.old draft.new }
     ensures cause { IfErr result (IsReason D.address (chunks_of draft.new.chunks)) }
 {
@@ -194,7 +194,7 @@ fn keep_merged<D: Digester>(
     let rows = apply(alloc, draft, ours, merged.edits.as_slice())?;
     let conflicts = build(alloc, draft, merged.conflicts.as_slice())?;
     let violations = build(alloc, draft, &[])?;
-    Ok(Table {
+    Ok(StoredTable {
         schema,
         rows,
         indexes: Sequence::new(alloc),

@@ -16,15 +16,15 @@ use Rattle.tuple_codec.proofs.NumberLemmas.{AreBytes}
 use Rattle.tuple_codec.proofs.FieldLemmas.{bytes_again}
 use Rattle.schema_model.specs.Reading.{◌>>=◌, items_at}
 use Rattle.schema_model.specs.SchemaBytes.{schema_bytes}
-use Rattle.schema_model.specs.WrittenForms.{Entry, branch_bytes, merging_bytes}
+use Rattle.schema_model.specs.WrittenForms.{WrittenEntry, branch_bytes, merging_bytes}
 use Rattle.schema_model.specs.declared.schemas.Schema.{Schema}
 use Rattle.schema_model.proofs.PartLemmas.{IsReader, Takes, Takes-then, bind_some, bytes_takes, items_again, short_again, short_reader, takes}
 use Rattle.table_root.specs.Branches.{IsBranch, is_address_or_none}
-use Rattle.table_root.specs.Databases.{IsDatabase, entry_of, fits_name, has_address, named_bytes, written_database}
+use Rattle.table_root.specs.Databases.{IsStoredDatabase, entry_of, fits_name, has_address, named_bytes, written_database}
 use Rattle.table_root.specs.Reading.{address_at, as_address, as_four, as_two, branch_of, database_of, four_at, merging_of, named_at, schema_text, table_of, two_at}
-use Rattle.table_root.specs.Tables.{IsTable, is_address, written_table}
-use Rattle.table_root.specs.declared.records.NamedTable.{NamedTable}
-use Rattle.table_root.specs.declared.records.Table.{Table}
+use Rattle.table_root.specs.Tables.{IsStoredTable, is_address, written_table}
+use Rattle.table_root.specs.declared.records.StoredTable.{StoredTable}
+use Rattle.table_root.specs.declared.records.TableEntry.{TableEntry}
 
 -- ---- addresses and numbers
 
@@ -48,26 +48,26 @@ four_again n rest lt = ap (option_map as_four) (bytes_again 4 (to_be_bytes w32 n
 -- ---- tables
 
 -- the bytes after a table's schema
-abbrev pub roots_bytes : Table → List ℕ
+abbrev pub roots_bytes : StoredTable → List ℕ
 roots_bytes t = t.rows.0 ++ (flat_map (λ index. index) (map (λ index. index.0) t.indexes) ++ (t.conflicts.0 ++ t.violations.0))
 
-pub text_again : (t : Table) → IsTable t → schema_text (written_table t) ≡ Some (schema_bytes t.schema, roots_bytes t)
+pub text_again : (t : StoredTable) → IsStoredTable t → schema_text (written_table t) ≡ Some (schema_bytes t.schema, roots_bytes t)
 unfolding schema_text
 text_again t h =
     let text = schema_bytes t.schema in
     ap (λ (o : Option (ℕ × List ℕ)). o >>= λ size. bytes_at size.0 size.1) (four_again (length text) (text ++ roots_bytes t) h.size)
     ∙ bytes_again (length text) text (roots_bytes t) refl
 
-abbrev made : Schema → Address → List Address → Address → Address → Table
+abbrev made : Schema → Address → List Address → Address → Address → StoredTable
 made schema rows indexes conflicts violations = record { schema = schema; rows = rows; indexes = indexes; conflicts = conflicts; violations = violations }
 
-abbrev after_conflicts : Schema → Address → List Address → Address × List ℕ → Option Table
+abbrev after_conflicts : Schema → Address → List Address → Address × List ℕ → Option StoredTable
 after_conflicts schema rows indexes conflicts = address_at conflicts.1 >>= λ violations. Some (made schema rows indexes conflicts.0 violations.0)
 
-abbrev after_indexes : Schema → Address → List Address × List ℕ → Option Table
+abbrev after_indexes : Schema → Address → List Address × List ℕ → Option StoredTable
 after_indexes schema rows indexes = address_at indexes.1 >>= after_conflicts schema rows indexes.0
 
-abbrev after_rows : Schema → Address × List ℕ → Option Table
+abbrev after_rows : Schema → Address × List ℕ → Option StoredTable
 after_rows schema rows = items_at address_at (length schema.indexes) rows.1 >>= after_indexes schema rows.0
 
 indexes_again : (n : ℕ) (indexes : List Address) (rest : List ℕ) → length indexes ≡ n → list_all is_address indexes ≡ true
@@ -77,7 +77,7 @@ indexes_again n indexes rest count h =
     ∙ ap (λ (l : List ℕ). items_at address_at (length indexes) (l ++ rest)) (flat_map-map (λ (bytes : List ℕ). bytes) (λ (index : Address). index.0) indexes)
     ∙ items_again (λ (index : Address). index.0) is_address address_at address_reader indexes rest h
 
-pub roots_again : (t : Table) → IsTable t → table_of t.schema (roots_bytes t) ≡ Some t
+pub roots_again : (t : StoredTable) → IsStoredTable t → table_of t.schema (roots_bytes t) ≡ Some t
 unfolding table_of
 roots_again t h =
     let second = t.conflicts.0 ++ t.violations.0 in
@@ -90,16 +90,16 @@ roots_again t h =
 
 -- ---- databases
 
-abbrev made_named : List ℕ → Address × List ℕ → Option (NamedTable × List ℕ)
+abbrev made_named : List ℕ → Address × List ℕ → Option (TableEntry × List ℕ)
 made_named name table = Some (record { name = name; table = table.0 }, table.1)
 
-abbrev after_name : List ℕ × List ℕ → Option (NamedTable × List ℕ)
+abbrev after_name : List ℕ × List ℕ → Option (TableEntry × List ℕ)
 after_name name = address_at name.1 >>= made_named name.0
 
-abbrev is_named : NamedTable → Bool
+abbrev is_named : TableEntry → Bool
 is_named named = fits_name named && has_address named
 
-named_again : (n : NamedTable) (rest : List ℕ) → is_named n ≡ true → named_at (named_bytes n ++ rest) ≡ Some (n, rest)
+named_again : (n : TableEntry) (rest : List ℕ) → is_named n ≡ true → named_at (named_bytes n ++ rest) ≡ Some (n, rest)
 unfolding named_at
 named_again n rest h =
     let both = and_parts (fits_name n) (has_address n) h in
@@ -107,47 +107,47 @@ named_again n rest h =
     ∙ ap (λ (o : Option (List ℕ × List ℕ)). o >>= after_name) (short_again n.name (n.table.0 ++ rest))
     ∙ ap (λ (o : Option (Address × List ℕ)). o >>= made_named n.name) (address_again n.table rest both.1)
 
-named_takes : (bytes : List ℕ) (x : NamedTable × List ℕ) → AreBytes bytes → named_at bytes ≡ Some x → Takes bytes (named_bytes x.0) x.1
+named_takes : (bytes : List ℕ) (x : TableEntry × List ℕ) → AreBytes bytes → named_at bytes ≡ Some x → Takes bytes (named_bytes x.0) x.1
 unfolding named_at
 named_takes bytes x fit e =
     let b = bind_some (short_at bytes) after_name x e in
     let m = bind_some (address_at b.0.1) (made_named b.0.0) x b.2 in
     let s = (short_reader (λ (name : List ℕ). true)).takes bytes b.0 fit b.1 in
     let t = address_takes b.0.1 m.0 s.rest_fits m.1 in
-    subst (λ (y : NamedTable × List ℕ). Takes bytes (named_bytes y.0) y.1) (some_is _ x m.2) (Takes-then bytes (short b.0.0) b.0.1 m.0.0.0 m.0.1 s t)
+    subst (λ (y : TableEntry × List ℕ). Takes bytes (named_bytes y.0) y.1) (some_is _ x m.2) (Takes-then bytes (short b.0.0) b.0.1 m.0.0.0 m.0.1 s t)
 
 named_reader : IsReader named_bytes is_named named_at
 named_reader = record { takes = named_takes; again = named_again }
 
-abbrev tables_in : List NamedTable × List ℕ → Option (List NamedTable)
+abbrev tables_in : List TableEntry × List ℕ → Option (List TableEntry)
 tables_in tables = Some tables.0
 
-abbrev after_count : ℕ × List ℕ → Option (List NamedTable)
+abbrev after_count : ℕ × List ℕ → Option (List TableEntry)
 after_count count = items_at named_at count.0 count.1 >>= tables_in
 
 -- the tables' bytes, as the form has them and as they are read
-entries_are : (tables : List NamedTable) → flat_map (λ (entry : Entry). short entry.name ++ entry.address) (map entry_of tables) ≡ flat_map named_bytes tables
+entries_are : (tables : List TableEntry) → flat_map (λ (entry : WrittenEntry). short entry.name ++ entry.address) (map entry_of tables) ≡ flat_map named_bytes tables
 entries_are [] = refl
 entries_are (named ∷ tables) = ap (λ (l : List ℕ). named_bytes named ++ l) (entries_are tables)
 
-count_is : (tables : List NamedTable) → length (map entry_of tables) ≡ length tables
+count_is : (tables : List TableEntry) → length (map entry_of tables) ≡ length tables
 count_is [] = refl
 count_is (named ∷ tables) = ap (λ (n : ℕ). suc n) (count_is tables)
 
 -- a database's bytes over its tables
-pub database_is : (tables : List NamedTable) → written_database tables ≡ 4 ∷ (to_be_bytes w16 (length tables) ++ flat_map named_bytes tables)
+pub database_is : (tables : List TableEntry) → written_database tables ≡ 4 ∷ (to_be_bytes w16 (length tables) ++ flat_map named_bytes tables)
 database_is tables =
-    ap (λ (n : ℕ). 4 ∷ (to_be_bytes w16 n ++ flat_map (λ (entry : Entry). short entry.name ++ entry.address) (map entry_of tables))) (count_is tables)
+    ap (λ (n : ℕ). 4 ∷ (to_be_bytes w16 n ++ flat_map (λ (entry : WrittenEntry). short entry.name ++ entry.address) (map entry_of tables))) (count_is tables)
     ∙ ap (λ (l : List ℕ). 4 ∷ (to_be_bytes w16 (length tables) ++ l)) (entries_are tables)
 
-pub database_again : (tables : List NamedTable) → IsDatabase tables → database_of (written_database tables) ≡ Some tables
+pub database_again : (tables : List TableEntry) → IsStoredDatabase tables → database_of (written_database tables) ≡ Some tables
 unfolding database_of
 database_again tables h =
     let text = flat_map named_bytes tables in
     ap database_of (database_is tables)
     ∙ ap (λ (o : Option (ℕ × List ℕ)). o >>= after_count) (two_again (length tables) text h.few)
     ∙ ap (λ (l : List ℕ). items_at named_at (length tables) l >>= tables_in) (sym (append-nil text))
-    ∙ ap (λ (o : Option (List NamedTable × List ℕ)). o >>= tables_in)
+    ∙ ap (λ (o : Option (List TableEntry × List ℕ)). o >>= tables_in)
     (items_again named_bytes is_named named_at named_reader tables [] (both_all fits_name has_address tables h.names h.addresses))
 
 -- ---- branch records
@@ -181,7 +181,7 @@ branch_again b h =
     ∙ ap (λ (o : Option (Address × List ℕ)). o >>= after_staged b.head b.working) (address_again b.staged third h.staged)
     ∙ ap (λ (o : Option (Option Address)). o >>= made_branch b.head b.working b.staged) (merging_again b.merging h.merging)
 
-pub databases_one : (a b : List NamedTable) → IsDatabase a → IsDatabase b → written_database a ≡ written_database b → a ≡ b
+pub databases_one : (a b : List TableEntry) → IsStoredDatabase a → IsStoredDatabase b → written_database a ≡ written_database b → a ≡ b
 databases_one a b ha hb same = some_is a b (sym (database_again a ha) ∙ ap database_of same ∙ database_again b hb)
 
 pub branches_one : (a b : BranchRecord) → IsBranch a → IsBranch b → branch_bytes a ≡ branch_bytes b → a ≡ b

@@ -9,8 +9,8 @@ use Rattle.schema_model.specs.declared.schemas.Schema.{Schema}
 use Rattle.schema_model.proofs.PartLemmas.{nothing}
 use Rattle.table_root.specs.Finds.{Finds}
 use Rattle.table_root.specs.Reading.{schema_text, table_of}
-use Rattle.table_root.specs.Tables.{IsTable, written_table}
-use Rattle.table_root.specs.declared.records.Table.{Table}
+use Rattle.table_root.specs.Tables.{IsStoredTable, written_table}
+use Rattle.table_root.specs.declared.records.StoredTable.{StoredTable}
 use Rattle.tuple_codec.specs.declared.unread.Unread.{Unread}
 use Rattle.tuple_codec.specs.declared.unread.Unread.TheVariants.{Memory, Malformed}
 use Rattle.table_root.proofs.FormLemmas.{roots_again, roots_bytes, text_again}
@@ -33,23 +33,23 @@ finds_none view other Malformed o y w gives found = is_there o y found gives
 -- ---- tables
 
 -- the bytes of a table's schema, and those of its roots
-pub text_is : (t : Table) (bytes text roots : List ℕ) → IsTable t → bytes ≡ written_table t → schema_text bytes ≡ Some (text, roots) → (text ≡ schema_bytes t.schema) × (roots ≡ roots_bytes t)
+pub text_is : (t : StoredTable) (bytes text roots : List ℕ) → IsStoredTable t → bytes ≡ written_table t → schema_text bytes ≡ Some (text, roots) → (text ≡ schema_bytes t.schema) × (roots ≡ roots_bytes t)
 text_is t bytes text roots h e read =
     let pair : List ℕ × List ℕ = (text, roots) in
     let same = some_is pair (schema_bytes t.schema, roots_bytes t) (sym read ∙ ap schema_text e ∙ text_again t h) in
     (ap (λ (p : List ℕ × List ℕ). p.0) same, ap (λ (p : List ℕ × List ℕ). p.1) same)
 
-pub text_there : (t : Table) (bytes : List ℕ) → IsTable t → bytes ≡ written_table t → schema_text bytes ≡ Some (schema_bytes t.schema, roots_bytes t)
+pub text_there : (t : StoredTable) (bytes : List ℕ) → IsStoredTable t → bytes ≡ written_table t → schema_text bytes ≡ Some (schema_bytes t.schema, roots_bytes t)
 text_there t bytes h e = ap schema_text e ∙ text_again t h
 
 -- the roots are read by the number of the schema's indexes
-pub roots_are : (one : spelled.HasOneSpelling) (t : Table) (found : Schema) (text roots : List ℕ) → IsTable t → text ≡ schema_bytes t.schema → roots ≡ roots_bytes t
+pub roots_are : (one : spelled.HasOneSpelling) (t : StoredTable) (found : Schema) (text roots : List ℕ) → IsStoredTable t → text ≡ schema_bytes t.schema → roots ≡ roots_bytes t
     → is_schema found ≡ true → schema_bytes found ≡ text → table_of found roots ≡ Some t
 roots_are one t found text roots h e f is same_bytes =
     let same : found ≡ t.schema = one found t.schema is h.schema (same_bytes ∙ e) in
     ap (λ (s : Schema). table_of s roots) same ∙ ap (table_of t.schema) f ∙ roots_again t h
 
-pub tables_one : (one : spelled.HasOneSpelling) (a b : Table) → IsTable a → IsTable b → written_table a ≡ written_table b → a ≡ b
+pub tables_one : (one : spelled.HasOneSpelling) (a b : StoredTable) → IsStoredTable a → IsStoredTable b → written_table a ≡ written_table b → a ≡ b
 tables_one one a b ha hb same =
     let parts = text_is b (written_table a) (schema_bytes a.schema) (roots_bytes a) hb same (text_again a ha) in
     let read = roots_are one b a.schema (schema_bytes a.schema) (roots_bytes a) hb parts.0 parts.1 ha.schema refl in

@@ -15,7 +15,7 @@ use Rattle.schema_model.specs.PlainTables as plain
 use Rattle.schema_model.specs.PlainTables.{NamedTable, PlainDatabase, PlainTable, conflict_items, index_items, rises, row_items, violation_items}
 use Rattle.schema_model.specs.Schemas.{is_name}
 use Rattle.schema_model.specs.Spellings as spelled
-use Rattle.schema_model.specs.WrittenForms.{Entry, database_address, database_bytes, database_form, table_address, table_bytes, table_form}
+use Rattle.schema_model.specs.WrittenForms.{WrittenEntry, database_address, database_bytes, database_form, table_address, table_bytes, table_form}
 use Rattle.schema_model.specs.WrittenForms as written
 use Rattle.schema_model.specs.declared.schemas.IndexDef.{IndexDef}
 use Rattle.chunk_store.specs.Chunks.{Chunks, Extends, IsHeld}
@@ -27,8 +27,8 @@ use Rattle.tree_laws.proofs.Standing.{trees_lead}
 use Rattle.table_root.specs.Databases.{IsDatabaseFound, entry_of, fits_name, has_address, names_rise, written_database}
 use Rattle.table_root.specs.Standing.{DatabasesStand, HasOwnTrees, HasTrees, IsDatabaseAt, IsTableAt, IsTableOf, IsUnindexedOf, TableValuesStand, TablesStand, named_tables, table_of_lists, without_indexes}
 use Rattle.table_root.specs.Tables.{IsTableFound, is_address, written_table}
-use Rattle.table_root.specs.declared.records.NamedTable as stored
-use Rattle.table_root.specs.declared.records.Table as stored_tables
+use Rattle.table_root.specs.declared.records.StoredTable as stored_tables
+use Rattle.table_root.specs.declared.records.TableEntry as stored
 use Rattle.table_root.proofs.FormLemmas.{databases_one}
 use Rattle.table_root.proofs.ReadLemmas.{tables_one}
 use Rattle.schema_model.proofs.PartLemmas.{short_again}
@@ -95,12 +95,12 @@ module _ (address : List ℕ → List ℕ) (chunks : Chunks) where
 
   -- ---- databases
 
-  abbrev stored_table : NamedTable → stored.NamedTable
+  abbrev stored_table : NamedTable → stored.TableEntry
   stored_table named = record { name = named.name; table = record { 0 = table_address address named.table } }
 
   entries_are : (database : PlainDatabase) → map entry_of (map stored_table database) ≡ map (written.entry_of address) database
   entries_are [] = refl
-  entries_are (named ∷ database) = ap (λ (l : List Entry). written.entry_of address named ∷ l) (entries_are database)
+  entries_are (named ∷ database) = ap (λ (l : List WrittenEntry). written.entry_of address named ∷ l) (entries_are database)
 
   few_are : (database : PlainDatabase) → length (map stored_table database) ≡ length database
   few_are [] = refl
@@ -134,14 +134,14 @@ module _ (address : List ℕ → List ℕ) (chunks : Chunks) where
       addresses = have_addresses database stands.tables;
       rise = rise_too database stands.is_database.rise;
     };
-    held = ap chunks (sym stands.named) ∙ stands.there.0 ∙ ap (λ (l : List Entry). Some (database_form l)) (sym (entries_are database));
+    held = ap chunks (sym stands.named) ∙ stands.there.0 ∙ ap (λ (l : List WrittenEntry). Some (database_form l)) (sym (entries_are database));
   }
 
   database_stands : (k : List ℕ) (database : PlainDatabase) → plain.IsDatabase database
       → AllByRecursion (λ named. IsTableAt address chunks (table_address address named.table) named.table) database
       → IsHeld address chunks k (written_database (named_tables address database)) → length k ≡ 20 → IsDatabaseAt address chunks k database
   database_stands k database is_database tables held twenty =
-      let e : written_database (named_tables address database) ≡ database_bytes address database = ap (λ (l : List Entry). database_form l) (entries_are database) in
+      let e : written_database (named_tables address database) ≡ database_bytes address database = ap (λ (l : List WrittenEntry). database_form l) (entries_are database) in
       let named : database_address address database ≡ k = ap address (sym e) ∙ held.named in
       record {
         is_database = is_database;
@@ -209,18 +209,18 @@ module _ (address : List ℕ → List ℕ) (chunks : Chunks) where
   same_lists : (table other : PlainTable) → plain.IsTable table → plain.IsTable other → HasOwnTrees address chunks table → HasOwnTrees address chunks other
       → without_indexes (table_of_lists address table) ≡ without_indexes (table_of_lists address other) → table ≡ other
   same_lists table other is_table is_other trees others e =
-      items_tell.tables table other is_table is_other (ap (λ (t : stored_tables.Table). t.schema) e)
-      (by_root (row_items table) (row_items other) trees.rows others.rows (ap (λ (t : stored_tables.Table). t.rows.0) e))
-      (by_root (conflict_items table) (conflict_items other) trees.conflicts others.conflicts (ap (λ (t : stored_tables.Table). t.conflicts.0) e))
-      (by_root (violation_items table) (violation_items other) trees.violations others.violations (ap (λ (t : stored_tables.Table). t.violations.0) e))
+      items_tell.tables table other is_table is_other (ap (λ (t : stored_tables.StoredTable). t.schema) e)
+      (by_root (row_items table) (row_items other) trees.rows others.rows (ap (λ (t : stored_tables.StoredTable). t.rows.0) e))
+      (by_root (conflict_items table) (conflict_items other) trees.conflicts others.conflicts (ap (λ (t : stored_tables.StoredTable). t.conflicts.0) e))
+      (by_root (violation_items table) (violation_items other) trees.violations others.violations (ap (λ (t : stored_tables.StoredTable). t.violations.0) e))
 
-  unindexed_same : (t u : stored_tables.Table) (table other : PlainTable) → IsUnindexedOf address chunks t table → IsUnindexedOf address chunks u other → Exactly (t ≡ u) (table ≡ other)
+  unindexed_same : (t u : stored_tables.StoredTable) (table other : PlainTable) → IsUnindexedOf address chunks t table → IsUnindexedOf address chunks u other → Exactly (t ≡ u) (table ≡ other)
   unindexed_same t u table other a b = (
     λ same. same_lists table other a.is_table b.is_table a.trees b.trees (sym a.value ∙ same ∙ b.value),
     λ same. a.value ∙ ap (λ (x : PlainTable). without_indexes (table_of_lists address x)) same ∙ sym b.value,
   )
 
-  values_same : (t u : stored_tables.Table) (table other : PlainTable) → IsTableOf address chunks t table → IsTableOf address chunks u other → Exactly (t ≡ u) (table ≡ other)
+  values_same : (t u : stored_tables.StoredTable) (table other : PlainTable) → IsTableOf address chunks t table → IsTableOf address chunks u other → Exactly (t ≡ u) (table ≡ other)
   values_same t u table other a b = (
     λ same. same_lists table other a.is_table b.is_table (own_trees table a.trees) (own_trees other b.trees) (ap without_indexes (sym a.value ∙ same ∙ b.value)),
     λ same. a.value ∙ ap (table_of_lists address) same ∙ sym b.value,
@@ -251,7 +251,7 @@ module _ (address : List ℕ → List ℕ) (chunks : Chunks) where
       (ap (λ (p : List ℕ × List ℕ). p.0) same, ap (λ (p : List ℕ × List ℕ). p.1) same)
 
   entries_bytes : PlainDatabase → List ℕ
-  entries_bytes database = flat_map (λ (entry : Entry). short entry.name ++ entry.address) (map (written.entry_of address) database)
+  entries_bytes database = flat_map (λ (entry : WrittenEntry). short entry.name ++ entry.address) (map (written.entry_of address) database)
 
   named_one : (a b : NamedTable) → a.name ≡ b.name → a.table ≡ b.table → a ≡ b
   named_one a b name table = ap (λ (x : List ℕ). named_as x a.table) name ∙ ap (named_as b.name) table
@@ -300,7 +300,7 @@ table_values_stand one = record {
   read = λ address chunks k contents table stands found.
       record { is_table = stands.is_table; trees = stands.trees; value = (tables_stand one).same address chunks k contents table stands found };
   put = λ address chunks k contents table is held twenty.
-      table_stands address chunks k contents is.is_table is.trees (subst (λ (t : stored_tables.Table). IsHeld address chunks k (written_table t)) is.value held) twenty;
+      table_stands address chunks k contents is.is_table is.trees (subst (λ (t : stored_tables.StoredTable). IsHeld address chunks k (written_table t)) is.value held) twenty;
   later = λ address old new contents table more is. record { is_table = is.is_table; trees = trees_later address old new more contents is.trees; value = is.value };
   exactly = values_same;
   unindexed_later = λ address old new contents table more is. record { is_table = is.is_table; trees = own_later address old new more contents is.trees; value = is.value };

@@ -12,9 +12,9 @@ use Rattle.schema_model.specs.Limits.{has_short_names, is_short_name, is_within_
 use Rattle.schema_model.specs.SchemaBytes.{schema_bytes}
 use Rattle.schema_model.specs.declared.schemas.Schema.{Schema}
 use Rattle.table_root.specs.Databases.{fits_name, has_address, has_short_name, named_bytes, written_database}
-use Rattle.table_root.specs.Tables.{IsTable, is_address, written_table}
-use Rattle.table_root.specs.declared.records.NamedTable.{NamedTable}
-use Rattle.table_root.specs.declared.records.Table.{Table}
+use Rattle.table_root.specs.Tables.{IsStoredTable, is_address, written_table}
+use Rattle.table_root.specs.declared.records.StoredTable.{StoredTable}
+use Rattle.table_root.specs.declared.records.TableEntry.{TableEntry}
 use Rattle.table_root.proofs.FormLemmas.{database_is}
 
 -- every address may be written
@@ -54,13 +54,13 @@ addresses_length (address ∷ addresses) h =
     length-append address.0 (flat_map (λ (other : Address). other.0) addresses) ∙ omega (arith, one, more)
 
 -- a table's bytes over its roots
-table_is : (t : Table) → written_table t
+table_is : (t : StoredTable) → written_table t
     ≡ 3 ∷ (to_be_bytes w32 (length (schema_bytes t.schema)) ++ (schema_bytes t.schema ++ (t.rows.0 ++ (flat_map (λ (index : Address). index.0) t.indexes ++ (t.conflicts.0 ++ t.violations.0)))))
 table_is t =
     ap (λ (l : List ℕ). 3 ∷ (to_be_bytes w32 (length (schema_bytes t.schema)) ++ (schema_bytes t.schema ++ (t.rows.0 ++ (l ++ (t.conflicts.0 ++ t.violations.0))))))
     (flat_map-map (λ (bytes : List ℕ). bytes) (λ (index : Address). index.0) t.indexes)
 
-pub table_size : (t : Table) → IsTable t → is_within_limits t.schema ≡ true → length (written_table t) ≤ 65536
+pub table_size : (t : StoredTable) → IsStoredTable t → is_within_limits t.schema ≡ true → length (written_table t) ≤ 65536
 table_size t h limits =
     let few = limits_size t.schema limits in
     let some = few_indexes t.schema limits in
@@ -82,7 +82,7 @@ table_size t h limits =
 in_order : (size schema roots : List ℕ) → (3 ∷ (size ++ schema)) ++ roots ≡ 3 ∷ (size ++ (schema ++ roots))
 in_order size schema roots = simp append_assoc
 
-pub table_join : (t : Table) (schema a b d all : List ℕ) → schema ≡ schema_bytes t.schema → a ≡ [] → b ≡ a ++ 3 ∷ (to_be_bytes w32 (length schema) ++ schema)
+pub table_join : (t : StoredTable) (schema a b d all : List ℕ) → schema ≡ schema_bytes t.schema → a ≡ [] → b ≡ a ++ 3 ∷ (to_be_bytes w32 (length schema) ++ schema)
     → d ≡ b ++ (t.rows.0 ++ (flat_map (λ (index : Address). index.0) t.indexes ++ (t.conflicts.0 ++ t.violations.0))) → all ≡ d → all ≡ written_table t
 table_join t schema a b d all schema_is at_first with_schema with_roots same =
     let roots = t.rows.0 ++ (flat_map (λ (index : Address). index.0) t.indexes ++ (t.conflicts.0 ++ t.violations.0)) in
@@ -92,22 +92,22 @@ table_join t schema a b d all schema_is at_first with_schema with_roots same =
 
 -- ---- databases
 
-short_fit : (named : NamedTable) → has_short_name named ≡ true → fits_name named ≡ true
+short_fit : (named : TableEntry) → has_short_name named ≡ true → fits_name named ≡ true
 short_fit named h =
     let most = leb-true (length named.name) 64 (and_parts (leb 1 (length named.name)) (leb (length named.name) 64) h).1 in
     lt-ltb (length named.name) 256 (omega (arith, most))
 
-pub short_fits : (tables : List NamedTable) → list_all has_short_name tables ≡ true → list_all fits_name tables ≡ true
+pub short_fits : (tables : List TableEntry) → list_all has_short_name tables ≡ true → list_all fits_name tables ≡ true
 short_fits tables h = each_has has_short_name fits_name short_fit tables h
 
-pub database_join : (tables : List NamedTable) (a d e all : List ℕ) → a ≡ [] → d ≡ a ++ 4 ∷ to_be_bytes w16 (length tables)
+pub database_join : (tables : List TableEntry) (a d e all : List ℕ) → a ≡ [] → d ≡ a ++ 4 ∷ to_be_bytes w16 (length tables)
     → e ≡ d ++ flat_map named_bytes tables → all ≡ e → all ≡ written_database tables
 database_join tables a d e all at_first with_count with_tables same =
     let two : d ≡ 4 ∷ to_be_bytes w16 (length tables) = with_count ∙ ap (λ (l : List ℕ). l ++ 4 ∷ to_be_bytes w16 (length tables)) at_first in
     same ∙ with_tables ∙ ap (λ (l : List ℕ). l ++ flat_map named_bytes tables) two ∙ sym (database_is tables)
 
 -- a name of at most 64 bytes and an address
-tables_size : (tables : List NamedTable) → list_all has_short_name tables ≡ true → list_all has_address tables ≡ true → length (flat_map named_bytes tables) ≤ 85 * length tables
+tables_size : (tables : List TableEntry) → list_all has_short_name tables ≡ true → list_all has_address tables ≡ true → length (flat_map named_bytes tables) ≤ 85 * length tables
 tables_size [] h k = omega arith
 tables_size (named ∷ tables) h k =
     let names = and_parts (has_short_name named) (list_all has_short_name tables) h in
@@ -119,7 +119,7 @@ tables_size (named ∷ tables) h k =
     let b = length-append (named_bytes named) (flat_map named_bytes tables) in
     omega (arith, most, twenty, more, a, b)
 
-pub database_size : (tables : List NamedTable) → length tables ≤ 256 → list_all has_short_name tables ≡ true → list_all has_address tables ≡ true → length (written_database tables) ≤ 65536
+pub database_size : (tables : List TableEntry) → length tables ≤ 256 → list_all has_short_name tables ≡ true → list_all has_address tables ≡ true → length (written_database tables) ≤ 65536
 database_size tables few names addresses =
     let most = tables_size tables names addresses in
     subst (λ (l : List ℕ). length l ≤ 65536) (sym (database_is tables)) (omega (arith, most, few))

@@ -25,7 +25,7 @@ abbrev pub padded : List ℕ → List ℕ
 padded bytes = bytes ++ drop (length bytes) (replicate 64 0)
 
 -- so many of these bytes are a name, and the others are zeros
-pub record IsKept (held : List ℕ) (size : ℕ) : Type 0 where
+pub record IsPaddedName (held : List ℕ) (size : ℕ) : Type 0 where
   pub padded : padded (take size held) ≡ held
   pub counted : length (take size held) ≡ size
   pub few : size ≤ 64

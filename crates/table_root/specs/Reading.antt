@@ -7,8 +7,8 @@ use Rattle.tuple_codec.specs.declared.addresses.Address.{Address}
 use Rattle.tuple_codec.specs.declared.records.BranchRecord.{BranchRecord}
 use Rattle.schema_model.specs.Reading.{◌>>=◌, items_at}
 use Rattle.schema_model.specs.declared.schemas.Schema.{Schema}
-use Rattle.table_root.specs.declared.records.NamedTable.{NamedTable}
-use Rattle.table_root.specs.declared.records.Table.{Table}
+use Rattle.table_root.specs.declared.records.StoredTable.{StoredTable}
+use Rattle.table_root.specs.declared.records.TableEntry.{TableEntry}
 
 abbrev pub as_address : List ℕ × List ℕ → Address × List ℕ
 as_address x = (record { 0 = x.0 }, x.1)
@@ -37,7 +37,7 @@ after_kind kind [] = None
 after_kind kind (first ∷ rest) = if first == kind then Some rest else None
 
 -- a table's name and address
-unfoldable pub named_at : List ℕ → Option (NamedTable × List ℕ)
+unfoldable pub named_at : List ℕ → Option (TableEntry × List ℕ)
 named_at bytes = do
   name ← short_at bytes
   table ← address_at name.1
@@ -51,7 +51,7 @@ schema_text bytes = do
   bytes_at size.0 size.1
 
 -- the table of this schema whose roots these are
-unfoldable pub table_of : Schema → List ℕ → Option Table
+unfoldable pub table_of : Schema → List ℕ → Option StoredTable
 table_of schema bytes = do
   rows ← address_at bytes
   indexes ← items_at address_at (length schema.indexes) rows.1
@@ -59,7 +59,7 @@ table_of schema bytes = do
   violations ← address_at conflicts.1
   Some (record { schema = schema; rows = rows.0; indexes = indexes.0; conflicts = conflicts.0; violations = violations.0 })
 
-unfoldable pub database_of : List ℕ → Option (List NamedTable)
+unfoldable pub database_of : List ℕ → Option (List TableEntry)
 database_of bytes = do
   rest ← after_kind 4 bytes
   count ← two_at rest

@@ -2,14 +2,14 @@
 use Rattle.std.specs.Prelude.{◌≡◌, List}
 use Rattle.tuple_codec.specs.declared.records.BranchRecord.{BranchRecord}
 use Rattle.schema_model.specs.WrittenForms.{branch_bytes}
-use Rattle.table_root.specs.Tables.{IsTable, written_table}
-use Rattle.table_root.specs.Databases.{IsDatabase, written_database}
+use Rattle.table_root.specs.Tables.{IsStoredTable, written_table}
+use Rattle.table_root.specs.Databases.{IsStoredDatabase, written_database}
 use Rattle.table_root.specs.Branches.{IsBranch}
-use Rattle.table_root.specs.declared.records.NamedTable.{NamedTable}
-use Rattle.table_root.specs.declared.records.Table.{Table}
+use Rattle.table_root.specs.declared.records.StoredTable.{StoredTable}
+use Rattle.table_root.specs.declared.records.TableEntry.{TableEntry}
 
 -- two tables, two databases or two branch records with the same bytes are one
 pub record HaveOneSpelling : Type 0 where
-  pub tables : (a b : Table) → IsTable a → IsTable b → written_table a ≡ written_table b → a ≡ b
-  pub databases : (a b : List NamedTable) → IsDatabase a → IsDatabase b → written_database a ≡ written_database b → a ≡ b
+  pub tables : (a b : StoredTable) → IsStoredTable a → IsStoredTable b → written_table a ≡ written_table b → a ≡ b
+  pub databases : (a b : List TableEntry) → IsStoredDatabase a → IsStoredDatabase b → written_database a ≡ written_database b → a ≡ b
   pub branches : (a b : BranchRecord) → IsBranch a → IsBranch b → branch_bytes a ≡ branch_bytes b → a ≡ b

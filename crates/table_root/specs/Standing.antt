@@ -10,8 +10,8 @@ use Rattle.chunk_store.specs.Standing.{IsThere, IsTree}
 use Rattle.tree_laws.specs.Standing.{Exactly}
 use Rattle.table_root.specs.Databases.{IsDatabaseFound, written_database}
 use Rattle.table_root.specs.Tables.{IsTableFound, written_table}
-use Rattle.table_root.specs.declared.records.NamedTable.{NamedTable}
-use Rattle.table_root.specs.declared.records.Table.{Table}
+use Rattle.table_root.specs.declared.records.StoredTable.{StoredTable}
+use Rattle.table_root.specs.declared.records.TableEntry.{TableEntry}
 
 -- the trees of a table's lists are found: of its rows, of each index, of its conflicts and of its violations
 pub record HasTrees (address : List ℕ → List ℕ) (chunks : Chunks) (table : PlainTable) : Type 0 where
@@ -35,7 +35,7 @@ pub record IsDatabaseAt (address : List ℕ → List ℕ) (chunks : Chunks) (k :
   pub tables : AllByRecursion (λ named. IsTableAt address chunks (table_address address named.table) named.table) database
 
 -- a table whose roots are those of the plain table's lists
-abbrev pub table_of_lists : (List ℕ → List ℕ) → PlainTable → Table
+abbrev pub table_of_lists : (List ℕ → List ℕ) → PlainTable → StoredTable
 table_of_lists address table = record {
   schema = table.schema;
   rows = record { 0 = root address (row_items table) };
@@ -45,7 +45,7 @@ table_of_lists address table = record {
 }
 
 -- a table with the roots of a plain table's lists, whose trees are found
-pub record IsTableOf (address : List ℕ → List ℕ) (chunks : Chunks) (table : Table) (contents : PlainTable) : Type 0 where
+pub record IsTableOf (address : List ℕ → List ℕ) (chunks : Chunks) (table : StoredTable) (contents : PlainTable) : Type 0 where
   pub is_table : plain.IsTable contents
   pub trees : HasTrees address chunks contents
   pub value : table ≡ table_of_lists address contents
@@ -56,17 +56,17 @@ pub record HasOwnTrees (address : List ℕ → List ℕ) (chunks : Chunks) (tabl
   pub conflicts : IsTree address chunks (root address (conflict_items table)) (conflict_items table)
   pub violations : IsTree address chunks (root address (violation_items table)) (violation_items table)
 
-abbrev pub without_indexes : Table → Table
+abbrev pub without_indexes : StoredTable → StoredTable
 without_indexes table = record { schema = table.schema; rows = table.rows; indexes = []; conflicts = table.conflicts; violations = table.violations }
 
 -- the same of a table whose indexes are still to be made: it has no root of an index
-pub record IsUnindexedOf (address : List ℕ → List ℕ) (chunks : Chunks) (table : Table) (contents : PlainTable) : Type 0 where
+pub record IsUnindexedOf (address : List ℕ → List ℕ) (chunks : Chunks) (table : StoredTable) (contents : PlainTable) : Type 0 where
   pub is_table : plain.IsTable contents
   pub trees : HasOwnTrees address chunks contents
   pub value : table ≡ without_indexes (table_of_lists address contents)
 
 -- the tables of a plain database, by name and address
-abbrev pub named_tables : (List ℕ → List ℕ) → PlainDatabase → List NamedTable
+abbrev pub named_tables : (List ℕ → List ℕ) → PlainDatabase → List TableEntry
 named_tables address database = map (λ named. record { name = named.name; table = record { 0 = table_address address named.table } }) database
 
 -- where a table stands it is found, and what is found there has the roots of its lists; where such a table is put and its
@@ -75,7 +75,7 @@ named_tables address database = map (λ named. record { name = named.name; table
 pub record TablesStand : Type 0 where
   pub found : (address : List ℕ → List ℕ) (chunks : Chunks) (k : List ℕ) (table : PlainTable) → IsTableAt address chunks k table
       → IsTableFound chunks k (table_of_lists address table)
-  pub same : (address : List ℕ → List ℕ) (chunks : Chunks) (k : List ℕ) (table : PlainTable) (read : Table) → IsTableAt address chunks k table
+  pub same : (address : List ℕ → List ℕ) (chunks : Chunks) (k : List ℕ) (table : PlainTable) (read : StoredTable) → IsTableAt address chunks k table
       → IsTableFound chunks k read → read ≡ table_of_lists address table
   pub stands : (address : List ℕ → List ℕ) (chunks : Chunks) (k : List ℕ) (table : PlainTable) → plain.IsTable table → HasTrees address chunks table
       → IsHeld address chunks k (written_table (table_of_lists address table)) → length k ≡ 20 → IsTableAt address chunks k table
@@ -87,24 +87,24 @@ pub record TablesStand : Type 0 where
 -- the same of tables' values: one is read where a table stands, and one that is put stands; and they are the same exactly where
 -- their contents are
 pub record TableValuesStand : Type 0 where
-  pub read : (address : List ℕ → List ℕ) (chunks : Chunks) (k : List ℕ) (contents : PlainTable) (table : Table) → IsTableAt address chunks k contents
+  pub read : (address : List ℕ → List ℕ) (chunks : Chunks) (k : List ℕ) (contents : PlainTable) (table : StoredTable) → IsTableAt address chunks k contents
       → IsTableFound chunks k table → IsTableOf address chunks table contents
-  pub put : (address : List ℕ → List ℕ) (chunks : Chunks) (k : List ℕ) (contents : PlainTable) (table : Table) → IsTableOf address chunks table contents
+  pub put : (address : List ℕ → List ℕ) (chunks : Chunks) (k : List ℕ) (contents : PlainTable) (table : StoredTable) → IsTableOf address chunks table contents
       → IsHeld address chunks k (written_table table) → length k ≡ 20 → IsTableAt address chunks k contents
-  pub later : (address : List ℕ → List ℕ) (old new : Chunks) (contents : PlainTable) (table : Table) → Extends old new → IsTableOf address old table contents
+  pub later : (address : List ℕ → List ℕ) (old new : Chunks) (contents : PlainTable) (table : StoredTable) → Extends old new → IsTableOf address old table contents
       → IsTableOf address new table contents
-  pub exactly : (address : List ℕ → List ℕ) (chunks : Chunks) (table read : Table) (contents other : PlainTable) → IsTableOf address chunks table contents
+  pub exactly : (address : List ℕ → List ℕ) (chunks : Chunks) (table read : StoredTable) (contents other : PlainTable) → IsTableOf address chunks table contents
       → IsTableOf address chunks read other → Exactly (table ≡ read) (contents ≡ other)
-  pub unindexed_later : (address : List ℕ → List ℕ) (old new : Chunks) (contents : PlainTable) (table : Table) → Extends old new → IsUnindexedOf address old table contents
+  pub unindexed_later : (address : List ℕ → List ℕ) (old new : Chunks) (contents : PlainTable) (table : StoredTable) → Extends old new → IsUnindexedOf address old table contents
       → IsUnindexedOf address new table contents
-  pub unindexed_exactly : (address : List ℕ → List ℕ) (chunks : Chunks) (table read : Table) (contents other : PlainTable) → IsUnindexedOf address chunks table contents
+  pub unindexed_exactly : (address : List ℕ → List ℕ) (chunks : Chunks) (table read : StoredTable) (contents other : PlainTable) → IsUnindexedOf address chunks table contents
       → IsUnindexedOf address chunks read other → Exactly (table ≡ read) (contents ≡ other)
 
 -- the same of databases: what is found names the tables
 pub record DatabasesStand : Type 0 where
   pub found : (address : List ℕ → List ℕ) (chunks : Chunks) (k : List ℕ) (database : PlainDatabase) → IsDatabaseAt address chunks k database
       → length database < 2 ^ 16 → IsDatabaseFound chunks k (named_tables address database)
-  pub same : (address : List ℕ → List ℕ) (chunks : Chunks) (k : List ℕ) (database : PlainDatabase) (read : List NamedTable) → IsDatabaseAt address chunks k database
+  pub same : (address : List ℕ → List ℕ) (chunks : Chunks) (k : List ℕ) (database : PlainDatabase) (read : List TableEntry) → IsDatabaseAt address chunks k database
       → length database < 2 ^ 16 → IsDatabaseFound chunks k read → read ≡ named_tables address database
   pub stands : (address : List ℕ → List ℕ) (chunks : Chunks) (k : List ℕ) (database : PlainDatabase) → plain.IsDatabase database
       → AllByRecursion (λ named. IsTableAt address chunks (table_address address named.table) named.table) database
@@ -114,3 +114,16 @@ pub record DatabasesStand : Type 0 where
       → database ≡ other
   pub exactly : (address : List ℕ → List ℕ) (chunks : Chunks) (k l : List ℕ) (database other : PlainDatabase) → IsDatabaseAt address chunks k database
       → IsDatabaseAt address chunks l other → Exactly (k ≡ l) (database ≡ other)
+
+-- the address stands for the database, of fewer tables than its written form holds
+pub record IsReadAt (address : List ℕ → List ℕ) (chunks : Chunks) (k : List ℕ) (database : PlainDatabase) : Type 0 where
+  pub stands : IsDatabaseAt address chunks k database
+  pub few : length database < 2 ^ 16
+
+abbrev pub CanRead : (List ℕ → List ℕ) → Chunks → List ℕ → Type 0
+CanRead address chunks k = (database : PlainDatabase) × IsReadAt address chunks k database
+
+-- this list names the tables of the database, which stand
+pub record AreThere (address : List ℕ → List ℕ) (chunks : Chunks) (database : PlainDatabase) (tables : List TableEntry) : Type 0 where
+  pub stand : AllByRecursion (λ named. IsTableAt address chunks (table_address address named.table) named.table) database
+  pub listed : tables ≡ named_tables address database

@@ -6,18 +6,18 @@ use Rattle.schema_model.specs.SchemaBytes.{schema_bytes}
 use Rattle.schema_model.specs.Schemas.{is_schema}
 use Rattle.schema_model.specs.WrittenForms.{table_form}
 use Rattle.chunk_store.specs.Chunks.{Chunks}
-use Rattle.table_root.specs.declared.records.Table.{Table}
+use Rattle.table_root.specs.declared.records.StoredTable.{StoredTable}
 
 -- twenty bytes
 abbrev pub is_address : Address → Bool
 is_address address = length address.0 == 20
 
 -- a table's bytes
-abbrev pub written_table : Table → List ℕ
+abbrev pub written_table : StoredTable → List ℕ
 written_table table = table_form table.schema table.rows.0 (map (λ index. index.0) table.indexes) table.conflicts.0 table.violations.0
 
 -- each root has twenty bytes
-pub record HasRoots (table : Table) : Type 0 where
+pub record HasRoots (table : StoredTable) : Type 0 where
   pub rows : is_address table.rows ≡ true
   pub indexes : list_all is_address table.indexes ≡ true
   pub conflicts : is_address table.conflicts ≡ true
@@ -25,17 +25,17 @@ pub record HasRoots (table : Table) : Type 0 where
 
 -- what a table is: a schema whose length fits in its field, and one root for each index beside those of rows, conflicts
 -- and violations
-pub record IsTable (table : Table) : Type 0 where
+pub record IsStoredTable (table : StoredTable) : Type 0 where
   pub schema : is_schema table.schema ≡ true
   pub size : length (schema_bytes table.schema) < 2 ^ 32
   pub count : length table.indexes ≡ length table.schema.indexes
   pub roots : HasRoots table
 
 -- the table's bytes are found at the address
-pub record IsTableFound (chunks : Chunks) (k : List ℕ) (table : Table) : Type 0 where
-  pub is_table : IsTable table
+pub record IsTableFound (chunks : Chunks) (k : List ℕ) (table : StoredTable) : Type 0 where
+  pub is_table : IsStoredTable table
   pub held : chunks k ≡ Some (written_table table)
 
 -- some table's are
 abbrev pub HasTable : Chunks → List ℕ → Type 0
-HasTable chunks k = (table : Table) × IsTableFound chunks k table
+HasTable chunks k = (table : StoredTable) × IsTableFound chunks k table

@@ -6,12 +6,12 @@ ghost use Rattle.std.specs.List.{list_all};
 ghost use Rattle.tuple_codec.specs.Fronts.{Gives};
 ghost use Rattle.chunk_store.specs.Drafts.{Grows, Puts, chunks_of};
 ghost use Rattle.chunk_store.specs.Kinds.{is_database};
-ghost use Rattle.table_root.specs.Databases.{HasDatabase, IsDatabase, IsDatabaseFound, has_short_name, names_rise, written_database};
+ghost use Rattle.table_root.specs.Databases.{HasDatabase, IsDatabaseFound, IsStoredDatabase, has_short_name, names_rise, written_database};
 ghost use Rattle.table_root.specs.Reading.{database_of};
 
 use crate::fields::{after_kind, two_at};
 use crate::parts::{items_at, push_items};
-use crate::records::NamedTable;
+use crate::records::TableEntry;
 use chunk_store::{Draft, PutFault, law_of_growth};
 use std::alloc::{AllocError, Global};
 use tuple_codec::{Address, Blob, Digester, Unread};
@@ -20,7 +20,7 @@ use tuple_codec::{Address, Blob, Digester, Unread};
 pub fn write_database<D: Digester>(
     alloc: Global,
     draft: &mut Draft<D>,
-    tables: &[NamedTable],
+    tables: &[TableEntry],
 ) -> Result<Address, PutFault>
     requires few { length tables.now ≤ 256 }
     requires names { list_all has_short_name tables.now ≡ true }
@@ -35,12 +35,12 @@ pub fn write_database<D: Digester>(
 }
 
 /// The database's written form.
-fn database_bytes(alloc: Global, tables: &[NamedTable]) -> Result<Blob, AllocError>
+fn database_bytes(alloc: Global, tables: &[TableEntry]) -> Result<Blob, AllocError>
     requires few { length tables.now ≤ 256 }
     requires names { list_all has_short_name tables.now ≡ true }
     requires rise { names_rise tables.now ≡ true }
     ensures bytes { IfOk result (λ bytes. bytes ≡ written_database tables.now) }
-    ensures database { OnOk result (IsDatabase tables.now) }
+    ensures database { OnOk result (IsStoredDatabase tables.now) }
     ensures size { IfOk result (λ bytes. length bytes ≤ 65536) }
 {
     let mut out = Vec::new(alloc);
@@ -50,7 +50,7 @@ fn database_bytes(alloc: Global, tables: &[NamedTable]) -> Result<Blob, AllocErr
 }
 
 /// Writes the kind of the chunk, and how many tables there are.
-fn push_count(out: &mut Vec<u8>, tables: &[NamedTable]) -> Result<(), AllocError>
+fn push_count(out: &mut Vec<u8>, tables: &[TableEntry]) -> Result<(), AllocError>
     requires { length tables.now ≤ 256 }
     ensures { OnOk result (out.new.items ≡ out.old.items ++ 4 ∷ to_be_bytes w16 (length tables.now)) }
 {
@@ -64,7 +64,7 @@ pub fn read_database<D: Digester>(
     alloc: Global,
     draft: &Draft<D>,
     address: &Address,
-) -> Result<Vec<NamedTable>, AllocError>
+) -> Result<Vec<TableEntry>, AllocError>
     requires { HasDatabase (chunks_of draft.now.chunks) address.now.0 }
     ensures { IfOk result (λ tables. IsDatabaseFound (chunks_of draft.now.chunks) address.now.0 tables.items) }
 {
@@ -80,7 +80,7 @@ pub fn read_database<D: Digester>(
 
 /// The database that has these bytes.
 #[tactic(auto, unfolding(crate::specs::Reading::database_of))]
-fn database_of(alloc: Global, bytes: &[u8]) -> Result<Vec<NamedTable>, Unread>
+fn database_of(alloc: Global, bytes: &[u8]) -> Result<Vec<TableEntry>, Unread>
     ensures { Gives (λ tables. tables.items) result (database_of bytes.now) }
 {
     let rest = after_kind(4, bytes)?;

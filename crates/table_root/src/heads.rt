@@ -10,7 +10,7 @@ use tuple_codec::{Address, BranchRecord};
 
 /// A branch's name and its newest commit.
 #[derive(Clone, Copy, Debug)]
-pub struct Head {
+pub struct BranchHead {
     pub branch: BranchName,
     pub head: Address,
 }
@@ -18,15 +18,15 @@ pub struct Head {
 /// The heads of branches, by rising name.
 #[derive(Debug, Drop)]
 pub struct Heads {
-    heads: Vec<Head>,
+    heads: Vec<BranchHead>,
 }
 
 impl Model for Heads {
     ghost use Rattle.std.specs.Prelude.{List, ◌≡◌, true};
     ghost use Rattle.table_root.specs.Heads.{heads_rise};
-    ghost use Rattle.table_root.specs.declared.heads.Head.{Head};
+    ghost use Rattle.table_root.specs.declared.heads.BranchHead.{BranchHead};
 
-    ghost Value = { List Head };
+    ghost Value = { List BranchHead };
 
     ghost view = { λ heads. heads.heads.items };
 
@@ -35,7 +35,7 @@ impl Model for Heads {
 
 impl Heads {
     /// These heads, without a copy.
-    pub fn from_vec(heads: Vec<Head>) -> Heads
+    pub fn from_vec(heads: Vec<BranchHead>) -> Heads
         requires { heads_rise heads.items ≡ true }
         ensures { result ≡ heads.items }
     {
@@ -43,7 +43,7 @@ impl Heads {
     }
 
     /// The heads by rising name.
-    pub fn as_slice(&self) -> &[Head]
+    pub fn as_slice(&self) -> &[BranchHead]
         ensures heads { result.now ≡ self.now }
         ensures rise { heads_rise self.now ≡ true }
     {

@@ -16,8 +16,8 @@ mod tables;
 
 pub use branches::{read_branch, write_branch};
 pub use databases::{read_database, write_database};
-pub use heads::{Head, Heads, Look};
+pub use heads::{BranchHead, Heads, Look};
 pub use laws::{law_of_databases, law_of_tables, law_of_written_forms};
 pub use names::BranchName;
-pub use records::{NamedTable, Table};
+pub use records::{StoredTable, TableEntry};
 pub use tables::{read_table, write_table};

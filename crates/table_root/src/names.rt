@@ -20,13 +20,13 @@ pub struct BranchName {
 
 impl Model for BranchName {
     ghost use Rattle.std.specs.Prelude.{ℕ, List, length, take};
-    ghost use Rattle.table_root.specs.Names.{IsKept, padded};
+    ghost use Rattle.table_root.specs.Names.{IsPaddedName, padded};
 
     ghost Value = { List ℕ };
 
     ghost view = { λ name. take name.size name.held };
 
-    ghost invariant = { λ name. IsKept name.held name.size };
+    ghost invariant = { λ name. IsPaddedName name.held name.size };
 
     ghost inverse = { λ bytes. record { held = padded bytes; size = length bytes } };
 

@@ -6,7 +6,7 @@ ghost use Rattle.tuple_codec.specs.Fronts.{Gives};
 ghost use Rattle.schema_model.specs.Reading.{items_at};
 
 use crate::fields::{address_at, push_address};
-use crate::records::NamedTable;
+use crate::records::TableEntry;
 use std::alloc::{AllocError, Global};
 use tuple_codec::{Address, Sequence, Text, Unread, push_short, short_at};
 
@@ -55,7 +55,7 @@ impl Part for Address {
     }
 }
 
-impl Part for NamedTable {
+impl Part for TableEntry {
     ghost use Rattle.table_root.specs.Databases.{fits_name, has_address, named_bytes};
     ghost use Rattle.table_root.specs.Reading.{named_at};
 
@@ -68,11 +68,11 @@ impl Part for NamedTable {
     ghost whole = { has_address };
 
     #[tactic(auto, unfolding(crate::specs::Reading::named_at))]
-    fn read(alloc: Global, bytes: &[u8]) -> Result<(NamedTable, &[u8]), Unread> {
+    fn read(alloc: Global, bytes: &[u8]) -> Result<(TableEntry, &[u8]), Unread> {
         let (name, rest) = short_at(bytes)?;
         let (table, rest) = address_at(rest)?;
         let name = Text::from_slice(alloc, name)?;
-        Ok((NamedTable { name, table }, rest))
+        Ok((TableEntry { name, table }, rest))
     }
 
     fn push(&self, out: &mut Vec<u8>) -> Result<(), AllocError> {

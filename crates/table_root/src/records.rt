@@ -5,7 +5,7 @@ use tuple_codec::{Address, Sequence, Text};
 
 /// A table: its schema, and the roots of the trees that keep its rows.
 #[derive(Clone, Debug, Drop, PartialEq, Eq)]
-pub struct Table {
+pub struct StoredTable {
     pub schema: Schema,
     pub rows: Address,
     /// One root for each of the schema's indexes, in their order.
@@ -16,7 +16,7 @@ pub struct Table {
 
 /// A table in a database: its name, and the address of its written form.
 #[derive(Clone, Debug, Drop, PartialEq, Eq)]
-pub struct NamedTable {
+pub struct TableEntry {
     pub name: Text,
     pub table: Address,
 }

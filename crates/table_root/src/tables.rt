@@ -10,11 +10,11 @@ ghost use Rattle.chunk_store.specs.Drafts.{Grows, Puts, chunks_of};
 ghost use Rattle.chunk_store.specs.Kinds.{is_table};
 ghost use Rattle.table_root.specs.Finds.{Finds};
 ghost use Rattle.table_root.specs.Reading.{schema_text, table_of};
-ghost use Rattle.table_root.specs.Tables.{HasRoots, HasTable, IsTable, IsTableFound, written_table};
+ghost use Rattle.table_root.specs.Tables.{HasRoots, HasTable, IsStoredTable, IsTableFound, written_table};
 
 use crate::fields::{address_at, after_kind, four_at, push_address};
 use crate::parts::{items_at, push_items};
-use crate::records::Table;
+use crate::records::StoredTable;
 use chunk_store::{Draft, PutFault, law_of_growth};
 use schema_model::{Schema, law_of_schemas, read_schema, write_schema};
 use std::alloc::{AllocError, Global};
@@ -24,7 +24,7 @@ use tuple_codec::{Address, Blob, Digester, Unread, bytes_at};
 pub fn write_table<D: Digester>(
     alloc: Global,
     draft: &mut Draft<D>,
-    table: &Table,
+    table: &StoredTable,
 ) -> Result<Address, PutFault>
     requires schema { is_schema table.now.schema ≡ true }
     requires limits { is_within_limits table.now.schema ≡ true }
@@ -39,12 +39,12 @@ pub fn write_table<D: Digester>(
 }
 
 /// The table's written form.
-fn table_bytes(alloc: Global, table: &Table) -> Result<Blob, AllocError>
+fn table_bytes(alloc: Global, table: &StoredTable) -> Result<Blob, AllocError>
     requires schema { is_schema table.now.schema ≡ true }
     requires limits { is_within_limits table.now.schema ≡ true }
     requires count { length table.now.indexes ≡ length table.now.schema.indexes }
     ensures bytes { IfOk result (λ bytes. bytes ≡ written_table table.now) }
-    ensures table { OnOk result (IsTable table.now) }
+    ensures table { OnOk result (IsStoredTable table.now) }
     ensures size { IfOk result (λ bytes. length bytes ≤ 65536) }
 {
     let schema = write_schema(alloc, &table.schema)?;
@@ -66,7 +66,7 @@ fn push_schema(out: &mut Vec<u8>, schema: &[u8]) -> Result<(), AllocError>
 }
 
 /// Writes the table's roots.
-fn push_roots(out: &mut Vec<u8>, table: &Table) -> Result<(), AllocError>
+fn push_roots(out: &mut Vec<u8>, table: &StoredTable) -> Result<(), AllocError>
     ensures bytes { OnOk result (out.new.items ≡ out.old.items ++ (table.now.rows.0 ++ (flat_map (λ index. index.0) table.now.indexes ++ (table.now.conflicts.0 ++ table.now.violations.0)))) }
     ensures roots { OnOk result (HasRoots table.now) }
 {
@@ -81,7 +81,7 @@ pub fn read_table<D: Digester>(
     alloc: Global,
     draft: &Draft<D>,
     address: &Address,
-) -> Result<Table, AllocError>
+) -> Result<StoredTable, AllocError>
     requires { HasTable (chunks_of draft.now.chunks) address.now.0 }
     ensures { IfOk result (λ table. IsTableFound (chunks_of draft.now.chunks) address.now.0 table) }
 {
@@ -96,8 +96,8 @@ pub fn read_table<D: Digester>(
 }
 
 /// The table that has these bytes.
-fn table_at(alloc: Global, bytes: &[u8]) -> Result<Table, Unread>
-    ensures { (table : Table) → IsTable table → bytes.now ≡ written_table table → Finds (λ found. found) result table }
+fn table_at(alloc: Global, bytes: &[u8]) -> Result<StoredTable, Unread>
+    ensures { (table : StoredTable) → IsStoredTable table → bytes.now ≡ written_table table → Finds (λ found. found) result table }
 {
     law_of_schemas();
     let (text, roots) = schema_text(bytes)?;
@@ -119,14 +119,14 @@ fn schema_text(bytes: &[u8]) -> Result<(&[u8], &[u8]), Unread>
 
 /// The table of this schema whose roots these are.
 #[tactic(auto, unfolding(crate::specs::Reading::table_of))]
-fn table_of(alloc: Global, schema: Schema, bytes: &[u8]) -> Result<Table, Unread>
+fn table_of(alloc: Global, schema: Schema, bytes: &[u8]) -> Result<StoredTable, Unread>
     ensures { Gives (λ table. table) result (table_of schema bytes.now) }
 {
     let (rows, rest) = address_at(bytes)?;
     let (indexes, rest) = items_at(alloc, schema.indexes.as_slice().len(), rest)?;
     let (conflicts, rest) = address_at(rest)?;
     let (violations, _) = address_at(rest)?;
-    Ok(Table {
+    Ok(StoredTable {
         schema,
         rows,
         indexes,

@@ -53,7 +53,7 @@ use Rattle.thread_run.proofs.GoingLemmas.{meets}
 
 -- ---- the gate's history and the machine's
 
-abbrev pub entry_of : Entry → laws.Entry Spelling
+abbrev pub entry_of : Entry → laws.ToldMoment Spelling
 entry_of e = record { session = e.seat - 1; statement = e.note; left = e.left }
 
 same_test : (seat place : ℕ) → seat ≢ 0 → (seat - 1 == place) ≡ (seat == place + 1)
@@ -92,7 +92,7 @@ seats_of : (n : ℕ) (log : List Entry) → AllByRecursion (λ e. (e.seat ≢ 0)
 seats_of n [] known = tt
 seats_of n (e ∷ log) known = (known.0.0, seats_of n log known.1)
 
-within_of : (n : ℕ) (log : List Entry) → AllByRecursion (λ e. (e.seat ≢ 0) × (e.seat < n + 1)) log → AllByRecursion (λ (entry : laws.Entry Spelling). entry.session < n) (map entry_of log)
+within_of : (n : ℕ) (log : List Entry) → AllByRecursion (λ e. (e.seat ≢ 0) × (e.seat < n + 1)) log → AllByRecursion (λ (entry : laws.ToldMoment Spelling). entry.session < n) (map entry_of log)
 within_of n [] known = tt
 within_of n (e ∷ log) known = (let k = known.0 in let other = k.0 in let below = k.1 in omega (arith, other, below), within_of n log known.1)
 

@@ -13,7 +13,7 @@ use Rattle.shared_db.specs.Shared.{Db}
 use Rattle.serving.specs.Planning.{HasLooked}
 use Rattle.serving.specs.declared.planned.Planned.{Planned}
 use Rattle.seat_gate.specs.History.{Spelling, View, HasMade}
-use Rattle.seat_gate.specs.Told.{Turn, left_last, told_of}
+use Rattle.seat_gate.specs.Told.{SeatTurn, left_last, told_of}
 use Rattle.seat_gate.specs.Words.{GateId}
 use Rattle.seat_gate.specs.Working.{IsSeated, KeepsPlace, view_in}
 use Rattle.seat_gate.specs.declared.workers.Worker.{Worker}
@@ -24,7 +24,7 @@ use Rattle.script_run.specs.Planning.{PlansNext}
 use Rattle.script_run.specs.declared.players.Player.{Player}
 
 -- a turn's note is its statement's number
-abbrev pub told_turn : Turn → ToldTurn Spelling
+abbrev pub told_turn : SeatTurn → ToldTurn Spelling
 told_turn turn = record { statement = turn.note; found = turn.found; left = turn.left }
 
 -- the session's own moments, of what its seat has seen

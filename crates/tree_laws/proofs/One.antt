@@ -3,9 +3,10 @@ use Rattle.std.proofs.Common.{◌≡◌, ℕ, List, sym, ap, ◌∙◌, subst}
 use Rattle.basic_laws.proofs.Options.{some_is}
 use Rattle.tuple_codec.specs.Nodes.{Item, Node}
 use Rattle.tuple_codec.specs.Trees.{root}
+use Rattle.chunk_store.specs.Chunks.{Chunks}
 use Rattle.chunk_store.specs.Standing.{IsTree}
 use Rattle.node_format.proofs.NodeLemmas.{one_spelling}
-use Rattle.tree_laws.specs.Standing.{Chunks, IsStored, TreesAreOne, rows_below}
+use Rattle.tree_laws.specs.Standing.{IsStored, TreesAreOne, rows_below}
 use Rattle.tree_laws.proofs.Standing.{trees_lead}
 
 -- one node is found at an address

@@ -6,9 +6,10 @@ use Rattle.std.proofs.Math.Pow.{pow_mono}
 use Rattle.std.proofs.lemmas.Bool.Decides.{leb_tells}
 use Rattle.tuple_codec.specs.Nodes.{Item, Node, Rise, items_bytes}
 use Rattle.tuple_codec.specs.Trees.{AreRows, IsRow, bytes_of, closes, cut, cut_from, inner_chunks, last_key, name, names, rows_in, top, tower}
+use Rattle.chunk_store.specs.Chunks.{Chunks}
 use Rattle.chunk_store.specs.Standing.{AreHeld, IsThere, IsTree}
 use Rattle.tree_laws.specs.Found.{ButLast, IsCanonical, IsCounted, IsEnded, IsOrdered, UpTo, each_of, left, nodes_in, rows_at}
-use Rattle.tree_laws.specs.Standing.{Chunks, IsFound, IsStored, IsTop, LeadsTo, TreesHaveRoots, TreesLead, rows_below}
+use Rattle.tree_laws.specs.Standing.{IsNodeFound, IsStored, IsTop, LeadsTo, TreesHaveRoots, TreesLead, rows_below}
 use Rattle.tree_laws.proofs.StandingReads.{all_map, items_there, many_rows, reached, rows_there}
 use Rattle.tree_laws.proofs.StandingOrder.{rise_left, rise_right, upto_last}
 use Rattle.tree_laws.proofs.StandingCuts.{HasNoEnd, IsSmall, cut_ended, cut_last, no_end_more, no_end_yet, small_open, two_closed}
@@ -18,7 +19,7 @@ use Rattle.tree_laws.proofs.StandingLists.{all_left, all_right, but_all, but_bot
 -- what is known of an item of a level, and of one whose node ended
 record IsLow (address : List ℕ → List ℕ) (chunks : Chunks) (level : ℕ) (item : Item) : Type 0 where
   pub fit : HasFit level item
-  pub found : IsFound chunks level item
+  pub found : IsNodeFound chunks level item
   pub canonical : IsCanonical address (nodes_in chunks) level item
 
 record IsHigh (address : List ℕ → List ℕ) (chunks : Chunks) (level : ℕ) (item : Item) : Type 0 where
@@ -244,8 +245,8 @@ module _ (address : List ℕ → List ℕ) (chunks : Chunks) where
 
   -- ---- order and counts, from the rows
 
-  all_ordered : (level : ℕ) → ((item : Item) → IsFound chunks level item → Rise (rows_at (nodes_in chunks) level item) → IsOrdered (nodes_in chunks) level item)
-      → (items : List Item) → AllByRecursion (IsFound chunks level) items → Rise (each_of (rows_at (nodes_in chunks) level) items)
+  all_ordered : (level : ℕ) → ((item : Item) → IsNodeFound chunks level item → Rise (rows_at (nodes_in chunks) level item) → IsOrdered (nodes_in chunks) level item)
+      → (items : List Item) → AllByRecursion (IsNodeFound chunks level) items → Rise (each_of (rows_at (nodes_in chunks) level) items)
       → AllByRecursion (IsOrdered (nodes_in chunks) level) items
   all_ordered level go [] all rise = tt
   all_ordered level go (item ∷ items) all rise = (
@@ -253,7 +254,7 @@ module _ (address : List ℕ → List ℕ) (chunks : Chunks) where
     all_ordered level go items all.1 (rise_right None (rows_at (nodes_in chunks) level item) (each_of (rows_at (nodes_in chunks) level) items) rise),
   )
 
-  ordered : (level : ℕ) (item : Item) → IsFound chunks level item → Rise (rows_at (nodes_in chunks) level item) → IsOrdered (nodes_in chunks) level item
+  ordered : (level : ℕ) (item : Item) → IsNodeFound chunks level item → Rise (rows_at (nodes_in chunks) level item) → IsOrdered (nodes_in chunks) level item
   ordered zero item found rise = tt
   ordered (suc level) item found rise = (
     found.0,
@@ -262,7 +263,7 @@ module _ (address : List ℕ → List ℕ) (chunks : Chunks) where
     subst (λ (k : List ℕ). UpTo k (rows_at (nodes_in chunks) (suc level) item)) (reached chunks (suc level) item found).last (upto_last (rows_at (nodes_in chunks) (suc level) item) rise),
   )
 
-  counted : (level : ℕ) (item : Item) → IsFound chunks level item → IsCounted (nodes_in chunks) level item
+  counted : (level : ℕ) (item : Item) → IsNodeFound chunks level item → IsCounted (nodes_in chunks) level item
   counted zero item found = found
   counted (suc level) item found = (
     found.0,

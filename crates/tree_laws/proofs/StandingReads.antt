@@ -5,10 +5,11 @@ use Rattle.std.specs.List.{AllByRecursion}
 use Rattle.std.proofs.lemmas.List.{length-append}
 use Rattle.tuple_codec.specs.Nodes.{Item}
 use Rattle.tuple_codec.specs.Trees.{last_key, rows_in}
+use Rattle.chunk_store.specs.Chunks.{Chunks}
 use Rattle.node_format.specs.Found.{items_in}
 use Rattle.node_format.proofs.NodeLemmas.{items_found}
 use Rattle.tree_laws.specs.Found.{each_of, items_of, nodes_in, rows_at}
-use Rattle.tree_laws.specs.Standing.{Chunks, IsFound, IsStored}
+use Rattle.tree_laws.specs.Standing.{IsNodeFound, IsStored}
 
 pub all_map : {P Q : Item → Type 0} → ((item : Item) → P item → Q item) → (items : List Item) → AllByRecursion P items → AllByRecursion Q items
 all_map f [] all = tt
@@ -55,7 +56,7 @@ last_row f (item ∷ []) all some = ap last_key (append-nil (f item)) ∙ all.0.
 last_row f (item ∷ other ∷ items) all some =
     last_append (f item) (each_of f (other ∷ items)) (some_rows f (other ∷ items) all.1 (omega arith)) ∙ last_row f (other ∷ items) all.1 (omega arith)
 
-pub reached : (chunks : Chunks) (level : ℕ) (item : Item) → IsFound chunks level item → IsReached (rows_at (nodes_in chunks) level) item
+pub reached : (chunks : Chunks) (level : ℕ) (item : Item) → IsNodeFound chunks level item → IsReached (rows_at (nodes_in chunks) level) item
 reached chunks zero item found = record { last = refl; many = sym found; some = omega arith }
 reached chunks (suc level) item found =
     let f = rows_at (nodes_in chunks) level in

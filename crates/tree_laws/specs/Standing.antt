@@ -1,13 +1,11 @@
 -- Trees as they are read: each node is found at its address, and leads to the rows below.
-use Rattle.std.specs.Prelude.{◌≡◌, ◌<◌, ◌≤◌, ℕ, zero, suc, List, ◌∷◌, length, Option, Some}
+use Rattle.std.specs.Prelude.{◌≡◌, ◌<◌, ◌≤◌, ℕ, zero, suc, List, ◌∷◌, length, Some}
 use Rattle.std.specs.List.{AllByRecursion}
 use Rattle.tuple_codec.specs.Nodes.{Item, Node, IsNode, Rise, node_bytes}
 use Rattle.tuple_codec.specs.Trees.{last_key, rows_in}
+use Rattle.chunk_store.specs.Chunks.{Chunks}
 use Rattle.chunk_store.specs.Standing.{IsTree}
 use Rattle.tree_laws.specs.Found.{IsRoot, each_of, nodes_in, rows_at}
-
-abbrev pub Chunks : Type 0
-Chunks = List ℕ → Option (List ℕ)
 
 -- a node is found at this address, which has 20 bytes
 pub record IsStored (chunks : Chunks) (k : List ℕ) (node : Node) : Type 0 where
@@ -18,10 +16,10 @@ pub record IsStored (chunks : Chunks) (k : List ℕ) (node : Node) : Type 0 wher
 
 -- the node that an item names is found and isn't empty, the item has its last key and counts the rows below, and so it is with
 -- each item below; a row counts for itself
-abbrev pub IsFound : Chunks → ℕ → Item → Type 0
-IsFound chunks zero item = item.rows ≡ 1
-IsFound chunks (suc level) item =
-    (items : List Item) × IsStored chunks item.body (record { level = level; items = items }) × AllByRecursion (IsFound chunks level) items
+abbrev pub IsNodeFound : Chunks → ℕ → Item → Type 0
+IsNodeFound chunks zero item = item.rows ≡ 1
+IsNodeFound chunks (suc level) item =
+    (items : List Item) × IsStored chunks item.body (record { level = level; items = items }) × AllByRecursion (IsNodeFound chunks level) items
     × (0 < length items) × (item.key ≡ last_key items) × (item.rows ≡ rows_in items)
 
 -- the rows at or below the items of a node
@@ -30,7 +28,7 @@ rows_below chunks node = each_of (rows_at (nodes_in chunks) node.level) node.ite
 
 -- from a node all rows below are reached, and their keys rise
 pub record Leads (chunks : Chunks) (node : Node) : Type 0 where
-  pub each : AllByRecursion (IsFound chunks node.level) node.items
+  pub each : AllByRecursion (IsNodeFound chunks node.level) node.items
   pub rise : Rise (rows_below chunks node)
 
 -- the node at an address leads to the rows below
@@ -47,7 +45,7 @@ pub record LeadsTo (chunks : Chunks) (k : List ℕ) (node : Node) (rows : List I
 pub record IsTop (address : List ℕ → List ℕ) (chunks : Chunks) (k : List ℕ) (height : ℕ) (item : Item) (rows : List Item) : Type 0 where
   pub named : item.body ≡ k
   pub root : IsRoot address (nodes_in chunks) (suc height) item rows
-  pub found : IsFound chunks (suc height) item
+  pub found : IsNodeFound chunks (suc height) item
 
 -- a tree that stands, of no rows or of some, leads to its rows
 abbrev pub TreesLead : Type 0

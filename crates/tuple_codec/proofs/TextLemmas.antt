@@ -10,20 +10,20 @@ use Rattle.std.specs.Cmp.Lexicographic.{slice_cmp}
 use Rattle.std.proofs.lemmas.List.{take_at, drop_at, take-append-drop, length-append, length-take}
 use Rattle.basic_laws.proofs.Options.{guard_some as passed}
 use Rattle.tuple_codec.specs.KeyBytes.{escape, escaped}
-use Rattle.tuple_codec.specs.RowBytes.{counted}
-use Rattle.tuple_codec.specs.Fronts.{with_front, unescaped, uncounted}
+use Rattle.tuple_codec.specs.RowBytes.{length_prefixed}
+use Rattle.tuple_codec.specs.Fronts.{with_front, unescaped, length_prefixed_at}
 use Rattle.tuple_codec.proofs.NumberLemmas.{AreBytes, AreBytes-drop, then_assoc}
 
 pub AreBytes-rest : (b : ℕ) (bytes : List ℕ) → AreBytes (b ∷ bytes) → AreBytes bytes
 AreBytes-rest b bytes h i = h (suc i)
 
-pub counted_again : (text rest : List ℕ) → uncounted (counted text ++ rest) ≡ Some (text, rest)
+pub counted_again : (text rest : List ℕ) → length_prefixed_at (length_prefixed text ++ rest) ≡ Some (text, rest)
 counted_again text rest =
     let size : length text / 256 * 256 + length text % 256 ≡ length text = omega arith in
     let long : ltb (length (text ++ rest)) (length text) ≡ false = le-ltb _ _ (omega (arith, length-append text rest)) in
     rw (size, long, take_at text rest (length text) refl, drop_at text rest (length text) refl) refl
 
-pub counted_takes : (bytes text rest : List ℕ) → AreBytes bytes → uncounted bytes ≡ Some (text, rest) → (bytes ≡ counted text ++ rest) × AreBytes rest
+pub counted_takes : (bytes text rest : List ℕ) → AreBytes bytes → length_prefixed_at bytes ≡ Some (text, rest) → (bytes ≡ length_prefixed text ++ rest) × AreBytes rest
 counted_takes [] text rest fits e = absurd cc
 counted_takes (high ∷ []) text rest fits e = absurd cc
 counted_takes (high ∷ low ∷ bytes) text rest fits e =

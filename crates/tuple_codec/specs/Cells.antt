@@ -4,7 +4,7 @@ use Rattle.std.specs.List.{flat_map}
 use Rattle.std.specs.Int.{w64, cast_unsigned}
 use Rattle.tuple_codec.specs.Rows.{Cells}
 use Rattle.tuple_codec.specs.KeyBytes.{turned, escaped, key_cell}
-use Rattle.tuple_codec.specs.RowBytes.{counted, row_cell}
+use Rattle.tuple_codec.specs.RowBytes.{length_prefixed, row_cell}
 use Rattle.tuple_codec.specs.declared.values.Value.{Value}
 use Rattle.tuple_codec.specs.declared.values.Value.TheVariants as cell
 use Rattle.tuple_codec.specs.declared.forms.Form.{Form}
@@ -16,7 +16,7 @@ bits_of form.Row n = cast_unsigned w64 n
 
 abbrev pub text_bytes : Form → List ℕ → List ℕ
 text_bytes form.Key text = escaped text
-text_bytes form.Row text = counted text
+text_bytes form.Row text = length_prefixed text
 
 abbrev pub cell_bytes : Form → Value → List ℕ
 cell_bytes form.Key value = key_cell value

@@ -5,7 +5,7 @@ use Rattle.std.specs.Cmp.Lexicographic.{slice_cmp}
 use Rattle.std.specs.declared.cmp.Ordering.{Ordering}
 use Rattle.tuple_codec.specs.Nodes.{Item, leaf_item, is_after}
 use Rattle.tuple_codec.specs.declared.edits.Edit.{Edit}
-use Rattle.tuple_codec.specs.declared.edits.Change.{Change}
+use Rattle.tuple_codec.specs.declared.edits.ItemChange.{ItemChange}
 
 -- the order of keys, by bytes
 abbrev pub order : List ℕ → List ℕ → Ordering
@@ -36,28 +36,28 @@ abbrev pub edited : List Item → List Edit → List Item
 edited [] edits = puts edits
 edited (row ∷ rows) edits = edits_at row (edited rows) edits
 
-abbrev pub added : Item → Change
+abbrev pub added : Item → ItemChange
 added row = record { key = row.key; old = None; new = Some row.body }
 
-abbrev pub removed : Item → Change
+abbrev pub removed : Item → ItemChange
 removed row = record { key = row.key; old = Some row.body; new = None }
 
-abbrev pub replaced : Item → Item → Change
+abbrev pub replaced : Item → Item → ItemChange
 replaced row other = record { key = row.key; old = Some row.body; new = Some other.body }
 
-abbrev pub all_added : List Item → List Change
+abbrev pub all_added : List Item → List ItemChange
 all_added [] = []
 all_added (row ∷ rows) = added row ∷ all_added rows
 
 -- a row against the rows of the other list, rest being the changes of the rows after it
-abbrev pub against : Item → (List Item → List Change) → List Item → List Change
+abbrev pub against : Item → (List Item → List ItemChange) → List Item → List ItemChange
 against row rest [] = removed row ∷ rest []
 against row rest (other ∷ others) =
     match_ordering (order other.key row.key) (added other ∷ against row rest others)
     (if bytes_eq other.body row.body then rest others else replaced row other ∷ rest others) (removed row ∷ rest (other ∷ others))
 
 -- the keys, rising, at which two lists with rising keys differ, with what each has there
-abbrev pub changed : List Item → List Item → List Change
+abbrev pub changed : List Item → List Item → List ItemChange
 changed [] others = all_added others
 changed (row ∷ rows) others = against row (changed rows) others
 

@@ -43,14 +43,14 @@ unescaped false (byte ∷ rest) = if byte == 0 then unescaped true rest else wit
 unescaped true (byte ∷ rest) = if byte == 0 then Some ([], rest) else (if byte == 255 then with_front (0 ∷ []) (unescaped false rest) else None)
 
 -- a text after its length
-abbrev pub uncounted : List ℕ → Option (List ℕ × List ℕ)
-uncounted [] = None
-uncounted (high ∷ []) = None
-uncounted (high ∷ low ∷ rest) = if nat_lt (length rest) (high * 256 + low) then None else Some (take (high * 256 + low) rest, drop (high * 256 + low) rest)
+abbrev pub length_prefixed_at : List ℕ → Option (List ℕ × List ℕ)
+length_prefixed_at [] = None
+length_prefixed_at (high ∷ []) = None
+length_prefixed_at (high ∷ low ∷ rest) = if nat_lt (length rest) (high * 256 + low) then None else Some (take (high * 256 + low) rest, drop (high * 256 + low) rest)
 
 abbrev pub text_front : Form → List ℕ → Option (List ℕ × List ℕ)
 text_front form.Key bytes = unescaped false bytes
-text_front form.Row bytes = uncounted bytes
+text_front form.Row bytes = length_prefixed_at bytes
 
 abbrev pub made : {X : Type 0} → (X → Value) → Option (X × List ℕ) → Option (Value × List ℕ)
 made make = option_map (λ p. (make p.0, p.1))

@@ -11,7 +11,7 @@ pub struct Edit {
 
 /// A key at which two lists differ, with what each has there; none is absence.
 #[derive(Clone, Debug, Drop, PartialEq, Eq)]
-pub struct Change {
+pub struct ItemChange {
     pub key: Blob,
     pub old: Option<Blob>,
     pub new: Option<Blob>,

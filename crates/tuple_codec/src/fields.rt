@@ -2,8 +2,8 @@
 
 ghost use Rattle.std.specs.Prelude.{◌≡◌, ◌<◌, ◌++◌, length, OnOk};
 ghost use Rattle.tuple_codec.specs.Fields.{bytes_at, short, short_at};
-ghost use Rattle.tuple_codec.specs.Fronts.{Gives, uncounted};
-ghost use Rattle.tuple_codec.specs.RowBytes.{counted};
+ghost use Rattle.tuple_codec.specs.Fronts.{Gives, length_prefixed_at};
+ghost use Rattle.tuple_codec.specs.RowBytes.{length_prefixed};
 
 use crate::unread::Unread;
 use byteorder::{BigEndian, ByteOrder};
@@ -31,7 +31,7 @@ pub fn short_at(bytes: &[u8]) -> Result<(&[u8], &[u8]), Unread>
 
 /// A length in two bytes, the higher one first, and that many bytes.
 pub fn long_at(bytes: &[u8]) -> Result<(&[u8], &[u8]), Unread>
-    ensures { Gives (λ x. (x.0.now, x.1.now)) result (uncounted bytes.now) }
+    ensures { Gives (λ x. (x.0.now, x.1.now)) result (length_prefixed_at bytes.now) }
 {
     match bytes {
         [high, low, rest @ ..] => bytes_at(usize::from(u16::from_be_bytes([*high, *low])), rest),
@@ -51,7 +51,7 @@ pub fn push_short(out: &mut Vec<u8>, bytes: &[u8]) -> Result<(), AllocError>
 /// Writes a length in two bytes, the higher one first, and the bytes.
 pub fn push_long(out: &mut Vec<u8>, bytes: &[u8]) -> Result<(), AllocError>
     requires { length bytes.now < 65536 }
-    ensures { OnOk result (out.new.items ≡ out.old.items ++ counted bytes.now) }
+    ensures { OnOk result (out.new.items ≡ out.old.items ++ length_prefixed bytes.now) }
 {
     let mut size = [0; 2];
     BigEndian::write_u16(&mut size, bytes.len() as u16);

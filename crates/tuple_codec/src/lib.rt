@@ -33,7 +33,7 @@ pub use answers::Answer;
 pub use boxed::Boxed;
 pub use bytes::Text;
 pub use copies::{copy_row, copy_value};
-pub use edits::{Change, Edit};
+pub use edits::{Edit, ItemChange};
 pub use fields::{bytes_at, long_at, push_long, push_short, short_at};
 pub use key_codec::{decode_key, encode_key, keys_are_one_spelling, keys_keep_order};
 pub use records::BranchRecord;

@@ -2,7 +2,7 @@
 
 ghost use Rattle.std.specs.Prelude.{◌≡◌, ◌≤◌, ◌++◌, length, OnOk, false};
 ghost use Rattle.tuple_codec.specs.KeyBytes.{escaped};
-ghost use Rattle.tuple_codec.specs.Fronts.{Gives, text_front, uncounted, unescaped};
+ghost use Rattle.tuple_codec.specs.Fronts.{Gives, length_prefixed_at, text_front, unescaped};
 
 use crate::fields::long_at;
 use crate::forms::Form;
@@ -33,7 +33,7 @@ pub fn text_front(alloc: Global, form: Form, bytes: &[u8]) -> Result<(Vec<u8>, &
 }
 
 fn counted_front(alloc: Global, bytes: &[u8]) -> Result<(Vec<u8>, &[u8]), Unread>
-    ensures { Gives (λ x. (x.0.items, x.1.now)) result (uncounted bytes.now) }
+    ensures { Gives (λ x. (x.0.items, x.1.now)) result (length_prefixed_at bytes.now) }
 {
     let (text, rest) = long_at(bytes)?;
     Ok((Vec::from_slice(alloc, text)?, rest))

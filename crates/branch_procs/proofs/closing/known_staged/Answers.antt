@@ -3,7 +3,7 @@ use Rattle.std.proofs.lemmas.Result.{IfOk-weaker}
 use Rattle.chunk_store.specs.Drafts.{chunks_of}
 use Rattle.plain_sessions.specs.Branching.{staged_first}
 use Rattle.sql_procedures.specs.declared.requests.Staging.TheVariants as staging
-use Rattle.table_root.specs.declared.records.NamedTable.{NamedTable}
+use Rattle.table_root.specs.declared.records.TableEntry.{TableEntry}
 use Rattle.branch_procs.specs.Listing.{AreFewTables}
 use Rattle.branch_procs.specs.Taking.{taking_all}
 use Rattle.branch_procs.proofs.ClosingLemmas.{known_told}
@@ -26,7 +26,7 @@ returns g c = λ state database on.
     let stands = on.stands in
     let address = g.D.Digester.address in
     let chunks = chunks_of c.args.draft.now.chunks in
-    IfOk-weaker c.take_named-2.result (λ made. made.items ≡ taking_all c.as_slice-3.result.now c.in_ok-made.made.items (map (λ (named : NamedTable). named.name) c.as_slice-4.result.now))
+    IfOk-weaker c.take_named-2.result (λ made. made.items ≡ taking_all c.as_slice-3.result.now c.in_ok-made.made.items (map (λ (named : TableEntry). named.name) c.as_slice-4.result.now))
     (λ made. AreFewTables address chunks made.items (staged_first database staging.Known state))
     (λ made is. known_told address chunks c.in_ok-working.working.items c.in_ok-staged.staged.items c.in_ok-names.names.items c.in_ok-head.head.items
     c.as_slice.result.now c.as_slice-2.result.now c.as_slice-3.result.now c.as_slice-4.result.now c.in_ok-made.made.items made.items state.working state.staged database

@@ -2,7 +2,7 @@ use Rattle.std.proofs.Common.{ℤ, subst, w64}
 use Rattle.std.proofs.lemmas.Int.{to_z-of_z}
 use Rattle.chunk_store.specs.Kinds.{is_commit}
 use Rattle.plain_sessions.specs.Records.{commit_on}
-use Rattle.branch_procs.specs.Committing.{IsWritten, parents_on}
+use Rattle.branch_procs.specs.Committing.{IsCommitWritten, parents_on}
 use Rattle.branch_procs.proofs.CommittingLemmas.{committed_told, fault_told}
 use Rattle.branch_procs.proofs.committing.committed.Goals as goal
 
@@ -17,7 +17,7 @@ pub returns-clause-planned : goal.returns-clause-planned
 returns-clause-planned g c = λ commits state can.
     let address = g.D.Digester.address in
     let commit = commit_on commits c.args.epoch c.args.committer.now state.staged (parents_on c.args.present.now state) c.args.message.now in
-    let written = subst (λ (e : ℤ). IsWritten address c.args.work.chunks c.written-made.new.work.chunks
+    let written = subst (λ (e : ℤ). IsCommitWritten address c.args.work.chunks c.written-made.new.work.chunks
     (commit_on commits e c.args.committer.now state.staged (parents_on c.args.present.now state) c.args.message.now) c.in_ok-head.head)
     (to_z-of_z w64 c.args.epoch c.ranges.epoch) (c.in_ok-head.ensures.written commits state can) in
     committed_told address c.args.work c.written-made.new.work commit c.args.rec.now c.at_commit.result c.in_ok-head.head c.in_ok-reply.reply c.sealed.result written

@@ -4,7 +4,7 @@ use Rattle.chunk_store.specs.Chunks.{Extends, IsHeld}
 use Rattle.chunk_store.specs.Drafts.{chunks_of}
 use Rattle.chunk_store.specs.Kinds.{is_database}
 use Rattle.table_root.specs.Databases.{has_short_name, names_rise, written_database}
-use Rattle.table_root.specs.declared.records.NamedTable.{NamedTable}
+use Rattle.table_root.specs.declared.records.TableEntry.{TableEntry}
 use Rattle.table_root.proofs.ListingLemmas.{made_count as count_names}
 use Rattle.sql_write.proofs.TableLemmas.{kept_short, rise_names, short_names, stand_later}
 use Rattle.branch_procs.proofs.TablesLemmas.{few_kept}
@@ -14,19 +14,19 @@ pub write_database-requires-clause-few : goal.write_database-requires-clause-few
 write_database-requires-clause-few g c κs within =
     let few = c.requires.1 in
     let are = few.tables_are in
-    subst (λ n. n ≤ 256) (sym (ap (λ (l : List NamedTable). length l) are.listed ∙ count_names g.D.Digester.address c.requires.0)) few.few
+    subst (λ n. n ≤ 256) (sym (ap (λ (l : List TableEntry). length l) are.listed ∙ count_names g.D.Digester.address c.requires.0)) few.few
 
 pub write_database-requires-clause-names : goal.write_database-requires-clause-names
 write_database-requires-clause-names g c κs within =
     let few = c.requires.1 in
     let are = few.tables_are in
-    ap (λ (l : List NamedTable). list_all has_short_name l) are.listed ∙ short_names g.D.Digester.address c.requires.0 ∙ kept_short c.requires.0 (few_kept c.requires.0 are.within few.few)
+    ap (λ (l : List TableEntry). list_all has_short_name l) are.listed ∙ short_names g.D.Digester.address c.requires.0 ∙ kept_short c.requires.0 (few_kept c.requires.0 are.within few.few)
 
 pub write_database-requires-clause-rise : goal.write_database-requires-clause-rise
 write_database-requires-clause-rise g c κs within =
     let few = c.requires.1 in
     let are = few.tables_are in
-    ap (λ (l : List NamedTable). names_rise l) are.listed ∙ rise_names g.D.Digester.address c.requires.0 ∙ are.is_database.rise
+    ap (λ (l : List TableEntry). names_rise l) are.listed ∙ rise_names g.D.Digester.address c.requires.0 ∙ are.is_database.rise
 
 pub returns-clause-stands : goal.returns-clause-stands
 returns-clause-stands g c = λ database few.
@@ -43,6 +43,6 @@ returns-clause-stands g c = λ database few.
     record {
       stands = laws.databases.stands address (chunks_of new.chunks) c.in_ok-at.at.0 database are.is_database
           (stand_later address (chunks_of old.chunks) (chunks_of new.chunks) more laws.tables database are.stand)
-          (subst (λ (l : List NamedTable). IsHeld address (chunks_of new.chunks) c.in_ok-at.at.0 (written_database l)) are.listed held) twenty;
+          (subst (λ (l : List TableEntry). IsHeld address (chunks_of new.chunks) c.in_ok-at.at.0 (written_database l)) are.listed held) twenty;
       within = few_kept database are.within few.few;
     }

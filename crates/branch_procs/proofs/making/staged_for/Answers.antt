@@ -5,7 +5,7 @@ use Rattle.chunk_store.specs.Kinds.{is_database}
 use Rattle.plain_sessions.specs.Branching.{staged_first}
 use Rattle.plain_sessions.specs.Records.{root_of}
 use Rattle.tuple_codec.specs.declared.records.BranchRecord.{BranchRecord}
-use Rattle.root_merge.specs.States.{StateStands}
+use Rattle.root_merge.specs.States.{BranchStateStands}
 use Rattle.branch_procs.proofs.LocalLemmas.{head_known_at, on_head}
 use Rattle.branch_procs.proofs.StageLemmas.{staged_stands}
 use Rattle.branch_procs.proofs.TablesLemmas.{few_as}
@@ -45,5 +45,5 @@ returns-clause-stands g c = λ commits state own.
     let known = head_known_at address old.chunks c.args.own.now commits state own in
     let on = on_head address old.chunks c.args.own.now commits state own c.in_ok-root.root (c.in_ok-root.ensures commits own.all_there known) in
     let few = few_as address (chunks_of old.chunks) c.in_ok-tables.tables.items c.as_slice.result.now first c.as_slice.ensures.value (c.in_ok-tables.ensures state root on) in
-    subst (λ (r : BranchRecord). StateStands address (chunks_of new.chunks) r (record state { staged = first })) (sym c.with_staged.ensures)
+    subst (λ (r : BranchRecord). BranchStateStands address (chunks_of new.chunks) r (record state { staged = first })) (sym c.with_staged.ensures)
     (staged_stands address (chunks_of old.chunks) (chunks_of new.chunks) more laws.databases c.args.own.now c.in_ok-staged.staged state first on.stands (c.in_ok-staged.ensures.stands first few))

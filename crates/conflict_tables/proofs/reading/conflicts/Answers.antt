@@ -3,7 +3,7 @@ use Rattle.chunk_store.specs.Drafts.{chunks_of}
 use Rattle.chunk_store.specs.Standing.{IsTree}
 use Rattle.prolly_tree.specs.Walks.{scan_rest}
 use Rattle.schema_model.specs.PlainTables.{conflict_items}
-use Rattle.table_root.specs.declared.records.Table.{Table}
+use Rattle.table_root.specs.declared.records.StoredTable.{StoredTable}
 use Rattle.conflict_tables.specs.declared.entries.ConflictEntry.{ConflictEntry}
 use Rattle.conflict_tables.proofs.ReadLemmas.{IsReading, begins, first, over}
 use Rattle.conflict_tables.proofs.reading.conflicts.Goals as goal
@@ -13,14 +13,14 @@ scan_from-requires-clause-tree g c κs within =
     let of = c.requires.1 in (
       conflict_items c.requires.0,
       subst (λ (k : List ℕ). IsTree g.D.Digester.address (chunks_of c.args.draft.now.chunks) k (conflict_items c.requires.0))
-          (sym (ap (λ (t : Table). t.conflicts.0) of.value)) of.trees.conflicts,
+          (sym (ap (λ (t : StoredTable). t.conflicts.0) of.value)) of.trees.conflicts,
     )
 
 pub items-init : goal.items-init
 items-init g c = λ contents of.
     subst (λ (l : List ConflictEntry). IsReading l (scan_rest c.in_ok-scan.scan) contents) (sym c.new-list.ensures)
     (begins contents (scan_rest c.in_ok-scan.scan) (c.in_ok-scan.ensures (conflict_items contents)
-    (subst (λ (k : List ℕ). IsTree g.D.Digester.address (chunks_of c.args.draft.now.chunks) k (conflict_items contents)) (sym (ap (λ (t : Table). t.conflicts.0) of.value)) of.trees.conflicts)))
+    (subst (λ (k : List ℕ). IsTree g.D.Digester.address (chunks_of c.args.draft.now.chunks) k (conflict_items contents)) (sym (ap (λ (t : StoredTable). t.conflicts.0) of.value)) of.trees.conflicts)))
 
 pub read_entry-requires : goal.read_entry-requires
 read_entry-requires g c =

@@ -1,6 +1,6 @@
 use Rattle.std.proofs.Common.{◌∙◌, ap}
 use Rattle.chunk_store.specs.Drafts.{chunks_of}
-use Rattle.table_root.specs.declared.records.Table.{Table}
+use Rattle.table_root.specs.declared.records.StoredTable.{StoredTable}
 use Rattle.constraint_scan.specs.Scanning.{is_constrained}
 use Rattle.constraint_scan.proofs.StandLemmas.{table_found, table_same}
 use Rattle.constraint_scan.proofs.judging.is_table_constrained.Goals as goal
@@ -12,4 +12,4 @@ read_table-requires-after_bounds g c κs within =
 pub returns : goal.returns
 returns g c = λ contents at.
     let found = table_same g.D.Digester.address (chunks_of c.args.draft.now.chunks) c.args.address.now.0 c.law_of_tables.ensures.tables contents at c.in_ok-table.table c.in_ok-table.ensures in
-    c.is_constrained.ensures ∙ ap (λ (t : Table). is_constrained t.schema) found
+    c.is_constrained.ensures ∙ ap (λ (t : StoredTable). is_constrained t.schema) found

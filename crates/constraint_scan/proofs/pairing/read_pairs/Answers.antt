@@ -1,8 +1,7 @@
 use Rattle.std.proofs.Common.{◌∙◌, [], List, subst, sym}
 use Rattle.chunk_store.specs.Drafts.{chunks_of}
-use Rattle.table_root.specs.Standing.{named_tables}
+use Rattle.table_root.specs.Standing.{AreThere, named_tables}
 use Rattle.constraint_scan.specs.Pairs.{ArePairs}
-use Rattle.constraint_scan.specs.Scanning.{AreThere}
 use Rattle.constraint_scan.specs.declared.pairing.Pair.{Pair}
 use Rattle.constraint_scan.proofs.pairing.read_pairs.Goals as goal
 

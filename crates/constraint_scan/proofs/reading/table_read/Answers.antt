@@ -1,7 +1,7 @@
 use Rattle.std.proofs.Common.{◌∙◌, ap, []}
 use Rattle.chunk_store.specs.Drafts.{chunks_of}
 use Rattle.plain_writes.specs.Seen.{table_seen}
-use Rattle.table_root.specs.declared.records.Table.{Table}
+use Rattle.table_root.specs.declared.records.StoredTable.{StoredTable}
 use Rattle.constraint_scan.proofs.StandLemmas.{rows_there, table_found, table_same}
 use Rattle.constraint_scan.proofs.reading.table_read.Goals as goal
 
@@ -19,6 +19,6 @@ returns g c = λ contents at.
     let address = g.D.Digester.address in
     let chunks = chunks_of c.args.draft.now.chunks in
     let stand = c.law_of_tables.ensures.tables in
-    let schema = ap (λ (t : Table). t.schema) (table_same address chunks c.args.address.now.0 stand contents at c.in_ok-table.table c.in_ok-table.ensures) in
+    let schema = ap (λ (t : StoredTable). t.schema) (table_same address chunks c.args.address.now.0 stand contents at c.in_ok-table.table c.in_ok-table.ensures) in
     let rows = c.in_ok-rows.ensures contents.rows (rows_there address chunks c.args.address.now.0 stand contents at c.in_ok-table.table c.in_ok-table.ensures) in
     ap table_seen c.bare_table.ensures ∙ (λ i. record { schema = schema i; rows = rows i; conflicts = []; violations = [] })

@@ -3,9 +3,10 @@ use Rattle.std.specs.Prelude.{OnOk}
 use Rattle.schema_model.specs.PlainTables.{PlainDatabase}
 use Rattle.chunk_store.specs.Chunks.{Extends}
 use Rattle.chunk_store.specs.Drafts.{chunks_of}
-use Rattle.table_root.specs.declared.records.NamedTable.{NamedTable}
-use Rattle.constraint_scan.specs.Recording.{IsEntry, is_data, recorded_in, violations_of}
-use Rattle.constraint_scan.specs.Scanning.{AreThere}
+use Rattle.chunk_store.specs.Kinds.{is_data}
+use Rattle.table_root.specs.Standing.{AreThere}
+use Rattle.table_root.specs.declared.records.TableEntry.{TableEntry}
+use Rattle.constraint_scan.specs.Recording.{IsEntryOf, recorded_in, violations_of}
 use Rattle.constraint_scan.proofs.RecordLemmas.{first_can, joined, others_can, there_later, there_more}
 use Rattle.constraint_scan.proofs.StandLemmas.{parts_of}
 use Rattle.constraint_scan.proofs.recording.+record_each.Goals as goal
@@ -54,8 +55,8 @@ returns-in-len1-up-clause-stands g t c database found can done there =
     let named = parts.named in
     let made = c.in_ok-record_named.ensures.stands named.table (violations_of named.name found)
     (first_can address (chunks_of old.chunks) entries rest c.args.list.now database found first can parts) in
-    let is : IsEntry address (chunks_of mid.chunks) c.in_ok-record_named.field-0 (recorded_in found named) = record { name = made.name ∙ parts.name; at = made.at } in
-    let pushed = subst (λ (l : List NamedTable). AreThere address (chunks_of mid.chunks) (done ++ recorded_in found named ∷ []) l) (sym c.in_ok-push.ensures.ok)
+    let is : IsEntryOf address (chunks_of mid.chunks) c.in_ok-record_named.field-0 (recorded_in found named) = record { name = made.name ∙ parts.name; at = made.at } in
+    let pushed = subst (λ (l : List TableEntry). AreThere address (chunks_of mid.chunks) (done ++ recorded_in found named ∷ []) l) (sym c.in_ok-push.ensures.ok)
     (there_more address (chunks_of mid.chunks) done c.args.made.now c.in_ok-record_named.field-0 (recorded_in found named)
     (there_later address (chunks_of old.chunks) (chunks_of mid.chunks) more laws.tables done c.args.made.now there) is) in
     subst (λ (d : PlainDatabase). OnOk c.record_each.result (AreThere address (chunks_of c.record_each.new.draft.chunks) d c.record_each.new.made))

@@ -10,7 +10,7 @@ use Rattle.chunk_store.specs.Chunks.{Extends, IsHeld}
 use Rattle.chunk_store.specs.Drafts.{chunks_of}
 use Rattle.chunk_store.specs.Kinds.{is_database}
 use Rattle.table_root.specs.Databases.{has_short_name, names_rise, written_database}
-use Rattle.table_root.specs.declared.records.NamedTable.{NamedTable}
+use Rattle.table_root.specs.declared.records.TableEntry.{TableEntry}
 use Rattle.constraint_scan.proofs.RecordLemmas.{each_later, rise_names, short_names}
 use Rattle.constraint_scan.proofs.recording.keep_database.Goals as goal
 
@@ -18,19 +18,19 @@ pub write_database-requires-clause-few : goal.write_database-requires-clause-few
 write_database-requires-clause-few g c κs within =
     let may = c.requires.1 in
     let few = leb-true (length c.requires.0) most_tables (and_parts (nat_le (length c.requires.0) most_tables) (list_all is_named_within_limits c.requires.0) may.within).0 in
-    subst (λ n. n ≤ 256) (sym (ap (λ (l : List NamedTable). length l) may.there.listed
+    subst (λ n. n ≤ 256) (sym (ap (λ (l : List TableEntry). length l) may.there.listed
     ∙ length-map c.requires.0 (λ (n : plain.NamedTable). record { name = n.name; table = record { 0 = table_address g.D.Digester.address n.table } }))) few
 
 pub write_database-requires-clause-names : goal.write_database-requires-clause-names
 write_database-requires-clause-names g c κs within =
     let may = c.requires.1 in
-    ap (λ (l : List NamedTable). list_all has_short_name l) may.there.listed ∙ short_names g.D.Digester.address c.requires.0
+    ap (λ (l : List TableEntry). list_all has_short_name l) may.there.listed ∙ short_names g.D.Digester.address c.requires.0
     ∙ short_in c.requires.0 (and_parts (nat_le (length c.requires.0) most_tables) (list_all is_named_within_limits c.requires.0) may.within).1
 
 pub write_database-requires-clause-rise : goal.write_database-requires-clause-rise
 write_database-requires-clause-rise g c κs within =
     let may = c.requires.1 in
-    ap (λ (l : List NamedTable). names_rise l) may.there.listed ∙ rise_names g.D.Digester.address c.requires.0 ∙ may.is_database.rise
+    ap (λ (l : List TableEntry). names_rise l) may.there.listed ∙ rise_names g.D.Digester.address c.requires.0 ∙ may.is_database.rise
 
 pub returns-clause-stands : goal.returns-clause-stands
 returns-clause-stands g c = λ database may.
@@ -46,6 +46,6 @@ returns-clause-stands g c = λ database may.
     record {
       stands = laws.databases.stands address (chunks_of new.chunks) c.in_ok-at.at.0 database may.is_database
           (each_later address (chunks_of old.chunks) (chunks_of new.chunks) more laws.tables database may.there.stand)
-          (subst (λ (l : List NamedTable). IsHeld address (chunks_of new.chunks) c.in_ok-at.at.0 (written_database l)) may.there.listed held) twenty;
+          (subst (λ (l : List TableEntry). IsHeld address (chunks_of new.chunks) c.in_ok-at.at.0 (written_database l)) may.there.listed held) twenty;
       within = may.within;
     }

@@ -2,8 +2,9 @@ use Rattle.schema_model.specs.PlainTables.{violation_items}
 use Rattle.std.proofs.Common.{sym, ◌∙◌}
 use Rattle.chunk_store.specs.Chunks.{Extends}
 use Rattle.chunk_store.specs.Drafts.{chunks_of}
+use Rattle.chunk_store.specs.Kinds.{is_data}
 use Rattle.table_root.specs.Standing.{table_of_lists}
-use Rattle.constraint_scan.specs.Recording.{is_data, listed_items, with_list}
+use Rattle.constraint_scan.specs.Recording.{listed_items, with_list}
 use Rattle.constraint_scan.proofs.ListLemmas.{list_rises}
 use Rattle.constraint_scan.proofs.RecordLemmas.{may_keep, recorded_tree, stays}
 use Rattle.constraint_scan.proofs.recording.record_table.Goals as goal

@@ -1,7 +1,7 @@
 use Rattle.std.proofs.Common.{◌∙◌, List, [], sym, subst}
 use Rattle.chunk_store.specs.Drafts.{chunks_of}
 use Rattle.table_root.specs.Standing.{named_tables}
-use Rattle.table_root.specs.declared.records.NamedTable.{NamedTable}
+use Rattle.table_root.specs.declared.records.TableEntry.{TableEntry}
 use Rattle.constraint_scan.specs.Recording.{MayBeWritten, recorded_as}
 use Rattle.constraint_scan.proofs.RecordLemmas.{can_each, may_write}
 use Rattle.constraint_scan.proofs.recording.record_violations.Goals as goal
@@ -36,7 +36,7 @@ keep_database-requires-after_bounds g c κs within =
     let there = c.in_ok-record_each.ensures.stands c.requires.0 c.requires.1
     (can_each address old c.args.database.now.0 c.args.list.now c.requires.0 c.requires.1 can c.as_slice.result.now (c.as_slice.ensures.value ∙ same)) [] (record { stand = tt; listed = c.new-made.ensures }) in (
       recorded_as c.requires.1 c.requires.0,
-      subst (λ (l : List NamedTable). MayBeWritten address now l (recorded_as c.requires.1 c.requires.0)) (sym c.as_slice-2.ensures)
+      subst (λ (l : List TableEntry). MayBeWritten address now l (recorded_as c.requires.1 c.requires.0)) (sym c.as_slice-2.ensures)
           (may_write address old now c.args.database.now.0 c.args.list.now c.requires.0 c.requires.1 c.record_each.new.made can there),
     )
 
@@ -50,5 +50,5 @@ returns-clause-stands g c = λ contents found can.
     let there = c.in_ok-record_each.ensures.stands contents found
     (can_each address old c.args.database.now.0 c.args.list.now contents found can c.as_slice.result.now (c.as_slice.ensures.value ∙ same)) [] (record { stand = tt; listed = c.new-made.ensures }) in
     c.keep_database.ensures.stands (recorded_as found contents)
-    (subst (λ (l : List NamedTable). MayBeWritten address now l (recorded_as found contents)) (sym c.as_slice-2.ensures)
+    (subst (λ (l : List TableEntry). MayBeWritten address now l (recorded_as found contents)) (sym c.as_slice-2.ensures)
     (may_write address old now c.args.database.now.0 c.args.list.now contents found c.record_each.new.made can there))

@@ -3,7 +3,7 @@ use Rattle.chunk_store.specs.Drafts.{chunks_of}
 use Rattle.schema_model.specs.Schemas.{is_schema}
 use Rattle.schema_model.specs.declared.schemas.Schema.{Schema}
 use Rattle.plain_writes.specs.Seen.{named_seen, table_seen}
-use Rattle.table_root.specs.declared.records.Table.{Table}
+use Rattle.table_root.specs.declared.records.StoredTable.{StoredTable}
 use Rattle.constraint_scan.specs.Thinned.{has_null_key, is_judged, is_parent, thin_named}
 use Rattle.constraint_scan.proofs.StandLemmas.{rows_there, table_found, table_same}
 use Rattle.constraint_scan.proofs.thinning.thin_read.Goals as goal
@@ -16,7 +16,7 @@ pub thin_rows-requires-clause-schema : goal.thin_rows-requires-clause-schema
 thin_rows-requires-clause-schema g c κs within =
     let at = c.requires.1 in
     let same = table_same g.D.Digester.address (chunks_of c.args.draft.now.chunks) c.args.entry.now.table.0 c.law_of_tables.ensures.tables c.requires.0 at c.in_ok-table.table c.in_ok-table.ensures in
-    ap (λ (t : Table). is_schema t.schema) same ∙ at.is_table.schema
+    ap (λ (t : StoredTable). is_schema t.schema) same ∙ at.is_table.schema
 
 pub thin_rows-requires-clause-tree : goal.thin_rows-requires-clause-tree
 thin_rows-requires-clause-tree g c κs within =
@@ -29,7 +29,7 @@ returns g c = λ contents at.
     let chunks = chunks_of c.args.draft.now.chunks in
     let stand = c.law_of_tables.ensures.tables in
     let tables = map named_seen c.args.schemas.now in
-    let schema = ap (λ (t : Table). t.schema) (table_same address chunks c.args.entry.now.table.0 stand contents at c.in_ok-table.table c.in_ok-table.ensures) in
+    let schema = ap (λ (t : StoredTable). t.schema) (table_same address chunks c.args.entry.now.table.0 stand contents at c.in_ok-table.table c.in_ok-table.ensures) in
     let whole = c.is_whole-whole.ensures
     ∙ ap (λ (s : Schema). is_judged s || is_parent tables c.as_slice.result.now) schema
     ∙ ap (λ (n : List ℕ). is_judged contents.schema || is_parent tables n) c.as_slice.ensures in

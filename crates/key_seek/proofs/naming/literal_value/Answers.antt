@@ -1,6 +1,6 @@
 use Rattle.std.proofs.Common.{◌≡◌, ◌∙◌, sym, ap, subst, true, Some}
 use Rattle.std.proofs.lemmas.Result.{IfOk-weaker}
-use Rattle.expr_eval.specs.declared.bound.Node.TheVariants as n
+use Rattle.expr_eval.specs.declared.bound.BoundNode.TheVariants as n
 use Rattle.expr_eval.specs.Valuing.{worth}
 use Rattle.expr_eval.proofs.WorthNodes.{worth_constant}
 use Rattle.tuple_codec.specs.Rows.{fits}

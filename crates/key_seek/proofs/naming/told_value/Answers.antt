@@ -1,6 +1,6 @@
 use Rattle.std.proofs.Common.{◌≡◌, ◌∙◌, sym, ap, subst, Some}
 use Rattle.std.proofs.lemmas.Result.{IfOk-weaker}
-use Rattle.expr_eval.specs.declared.bound.Node.TheVariants as n
+use Rattle.expr_eval.specs.declared.bound.BoundNode.TheVariants as n
 use Rattle.key_seek.specs.Parts.{Tells}
 use Rattle.key_seek.proofs.naming.told_value.Goals as goal
 

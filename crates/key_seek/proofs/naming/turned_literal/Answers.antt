@@ -5,7 +5,7 @@ use Rattle.std.proofs.lemmas.Result.{IfOk-weaker}
 use Rattle.tuple_codec.specs.Rows.{fits}
 use Rattle.tuple_codec.specs.declared.values.Value.TheVariants as cell
 use Rattle.sql_values.specs.Worths.{worth_of}
-use Rattle.expr_eval.specs.declared.bound.Node.TheVariants as n
+use Rattle.expr_eval.specs.declared.bound.BoundNode.TheVariants as n
 use Rattle.key_seek.specs.Parts.{IsLiteral, is_exact}
 use Rattle.key_seek.proofs.SteadyLemmas.{turned_back, turned_whole, turned_worth}
 use Rattle.key_seek.proofs.naming.turned_literal.Goals as goal

@@ -1,5 +1,5 @@
 use Rattle.std.proofs.Common.{◌∙◌, sym, ap, subst}
-use Rattle.expr_eval.specs.declared.bound.Node.TheVariants as n
+use Rattle.expr_eval.specs.declared.bound.BoundNode.TheVariants as n
 use Rattle.plain_sql.specs.Passing.{IsCalm}
 use Rattle.key_seek.proofs.steady.is_settled.Goals as goal
 

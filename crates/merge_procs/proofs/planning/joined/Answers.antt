@@ -5,7 +5,7 @@ use Rattle.chunk_store.specs.Kinds.{is_commit}
 use Rattle.plain_sessions.specs.Merging.{merge_reply}
 use Rattle.plain_sessions.specs.Records.{commit_on}
 use Rattle.branch_procs.proofs.CommittingLemmas.{fault_told}
-use Rattle.branch_procs.specs.Committing.{IsWritten, parents_on}
+use Rattle.branch_procs.specs.Committing.{IsCommitWritten, parents_on}
 use Rattle.merge_procs.proofs.PlanningLemmas.{joined_told}
 use Rattle.merge_procs.proofs.planning.joined.Goals as goal
 
@@ -20,7 +20,7 @@ pub returns-clause-planned : goal.returns-clause-planned
 returns-clause-planned g c = λ commits state can.
     let address = g.D.Digester.address in
     let commit = commit_on commits c.args.epoch c.args.committer.now state.staged (parents_on c.args.rec.now.head state) c.args.message.now in
-    let written = subst (λ (e : ℤ). IsWritten address c.args.work.chunks c.written-made.new.work.chunks
+    let written = subst (λ (e : ℤ). IsCommitWritten address c.args.work.chunks c.written-made.new.work.chunks
     (commit_on commits e c.args.committer.now state.staged (parents_on c.args.rec.now.head state) c.args.message.now) c.in_ok-head.head)
     (to_z-of_z w64 c.args.epoch c.ranges.epoch) (c.in_ok-head.ensures.written commits state can) in
     joined_told address c.args.work c.written-made.new.work commit c.args.rec.now.staged c.clean.result c.in_ok-head.head c.in_ok-reply.reply c.sealed.result written

@@ -3,8 +3,8 @@ use Rattle.std.specs.Prelude.{IfOk}
 use Rattle.std.proofs.lemmas.Int.{to_z-of_z}
 use Rattle.chunk_store.specs.Drafts.{chunks_of}
 use Rattle.plain_sessions.specs.Records.{commit_on}
-use Rattle.root_merge.specs.Merging.{is_data}
 use Rattle.tuple_codec.specs.declared.records.BranchRecord.{BranchRecord}
+use Rattle.chunk_store.specs.Kinds.{is_data}
 use Rattle.branch_procs.proofs.CommittingLemmas.{fault_told}
 use Rattle.branch_procs.specs.Committing.{CanCommit, parents_on}
 use Rattle.merge_procs.specs.Databases.{IsMet, merged_of}

@@ -5,7 +5,7 @@ use Rattle.plain_sessions.specs.Merging.{base_root, merge_message}
 use Rattle.plain_sessions.specs.Moments.{merged_as}
 use Rattle.plain_sessions.specs.Records.{commit_on, root_of}
 use Rattle.plain_sessions.specs.Sessions.{own_root}
-use Rattle.merge_procs.specs.Planning.{IsMerged, message_on}
+use Rattle.merge_procs.specs.Planning.{IsMergeCommitted, message_on}
 use Rattle.merge_procs.proofs.PlanningLemmas.{can_merge, fit_parts, plans_joined, refuses, start_of}
 use Rattle.merge_procs.proofs.planning.plan_join.Goals as goal
 
@@ -44,7 +44,7 @@ returns-clause-planned g c = λ p t shared present merged d is merges.
     let can = can_merge address laws.chunks laws.records laws.commits c.args.session.now c.args.look.now start started c.in_ok-work.work c.in_ok-work.ensures.work p t shared present d
     laws.databases c.args.merge.now c.args.three.now is in
     let own = d.session_stands in
-    let made = subst (λ (e : ℤ). IfOk c.merged.result (λ plan. IsMerged address c.in_ok-work.work
+    let made = subst (λ (e : ℤ). IfOk c.merged.result (λ plan. IsMergeCommitted address c.in_ok-work.work
     (commit_on shared.commits e c.args.session.now.name merged.database (c.args.session.now.own.head.0 ∷ c.args.three.now.other.0 ∷ []) c.in_ok-message.message) plan))
     (to_z-of_z w64 c.args.epoch c.ranges.epoch)
     (c.merged.ensures.planned shared.commits (base_root t c.args.three.now.other.0) (own_root t) (root_of t.commits c.args.three.now.other.0) merged can merges) in

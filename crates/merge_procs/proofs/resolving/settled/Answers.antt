@@ -1,10 +1,9 @@
 use Rattle.std.proofs.Common.{[], List, sym, subst}
 use Rattle.chunk_store.specs.Chunks.{Extends}
 use Rattle.chunk_store.specs.Drafts.{chunks_of}
-use Rattle.chunk_store.specs.Kinds.{is_database}
-use Rattle.table_root.specs.declared.records.NamedTable.{NamedTable}
+use Rattle.chunk_store.specs.Kinds.{is_data, is_database}
+use Rattle.table_root.specs.declared.records.TableEntry.{TableEntry}
 use Rattle.plain_sessions.specs.Merging.{database_after}
-use Rattle.root_merge.specs.Merging.{is_data}
 use Rattle.sql_write.specs.Putting.{AreListed}
 use Rattle.merge_procs.specs.Resolving.{CanJudge}
 use Rattle.merge_procs.proofs.JudgeLemmas.{can_judge, can_settle, grown, listed_after}
@@ -27,7 +26,7 @@ write_tables-requires-after_bounds g c κs within =
     let is = can.is in
     let stands = is.stands in (
       database_after request state.working,
-      subst (λ (l : List NamedTable). AreListed address mid l (database_after request state.working)) (sym c.as_slice.ensures)
+      subst (λ (l : List TableEntry). AreListed address mid l (database_after request state.working)) (sym c.as_slice.ensures)
           (listed_after address old mid c.args.own.now.working.0 c.settle_each.new.made request state.working stands.working there),
     )
 
@@ -47,14 +46,14 @@ judged-requires-after_bounds g c κs within =
     let there = c.in_ok-settle_each.ensures.stands state.working settle [] (record { stand = tt; listed = c.new-made.ensures }) in
     let is = can.is in
     let stands = is.stands in
-    let listed = subst (λ (l : List NamedTable). AreListed address (chunks_of mid.chunks) l (database_after request state.working)) (sym c.as_slice.ensures)
+    let listed = subst (λ (l : List TableEntry). AreListed address (chunks_of mid.chunks) l (database_after request state.working)) (sym c.as_slice.ensures)
     (listed_after address (chunks_of old.chunks) (chunks_of mid.chunks) c.args.own.now.working.0 c.settle_each.new.made request state.working stands.working there) in
     let at = c.in_ok-root.ensures.stands (database_after request state.working) listed in (
       commits,
       request,
       state,
       database_after request state.working,
-      subst (λ (l : List NamedTable). CanJudge address (chunks_of new.chunks) commits c.args.own.now l c.in_ok-root.root request state (database_after request state.working)) (sym c.as_slice-2.ensures)
+      subst (λ (l : List TableEntry). CanJudge address (chunks_of new.chunks) commits c.args.own.now l c.in_ok-root.root request state (database_after request state.working)) (sym c.as_slice-2.ensures)
           (can_judge address (chunks_of old.chunks) (chunks_of mid.chunks) (chunks_of new.chunks) commits c.args.own.now c.args.tables.now c.settle_each.new.made c.in_ok-root.root request state later more laws.tables
           c.law_of_records.ensures can there at),
     )
@@ -74,11 +73,11 @@ returns-clause-is g c = λ commits state can.
     let there = c.in_ok-settle_each.ensures.stands state.working settle [] (record { stand = tt; listed = c.new-made.ensures }) in
     let is = can.is in
     let stands = is.stands in
-    let listed = subst (λ (l : List NamedTable). AreListed address (chunks_of mid.chunks) l (database_after request state.working)) (sym c.as_slice.ensures)
+    let listed = subst (λ (l : List TableEntry). AreListed address (chunks_of mid.chunks) l (database_after request state.working)) (sym c.as_slice.ensures)
     (listed_after address (chunks_of old.chunks) (chunks_of mid.chunks) c.args.own.now.working.0 c.settle_each.new.made request state.working stands.working there) in
     let at = c.in_ok-root.ensures.stands (database_after request state.working) listed in
     c.in_ok-step.ensures commits request state (database_after request state.working)
-    (subst (λ (l : List NamedTable). CanJudge address (chunks_of new.chunks) commits c.args.own.now l c.in_ok-root.root request state (database_after request state.working)) (sym c.as_slice-2.ensures)
+    (subst (λ (l : List TableEntry). CanJudge address (chunks_of new.chunks) commits c.args.own.now l c.in_ok-root.root request state (database_after request state.working)) (sym c.as_slice-2.ensures)
     (can_judge address (chunks_of old.chunks) (chunks_of mid.chunks) (chunks_of new.chunks) commits c.args.own.now c.args.tables.now c.settle_each.new.made c.in_ok-root.root request state later more laws.tables
     c.law_of_records.ensures can there at))
 

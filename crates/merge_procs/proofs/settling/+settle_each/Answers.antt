@@ -3,12 +3,12 @@ use Rattle.std.specs.Prelude.{OnOk}
 use Rattle.schema_model.specs.PlainTables.{PlainDatabase}
 use Rattle.chunk_store.specs.Chunks.{Extends}
 use Rattle.chunk_store.specs.Drafts.{chunks_of}
-use Rattle.table_root.specs.declared.records.NamedTable.{NamedTable}
-use Rattle.constraint_scan.specs.Scanning.{AreThere}
+use Rattle.chunk_store.specs.Kinds.{is_data}
+use Rattle.table_root.specs.Standing.{AreThere}
+use Rattle.table_root.specs.declared.records.TableEntry.{TableEntry}
 use Rattle.constraint_scan.proofs.RecordLemmas.{there_later, there_more}
 use Rattle.constraint_scan.proofs.StandLemmas.{parts_of}
 use Rattle.plain_sessions.specs.Merging.{table_after}
-use Rattle.root_merge.specs.Merging.{is_data}
 use Rattle.merge_procs.proofs.SettleLemmas.{first_can, joined, others_can}
 use Rattle.merge_procs.proofs.settling.+settle_each.Goals as goal
 
@@ -51,7 +51,7 @@ returns-in-len1-up-clause-stands g t c database can done there =
     let parts = parts_of address (chunks_of old.chunks) database entries first can.there c.first-item.is c.in-len1-up.len_at_least in
     let named = parts.named in
     let made = c.in_ok-entry_after.ensures.stands named (first_can address (chunks_of old.chunks) entries rest request database first can parts) in
-    let pushed = subst (λ (l : List NamedTable). AreThere address (chunks_of mid.chunks) (done ++ table_after request named ∷ []) l) (sym c.in_ok-push.ensures.ok)
+    let pushed = subst (λ (l : List TableEntry). AreThere address (chunks_of mid.chunks) (done ++ table_after request named ∷ []) l) (sym c.in_ok-push.ensures.ok)
     (there_more address (chunks_of mid.chunks) done c.args.made.now c.in_ok-entry_after.field-0 (table_after request named)
     (there_later address (chunks_of old.chunks) (chunks_of mid.chunks) more laws.tables done c.args.made.now there) made) in
     subst (λ (d : PlainDatabase). OnOk c.settle_each.result (AreThere address (chunks_of c.settle_each.new.draft.chunks) d c.settle_each.new.made))

@@ -1,6 +1,5 @@
 use Rattle.chunk_store.specs.Drafts.{chunks_of}
-use Rattle.chunk_store.specs.Kinds.{is_database, is_either, is_node, is_table}
-use Rattle.root_merge.specs.Merging.{is_data}
+use Rattle.chunk_store.specs.Kinds.{is_data, is_database, is_either, is_node, is_table}
 use Rattle.table_root.specs.Standing.{table_of_lists}
 use Rattle.merge_procs.specs.Resolving.{settled}
 use Rattle.merge_procs.proofs.SettleLemmas.{may_keep, may_take}

@@ -1,8 +1,8 @@
 use Rattle.std.proofs.Common.{◌∙◌, ap, ℕ, ◌==◌, Bool, not, cond, [], ◌∷◌, codes}
 use Rattle.chunk_store.specs.Chunks.{Extends}
 use Rattle.chunk_store.specs.Drafts.{chunks_of}
+use Rattle.chunk_store.specs.Kinds.{is_data}
 use Rattle.plain_sessions.specs.Replies.{number_field, one_row}
-use Rattle.root_merge.specs.Merging.{is_data}
 use Rattle.merge_procs.proofs.VerifyingLemmas.{verified_so}
 use Rattle.merge_procs.proofs.verifying.verified.Goals as goal
 

@@ -5,7 +5,7 @@ use Rattle.expr_eval.specs.Binding.{Outcome}
 use Rattle.expr_eval.specs.declared.scopes.ScopeColumn.{ScopeColumn}
 use Rattle.plain_sql.specs.Gives.{GivesBy}
 use Rattle.plain_sql.specs.Lists.{each}
-use Rattle.plain_writes.specs.declared.updating.Setting.{Setting}
+use Rattle.plain_writes.specs.declared.updating.BoundAssignment.{BoundAssignment}
 use Rattle.plain_writes.specs.Seen.{effect_seen, named_seen, setting_seen, table_seen}
 use Rattle.plain_writes.specs.Steps.{updated_by}
 use Rattle.plain_writes.specs.Violations.{Checks, checks_by, own_scope}
@@ -28,6 +28,6 @@ returns g c =
     let given : GivesBy effect_seen c.updated_by.result (updated_by checks database c.args.update.now table c.in_ok-scope.scope (map setting_seen c.in_ok-settings.settings)) =
     subst (λ (scope : List ScopeColumn). GivesBy effect_seen c.updated_by.result (updated_by checks database c.args.update.now table scope (map setting_seen c.in_ok-settings.settings)))
     c.as_slice-4.ensures
-    (subst (λ (list : List Setting). GivesBy effect_seen c.updated_by.result (updated_by checks database c.args.update.now table c.as_slice-4.result.now (map setting_seen list)))
+    (subst (λ (list : List BoundAssignment). GivesBy effect_seen c.updated_by.result (updated_by checks database c.args.update.now table c.as_slice-4.result.now (map setting_seen list)))
     c.as_slice-5.ensures c.updated_by.ensures) in
     subst (λ (outcome : Outcome Effect). GivesBy effect_seen c.updated_by.result outcome) (sym same) given

@@ -5,7 +5,7 @@ use Rattle.chunk_store.specs.Drafts.{chunks_of}
 use Rattle.expr_eval.specs.Binding.{Outcome}
 use Rattle.plain_sessions.specs.CommitRule.{candidate}
 use Rattle.plain_sessions.specs.Records.{BranchState, is_same_state}
-use Rattle.root_merge.specs.States.{IsCandidate, StateStands}
+use Rattle.root_merge.specs.States.{BranchStateStands, IsCandidate}
 use Rattle.root_merge.proofs.DecideLemmas.{moved, stands_for, unmoved}
 use Rattle.root_merge.proofs.StateLemmas.{one_record, same_record}
 use Rattle.root_merge.proofs.deciding.proposed.Goals as goal
@@ -15,7 +15,7 @@ returns-then-eq-clause-is g c = λ s p o states.
     let address = g.D.Digester.address in
     let chunks = chunks_of c.args.draft.now.chunks in
     let equal : c.args.present.now ≡ c.args.start.now = search rules in
-    let start = subst (λ (rec : BranchRecord). StateStands address chunks rec s) (sym equal) states.start_stands in
+    let start = subst (λ (rec : BranchRecord). BranchStateStands address chunks rec s) (sym equal) states.start_stands in
     let same = same_record address chunks c.laws_of_growth.ensures.databases c.laws_of_states.ensures.sameness c.args.present.now p s states.present_stands start in
     stands_for address chunks (candidate s p o) c.args.own.now o (unmoved s p o same) states.own_stands
 

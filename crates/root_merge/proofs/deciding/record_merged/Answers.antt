@@ -1,7 +1,7 @@
 use Rattle.std.proofs.Common.{refl}
 use Rattle.chunk_store.specs.Chunks.{Extends}
 use Rattle.chunk_store.specs.Drafts.{chunks_of}
-use Rattle.root_merge.specs.Merging.{is_data}
+use Rattle.chunk_store.specs.Kinds.{is_data}
 use Rattle.root_merge.proofs.StateLemmas.{root_later}
 use Rattle.root_merge.proofs.deciding.record_merged.Goals as goal
 

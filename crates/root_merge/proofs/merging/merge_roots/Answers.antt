@@ -4,7 +4,7 @@ use Rattle.schema_model.specs.Limits.{is_database_within_limits}
 use Rattle.chunk_store.specs.Drafts.{chunks_of}
 use Rattle.plain_merge.specs.RootMerge.{root3}
 use Rattle.table_merge.specs.Merging.{IsMergeReason}
-use Rattle.root_merge.specs.Merging.{AreRoots, IsFaultOf, IsLimitFault, IsMadeOf, IsMerged}
+use Rattle.root_merge.specs.Merging.{AreRoots, IsFaultOf, IsLimitFault, IsMadeOf, IsMergedDatabase}
 use Rattle.root_merge.specs.Names.{LeadTo, all_wanted, together}
 use Rattle.root_merge.specs.declared.names.Named.{Named}
 use Rattle.root_merge.proofs.RootLemmas.{can_merge, is_merged, limit_fault, schema_fault, schema_reason}
@@ -62,7 +62,7 @@ returns-clause-merged g c = λ b o t roots.
     let lead = subst (λ (list : List Named). LeadTo address chunks list (all_wanted b o t)) (sym c.as_slice.ensures.value) (c.in_ok-names.ensures.lead b o t roots) in
     let later = subst (λ (list : List Named). LeadTo address chunks list (all_wanted b o t)) (sym c.as_slice-2.ensures.value) (c.in_ok-names.ensures.lead b o t roots) in
     let all = c.in_ok-judge.ensures.ok (all_wanted b o t) lead in
-    IfOk-weaker c.merge_chosen.result (λ made. IsMadeOf address now made all.0) (λ made. IsMerged address now made (root3 b o t))
+    IfOk-weaker c.merge_chosen.result (λ made. IsMadeOf address now made all.0) (λ made. IsMergedDatabase address now made (root3 b o t))
     (λ made is. is_merged address now made b o t all.0 all.1 is)
     (c.merge_chosen.ensures.merged (all_wanted b o t) all.0 (can_merge address chunks c.args.base.now c.args.ours.now c.args.theirs.now b o t c.as_slice-2.result.now all.0 roots later all.1))
 

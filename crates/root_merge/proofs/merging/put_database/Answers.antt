@@ -3,7 +3,7 @@ use Rattle.chunk_store.specs.Chunks.{Extends, IsHeld}
 use Rattle.chunk_store.specs.Drafts.{chunks_of}
 use Rattle.chunk_store.specs.Kinds.{is_database}
 use Rattle.table_root.specs.Databases.{written_database}
-use Rattle.table_root.specs.declared.records.NamedTable.{NamedTable}
+use Rattle.table_root.specs.declared.records.TableEntry.{TableEntry}
 use Rattle.root_merge.proofs.MadeLemmas.{kept_again, kept_rise, kept_short}
 use Rattle.root_merge.proofs.merging.put_database.Goals as goal
 
@@ -27,6 +27,6 @@ returns-clause-stands g c = λ database kept.
     record {
       stands = laws.databases.stands address (chunks_of new.chunks) c.in_ok-at.at.0 database kept.is_database
           (kept_again address (chunks_of old.chunks) (chunks_of new.chunks) more laws.tables tables database kept)
-          (subst (λ (l : List NamedTable). IsHeld address (chunks_of new.chunks) c.in_ok-at.at.0 (written_database l)) kept.there.listed held) twenty;
+          (subst (λ (l : List TableEntry). IsHeld address (chunks_of new.chunks) c.in_ok-at.at.0 (written_database l)) kept.there.listed held) twenty;
       within = kept.within;
     }

@@ -1,7 +1,7 @@
 use Rattle.std.proofs.Common.{◌≡◌, ◌∙◌, List, sym, subst}
-use Rattle.table_root.specs.declared.records.NamedTable.{NamedTable}
+use Rattle.table_root.specs.declared.records.TableEntry.{TableEntry}
 use Rattle.chunk_store.specs.Drafts.{chunks_of}
-use Rattle.constraint_scan.specs.Scanning.{AreThere}
+use Rattle.table_root.specs.Standing.{AreThere}
 use Rattle.root_merge.proofs.SettlingLemmas.{database_seen, is_bare}
 use Rattle.root_merge.proofs.settling.left_in_database.Goals as goal
 
@@ -16,5 +16,5 @@ keep_database-requires-clause-database g c κs within =
     let contents = c.requires.database.0 in
     let kept = c.requires.database.1 in
     let read = c.in_ok-tables.ensures contents kept in
-    let there = subst (λ (l : List NamedTable). AreThere address chunks contents l) (sym c.as_slice.ensures.value) read.there in
+    let there = subst (λ (l : List TableEntry). AreThere address chunks contents l) (sym c.as_slice.ensures.value) read.there in
     record { contents = contents; at = kept.stands; bare = sym (c.in_ok-left.ensures.is contents there) ∙ is_bare c.in_ok-left.left (sym c.is_any.ensures ∙ c.if-is_any.false) }

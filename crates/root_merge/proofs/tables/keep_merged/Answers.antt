@@ -1,4 +1,4 @@
-use Rattle.root_merge.specs.Merging.{is_data}
+use Rattle.chunk_store.specs.Kinds.{is_data}
 use Rattle.root_merge.proofs.TableLemmas.{node_data, table_data}
 use Rattle.root_merge.proofs.tables.keep_merged.Goals as goal
 

@@ -1,6 +1,6 @@
 use Rattle.std.proofs.Common.{◌≡◌, ◌++◌, drop}
 use Rattle.schema_merge.specs.Names.{unquoted}
-use Rattle.schema_merge.specs.declared.names.Place.TheVariants.{Outside}
+use Rattle.schema_merge.specs.declared.names.QuoteState.TheVariants.{Outside}
 use Rattle.schema_merge.proofs.names.unquoted.Given as goal
 
 abbrev pub invariant-loop-byte : goal.invariant-loop-byte

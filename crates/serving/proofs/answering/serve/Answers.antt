@@ -1,6 +1,6 @@
 use Rattle.std.proofs.Common.{ℤ, ◌+◌, ◌^◌, ◌<◌, subst, sym, w64}
 use Rattle.std.proofs.lemmas.Int.{to_z-of_z}
-use Rattle.session_state.specs.declared.sessions.Place.{Place}
+use Rattle.session_state.specs.declared.sessions.Position.{Position}
 use Rattle.serving.specs.Serving.{Serves}
 use Rattle.serving.specs.Steps.{number_at}
 use Rattle.serving.proofs.ServeLemmas.{serves_alone}
@@ -14,7 +14,7 @@ serve_at_moments-requires-clause-before g c κs within =
 
 pub serve_at_moments-requires-clause-place : goal.serve_at_moments-requires-clause-place
 serve_at_moments-requires-clause-place g c κs within =
-    subst (λ (at : Place). number_at at + 1 < 2 ^ 32) (sym (c.come_to.ensures.place c.in-None.is)) c.requires.place
+    subst (λ (at : Position). number_at at + 1 < 2 ^ 32) (sym (c.come_to.ensures.place c.in-None.is)) c.requires.place
 
 pub returns-in-Some-clause-served : goal.returns-in-Some-clause-served
 returns-in-Some-clause-served g c = λ p shared before.

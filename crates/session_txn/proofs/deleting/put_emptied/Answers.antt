@@ -1,11 +1,11 @@
 use Rattle.std.proofs.lemmas.Result.{IfOk-weaker}
-use Rattle.constraint_scan.specs.Scanning.{IsKeptAt, IsReadAt}
+use Rattle.constraint_scan.specs.Scanning.{IsKeptAt}
 use Rattle.plain_writes.specs.Writes.{replaced}
 use Rattle.tuple_codec.specs.declared.addresses.Address.{Address}
 use Rattle.chunk_store.specs.Chunks.{Extends}
 use Rattle.chunk_store.specs.Drafts.{chunks_of}
-use Rattle.chunk_store.specs.Kinds.{is_database, is_either, is_node, is_table}
-use Rattle.sql_write.specs.Growing.{is_data}
+use Rattle.chunk_store.specs.Kinds.{is_data, is_database, is_either, is_node, is_table}
+use Rattle.table_root.specs.Standing.{IsReadAt}
 use Rattle.session_txn.specs.Deleting.{without_entries}
 use Rattle.session_txn.proofs.FoundLemmas.{kept_again, may_replace}
 use Rattle.session_txn.proofs.deleting.put_emptied.Goals as goal

@@ -8,7 +8,7 @@ use Rattle.chunk_store.specs.Standing.{IsTree}
 use Rattle.prolly_edit.specs.Editing.{CanEdit}
 use Rattle.schema_model.specs.PlainTables.{violation_items}
 use Rattle.table_root.specs.Standing.{IsTableOf}
-use Rattle.table_root.specs.declared.records.Table.{Table}
+use Rattle.table_root.specs.declared.records.StoredTable.{StoredTable}
 use Rattle.session_txn.specs.Deleting.{without_violations}
 use Rattle.conflict_tables.proofs.DropLemmas.{can_drop}
 use Rattle.session_txn.proofs.DropLemmas.{own_tree, without_stands}
@@ -44,5 +44,5 @@ returns-clause-stands g c = λ contents of.
     let stands = without_stands c.args.keys.now address (chunks_of old.chunks) (chunks_of new.chunks) more c.law_of_tables.ensures.values table contents k of left in
     let schema = c.in_ok-copy_schema.ensures in
     let roots = c.in_ok-copy_roots.ensures ∙ c.as_slice-2.ensures in
-    subst (λ (t : Table). IsTableOf address (chunks_of new.chunks) t (without_violations c.args.keys.now contents))
+    subst (λ (t : StoredTable). IsTableOf address (chunks_of new.chunks) t (without_violations c.args.keys.now contents))
     (λ i. record { schema = sym schema i; rows = table.rows; indexes = sym roots i; conflicts = table.conflicts; violations = k }) stands

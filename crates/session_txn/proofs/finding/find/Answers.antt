@@ -1,7 +1,7 @@
 use Rattle.std.proofs.Common.{List, Option, Ok, refl, sym, ap, ◌∙◌, subst}
 use Rattle.schema_model.specs.PlainTables.{PlainTable}
 use Rattle.chunk_store.specs.Drafts.{chunks_of}
-use Rattle.table_root.specs.declared.records.NamedTable.{NamedTable}
+use Rattle.table_root.specs.declared.records.TableEntry.{TableEntry}
 use Rattle.session_txn.specs.Finding.{Finds}
 use Rattle.sql_write.specs.Putting.{address_in}
 use Rattle.sql_write.proofs.TableLemmas.{absent, found_at}
@@ -13,7 +13,7 @@ table_at-requires-after_bounds g c κs within =
     let chunks = chunks_of c.args.draft.now.chunks in
     let name = c.args.name.now in
     let are = c.in_ok-tables.ensures c.requires.0 c.requires.1 in
-    let e = sym (ap (λ (l : List NamedTable). address_in l name) are.listed.listed) ∙ sym (ap (λ (l : List NamedTable). address_in l name) c.as_slice.ensures.value) ∙ sym c.in-Some.ensures in
+    let e = sym (ap (λ (l : List TableEntry). address_in l name) are.listed.listed) ∙ sym (ap (λ (l : List TableEntry). address_in l name) c.as_slice.ensures.value) ∙ sym c.in-Some.ensures in
     let there = found_at address chunks name c.in-Some.address c.requires.0 are.listed.stand e in
     (there.0, there.2)
 
@@ -23,7 +23,7 @@ returns-in_ok-table-in-Some g c = λ contents kept.
     let chunks = chunks_of c.args.draft.now.chunks in
     let name = c.args.name.now in
     let are = c.in_ok-tables.ensures contents kept in
-    let e = sym (ap (λ (l : List NamedTable). address_in l name) are.listed.listed) ∙ sym (ap (λ (l : List NamedTable). address_in l name) c.as_slice.ensures.value) ∙ sym c.in-Some.ensures in
+    let e = sym (ap (λ (l : List TableEntry). address_in l name) are.listed.listed) ∙ sym (ap (λ (l : List TableEntry). address_in l name) c.as_slice.ensures.value) ∙ sym c.in-Some.ensures in
     let there = found_at address chunks name c.in-Some.address contents are.listed.stand e in
     subst (λ (o : Option PlainTable). Finds address chunks c.args.database.now.0 name contents (Ok (record { tables = c.in_ok-tables.tables; table = c.in_ok-table-in-Some.table })) o) (sym there.1)
     (record { kept = kept; listed = are.listed.listed; named = there.1; stands = c.in_ok-table-in-Some.ensures there.0 there.2 })
@@ -33,5 +33,5 @@ returns-in-None g c = λ contents kept.
     let address = g.D.Digester.address in
     let name = c.args.name.now in
     let are = c.in_ok-tables.ensures contents kept in
-    let e = sym (ap (λ (l : List NamedTable). address_in l name) are.listed.listed) ∙ sym (ap (λ (l : List NamedTable). address_in l name) c.as_slice.ensures.value) ∙ sym c.in-None.ensures in
+    let e = sym (ap (λ (l : List TableEntry). address_in l name) are.listed.listed) ∙ sym (ap (λ (l : List TableEntry). address_in l name) c.as_slice.ensures.value) ∙ sym c.in-None.ensures in
     (refl, absent address name contents e)

@@ -1,7 +1,7 @@
 use Rattle.std.proofs.Common.{◌∙◌, sym, ap, subst}
 use Rattle.schema_model.specs.PlainTables as plain
 use Rattle.chunk_store.specs.Drafts.{chunks_of}
-use Rattle.sql_select.specs.Seeks.{Serves}
+use Rattle.sql_select.specs.Seeks.{ServesQuery}
 use Rattle.sql_select.specs.Sources.{is_read, known_table}
 use Rattle.sql_select.proofs.StandLemmas.{parts_of, passed_over, read_first}
 use Rattle.sql_select.proofs.reading.+push_tables.Goals as goal
@@ -28,7 +28,7 @@ returns-in_ok-push_tables g t c = λ database there.
       | then-is_read+in_ok-table_known+in_ok-push w ↦
           read_first c.args.query.now (λ (one : plain.NamedTable). is_read c.args.query.now.from one.name) c.args.known.now c.if-is_read.known c.push_tables.new.known w.in_ok-table_known.field-0 named parts.others database parts.both
           (sym (w.if-is_read.ensures ∙ read)) more (w.known-is ∙ w.in_ok-push.ensures.ok)
-          (subst (λ n. Serves c.args.query.now (known_table (record { name = n; table = named.table })) w.in_ok-table_known.field-0) parts.name (w.in_ok-table_known.ensures named.table parts.at))
+          (subst (λ n. ServesQuery c.args.query.now (known_table (record { name = n; table = named.table })) w.in_ok-table_known.field-0) parts.name (w.in_ok-table_known.ensures named.table parts.at))
       | else-is_read w ↦
           passed_over c.args.query.now (λ (one : plain.NamedTable). is_read c.args.query.now.from one.name) c.args.known.now c.if-is_read.known c.push_tables.new.known named parts.others database parts.both
           (sym (w.if-is_read.ensures ∙ read)) more w.known-is

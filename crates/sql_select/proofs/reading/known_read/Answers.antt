@@ -1,7 +1,8 @@
 use Rattle.std.proofs.Common.{map, filter, sym, subst}
 use Rattle.chunk_store.specs.Drafts.{chunks_of}
 use Rattle.schema_model.specs.PlainTables as plain
-use Rattle.sql_select.specs.Sources.{AreThere, is_read, known_system, known_table}
+use Rattle.table_root.specs.Standing.{AreThere}
+use Rattle.sql_select.specs.Sources.{is_read, known_system, known_table}
 use Rattle.sql_select.specs.declared.sources.NamedAnswer.{NamedAnswer}
 use Rattle.sql_select.proofs.SeekLemmas.{read_alike}
 use Rattle.sql_select.proofs.StandLemmas.{database_there}

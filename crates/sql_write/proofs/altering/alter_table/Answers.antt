@@ -2,13 +2,13 @@ use Rattle.std.proofs.Common.{List, ap, sym, ◌∙◌, subst, refl, ℕ}
 use Rattle.schema_model.specs.PlainTables.{PlainTable}
 use Rattle.tuple_codec.specs.Rows.{Cells}
 use Rattle.chunk_store.specs.Drafts.{chunks_of}
+use Rattle.table_root.specs.Standing.{IsReadAt}
 use Rattle.plain_writes.specs.Seen.{table_seen}
 use Rattle.plain_writes.specs.Violations.{table_in}
 use Rattle.plain_writes.specs.Writes.{replaced}
 use Rattle.plain_schemas.specs.Altered.{alter_effect}
 use Rattle.plain_schemas.specs.Effects.{changed_to}
 use Rattle.plain_schemas.specs.Statements.{checks}
-use Rattle.constraint_scan.specs.Scanning.{IsReadAt}
 use Rattle.index_keep.specs.Keeping.{table_of_rows}
 use Rattle.sql_write.specs.Altering.{CanRebuild}
 use Rattle.sql_write.proofs.AlteringLemmas.{alters, bare_after, found_parts, may_rebuild, put_makes}

@@ -1,10 +1,9 @@
 use Rattle.chunk_store.specs.Chunks.{Extends}
 use Rattle.chunk_store.specs.Drafts.{chunks_of}
-use Rattle.chunk_store.specs.Kinds.{is_database, is_either, is_node, is_table}
+use Rattle.chunk_store.specs.Kinds.{is_data, is_database, is_either, is_node, is_table}
 use Rattle.index_keep.specs.Keeping.{table_of_rows}
 use Rattle.sql_write.proofs.AlteringLemmas.{listed_later}
 use Rattle.write_laws.proofs.DatabaseLemmas.{limits_so}
-use Rattle.sql_write.specs.Growing.{is_data}
 use Rattle.sql_write.proofs.altering.rebuild_table.Goals as goal
 
 pub put_table-requires-after_bounds : goal.put_table-requires-after_bounds

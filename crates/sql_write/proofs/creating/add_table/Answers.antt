@@ -1,11 +1,10 @@
 use Rattle.std.proofs.Common.{List, [], sym, subst}
 use Rattle.chunk_store.specs.Chunks.{Extends}
 use Rattle.chunk_store.specs.Drafts.{chunks_of}
-use Rattle.chunk_store.specs.Kinds.{is_database, is_either, is_node, is_table}
-use Rattle.table_root.specs.declared.records.NamedTable.{NamedTable}
+use Rattle.chunk_store.specs.Kinds.{is_data, is_database, is_either, is_node, is_table}
+use Rattle.table_root.specs.declared.records.TableEntry.{TableEntry}
 use Rattle.plain_schemas.specs.Effects.{empty_table, with_table}
 use Rattle.index_keep.specs.Keeping.{table_of_rows}
-use Rattle.sql_write.specs.Growing.{is_data}
 use Rattle.sql_write.specs.Putting.{AreListed}
 use Rattle.sql_write.proofs.MakingLemmas.{added_listed, can_build_empty}
 use Rattle.sql_write.proofs.SchemaLemmas.{new_kept}
@@ -37,7 +36,7 @@ put_database-requires-after_bounds g c κs within =
     let kept = new_kept database c.args.name.now c.args.schema can.absent can.kept in
     let at = c.in_ok-address.ensures.stands (table_of_rows c.args.schema []) (record { stands = c.in_ok-table.ensures.stands; limits = (limits_so (empty_table c.args.schema) kept.within).0 }) in (
       with_table database c.args.name.now c.args.schema,
-      subst (λ (l : List NamedTable). AreListed address (chunks_of two.chunks) l (with_table database c.args.name.now c.args.schema)) (sym c.as_slice.ensures.value)
+      subst (λ (l : List TableEntry). AreListed address (chunks_of two.chunks) l (with_table database c.args.name.now c.args.schema)) (sym c.as_slice.ensures.value)
           (added_listed address (chunks_of old.chunks) (chunks_of two.chunks) more laws.tables c.args.tables.items c.in_ok-made.made.items c.args.name.now c.in_ok-from_slice.field-0 c.args.schema c.in_ok-address.address
           database can at c.in_ok-from_slice.ensures c.in_ok-made.ensures),
     )
@@ -54,7 +53,7 @@ returns-clause-stands g c = λ database can.
     let kept = new_kept database c.args.name.now c.args.schema can.absent can.kept in
     let at = c.in_ok-address.ensures.stands (table_of_rows c.args.schema []) (record { stands = c.in_ok-table.ensures.stands; limits = (limits_so (empty_table c.args.schema) kept.within).0 }) in
     c.put_database.ensures.stands (with_table database c.args.name.now c.args.schema)
-    (subst (λ (l : List NamedTable). AreListed address (chunks_of two.chunks) l (with_table database c.args.name.now c.args.schema)) (sym c.as_slice.ensures.value)
+    (subst (λ (l : List TableEntry). AreListed address (chunks_of two.chunks) l (with_table database c.args.name.now c.args.schema)) (sym c.as_slice.ensures.value)
     (added_listed address (chunks_of old.chunks) (chunks_of two.chunks) more laws.tables c.args.tables.items c.in_ok-made.made.items c.args.name.now c.in_ok-from_slice.field-0 c.args.schema c.in_ok-address.address
     database can at c.in_ok-from_slice.ensures c.in_ok-made.ensures))
 

@@ -1,9 +1,9 @@
 use Rattle.std.proofs.Common.{List, ℕ, Some, None, Ok, map, ap, sym, ◌∙◌, subst, refl}
 use Rattle.chunk_store.specs.Drafts.{chunks_of}
 use Rattle.schema_model.specs.PlainTables.{PlainDatabase}
+use Rattle.table_root.specs.Standing.{IsReadAt}
 use Rattle.plain_writes.specs.Seen.{named_seen}
 use Rattle.plain_schemas.specs.Effects.{changed_to, create_effect, with_table}
-use Rattle.constraint_scan.specs.Scanning.{IsReadAt}
 use Rattle.sql_write.specs.Adding.{CanAdd}
 use Rattle.sql_write.specs.Skeletons.{schema_created}
 use Rattle.sql_write.proofs.MakingLemmas.{made_of, made_same, refused_makes}

@@ -1,9 +1,8 @@
 use Rattle.chunk_store.specs.Chunks.{Extends}
 use Rattle.chunk_store.specs.Drafts.{chunks_of}
-use Rattle.chunk_store.specs.Kinds.{is_database, is_either, is_node, is_table}
+use Rattle.chunk_store.specs.Kinds.{is_data, is_database, is_either, is_node, is_table}
 use Rattle.index_keep.specs.Keeping.{with_rows}
 use Rattle.sql_write.proofs.TableLemmas.{listed_later}
-use Rattle.sql_write.specs.Growing.{is_data}
 use Rattle.sql_write.proofs.putting.put_rows.Goals as goal
 
 pub put_table-requires-after_bounds : goal.put_table-requires-after_bounds

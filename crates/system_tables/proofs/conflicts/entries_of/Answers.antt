@@ -2,7 +2,7 @@ use Rattle.std.proofs.Common.{get_or, sym, ap, ◌∙◌, ◌∷◌, ◌++◌, [
 use Rattle.conflict_tables.specs.declared.entries.ConflictEntry.{ConflictEntry}
 use Rattle.schema_model.specs.PlainTables.{Conflict}
 use Rattle.system_tables.specs.Entries.{IsConflictOf}
-use Rattle.system_tables.specs.declared.entries.Entry.{Entry}
+use Rattle.system_tables.specs.declared.entries.ListEntry.{ListEntry}
 use Rattle.system_tables.proofs.ConflictLemmas.{one_more, one_of}
 use Rattle.system_tables.proofs.conflicts.entries_of.Goals as goal
 
@@ -26,4 +26,4 @@ loop-entry-preserved c = λ conflicts are.
     let one = subst (λ (entry : ConflictEntry). IsConflictOf schema entry (get_or conflicts at nothing)) (sym c.entry-item.is)
     (one_of told schema c.args.list.now conflicts are at c.entry-item.result nothing c.loop-entry-test.true) in
     one_more told schema c.args.list.now conflicts are at nothing c.loop-entry-test.true c.loop-entry.entries c.push.new.self (c.loop-entry.invariant conflicts are)
-    (c.in_ok-push.ensures.ok ∙ ap (λ (entry : Entry). c.loop-entry.entries ++ entry ∷ []) (c.in_ok-conflict_entry.ensures (get_or conflicts at nothing) one))
+    (c.in_ok-push.ensures.ok ∙ ap (λ (entry : ListEntry). c.loop-entry.entries ++ entry ∷ []) (c.in_ok-conflict_entry.ensures (get_or conflicts at nothing) one))

@@ -2,7 +2,7 @@ use Rattle.std.proofs.Common.{List, [], ◌∷◌, ◌++◌, sym, ap, ◌∙◌,
 use Rattle.chunk_store.specs.Drafts.{chunks_of}
 use Rattle.prolly_tree.specs.Walks.{scan_rest}
 use Rattle.schema_model.specs.PlainTables.{violation_item}
-use Rattle.system_tables.specs.declared.entries.Entry.{Entry}
+use Rattle.system_tables.specs.declared.entries.ListEntry.{ListEntry}
 use Rattle.system_tables.proofs.ViolationLemmas.{IsReading, begins, first, over, own_fit, own_tree, shown_of}
 use Rattle.system_tables.proofs.violations.violation_entries.Goals as goal
 
@@ -18,7 +18,7 @@ items-init g c = λ contents of.
     let schema = c.args.table.now.schema in
     let address = g.D.Digester.address in
     let chunks = chunks_of c.args.draft.now.chunks in
-    subst (λ (l : List Entry). IsReading schema contents.violations l (scan_rest c.in_ok-scan.scan)) (sym c.new-entries.ensures)
+    subst (λ (l : List ListEntry). IsReading schema contents.violations l (scan_rest c.in_ok-scan.scan)) (sym c.new-entries.ensures)
     (begins schema contents.violations (own_fit address chunks c.args.table.now contents of) (scan_rest c.in_ok-scan.scan)
     (c.in_ok-scan.ensures (map (violation_item schema) contents.violations) (own_tree address chunks c.args.table.now contents of)))
 
@@ -35,8 +35,8 @@ items-preserved g c = λ contents of.
     let f = first schema contents.violations c.items.entries (scan_rest c.items.scan) (scan_rest c.next.new.self) (c.in-Some.key.now, c.in-Some.value.now)
     (c.items.invariant contents of) c.in-Some.ensures.gives in
     let read = c.in_ok-violation_entry.ensures f.violation f.is in
-    subst (λ (l : List Entry). IsReading schema contents.violations l (scan_rest c.next.new.self))
-    (ap (λ (entry : Entry). c.items.entries ++ entry ∷ []) (sym read) ∙ sym c.in_ok-push.ensures.ok) f.reading
+    subst (λ (l : List ListEntry). IsReading schema contents.violations l (scan_rest c.next.new.self))
+    (ap (λ (entry : ListEntry). c.items.entries ++ entry ∷ []) (sym read) ∙ sym c.in_ok-push.ensures.ok) f.reading
 
 pub returns : goal.returns
 returns g c = λ contents of.

@@ -1,6 +1,6 @@
 use Rattle.std.proofs.Common.{◌∙◌, List, subst, sym}
 use Rattle.std.specs.List.{AllByRecursion}
-use Rattle.tuple_codec.specs.declared.edits.Change.{Change}
+use Rattle.tuple_codec.specs.declared.edits.ItemChange.{ItemChange}
 use Rattle.chunk_store.specs.Drafts.{chunks_of}
 use Rattle.table_merge.specs.Skipping.{AreDecided, IsChangeOf}
 use Rattle.table_merge.proofs.SkipLemmas.{base_items, changes_are, merges, their_items}
@@ -27,4 +27,4 @@ returns g c = λ three can.
     let all = changes_are s three can.kept can.base_tree.are_rows.rise can.their_tree.are_rows.rise in
     let decided = c.decide_changes.ensures three (record { kept = can.kept; tree = can.our_tree; changes_are = subst (AllByRecursion (IsChangeOf s three)) (sym read) all }) in
     merges s three can.kept can.base_tree.are_rows.rise can.their_tree.are_rows.rise can.our_tree.are_rows.each can.our_tree.are_rows.rise c.decide_changes.result
-    (subst (λ (l : List Change). AreDecided c.decide_changes.result s three l) read decided)
+    (subst (λ (l : List ItemChange). AreDecided c.decide_changes.result s three l) read decided)

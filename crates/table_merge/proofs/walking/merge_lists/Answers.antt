@@ -4,7 +4,7 @@ use Rattle.node_format.specs.Views.{leaf_of}
 use Rattle.plain_merge.specs.TableMerge.{conflict_if}
 use Rattle.plain_merge.specs.KeyByKey.{kept}
 use Rattle.tuple_codec.specs.RowRule.{row3}
-use Rattle.table_merge.specs.Walking.{Decides, sides_of, three_in}
+use Rattle.table_merge.specs.Walking.{DecidesRow, sides_of, three_in}
 use Rattle.table_merge.proofs.WalkLemmas.{at_key, base_fits, key_fits, merged_fits, ours_fits, theirs_fits, walk_begun, walk_stops, stops_with, walked_all, walked_on}
 use Rattle.table_merge.proofs.walking.merge_lists.Goals as goal
 
@@ -42,7 +42,7 @@ loop-key-preserved c =
     let t = c.args.theirs.now in
     let key = c.key-item.result in
     let d = at_key s b o t c.requires.base c.requires.ours c.requires.theirs
-    (λ x y z. Decides (Ok c.in_ok-decided.decided) s (kept y (row3 x y z)) (conflict_if (sides_of key x y z) (row3 x y z))) key
+    (λ x y z. DecidesRow (Ok c.in_ok-decided.decided) s (kept y (row3 x y z)) (conflict_if (sides_of key x y z) (row3 x y z))) key
     (option_copied c.find.result) (option_copied c.find-in-loop-key.result) (option_copied c.find-in-loop-key-2.result) c.find.ensures c.find-in-loop-key.ensures c.find-in-loop-key-2.ensures c.in_ok-decided.ensures in
     walked_on s (three_in b o t) c.deref-key-items.result.now c.loop-key.key-index key _ _ c.loop-key-test.true c.key-item.is c.loop-key.invariant _ _ _ _
     d.0 d.1 d.2 c.in_ok-push_perhaps.ensures c.in_ok-push_perhaps-2.ensures
@@ -55,7 +55,7 @@ returns-in_err-decided c =
     let t = c.args.theirs.now in
     let key = c.key-item.result in
     let d = at_key s b o t c.requires.base c.requires.ours c.requires.theirs
-    (λ x y z. Decides (Err c.in_err-decided.field-0.0) s (kept y (row3 x y z)) (conflict_if (sides_of key x y z) (row3 x y z))) key
+    (λ x y z. DecidesRow (Err c.in_err-decided.field-0.0) s (kept y (row3 x y z)) (conflict_if (sides_of key x y z) (row3 x y z))) key
     (option_copied c.find.result) (option_copied c.find-in-loop-key.result) (option_copied c.find-in-loop-key-2.result) c.find.ensures c.find-in-loop-key.ensures c.find-in-loop-key-2.ensures c.in_err-decided.ensures in
     stops_with s (three_in b o t) _ _ c.from_residual-in_err-decided.result c.in_err-decided.field-0.0 d
     (walk_stops s (three_in b o t) c.deref-key-items.result.now c.loop-key.key-index key _ _ c.loop-key-test.true c.key-item.is c.loop-key.invariant) c.from_residual-in_err-decided.ensures

@@ -1,6 +1,6 @@
 use Rattle.std.proofs.Common.{◌≡◌, ℕ, List, [], ◌∷◌, ◌++◌, Some, None, ap, sym, ◌∙◌, subst}
 use Rattle.chunk_store.specs.declared.index.Placed.{Placed}
-use Rattle.chunk_store.specs.Chunks.{bytes_at}
+use Rattle.chunk_store.specs.Chunks.{chunk_bytes}
 use Rattle.chunk_store.specs.Drafts.{Drafting}
 use Rattle.chunk_store.specs.Placing.{span_at, written, chunks_in, AreOver}
 use Rattle.chunk_store.proofs.PlacingLemmas.{found_at, absent_span, all_stay, chunks_push}
@@ -15,7 +15,7 @@ push-requires-clause-absent g c =
     let k = c.args.address.0 in
     ap (λ l. span_at l k) c.make_room.ensures.same
     ∙ absent_span (written pages) (span_at cs k)
-    (sym (found_at pages cs k) ∙ ap (λ (d : Drafting). bytes_at d.chunks.own k) c.self.view_is ∙ c.requires.absent)
+    (sym (found_at pages cs k) ∙ ap (λ (d : Drafting). chunk_bytes d.chunks.own k) c.self.view_is ∙ c.requires.absent)
 
 pub invariant_of-self-2 : goal.invariant_of-self-2
 invariant_of-self-2 g c =
@@ -27,9 +27,9 @@ invariant_of-self-2 g c =
     let P : List Placed → Type 0 = λ l. AreOver g.D.Digester.address base c.place.new.self.pages l in
     let absent : span_at cs k ≡ None =
     absent_span (written pages) (span_at cs k)
-    (sym (found_at pages cs k) ∙ ap (λ (d : Drafting). bytes_at d.chunks.own k) c.self.view_is ∙ c.requires.absent) in
-    let agrees = λ (others : List ℕ) (held : bytes_at base k ≡ Some others).
-    c.requires.agrees others (sym (ap (λ (d : Drafting). bytes_at d.chunks.base k) c.self.view_is) ∙ held) in
+    (sym (found_at pages cs k) ∙ ap (λ (d : Drafting). chunk_bytes d.chunks.own k) c.self.view_is ∙ c.requires.absent) in
+    let agrees = λ (others : List ℕ) (held : chunk_bytes base k ≡ Some others).
+    c.requires.agrees others (sym (ap (λ (d : Drafting). chunk_bytes d.chunks.base k) c.self.view_is) ∙ held) in
     subst P (sym (c.push.ensures ∙ ap (λ l. l ++ chunk ∷ []) c.make_room.ensures.same))
     (over_push g.D.Digester.address base pages c.place.new.self.pages cs chunk c.args.bytes.now c.self.invariant c.place.ensures.keeps
     c.in_ok-span.ensures.stands c.mark-before.ensures.before c.requires.size c.requires.named absent agrees)

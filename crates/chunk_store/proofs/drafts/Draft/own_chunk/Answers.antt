@@ -2,7 +2,7 @@ use Rattle.std.proofs.Common.{◌≡◌, ◌≤◌, length, take, subst, ap, Lis
 use Rattle.basic_laws.proofs.Lists.{have_at as all_get}
 use Rattle.chunk_region.specs.Pages.{IsWritten}
 use Rattle.chunk_store.specs.declared.index.Placed.{Placed}
-use Rattle.chunk_store.specs.Chunks.{Chunk, bytes_at}
+use Rattle.chunk_store.specs.Chunks.{Chunk, chunk_bytes}
 use Rattle.chunk_store.specs.Drafts.{Drafting}
 use Rattle.chunk_store.specs.Placing.{chunks_in}
 use Rattle.chunk_store.proofs.ChunkLemmas.{named_at, single_right}
@@ -22,7 +22,7 @@ returns-clause-chunk g c =
 
 pub returns-clause-found : goal.returns-clause-found
 returns-clause-found g c =
-    let P : List Chunk → Type 0 = λ l. bytes_at l c.at-placed.result.address.0 ≡ Some c.bytes.result.now in
+    let P : List Chunk → Type 0 = λ l. chunk_bytes l c.at-placed.result.address.0 ≡ Some c.bytes.result.now in
     let own = chunks_in c.self.inside.region.pages c.self.inside.index.placed in
     subst P (ap (λ (d : Drafting). d.chunks.own) c.self.view_is)
     (chunk_found c.self.inside.region.pages c.self.inside.index.placed c.args.at c.at-placed.result c.bytes.result.now
@@ -42,6 +42,6 @@ returns-clause-named g c =
 
 pub returns-clause-first : goal.returns-clause-first
 returns-clause-first g c =
-    let P : List Chunk → Type 0 = λ l. bytes_at (take c.args.at l) c.at-placed.result.address.0 ≡ None in
+    let P : List Chunk → Type 0 = λ l. chunk_bytes (take c.args.at l) c.at-placed.result.address.0 ≡ None in
     subst P (ap (λ (d : Drafting). d.chunks.own) c.self.view_is)
     (first_get c.self.inside.region.pages c.self.inside.index.placed c.args.at c.at-placed.result c.at-placed.ensures.apart c.at-placed.ensures.at)

@@ -1,5 +1,5 @@
 use Rattle.std.proofs.Common.{subst, sym, ap, List}
-use Rattle.chunk_store.specs.Chunks.{Chunk, Agree, bytes_at}
+use Rattle.chunk_store.specs.Chunks.{Chunk, Agree, chunk_bytes}
 use Rattle.chunk_store.specs.Drafts.{Drafting}
 use Rattle.chunk_store.specs.Placing.{chunks_in}
 use Rattle.chunk_store.proofs.ChunkLemmas.{single_join, single_right}
@@ -10,7 +10,7 @@ pub invariant_of-self : goal.invariant_of-self
 invariant_of-self g c =
     let own = chunks_in c.self.inside.region.pages c.self.inside.index.placed in
     let store = all_chunks c.args.store in
-    let P : List Chunk → Type 0 = λ l. Agree (bytes_at store) (bytes_at l) in
+    let P : List Chunk → Type 0 = λ l. Agree (chunk_bytes store) (chunk_bytes l) in
     let over = c.self.invariant in
     record {
       all_written = over.all_written;

@@ -1,7 +1,7 @@
 use Rattle.std.proofs.Common.{◌≡◌, List, [], ◌∷◌, ◌++◌, None, ap, sym, subst, ◌∙◌}
 use Rattle.basic_laws.proofs.Lists.{take_at_get as take_next}
 use Rattle.chunk_store.specs.declared.index.Placed.{Placed}
-use Rattle.chunk_store.specs.Chunks.{Chunk, bytes_at}
+use Rattle.chunk_store.specs.Chunks.{Chunk, chunk_bytes}
 use Rattle.chunk_store.specs.Placing.{ArePlaced, chunks_in, span_at, written}
 use Rattle.chunk_store.proofs.BuildLemmas.{placed_push}
 use Rattle.chunk_store.proofs.PlacingLemmas.{absent_span, all_stay, chunks_push, found_at}
@@ -13,7 +13,7 @@ push-requires-clause-absent c =
     let cs = c.loop-at.index.placed in
     let k = c.chunk.result.0.0 in
     ap (λ l. span_at l k) c.make_room.ensures.same
-    ∙ absent_span (written pages) (span_at cs k) (sym (found_at pages cs k) ∙ ap (λ (l : List Chunk). bytes_at l k) c.loop-at.invariant.done ∙ c.chunk.ensures.apart)
+    ∙ absent_span (written pages) (span_at cs k) (sym (found_at pages cs k) ∙ ap (λ (l : List Chunk). chunk_bytes l k) c.loop-at.invariant.done ∙ c.chunk.ensures.apart)
 
 pub loop-at-preserved : goal.loop-at-preserved
 loop-at-preserved c =
@@ -25,7 +25,7 @@ loop-at-preserved c =
     let one : Placed = record { address = c.chunk.result.0; span = c.in_ok-span.span; before = c.mark-before.result } in
     let is = c.push.ensures ∙ ap (λ (l : List Placed). l ++ one ∷ []) c.make_room.ensures.same in
     let absent : span_at cs k ≡ None =
-    absent_span (written pages) (span_at cs k) (sym (found_at pages cs k) ∙ ap (λ (l : List Chunk). bytes_at l k) c.loop-at.invariant.done ∙ c.chunk.ensures.apart)
+    absent_span (written pages) (span_at cs k) (sym (found_at pages cs k) ∙ ap (λ (l : List Chunk). chunk_bytes l k) c.loop-at.invariant.done ∙ c.chunk.ensures.apart)
     in
     record {
       placed = subst (ArePlaced after) (sym is) (placed_push pages after cs one bytes c.loop-at.invariant.placed c.place.ensures.keeps c.in_ok-span.ensures.stands c.chunk.ensures.size absent);

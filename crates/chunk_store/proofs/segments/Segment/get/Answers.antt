@@ -1,5 +1,5 @@
 use Rattle.std.proofs.Common.{sym, ap, ◌∙◌, List, Some, option_map}
-use Rattle.chunk_store.specs.Chunks.{Chunk, bytes_at}
+use Rattle.chunk_store.specs.Chunks.{Chunk, chunk_bytes}
 use Rattle.chunk_store.specs.Placing.{written}
 use Rattle.chunk_store.proofs.PlacingLemmas.{found_at, found_written, written_is}
 use Rattle.chunk_store.proofs.segments.Segment.get.Goals as goal
@@ -15,11 +15,11 @@ returns-in-Some c =
     let k = c.args.address.now.0 in
     ap Some (sym (written_is pages c.in-Some.span c.bytes.result.now c.bytes.ensures))
     ∙ ap (option_map (written pages)) c.in-Some.ensures ∙ sym (found_at pages cs k)
-    ∙ ap (λ (l : List Chunk). bytes_at l k) c.self.view_is
+    ∙ ap (λ (l : List Chunk). chunk_bytes l k) c.self.view_is
 
 pub returns-in-None : goal.returns-in-None
 returns-in-None c =
     let pages = c.self.inside.sealed in
     let cs = c.self.inside.index.placed in
     let k = c.args.address.now.0 in
-    ap (option_map (written pages)) c.in-None.ensures ∙ sym (found_at pages cs k) ∙ ap (λ (l : List Chunk). bytes_at l k) c.self.view_is
+    ap (option_map (written pages)) c.in-None.ensures ∙ sym (found_at pages cs k) ∙ ap (λ (l : List Chunk). chunk_bytes l k) c.self.view_is

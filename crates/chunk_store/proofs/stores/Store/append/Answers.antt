@@ -1,6 +1,6 @@
 use Rattle.std.proofs.Common.{◌≡◌, ℕ, ◌∷◌, [], ◌++◌, List, length, map, take, subst, sym, ap, ◌∙◌}
 use Rattle.std.specs.Arc.{arc_value}
-use Rattle.chunk_store.specs.Chunks.{Agree, Chunk, IsSingle, bytes_at}
+use Rattle.chunk_store.specs.Chunks.{Agree, Chunk, IsSingle, chunk_bytes}
 use Rattle.chunk_store.specs.Stores.{AreSome, IsUnion, Stored, all_chunks, drop_held, joined, with_segment}
 use Rattle.chunk_store.proofs.JoinLemmas.{replaced, with_are_some, with_single, with_some, with_union}
 use Rattle.chunk_store.proofs.stores.Store.append.Goals as goal
@@ -22,8 +22,8 @@ invariant_of-self-2 c =
     let before = map arc_value c.self.inside.segments.items in
     let seen : before ≡ c.args.self.now.segments = ap (λ (s : Stored). s.segments) c.self.view_is in
     let P : List (List Chunk) → Type 0 = λ l. IsSingle (joined l) × AreSome l in
-    let Q : List (List Chunk) → Type 0 = λ l. Agree (bytes_at (joined l)) (bytes_at segment) in
-    let R : List Chunk → Type 0 = λ l. Agree (bytes_at (all_chunks c.args.self.now)) (bytes_at l) in
+    let Q : List (List Chunk) → Type 0 = λ l. Agree (chunk_bytes (joined l)) (chunk_bytes segment) in
+    let R : List Chunk → Type 0 = λ l. Agree (chunk_bytes (all_chunks c.args.self.now)) (chunk_bytes l) in
     let agree = subst Q (sym seen) (subst R c.deref.ensures c.in_ok-from.ensures.agree) in
     let one = subst IsSingle c.deref-2.ensures c.len.ensures.single in
     subst P (sym (returns-clause-segments c ∙ ap (with_segment segment) (sym seen)))
@@ -36,6 +36,6 @@ returns-clause-union c =
     let seen = ap (λ (s : Stored). s.segments) c.self.view_is in
     let P : List (List Chunk) → Type 0 = λ l. IsUnion (joined segments) segment (joined l) in
     let Q : List (List Chunk) → Type 0 = λ l. IsSingle (joined l) in
-    let R : List Chunk → Type 0 = λ l. Agree (bytes_at (all_chunks c.args.self.now)) (bytes_at l) in
+    let R : List Chunk → Type 0 = λ l. Agree (chunk_bytes (all_chunks c.args.self.now)) (chunk_bytes l) in
     subst P (sym (returns-clause-segments c))
     (with_union segment segments (subst Q seen c.self.invariant.0) (subst R c.deref.ensures c.in_ok-from.ensures.agree))

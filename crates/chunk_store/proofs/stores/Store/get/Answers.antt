@@ -1,7 +1,7 @@
 use Rattle.std.proofs.Common.{◌≡◌, ℕ, ◌<◌, ◌+◌, ◌-◌, None, length, drop, ap, sym, subst, arith}
 use Rattle.std.specs.Arc.{arc_value}
 use Rattle.std.proofs.lemmas.List.{length-map}
-use Rattle.chunk_store.specs.Chunks.{IsSingle, bytes_at}
+use Rattle.chunk_store.specs.Chunks.{IsSingle, chunk_bytes}
 use Rattle.chunk_store.specs.Stores.{Stored, joined}
 use Rattle.chunk_store.proofs.JoinLemmas.{held_behind, none_behind, segment_at, segment_next}
 use Rattle.chunk_store.proofs.stores.Store.get.Goals as goal
@@ -50,4 +50,4 @@ pub returns-clause-held : goal.returns-clause-held
 returns-clause-held c =
     let test = c.segments-test.false in
     let none : c.segments.at ≡ 0 = omega arith in
-    sym (subst (λ (n : ℕ). bytes_at (joined (drop n c.args.self.now.segments)) c.args.address.now.0 ≡ None) none c.segments.invariant.behind)
+    sym (subst (λ (n : ℕ). chunk_bytes (joined (drop n c.args.self.now.segments)) c.args.address.now.0 ≡ None) none c.segments.invariant.behind)

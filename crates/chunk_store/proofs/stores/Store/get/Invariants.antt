@@ -1,11 +1,11 @@
 use Rattle.std.proofs.Common.{◌≡◌, ◌≤◌, None, drop, length}
-use Rattle.chunk_store.specs.Chunks.{bytes_at}
+use Rattle.chunk_store.specs.Chunks.{chunk_bytes}
 use Rattle.chunk_store.specs.Stores.{joined}
 use Rattle.chunk_store.proofs.stores.Store.get.Given as goal
 
 abbrev pub invariant-segments : goal.invariant-segments
 invariant-segments l = record {
-  behind : bytes_at (joined (drop l.at l.self.segments)) l.address.0 ≡ None;
+  behind : chunk_bytes (joined (drop l.at l.self.segments)) l.address.0 ≡ None;
   most : l.at ≤ length l.self.segments;
 }
 

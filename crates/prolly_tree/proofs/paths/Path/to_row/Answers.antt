@@ -1,7 +1,7 @@
 use Rattle.std.proofs.Common.{◌≡◌, ◌<◌, ◌∙◌, ap, subst, sym, arith}
 use Rattle.tuple_codec.specs.Nodes.{Node}
 use Rattle.chunk_store.specs.Drafts.{chunks_of}
-use Rattle.prolly_tree.specs.Walks.{CanWalk, IsSettled, Left, rows_left}
+use Rattle.prolly_tree.specs.Walks.{CanWalk, IsEmptyAbove, Left, rows_left}
 use Rattle.prolly_tree.proofs.WalkLemmas.{below, down_can, down_rows, down_settled, down_to}
 use Rattle.prolly_tree.proofs.paths.Path.to_row.Goals as goal
 
@@ -36,5 +36,5 @@ levels-preserved g c =
     record {
       can = subst (CanWalk chunks) (sym e) (down_can chunks c.levels.self c.in-Some.address.0 b.0 0 c.levels.invariant.can b.1);
       kept = ap (rows_left chunks) e ∙ down_rows chunks c.levels.self c.in-Some.address.0 b.0 b.1 ∙ c.levels.invariant.kept;
-      settled = subst IsSettled (sym e) (down_settled chunks c.levels.self c.in-Some.address.0 b.0 b.1);
+      settled = subst IsEmptyAbove (sym e) (down_settled chunks c.levels.self c.in-Some.address.0 b.0 b.1);
     }

@@ -1,7 +1,7 @@
 use Rattle.std.proofs.Common.{◌≡◌, ap, sym, ◌∙◌, subst}
 use Rattle.tuple_codec.specs.Nodes.{Node}
 use Rattle.chunk_store.specs.Drafts.{chunks_of}
-use Rattle.prolly_tree.specs.Walks.{CanWalk, IsSettled}
+use Rattle.prolly_tree.specs.Walks.{CanWalk, IsEmptyAbove}
 use Rattle.prolly_tree.specs.Fronts.{Front, Walking, front_of, nodes_of, opened}
 use Rattle.prolly_tree.proofs.WalkLemmas.{below, down_can, down_settled, down_to}
 use Rattle.prolly_tree.proofs.FrontLemmas.{down_front, opened_over}
@@ -20,7 +20,7 @@ invariant_of-self g c =
     c.down.ensures ∙ ap (λ (n : Node). down_to c.self.inside.path n 0) (c.node_at-node.ensures b.0 b.1.stored) in
     record {
       can = subst (CanWalk chunks) (sym e) (down_can chunks c.self.inside.path c.in-Some.address.0 b.0 0 c.self.invariant.can b.1);
-      settled = subst IsSettled (sym e) (down_settled chunks c.self.inside.path c.in-Some.address.0 b.0 b.1);
+      settled = subst IsEmptyAbove (sym e) (down_settled chunks c.self.inside.path c.in-Some.address.0 b.0 b.1);
     }
 
 pub returns-in-Some : goal.returns-in-Some

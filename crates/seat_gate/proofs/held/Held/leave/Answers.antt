@@ -1,6 +1,6 @@
 use Rattle.std.proofs.Common.{◌∷◌, ap, sym, ◌∙◌, subst, Some}
 use Rattle.atomic_table.specs.Table.{rest}
-use Rattle.seat_gate.specs.declared.place.Place.{Place}
+use Rattle.seat_gate.specs.declared.place.SeatState.{SeatState}
 use Rattle.seat_gate.proofs.held.Held.leave.Goals as goal
 
 pub serve_next-requires-clause-fits : goal.serve_next-requires-clause-fits
@@ -9,5 +9,5 @@ serve_next-requires-clause-fits g c κs within =
     let put = c.exchange.ensures.3 in (
       value,
       ap (λ m. m.1) put ∙ ap (λ l. (0, Some value) ∷ rest l) c.requires.taken.3,
-      subst (λ (p : Place). g.T.Kept.fits value p.view.opened p.view.seen) (ap (λ m. m.0) (sym put)) c.requires.fits,
+      subst (λ (p : SeatState). g.T.Kept.fits value p.view.opened p.view.seen) (ap (λ m. m.0) (sym put)) c.requires.fits,
     )

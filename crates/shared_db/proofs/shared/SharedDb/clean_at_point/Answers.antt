@@ -1,6 +1,6 @@
 use Rattle.std.proofs.Common.{◌∙◌, ap, refl, sym, subst, Option, option_map, slice_get, unwrap_or, []}
 use Rattle.tuple_codec.specs.declared.addresses.Address.{Address}
-use Rattle.chunk_store.specs.Chunks.{bytes_at}
+use Rattle.chunk_store.specs.Chunks.{chunk_bytes}
 use Rattle.chunk_store.specs.Stores.{all_chunks}
 use Rattle.session_laws.specs.Changes.{StateStands}
 use Rattle.session_laws.specs.Records.{RecordStands}
@@ -26,7 +26,7 @@ clean_at-requires c =
     let is = sym told ∙ ap (λ (k : Option Address). option_map (λ (a : Address). a.0) k) c.in_ok-commit.was in
     let known = known_told state.0 c.args.self.now.parts.chunks shared.commits (unwrap_or (point_asked c.args.point.now) there.0) c.in_ok-commit.commit.0 c.args.self.now.parts.branches shared.branches stands.branches is in
     let s = subst (λ (db : Db). StateStands state.0 db.parts shared) (sym c.self.view_is) stands in
-    has_commit state.0 (bytes_at (all_chunks c.self.inside.store)) shared.commits s.commits c.in_ok-commit.commit.0 known
+    has_commit state.0 (chunk_bytes (all_chunks c.self.inside.store)) shared.commits s.commits c.in_ok-commit.commit.0 known
 
 pub returns : goal.returns
 returns c = λ address shared p name stands placed.
@@ -36,4 +36,4 @@ returns c = λ address shared p name stands placed.
     let s = subst (λ (db : Db). StateStands address db.parts shared) (sym c.self.view_is) stands in
     let made = c.clean_at.ensures address shared.commits s.commits known in
     clean_some address _ shared.commits c.in_ok-commit.commit.0 _ c.clean_at.result is
-    (subst (λ (db : Db). RecordStands address (bytes_at db.parts.chunks) shared.commits c.clean_at.result (clean_at c.in_ok-commit.commit.0 (root_of shared.commits c.in_ok-commit.commit.0))) c.self.view_is made)
+    (subst (λ (db : Db). RecordStands address (chunk_bytes db.parts.chunks) shared.commits c.clean_at.result (clean_at c.in_ok-commit.commit.0 (root_of shared.commits c.in_ok-commit.commit.0))) c.self.view_is made)

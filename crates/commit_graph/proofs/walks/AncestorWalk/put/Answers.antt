@@ -6,7 +6,7 @@ use Rattle.commit_graph.specs.Walks.{Waits}
 use Rattle.commit_graph.specs.declared.walks.Rank.{Rank}
 use Rattle.commit_graph.proofs.FoundLemmas.{found_height, has_commit}
 use Rattle.commit_graph.proofs.WalkLemmas.{rank_cmp, waits_one}
-use Rattle.commit_graph.proofs.walks.Walk.put.Goals as goal
+use Rattle.commit_graph.proofs.walks.AncestorWalk.put.Goals as goal
 
 pub height-requires-after_bounds : goal.height-requires-after_bounds
 height-requires-after_bounds g c κs within = has_commit g.D.Digester.address (chunks_of c.args.draft.now.chunks) c.requires.0 c.requires.1 c.args.address.now.0 c.requires.2

@@ -7,7 +7,7 @@ use Rattle.tuple_codec.specs.declared.addresses.Address.{Address}
 use Rattle.commit_graph.specs.Walks.{AreRanks, Waits}
 use Rattle.commit_graph.proofs.FoundLemmas.{few_parents, found_parents, has_commit, parents_known}
 use Rattle.commit_graph.proofs.WalkLemmas.{first_known, rest_ranks, steps}
-use Rattle.commit_graph.proofs.walks.Walk.next.Goals as goal
+use Rattle.commit_graph.proofs.walks.AncestorWalk.next.Goals as goal
 
 pub read_commit-requires-after_bounds : goal.read_commit-requires-after_bounds
 read_commit-requires-after_bounds g c κs within =

@@ -5,7 +5,7 @@ use Rattle.chunk_store.specs.Drafts.{chunks_of}
 use Rattle.tuple_codec.specs.declared.addresses.Address.{Address}
 use Rattle.commit_graph.specs.Standing.{CommitsStand}
 use Rattle.commit_graph.specs.Walks.{AreRanks, Waits}
-use Rattle.commit_graph.proofs.walks.Walk.put_all.Given as goal
+use Rattle.commit_graph.proofs.walks.AncestorWalk.put_all.Given as goal
 
 abbrev pub invariant-loop-address : goal.invariant-loop-address
 invariant-loop-address g l =

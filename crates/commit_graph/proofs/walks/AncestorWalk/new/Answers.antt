@@ -2,7 +2,7 @@ use Rattle.std.proofs.Common.{refl, sym, subst, List, ◌∷◌, []}
 use Rattle.commit_graph.specs.Walks.{AreRanks, Waits}
 use Rattle.commit_graph.specs.declared.walks.Rank.{Rank}
 use Rattle.commit_graph.proofs.WalkLemmas.{begins}
-use Rattle.commit_graph.proofs.walks.Walk.new.Goals as goal
+use Rattle.commit_graph.proofs.walks.AncestorWalk.new.Goals as goal
 
 pub returns : goal.returns
 returns g c = λ commits stand known.

@@ -6,7 +6,7 @@ use Rattle.schema_model.specs.PlainCommits.{is_known}
 use Rattle.tuple_codec.specs.declared.addresses.Address.{Address}
 use Rattle.commit_graph.specs.Walks.{Waits}
 use Rattle.commit_graph.proofs.WalkLemmas.{waits_more, waits_none}
-use Rattle.commit_graph.proofs.walks.Walk.put_all.Goals as goal
+use Rattle.commit_graph.proofs.walks.AncestorWalk.put_all.Goals as goal
 
 bytes_of : List Address → List (List ℕ)
 bytes_of addresses = map (λ (k : Address). k.0) addresses

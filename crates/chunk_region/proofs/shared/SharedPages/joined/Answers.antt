@@ -1,6 +1,6 @@
 use Rattle.std.proofs.Common.{◌≡◌, ◌<◌, ◌+◌, ℕ, List, length, drop, ap, arith}
 use Rattle.std.proofs.lemmas.List.{length-append}
-use Rattle.chunk_region.proofs.shared.Shared.joined.Goals as goal
+use Rattle.chunk_region.proofs.shared.SharedPages.joined.Goals as goal
 
 pub invariant_of-result : goal.invariant_of-result
 invariant_of-result c =
