@@ -12,7 +12,8 @@ use Rattle.doltrun.specs.Headline.{collision_line}
 use Rattle.doltrun.specs.declared.words.LoadRun.{LoadRun}
 
 -- These are the lines of a run which is the plain machine's run of the seed's workload with the epoch asked, along its own order and with the wants of
--- memory and collisions that it tells; each collision is one of two byte strings of that address; and the rows are those that `main` has at its end.
+-- memory and collisions that it tells; each collision is one of two byte strings of that address; and the rows are those that `main` has at its
+-- end: all 4,000, in a database that the seed alone decides, where no statement was refused.
 pub record IsLoadAnswer (address : List ℕ → List ℕ) (asked : LoadRun) (written : List ℕ) : Type 0 where
   pub run : RunText
   pub rows : ℕ

@@ -1,3 +1,4 @@
+mod FullLemmas
 mod CountLemmas
 mod LoadLemmas
 mod TextLemmas

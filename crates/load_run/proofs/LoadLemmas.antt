@@ -16,7 +16,9 @@ use Rattle.script_run.specs.declared.players.Player.{Player}
 use Rattle.thread_run.specs.Ending.{HasEnded}
 use Rattle.workload.specs.Workload.{workload}
 use Rattle.workload.proofs.WorkloadLemmas.{line_count, lines_within, names_distinct, names_shown}
+use Rattle.load_laws.specs.Laws.{LoadEnds, TableIsFull}
 use Rattle.load_run.specs.Loading.{IsLoaded, rows_in}
+use Rattle.load_run.proofs.FullLemmas.{all_is_there, refused_by_cause}
 
 -- ---- the script
 
@@ -38,18 +40,27 @@ sound_script seed script is = subst IsSoundScript (sym is) (sound_workload seed)
 
 module _ {D : Type 0} (address : List ℕ → List ℕ) (epoch : ℤ) (seed : ℕ) (script : Script) (is : script ≡ workload seed) (parts : Parts) (players : List (Player D))
     (over : HasEnded address epoch script parts players) (run : RunText) (as_shown : run ≡ shown_of address script parts.moments over.along.shared over.along.runners) (rows : ℕ)
-    (counted : rows ≡ rows_in over.along.shared) where
+    (counted : rows ≡ rows_in over.along.shared) (ends : LoadEnds) (full : TableIsFull) where
   abbrev last : State
   last = record { shared = over.along.shared; runners = over.along.runners }
+
+  last_ran : plain_run command address (workload seed) run.order (shortages_in run.replies) epoch ≡ Some last
+  last_ran =
+      subst (λ (r : RunText). plain_run command address (workload seed) r.order (shortages_in r.replies) epoch ≡ Some last) (sym as_shown)
+      (subst (λ (s : Script). plain_run command address s parts.moments (shortages_in (all_replies over.along.runners)) epoch ≡ Some last) is over.machine)
+
+  last_shows : shown address (workload seed) run.order last ≡ run
+  last_shows =
+      ap (λ (order : List Moment). shown address (workload seed) order last) (ap (λ (r : RunText). r.order) as_shown)
+      ∙ ap (λ (s : Script). shown_of address s parts.moments over.along.shared over.along.runners) (sym is)
+      ∙ sym as_shown
 
   pub loaded : IsLoaded address seed epoch run rows
   loaded = record {
     state = last;
-    ran = subst (λ (r : RunText). plain_run command address (workload seed) r.order (shortages_in r.replies) epoch ≡ Some last) (sym as_shown)
-        (subst (λ (s : Script). plain_run command address s parts.moments (shortages_in (all_replies over.along.runners)) epoch ≡ Some last) is over.machine);
-    shows =
-        ap (λ (order : List Moment). shown address (workload seed) order last) (ap (λ (r : RunText). r.order) as_shown)
-        ∙ ap (λ (s : Script). shown_of address s parts.moments over.along.shared over.along.runners) (sym is)
-        ∙ sym as_shown;
+    ran = last_ran;
+    shows = last_shows;
     rows_are = counted;
+    caused = refused_by_cause ends address epoch seed run last last_ran last_shows;
+    full = all_is_there ends address epoch seed run last last_ran last_shows full rows counted;
   }

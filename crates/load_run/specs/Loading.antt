@@ -1,11 +1,12 @@
 -- What a run of the workload comes to, and what is written of it.
-use Rattle.std.specs.Prelude.{◌≡◌, ℕ, ℤ, ◌==◌, Bool, List, [], ◌++◌, bytes_eq, codes, length, map, sum, Some, if◌then◌else◌}
+use Rattle.std.specs.Prelude.{◌≡◌, ℕ, ℤ, ◌==◌, Bool, false, List, [], ◌∷◌, ◌++◌, bytes_eq, codes, is_some, length, map, sum, Some, if◌then◌else◌}
 use Rattle.std.specs.Fmt.{decimal}
-use Rattle.std.specs.List.{filter, find}
+use Rattle.std.specs.List.{filter, find, list_any}
 use Rattle.std.specs.Option.{option_map_or}
 use Rattle.tuple_codec.specs.AddressTexts.{address_text}
 use Rattle.schema_model.specs.PlainTables.{NamedTable, PlainDatabase}
-use Rattle.script_text.specs.Output.{all_refused, newline, order_line, shortages_in}
+use Rattle.schema_model.specs.WrittenForms.{database_address}
+use Rattle.script_text.specs.Output.{all_refused, newline, order_line, shortage, shortages_in}
 use Rattle.script_text.specs.declared.outputs.BranchLine.{BranchLine}
 use Rattle.script_text.specs.declared.outputs.RunText.{RunText}
 use Rattle.script_text.specs.declared.replies.Reply.{Reply}
@@ -14,6 +15,7 @@ use Rattle.plain_sessions.specs.Output.{shown}
 use Rattle.plain_sessions.specs.Records.{Shared, state_of}
 use Rattle.plain_sessions.specs.Replies.{is_refusal}
 use Rattle.plain_sessions.specs.Runs.{State, plain_run}
+use Rattle.load_laws.specs.Loaded.{loaded}
 use Rattle.workload.specs.Workload.{workload}
 
 -- ---- the three numbers that depend on the run
@@ -59,10 +61,24 @@ load_text seed run rows =
 
 -- ---- the run
 
--- the run is the plain machine's of the workload, along its own order and with the wants of memory and collisions that it tells, and so many rows are there
--- at its end
+-- every row is there, and `main` works on the table with each key's last value alone
+pub record IsFull (address : List ℕ → List ℕ) (seed : ℕ) (run : RunText) (rows : ℕ) : Type 0 where
+  pub rows_are : rows ≡ 4000
+  pub works : working_in run.branches ≡ address_text (database_address address (record { name = codes "load_rows"; table = loaded seed } ∷ []))
+
+-- a statement found no memory, or met two byte strings of one address
+abbrev pub is_short : Reply → Bool
+is_short reply = is_some (shortage reply)
+
+abbrev pub some_are_short : List (List Reply) → Bool
+some_are_short replies = list_any (λ session. list_any is_short session) replies
+
+-- the run is the plain machine's of the workload, along its own order and with the wants of memory and collisions that it tells, so many rows are there
+-- at its end; no statement is refused unless one found no memory or met a collision, and where none is refused, every row is there
 pub record IsLoaded (address : List ℕ → List ℕ) (seed : ℕ) (epoch : ℤ) (run : RunText) (rows : ℕ) : Type 0 where
   pub state : State
   pub ran : plain_run command address (workload seed) run.order (shortages_in run.replies) epoch ≡ Some state
   pub shows : shown address (workload seed) run.order state ≡ run
   pub rows_are : rows ≡ rows_in state.shared
+  pub caused : some_are_short run.replies ≡ false → refusals_in run.replies ≡ 0
+  pub full : refusals_in run.replies ≡ 0 → IsFull address seed run rows

@@ -8,6 +8,7 @@ ghost use Rattle.load_run.specs.Loading.{IsLoaded};
 
 use crate::counting::count_rows;
 use chunk_store::PutFault;
+use load_laws::law_of_load;
 use script_text::RunText;
 use std::alloc::Global;
 use std::sync::Wait;
@@ -26,7 +27,8 @@ pub struct Load {
     pub rows: u64,
 }
 
-/// Runs the workload of this seed, each session in a thread of its own. The dates of commits are the epoch.
+/// Runs the workload of this seed, each session in a thread of its own. The dates of commits are the epoch. Where no statement is refused, the table has all of
+/// its rows, whatever order the threads took.
 pub fn run_load<R: Threads + Wait + Sync, D: Digester, P: Pacer>(
     rt: &R,
     alloc: Global,
@@ -45,6 +47,7 @@ pub fn run_load<R: Threads + Wait + Sync, D: Digester, P: Pacer>(
     let script = load_script(alloc, seed)?;
     let ended = run_to_end::<R, D, P>(rt, alloc, pacer, &script, epoch)?;
     let rows = count_rows::<D>(alloc, &ended.db)?;
+    law_of_load();
     let run = run_text(alloc, script, ended, epoch)?;
     Ok(Load { seed, run, rows })
 }

@@ -74,11 +74,11 @@ each_keeps P (suc count) step first holds keeps =
     keeps count (each count step first) (omega arith) (each_keeps P count step first holds (λ n a below. keeps n a (omega arith)))
 
 -- the sum of what the first steps add
-total : (ℕ → ℕ) → ℕ → ℕ
+unfoldable pub total : (ℕ → ℕ) → ℕ → ℕ
 total more zero = 0
 total more (suc count) = total more count + more count
 
-each_counts : {A : Type 0} (size : A → ℕ) (more : ℕ → ℕ) (count : ℕ) (step : ℕ → A → A) (first : A) → ((n : ℕ) (a : A) → size (step n a) ≡ size a + more n) → size (each count step first) ≡ size first + total more count
+pub each_counts : {A : Type 0} (size : A → ℕ) (more : ℕ → ℕ) (count : ℕ) (step : ℕ → A → A) (first : A) → ((n : ℕ) (a : A) → size (step n a) ≡ size a + more n) → size (each count step first) ≡ size first + total more count
 unfolding each total
 each_counts size more zero step first adds = omega arith
 each_counts size more (suc count) step first adds =

@@ -23,4 +23,4 @@ returns-clause-loaded g c =
     let along = over.along in
     subst (λ (date : ℤ). IsLoaded g.D.Digester.address c.args.seed date c.in_ok-run.run' c.in_ok-rows.rows) (to_z-of_z w64 c.args.epoch c.ranges.epoch)
     (loaded g.D.Digester.address (to_z w64 (of_z w64 c.args.epoch)) c.args.seed c.in_ok-script.script c.in_ok-script.ensures c.in_ok-ended.ended.db.parts (works_of c.in_ok-ended.ended.workers.items) over
-    c.in_ok-run.run' (c.in_ok-run.ensures.along over) c.in_ok-rows.rows (c.in_ok-rows.ensures along.shared along.stands))
+    c.in_ok-run.run' (c.in_ok-run.ensures.along over) c.in_ok-rows.rows (c.in_ok-rows.ensures along.shared along.stands) c.law_of_load.ensures.ends c.law_of_load.ensures.full)
