@@ -21,6 +21,7 @@ pub struct IndexPart {
     pub columns: Sequence<Text>,
 }
 
+/// The same names in memory of their own, for a schema or an index that is to own them.
 pub fn copied_names(alloc: Global, names: &[Text]) -> Result<Sequence<Text>, AllocError>
     ensures { IfOk result (λ copy. copy ≡ names.now) }
 {
@@ -129,7 +130,7 @@ fn name_for<'a>(
     }
 }
 
-/// The indexes with their names.
+/// The indexes with their names; those that have none take the made names in turn.
 pub fn indexes_named(
     alloc: Global,
     columns: &[Column],
@@ -188,7 +189,7 @@ pub fn checks_named(
     Ok(checks)
 }
 
-/// The foreign keys with their names.
+/// The foreign keys with their names, given or made, and their columns' places; the parent's columns stay names.
 pub fn foreign_named(
     alloc: Global,
     columns: &[Column],

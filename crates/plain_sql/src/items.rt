@@ -69,7 +69,7 @@ fn sum_heading(name: Text, bound: BoundExpr) -> Result<Heading, Refused>
     }
 }
 
-/// What an item shows: an aggregate's call, or an expression.
+/// What an item shows: an aggregate's call, or an expression. SUM of another kind than Int and Decimal is refused 9001.
 pub fn heading_of(
     alloc: Global,
     scope: &[ScopeColumn],
@@ -110,6 +110,7 @@ pub fn heading_of(
     }
 }
 
+/// The heading of an item that is an expression, also where ORDER BY means that item, or the first refusal as its names and kinds are found.
 pub fn one_heading(
     alloc: Global,
     scope: &[ScopeColumn],

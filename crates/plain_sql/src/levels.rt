@@ -20,6 +20,7 @@ pub struct Level<'a> {
     pub lookups: &'a [Option<Lookup>],
 }
 
+/// A row of the sources before and, behind it, one of the next source; both are copied.
 pub fn joined(alloc: Global, row: &[Value], more: &[Value]) -> Result<Row, AllocError>
     ensures { IfOk result (λ whole. whole ≡ row.now ++ more.now) }
 {

@@ -26,6 +26,7 @@ pub enum Showing {
     Greatest(BoundExpr),
 }
 
+/// Whether a cell is NULL, which aggregates leave out and NOT NULL columns refuse.
 pub fn is_null(value: &Value) -> bool
     ensures { result ≡ is_null value.now }
 {
@@ -104,7 +105,7 @@ fn value_count(values: &[Value]) -> Value
     Value::Int(values.len() as i64)
 }
 
-/// What is shown of a group of rows.
+/// What is shown of a group of rows, also of one without a row; 1264 where a value or a sum is out of range.
 pub fn cell_of(alloc: Global, shown: &Showing, rows: &[Row]) -> Result<Value, Refused>
     ensures { Gives result (cell_of rows.now (showing_seen shown.now)) }
 {

@@ -13,7 +13,7 @@ use sql_ast::{FromClause, TableSource};
 use std::alloc::{AllocError, Global};
 use tuple_codec::{Row, Sequence, SqlType, Text, copy_row};
 
-/// A column of a table.
+/// A column of a table: its name and its type alone.
 #[derive(Drop)]
 pub struct NamedType {
     pub name: Text,
@@ -63,6 +63,7 @@ fn scope_columns(
     Ok(found)
 }
 
+/// Copies of the rows, for a source that is to own them or a lookup that is to sort them.
 pub fn copied_rows(alloc: Global, rows: &[Row]) -> Result<Sequence<Row>, AllocError>
     ensures { IfOk result (λ copies. copies ≡ rows.now) }
 {
@@ -94,7 +95,7 @@ fn source_read(alloc: Global, known: &[Known], source: &TableSource) -> Result<R
     Err(Refused::By(1146))
 }
 
-/// The sources, up to the first that isn't there.
+/// The sources in the order of FROM, or 1146 where one isn't there.
 pub fn sources_read(
     alloc: Global,
     known: &[Known],

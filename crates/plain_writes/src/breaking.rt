@@ -58,6 +58,7 @@ pub fn breaks_unique(schema: &Schema, rows: &[Row], places: &[u8], row: &[Value]
     is_whole_at(places, row) && has_twin(schema, places, row, rows)
 }
 
+/// Whether a row has NULL at a place, or no cell there. That the column is NOT NULL is for the caller to see.
 pub fn breaks_not_null(place: usize, row: &[Value]) -> bool
     ensures { result ≡ breaks_not_null place row.now }
 {

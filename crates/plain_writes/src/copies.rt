@@ -159,6 +159,7 @@ fn copy_dispute(alloc: Global, dispute: &Dispute) -> Result<Dispute, AllocError>
     })
 }
 
+/// Copies of a table's conflicts: each key, and the row of each side that has one there.
 pub fn copy_disputes(alloc: Global, disputes: &[Dispute]) -> Result<Sequence<Dispute>, AllocError>
     ensures { IfOk result (λ copy. copy ≡ disputes.now) }
 {
@@ -180,6 +181,7 @@ fn copy_broken(alloc: Global, broken: &Broken) -> Result<Broken, AllocError>
     })
 }
 
+/// Copies of the violations recorded of a table, whose rows needn't be the table's any more.
 pub fn copy_violations(alloc: Global, violations: &[Broken]) -> Result<Sequence<Broken>, AllocError>
     ensures { IfOk result (λ copy. copy ≡ violations.now) }
 {
@@ -190,7 +192,7 @@ pub fn copy_violations(alloc: Global, violations: &[Broken]) -> Result<Sequence<
     Ok(copy)
 }
 
-/// A table with other rows.
+/// A copy of the table with these rows in place of its own; its conflicts and violations stay.
 pub fn with_rows(alloc: Global, table: &Table, rows: Sequence<Row>) -> Result<Table, AllocError>
     ensures { IfOk result (λ copy. copy ≡ record { schema = table.now.schema; rows = rows; conflicts = table.now.conflicts; violations = table.now.violations }) }
 {

@@ -13,7 +13,7 @@ use schema_model::{ForeignKey, Schema};
 use std::alloc::{AllocError, Global};
 use tuple_codec::{Row, Sequence, SqlType, Text};
 
-/// The same places as numbers of a list.
+/// The same places, as slices are indexed.
 pub fn widened(alloc: Global, places: &[u8]) -> Result<Sequence<usize>, AllocError>
     ensures { IfOk result (λ wide. wide ≡ places.now) }
 {
@@ -35,7 +35,7 @@ fn type_at(alloc: Global, schema: &Schema, place: usize) -> Result<Sequence<SqlT
     Ok(types)
 }
 
-/// The types of the columns at these places.
+/// The types of the columns at these places; a place without a column gives none, so they may be fewer.
 pub fn types_at(
     alloc: Global,
     schema: &Schema,
@@ -65,6 +65,7 @@ fn same_type(a: &SqlType, b: &SqlType) -> bool
     }
 }
 
+/// Whether these are the same types in the same order, their numbers too: VARCHAR(5) isn't VARCHAR(6).
 pub fn same_types(a: &[SqlType], b: &[SqlType]) -> bool
     ensures { result ≡ same_types a.now b.now }
 {

@@ -80,6 +80,7 @@ fn of_index(
     of_unique(alloc, schema, rows, sorted.as_slice(), index)
 }
 
+/// The rows that break unique indexes, index by index; where several have the same cells, each is told. Each index sorts a copy of the rows.
 pub fn of_indexes(
     alloc: Global,
     schema: &Schema,
@@ -117,6 +118,7 @@ fn of_column(
     Ok(found)
 }
 
+/// The rows with NULL in a NOT NULL column, column by column; a row is told once for each such column.
 pub fn of_columns(
     alloc: Global,
     schema: &Schema,
@@ -166,6 +168,8 @@ fn broken_by(
     Ok(found)
 }
 
+/// The rows on which CHECKs are false, CHECK by CHECK, where columns may be qualified by the table's name.
+/// A CHECK whose text can't be read or bound is broken by no row.
 pub fn of_checks<R: Reads>(
     alloc: Global,
     name: &[u8],
@@ -198,6 +202,7 @@ fn of_foreign_in(
     of_foreign(alloc, sorted.as_slice(), schema, rows, foreign)
 }
 
+/// The rows that break foreign keys, key by key. Parents are sought in the database, also where a table is its own parent.
 pub fn of_foreigns(
     alloc: Global,
     database: &[NamedTable],

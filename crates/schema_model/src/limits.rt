@@ -3,15 +3,19 @@
 /// Of a table.
 pub const MOST_COLUMNS: usize = 64;
 
+/// Of a table, unique or not; the primary key isn't counted.
 pub const MOST_INDEXES: usize = 64;
 
+/// Of a table; NOT NULL isn't counted.
 pub const MOST_CHECKS: usize = 64;
 
+/// Of the table that has them; how many refer to a table has no limit of its own.
 pub const MOST_FOREIGN_KEYS: usize = 64;
 
 /// Of the name of a table, a column or a constraint, which has at least one byte.
 pub const MOST_NAME_BYTES: usize = 64;
 
+/// Of a schema as it is written down, with the texts of its CHECKs.
 pub const MOST_SCHEMA_BYTES: u64 = 32_768;
 
 /// Of a row's primary key as key bytes.
@@ -35,6 +39,8 @@ pub const MOST_BRANCHES: usize = 1024;
 /// Of a commit.
 pub const MOST_PARENTS: usize = 2;
 
+/// Of a commit's committer: the name of the session that made it, or `doltrun` for the first one.
 pub const MOST_COMMITTER_BYTES: usize = 32;
 
+/// Of a commit's message; no procedure takes an empty one.
 pub const MOST_MESSAGE_BYTES: usize = 8192;

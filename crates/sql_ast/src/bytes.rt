@@ -7,12 +7,14 @@ ghost use Rattle.sql_ast.specs.Bytes.{escape, is_blank, is_digit, is_upper, is_w
 use std::alloc::AllocError;
 use tuple_codec::Text;
 
+/// Whether this byte is a space or a tab, the only ones that may stand between tokens; the end of a line is refused there.
 pub fn separates(byte: u8) -> bool
     ensures { result ≡ is_blank byte }
 {
     byte == b' ' || byte == b'\t'
 }
 
+/// Whether this byte is one of `0` to `9`, with which numbers begin and words only go on.
 pub fn is_decimal_digit(byte: u8) -> bool
     ensures { result ≡ is_digit byte }
 {

@@ -17,6 +17,7 @@ pub fn sign_of(bytes: &[u8]) -> Option<Sign>
     }
 }
 
+/// The sign that this byte is by itself; `<` and `>` may go on as a longer one. `!` and a single `@` are none.
 pub fn sign_of_one(byte: u8) -> Option<Sign>
     ensures { result ≡ single_sign byte }
 {
@@ -36,6 +37,7 @@ pub fn sign_of_one(byte: u8) -> Option<Sign>
     }
 }
 
+/// The sign that two bytes are as one, `!=` being the same as `<>`; None where they are two signs or none.
 pub fn sign_of_two(first: u8, second: u8) -> Option<Sign>
     ensures { result ≡ double_sign first second }
 {

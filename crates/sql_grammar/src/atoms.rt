@@ -129,6 +129,7 @@ impl<F: Fn(Global, &mut Cursor<'_>, usize) -> Result<Boxed<Expr>, Stop>> Grammar
         }
     }
 
+    /// Reads a literal, a column, a variable, a call, or an expression in parentheses. A function's word that no `(` follows is a column.
     #[tactic(auto, unfolding(crate::specs::Expressions::atom))]
     pub fn atom(&self, cursor: &mut Cursor<'_>) -> Result<Boxed<Expr>, Stop>
         requires { Nests self.now.depth (F.pre self.now.expression) (F.post self.now.expression) }

@@ -31,6 +31,7 @@ impl<'a> Model for Cursor<'a> {
 }
 
 impl<'a> Cursor<'a> {
+    /// A place before the first of these pieces, which are borrowed.
     pub fn new(pieces: &'a [Piece]) -> Cursor<'a>
         ensures { result ≡ pieces.now }
     {
@@ -60,6 +61,7 @@ impl<'a> Cursor<'a> {
         }
     }
 
+    /// Whether this sign comes next; at the end of the pieces none does.
     #[tactic(auto, unfolding(crate::specs::Reading::sees))]
     pub fn sees(&self, sign: Sign) -> bool
         ensures { result ≡ spec.sees sign self.now }
@@ -70,6 +72,7 @@ impl<'a> Cursor<'a> {
         }
     }
 
+    /// Whether this reserved word comes next; in backquotes it would be a name.
     #[tactic(auto, unfolding(crate::specs::Reading::sees_keyword))]
     pub fn sees_keyword(&self, word: Keyword) -> bool
         ensures { result ≡ spec.sees_keyword word self.now }
@@ -91,6 +94,7 @@ impl<'a> Cursor<'a> {
         }
     }
 
+    /// Whether a name comes next: a word that isn't reserved, or any word in backquotes.
     #[tactic(auto, unfolding(crate::specs::Reading::sees_name))]
     pub fn sees_name(&self) -> bool
         ensures { result ≡ spec.sees_name self.now }
@@ -134,6 +138,7 @@ impl<'a> Cursor<'a> {
         found
     }
 
+    /// Takes the sign, or stops where it doesn't come next, told by how many pieces are left from there.
     pub fn expect(&mut self, sign: Sign) -> Result<(), Stop>
         ensures { Reads (spec.expect sign self.old) result self.new }
     {
@@ -144,6 +149,7 @@ impl<'a> Cursor<'a> {
         Ok(())
     }
 
+    /// Takes the reserved word, or stops where it doesn't come next.
     pub fn expect_keyword(&mut self, word: Keyword) -> Result<(), Stop>
         ensures { Reads (spec.expect_keyword word self.old) result self.new }
     {
@@ -154,7 +160,7 @@ impl<'a> Cursor<'a> {
         Ok(())
     }
 
-    /// Takes the word, which isn't reserved.
+    /// Takes the word, which isn't reserved, or stops where it doesn't come next.
     pub fn expect_word(&mut self, word: &[u8]) -> Result<(), Stop>
         ensures { Reads (spec.expect_word word.now self.old) result self.new }
     {
@@ -165,6 +171,7 @@ impl<'a> Cursor<'a> {
         Ok(())
     }
 
+    /// Takes a copy of a name, bare or from backquotes, or stops where none comes next.
     #[tactic(auto, unfolding(crate::specs::Reading::name))]
     pub fn name(&mut self, alloc: Global) -> Result<Text, Stop>
         ensures { Reads (spec.name self.old) result self.new }
@@ -188,6 +195,7 @@ impl<'a> Cursor<'a> {
         }
     }
 
+    /// Takes a whole literal's value, or stops where none comes next; a decimal is none.
     #[tactic(auto, unfolding(crate::specs::Reading::whole))]
     pub fn whole(&mut self) -> Result<u64, Stop>
         ensures { Reads (spec.whole self.old) result self.new }
@@ -199,6 +207,7 @@ impl<'a> Cursor<'a> {
         self.take(whole)
     }
 
+    /// Takes a copy of a string's bytes, without quotes and escapes, or stops where none comes next; a byte string is none.
     #[tactic(auto, unfolding(crate::specs::Reading::string))]
     pub fn string(&mut self, alloc: Global) -> Result<Text, Stop>
         ensures { Reads (spec.string self.old) result self.new }
@@ -220,6 +229,7 @@ impl<'a> Cursor<'a> {
         }
     }
 
+    /// Takes a copy of a literal, also of TRUE, FALSE or NULL, or stops where none comes next; a minus belongs to no literal.
     #[tactic(auto, unfolding(crate::specs::Reading::literal))]
     pub fn literal(&mut self, alloc: Global) -> Result<Literal, Stop>
         ensures { Reads (spec.literal self.old) result self.new }
@@ -228,7 +238,7 @@ impl<'a> Cursor<'a> {
         self.take(literal)
     }
 
-    /// Moves past the next piece, where it was taken for something.
+    /// Gives what the next piece was taken for and moves past it, or stops where it was taken for nothing.
     pub fn take<T: Drop>(&mut self, found: Option<T>) -> Result<T, Stop>
         ensures { Reads (spec.taken found self.old) result self.new }
     {

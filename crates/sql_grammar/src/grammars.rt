@@ -12,6 +12,7 @@ use tuple_codec::Boxed;
 
 const MOST_DEPTH: usize = MOST_OPEN + 1;
 
+/// What the rules of an expression take along: the memory they use, and how an expression inside it is read.
 #[derive(Clone, Copy)]
 pub struct Grammar<F> {
     pub alloc: Global,
@@ -21,6 +22,7 @@ pub struct Grammar<F> {
 }
 
 impl<F: Fn(Global, &mut Cursor<'_>, usize) -> Result<Boxed<Expr>, Stop>> Grammar<F> {
+    /// Reads an expression that stands inside this one, behind a parenthesis or a comma; where no more may be open, it stops at once.
     pub fn inner(&self, cursor: &mut Cursor<'_>) -> Result<Boxed<Expr>, Stop>
         requires { Nests self.now.depth (F.pre self.now.expression) (F.post self.now.expression) }
         ensures { Reads (spec.expression self.now.depth cursor.old) result cursor.new }

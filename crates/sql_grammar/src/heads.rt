@@ -19,7 +19,7 @@ pub enum Test {
     Absent,
 }
 
-/// The functions.
+/// The functions, whose names aren't reserved.
 #[derive(Clone, Copy, Debug)]
 pub enum Function {
     Count,
@@ -53,6 +53,7 @@ pub fn is_sign(wanted: Sign, piece: &Piece) -> bool
     }
 }
 
+/// Whether a piece is this reserved word; a word in backquotes is none.
 pub fn is_keyword(wanted: Keyword, piece: &Piece) -> bool
     ensures { result ≡ spec.is_keyword wanted piece.now }
 {
@@ -82,6 +83,7 @@ pub fn is_named(piece: &Piece) -> bool
     }
 }
 
+/// A copy of the name that a piece is, bare or from backquotes; None for all else, reserved words too.
 pub fn name_of(alloc: Global, piece: &Piece) -> Result<Option<Text>, AllocError>
     ensures { IfOk result (λ name. name ≡ spec.name_of piece.now) }
 {
@@ -92,6 +94,7 @@ pub fn name_of(alloc: Global, piece: &Piece) -> Result<Option<Text>, AllocError>
     }
 }
 
+/// The value of a whole literal; None for all else, decimals too.
 pub fn whole_of(piece: &Piece) -> Option<u64>
     ensures { result ≡ spec.whole_of piece.now }
 {
@@ -101,6 +104,7 @@ pub fn whole_of(piece: &Piece) -> Option<u64>
     }
 }
 
+/// A copy of a string's bytes; None for all else, byte strings too.
 pub fn string_of(alloc: Global, piece: &Piece) -> Result<Option<Text>, AllocError>
     ensures { IfOk result (λ string. string ≡ spec.string_of piece.now) }
 {
@@ -121,6 +125,7 @@ fn keyword_literal(word: Keyword) -> Option<Literal>
     }
 }
 
+/// A copy of the literal that a piece is, TRUE, FALSE and NULL included; None where it is none.
 pub fn literal_of(alloc: Global, piece: &Piece) -> Result<Option<Literal>, AllocError>
     ensures { IfOk result (λ literal. literal ≡ spec.literal_of piece.now) }
 {
@@ -163,6 +168,7 @@ fn keyword_test(word: Keyword) -> Test
     }
 }
 
+/// How a comparison goes on with this piece; `Absent` where its first sum is all of it.
 pub fn test_of(piece: &Piece) -> Test
     ensures { result ≡ spec.test_of piece.now }
 {
@@ -183,6 +189,7 @@ fn sign_term(sign: Sign) -> Option<Term>
     }
 }
 
+/// Whether the operand behind this piece is added or subtracted; None where a sum doesn't go on with it.
 pub fn term_of(piece: &Piece) -> Option<Term>
     ensures { result ≡ spec.term_of piece.now }
 {
@@ -210,6 +217,7 @@ fn function_named(name: &Text) -> Option<Function>
     }
 }
 
+/// The function that a bare word names, which is called only where a `(` follows; None for all else, a name in backquotes too.
 pub fn function_of(piece: &Piece) -> Option<Function>
     ensures { result ≡ spec.function_of piece.now }
 {

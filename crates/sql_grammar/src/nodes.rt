@@ -7,6 +7,7 @@ use sql_ast::{Comparison, Expr, Term};
 use std::alloc::{AllocError, Global};
 use tuple_codec::{Boxed, Sequence};
 
+/// The OR of all operands from the left; the first as it is where there is no other.
 pub fn disjoined(
     alloc: Global,
     first: Boxed<Expr>,
@@ -20,6 +21,7 @@ pub fn disjoined(
     Boxed::new(alloc, Expr::Or(first, rest))
 }
 
+/// The AND of all operands from the left; the first as it is where there is no other.
 pub fn conjoined(
     alloc: Global,
     first: Boxed<Expr>,
@@ -33,12 +35,14 @@ pub fn conjoined(
     Boxed::new(alloc, Expr::And(first, rest))
 }
 
+/// The NOT of a comparison. Its operand is moved in, so memory is taken for this node alone.
 pub fn not(alloc: Global, operand: Boxed<Expr>) -> Result<Boxed<Expr>, AllocError>
     ensures { IfOk result (λ x. x ≡ Expr.Not operand) }
 {
     Boxed::new(alloc, Expr::Not(operand))
 }
 
+/// A comparison of two sums, never a chain: `a = b = c` isn't read.
 pub fn compared(
     alloc: Global,
     left: Boxed<Expr>,
@@ -50,6 +54,7 @@ pub fn compared(
     Boxed::new(alloc, Expr::Compare(left, operator, right))
 }
 
+/// IS NULL, or IS NOT NULL where it is negated.
 pub fn null_tested(
     alloc: Global,
     operand: Boxed<Expr>,
@@ -65,6 +70,7 @@ pub fn null_tested(
     Boxed::new(alloc, test)
 }
 
+/// IN and its elements, of which the grammar gives at least one.
 pub fn among(
     alloc: Global,
     left: Boxed<Expr>,
@@ -75,6 +81,7 @@ pub fn among(
     Boxed::new(alloc, Expr::In(left, items))
 }
 
+/// NOT IN as a node of its own; its canonical text is that of the NOT of an IN.
 pub fn not_among(
     alloc: Global,
     left: Boxed<Expr>,
@@ -85,6 +92,7 @@ pub fn not_among(
     Boxed::new(alloc, Expr::NotIn(left, items))
 }
 
+/// BETWEEN and its ends: the first in the text is the low one, whatever their values.
 pub fn between(
     alloc: Global,
     left: Boxed<Expr>,
@@ -96,6 +104,7 @@ pub fn between(
     Boxed::new(alloc, Expr::Between(left, low, high))
 }
 
+/// NOT BETWEEN as a node of its own; its canonical text is that of the NOT of a BETWEEN.
 pub fn not_between(
     alloc: Global,
     left: Boxed<Expr>,
@@ -107,6 +116,7 @@ pub fn not_between(
     Boxed::new(alloc, Expr::NotBetween(left, low, high))
 }
 
+/// The first operand with all that is added to it or subtracted, from the left; as it is where that is nothing.
 pub fn added(
     alloc: Global,
     first: Boxed<Expr>,
@@ -120,6 +130,7 @@ pub fn added(
     Boxed::new(alloc, Expr::Terms(first, rest))
 }
 
+/// The product of all operands from the left; the first as it is where there is no other.
 pub fn multiplied(
     alloc: Global,
     first: Boxed<Expr>,
@@ -133,30 +144,35 @@ pub fn multiplied(
     Boxed::new(alloc, Expr::Factors(first, rest))
 }
 
+/// The unary minus of an atom; before a literal it stays a node, since literals have no sign.
 pub fn negative(alloc: Global, operand: Boxed<Expr>) -> Result<Boxed<Expr>, AllocError>
     ensures { IfOk result (λ x. x ≡ Expr.Negate operand) }
 {
     Boxed::new(alloc, Expr::Negate(operand))
 }
 
+/// COUNT of an expression, which counts the values that aren't NULL; `COUNT(*)` is another node.
 pub fn count_of(alloc: Global, operand: Boxed<Expr>) -> Result<Boxed<Expr>, AllocError>
     ensures { IfOk result (λ x. x ≡ Expr.Count operand) }
 {
     Boxed::new(alloc, Expr::Count(operand))
 }
 
+/// SUM of an expression; that its kind is Int or Decimal is seen when it is bound, and any other is refused 9001.
 pub fn sum_of(alloc: Global, operand: Boxed<Expr>) -> Result<Boxed<Expr>, AllocError>
     ensures { IfOk result (λ x. x ≡ Expr.Sum operand) }
 {
     Boxed::new(alloc, Expr::Sum(operand))
 }
 
+/// MIN of an expression of any kind.
 pub fn min_of(alloc: Global, operand: Boxed<Expr>) -> Result<Boxed<Expr>, AllocError>
     ensures { IfOk result (λ x. x ≡ Expr.Min operand) }
 {
     Boxed::new(alloc, Expr::Min(operand))
 }
 
+/// MAX of an expression of any kind.
 pub fn max_of(alloc: Global, operand: Boxed<Expr>) -> Result<Boxed<Expr>, AllocError>
     ensures { IfOk result (λ x. x ≡ Expr.Max operand) }
 {

@@ -270,6 +270,7 @@ impl<F: Fn(Global, &mut Cursor<'_>, usize) -> Result<Boxed<Expr>, Stop>> Grammar
         Ok(found)
     }
 
+    /// Reads an OR of ANDs, the loosest of operations and so a whole expression; it ends before the first piece that doesn't go on with it.
     #[tactic(auto, unfolding(crate::specs::Expressions::disjunction))]
     pub fn disjunction(&self, cursor: &mut Cursor<'_>) -> Result<Boxed<Expr>, Stop>
         requires { Nests self.now.depth (F.pre self.now.expression) (F.post self.now.expression) }

@@ -33,6 +33,7 @@ fn push_digit(value: u64, digit: u8) -> u64
         .saturating_add(u64::from(digit.saturating_sub(b'0')))
 }
 
+/// All digits as one number, and how many of them stand behind the point. A token has at most 18, so 64 bits hold the number.
 pub fn decimal(bytes: &[u8]) -> Piece
     ensures { result ≡ spec.decimal bytes.now }
 {

@@ -11,6 +11,7 @@ use sql_grammar::Piece;
 use std::alloc::{AllocError, Global};
 use tuple_codec::Text;
 
+/// A word of a statement, where case doesn't count: a reserved word, or else a name in lower case.
 pub fn word(alloc: Global, bytes: &[u8]) -> Result<Piece, AllocError>
     ensures { IfOk result (λ piece. piece ≡ spec.word bytes.now) }
 {

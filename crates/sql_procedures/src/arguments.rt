@@ -107,6 +107,7 @@ fn are_names_of_tables(arguments: &[Text]) -> bool
     }
 }
 
+/// A copy of an argument that is kept as it was written, as names of branches, points and messages are; names of tables go to lower case.
 pub fn copied(alloc: Global, argument: &Text) -> Result<Text, AllocError>
     ensures { IfOk result (λ copy. copy ≡ argument.now) }
 {

@@ -19,6 +19,7 @@ pub fn is_kept_by_system(name: &Text) -> bool
     name.as_slice().starts_with(b"dolt_")
 }
 
+/// Whether a name is one of these, byte by byte; names of a tree are in lower case.
 pub fn contains_name(names: &[Text], name: &Text) -> bool
     ensures { result ≡ contains names.now name.now }
 {
@@ -107,6 +108,7 @@ fn foreign_key_has_long(key: &ForeignKeyElement) -> bool
         || some_is_long(key.parent_columns.as_slice())
 }
 
+/// Whether one of these names has more than 64 bytes, for which a statement is refused 9013.
 pub fn some_is_long(names: &[Text]) -> bool
     ensures { result ≡ are_long names.now }
 {

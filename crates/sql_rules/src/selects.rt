@@ -29,6 +29,7 @@ pub enum GroupItem {
     AggregateCall,
 }
 
+/// Whether a SELECT is refused 9013 for its sources, conditions, items, grouping or order keys; the lengths of its names are judged apart.
 pub fn is_outside_select(select: &Select) -> bool
     ensures { result ≡ select_outside select.now }
 {

@@ -59,6 +59,7 @@ fn count_key_marks(attributes: &[Attribute]) -> usize
         .count()
 }
 
+/// Whether an attribute is PRIMARY KEY, of which a table has exactly one, here or as an element of its own.
 pub fn marks_key(attribute: &Attribute) -> bool
     ensures { result ≡ is_key_mark attribute.now }
 {
@@ -89,6 +90,7 @@ fn is_column_again(element: &Element, later: &[Element]) -> bool
     }
 }
 
+/// Whether one of the elements defines a column of this name; keys and constraints that name it don't.
 pub fn has_column(elements: &[Element], name: &Text) -> bool
     ensures { result ≡ has_named column_name elements.now name.now }
 {
@@ -226,6 +228,8 @@ fn is_outside_check(condition: &Expr) -> bool
     is_out_of_place(condition) || is_too_deep(condition)
 }
 
+/// Whether an element has CREATE refused 9013: a type's number out of range, a column that isn't there or stands twice in a list,
+/// or a CHECK with an aggregate, a word of the session or too many parentheses.
 pub fn some_element_is_outside(elements: &[Element]) -> bool
     ensures { result ≡ list_any (element_outside elements.now) elements.now }
 {

@@ -18,6 +18,7 @@ pub fn is_out_of_place(expr: &Expr) -> bool
     has_feature(expr, Feature::Aggregate) || has_feature(expr, Feature::SessionWord)
 }
 
+/// The same of a condition that may be left out, which is never out of place then.
 pub fn is_given_out_of_place(expr: &Option<Expr>) -> bool
     ensures { result ≡ is_misplaced_if expr.now }
 {
@@ -27,6 +28,7 @@ pub fn is_given_out_of_place(expr: &Option<Expr>) -> bool
     }
 }
 
+/// Whether an INSERT is refused 9013: for a table of the system, a column named twice, or a value out of place.
 pub fn is_outside_insert(insert: &Insert) -> bool
     ensures { result ≡ insert_outside insert.now }
 {
@@ -67,6 +69,7 @@ fn is_outside_entry(entry: &InsertCell) -> bool
     }
 }
 
+/// Whether an UPDATE is refused 9013: for a table of the system, a column assigned twice, or a value or condition out of place.
 pub fn is_outside_update(update: &Update) -> bool
     ensures { result ≡ update_outside update.now }
 {
@@ -103,6 +106,7 @@ fn some_value_is_out_of_place(assignments: &[Assignment]) -> bool
         .any(|assignment| is_out_of_place(&assignment.value))
 }
 
+/// Whether a DELETE is refused 9013: for a table of the system that is no list of conflicts or violations, or a condition out of place.
 pub fn is_outside_delete(delete: &Delete) -> bool
     ensures { result ≡ delete_outside delete.now }
 {

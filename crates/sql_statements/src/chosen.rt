@@ -129,6 +129,7 @@ fn all_listed(alloc: Global, cursor: &mut Cursor<'_>) -> Result<Listing, Stop>
     Ok(found)
 }
 
+/// What a SELECT shows, DISTINCT being taken already. What stands only before FROM is marked, not refused, since FROM may still come.
 #[tactic(auto, unfolding(crate::specs::Selects::items))]
 pub fn items(alloc: Global, cursor: &mut Cursor<'_>) -> Result<Choice, Stop>
     ensures { Reads (spec.items cursor.old) result cursor.new }
@@ -163,7 +164,7 @@ fn named_from(
     Ok(Some(found))
 }
 
-/// The items, where each is an expression.
+/// The items, where each is an expression; None where one is `*` or all columns of a source.
 pub fn named_in(alloc: Global, items: Items) -> Result<Option<Sequence<NamedExpr>>, AllocError>
     ensures { IfOk result (λ found. found ≡ spec.named_in items) }
 {

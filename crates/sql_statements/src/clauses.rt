@@ -149,6 +149,7 @@ fn sorting(alloc: Global, cursor: &mut Cursor<'_>) -> Result<Sorting, Stop>
     Ok(Sorting { keys, limit })
 }
 
+/// WHERE, GROUP BY, ORDER BY and LIMIT, each of which may be missing; one that is out of this order isn't taken.
 #[tactic(auto, unfolding(crate::specs::Selects::clauses))]
 pub fn clauses_behind(alloc: Global, cursor: &mut Cursor<'_>) -> Result<Clauses, Stop>
     ensures { Reads (spec.clauses cursor.old) result cursor.new }

@@ -45,6 +45,7 @@ pub fn read_names(alloc: Global, cursor: &mut Cursor<'_>) -> Result<Sequence<Tex
     Ok(found)
 }
 
+/// A column's name, type and attributes. In ALTER it ends before PRIMARY KEY and UNIQUE, which don't belong to it there.
 #[tactic(auto, unfolding(crate::specs::Tables::column))]
 pub fn column(
     alloc: Global,
@@ -220,6 +221,7 @@ fn element_ahead(cursor: &Cursor<'_>) -> Option<ElementHead>
     }
 }
 
+/// An element of CREATE TABLE; one that no word of a key or constraint begins is a column.
 #[tactic(auto, unfolding(crate::specs::Tables::any_element))]
 pub fn any_element(alloc: Global, cursor: &mut Cursor<'_>) -> Result<Element, Stop>
     ensures { Reads (spec.any_element cursor.old) result cursor.new }

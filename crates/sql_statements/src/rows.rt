@@ -73,6 +73,7 @@ fn named_columns(alloc: Global, cursor: &mut Cursor<'_>) -> Result<Option<Sequen
     }
 }
 
+/// INSERT, behind its first word. Tuples may differ in length: the schema isn't known here.
 #[tactic(auto, unfolding(crate::specs::Statements::insert))]
 pub fn insert(alloc: Global, cursor: &mut Cursor<'_>) -> Result<Insert, Stop>
     ensures { Reads (spec.insert cursor.old) result cursor.new }
@@ -114,6 +115,7 @@ fn assignments(alloc: Global, cursor: &mut Cursor<'_>) -> Result<Sequence<Assign
     Ok(found)
 }
 
+/// UPDATE, behind its first word. A column may be assigned twice; that is refused later, 9013.
 #[tactic(auto, unfolding(crate::specs::Statements::update))]
 pub fn update(alloc: Global, cursor: &mut Cursor<'_>) -> Result<Update, Stop>
     ensures { Reads (spec.update cursor.old) result cursor.new }
@@ -129,6 +131,7 @@ pub fn update(alloc: Global, cursor: &mut Cursor<'_>) -> Result<Update, Stop>
     })
 }
 
+/// DELETE, behind its first word; without WHERE all rows are meant.
 #[tactic(auto, unfolding(crate::specs::Statements::delete))]
 pub fn delete(alloc: Global, cursor: &mut Cursor<'_>) -> Result<Delete, Stop>
     ensures { Reads (spec.delete cursor.old) result cursor.new }

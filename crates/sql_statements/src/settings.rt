@@ -53,6 +53,7 @@ fn switch(cursor: &mut Cursor<'_>) -> Result<bool, Stop>
     cursor.take(found)
 }
 
+/// SET, behind its first word. SESSION, `@@` and `@@SESSION.` leave no trace, and any variable's name is read.
 #[tactic(auto, unfolding(crate::specs::Statements::setting))]
 pub fn setting(alloc: Global, cursor: &mut Cursor<'_>) -> Result<Setting, Stop>
     ensures { Reads (spec.setting cursor.old) result cursor.new }
@@ -91,6 +92,7 @@ fn arguments(alloc: Global, cursor: &mut Cursor<'_>) -> Result<Sequence<Text>, S
     Ok(found)
 }
 
+/// CALL, behind its first word; any procedure's name is read, with any number of strings.
 #[tactic(auto, unfolding(crate::specs::Statements::call))]
 pub fn call(alloc: Global, cursor: &mut Cursor<'_>) -> Result<Call, Stop>
     ensures { Reads (spec.call cursor.old) result cursor.new }

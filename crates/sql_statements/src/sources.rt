@@ -65,6 +65,7 @@ fn joins(alloc: Global, cursor: &mut Cursor<'_>) -> Result<Sequence<Join>, Stop>
     Ok(found)
 }
 
+/// The sources of a SELECT, behind FROM. Every join is an inner one and has an ON.
 #[tactic(auto, unfolding(crate::specs::Selects::from_clause))]
 pub fn from_clause(alloc: Global, cursor: &mut Cursor<'_>) -> Result<FromClause, Stop>
     ensures { Reads (spec.from_clause cursor.old) result cursor.new }

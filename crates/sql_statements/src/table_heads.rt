@@ -71,6 +71,7 @@ fn keyword_element(word: Keyword) -> Option<ElementHead>
     }
 }
 
+/// The key or constraint that a piece begins; None where an element is a column.
 pub fn element_of(piece: &Piece) -> Option<ElementHead>
     ensures { result ≡ spec.element_of piece.now }
 {
@@ -113,6 +114,7 @@ fn attribute_in(definer: Definer, word: Keyword) -> Option<AttributeHead>
     }
 }
 
+/// The attribute that a piece begins, None where a column ends; in ALTER, PRIMARY KEY and UNIQUE are none.
 pub fn attribute_of(definer: Definer, piece: &Piece) -> Option<AttributeHead>
     ensures { result ≡ spec.attribute_of definer piece.now }
 {
@@ -142,6 +144,7 @@ fn word_action(name: &Text) -> Option<ActionHead>
     }
 }
 
+/// The action of ALTER that a piece begins; ADD and DROP are reserved words, MODIFY is a bare word that isn't.
 pub fn action_of(piece: &Piece) -> Option<ActionHead>
     ensures { result ≡ spec.action_of piece.now }
 {
@@ -195,6 +198,7 @@ fn type_named(name: &Text) -> Option<TypeHead>
     }
 }
 
+/// The type that a bare word names, which may want numbers behind it; None for all else, a name in backquotes too.
 pub fn type_of(piece: &Piece) -> Option<TypeHead>
     ensures { result ≡ spec.type_of piece.now }
 {

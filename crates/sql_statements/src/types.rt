@@ -89,6 +89,7 @@ fn type_head(cursor: &mut Cursor<'_>) -> Result<TypeHead, Stop>
     cursor.take(found)
 }
 
+/// A type with its numbers as written; whether they are in range isn't judged here.
 #[tactic(auto, unfolding(crate::specs::Tables::type_name))]
 pub fn type_name(cursor: &mut Cursor<'_>) -> Result<TypeName, Stop>
     ensures { Reads (spec.type_name cursor.old) result cursor.new }
@@ -139,6 +140,7 @@ fn attribute_ahead(definer: Definer, cursor: &Cursor<'_>) -> Option<AttributeHea
     }
 }
 
+/// A column's attributes in the text's order, up to the first piece that begins none; they may repeat or contradict one another.
 #[tactic(auto, unfolding(crate::specs::Tables::attributes, crate::specs::Tables::attributes_from))]
 pub fn attributes(
     alloc: Global,

@@ -9,6 +9,7 @@ use std::alloc::{AllocError, Global};
 use tuple_codec::Text;
 use value_text::{push_byte_string, push_number, push_quoted, push_scaled};
 
+/// Writes the bytes as they are, without quotes or escapes.
 pub fn write(out: &mut Vec<u8>, piece: &[u8]) -> Result<(), AllocError>
     ensures { OnOk result (out.new.items ≡ out.old.items ++ piece.now) }
 {
@@ -29,6 +30,7 @@ pub fn word_of(op: Comparison) -> &'static [u8]
     }
 }
 
+/// The sign of an operand of a sum, with a space before it and behind it.
 pub fn word_of_term(term: Term) -> &'static [u8]
     ensures { result.now ≡ term_word term }
 {
@@ -91,6 +93,7 @@ pub fn push_opening(out: &mut Vec<u8>, count: usize) -> Result<(), AllocError>
     Ok(())
 }
 
+/// Writes a literal such that it is read back as the same one: a text in quotes, a byte string in hex, a decimal with all digits of its scale.
 pub fn push_literal(alloc: Global, out: &mut Vec<u8>, literal: &Literal) -> Result<(), AllocError>
     ensures { OnOk result (out.new.items ≡ out.old.items ++ literal_text literal.now) }
 {
@@ -114,6 +117,7 @@ fn push_truth(out: &mut Vec<u8>, bit: bool) -> Result<(), AllocError>
     }
 }
 
+/// Writes a source, a point and a column, bare also where they are reserved words, which a canonical text has in capitals.
 pub fn push_qualified(out: &mut Vec<u8>, source: &Text, name: &Text) -> Result<(), AllocError>
     ensures { OnOk result (out.new.items ≡ out.old.items ++ (source.now ++ codes "." ++ name.now)) }
 {
@@ -122,6 +126,7 @@ pub fn push_qualified(out: &mut Vec<u8>, source: &Text, name: &Text) -> Result<(
     write(out, name.as_slice())
 }
 
+/// Writes `@@` and a variable's name, with nothing between them however they were written.
 pub fn push_variable(out: &mut Vec<u8>, name: &Text) -> Result<(), AllocError>
     ensures { OnOk result (out.new.items ≡ out.old.items ++ (codes "@@" ++ name.now)) }
 {
@@ -129,6 +134,7 @@ pub fn push_variable(out: &mut Vec<u8>, name: &Text) -> Result<(), AllocError>
     write(out, name.as_slice())
 }
 
+/// Writes `active_branch()`, in lower case though aggregates stand in capitals.
 pub fn push_active_branch(out: &mut Vec<u8>) -> Result<(), AllocError>
     ensures { OnOk result (out.new.items ≡ out.old.items ++ (codes "active_" ++ codes "branch()")) }
 {

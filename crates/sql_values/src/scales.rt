@@ -45,6 +45,7 @@ impl Scale {
         }
     }
 
+    /// The number itself; 64 bits hold 10 to the power of it.
     pub fn get(self) -> u8
         ensures value { result ≡ self }
         ensures bound { result ≤ 18 }

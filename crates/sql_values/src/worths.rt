@@ -73,6 +73,7 @@ impl<'a> Worth<'a> {
         }
     }
 
+    /// Whether it is NULL, of whatever kind the expression is.
     pub fn is_null(&self) -> bool
         ensures { result ≡ is_unknown (seen self.now) }
     {

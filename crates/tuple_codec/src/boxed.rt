@@ -20,6 +20,7 @@ impl<T> Model for Boxed<T> {
 }
 
 impl<T> Boxed<T> {
+    /// The value, borrowed where it lies.
     pub fn get(&self) -> &T
         ensures { result.now ≡ self.now }
     {
@@ -36,6 +37,7 @@ impl<T> Boxed<T> {
 }
 
 impl<T: Drop> Boxed<T> {
+    /// The value, moved into memory of its own; where there is none, it is dropped.
     pub fn new(alloc: Global, value: T) -> Result<Boxed<T>, AllocError>
         ensures { IfOk result (λ b. b ≡ value) }
     {

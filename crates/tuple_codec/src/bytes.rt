@@ -36,6 +36,7 @@ impl Text {
         Text { bytes }
     }
 
+    /// A text with a copy of these bytes; whether they are UTF-8 isn't looked at.
     pub fn from_slice(alloc: Global, bytes: &[u8]) -> Result<Text, AllocError>
         ensures { IfOk result (λ text. text ≡ bytes.now) }
     {
@@ -44,6 +45,7 @@ impl Text {
         })
     }
 
+    /// The bytes, borrowed where they lie.
     pub fn as_slice(&self) -> &[u8]
         ensures { result.now ≡ self.now }
     {
@@ -57,6 +59,7 @@ impl Text {
         self.bytes
     }
 
+    /// Puts a byte behind the text; a character of several bytes takes as many calls.
     pub fn push(&mut self, byte: u8) -> Result<(), AllocError>
         ensures ok { OnOk result (self.new ≡ self.old ++ byte ∷ []) }
         ensures err { OnErr result (self.new ≡ self.old) }
@@ -65,6 +68,7 @@ impl Text {
         Ok(())
     }
 
+    /// Puts a copy of these bytes behind the text, all of them or none.
     pub fn extend_from_slice(&mut self, piece: &[u8]) -> Result<(), AllocError>
         ensures ok { OnOk result (self.new ≡ self.old ++ piece.now) }
         ensures err { OnErr result (self.new ≡ self.old) }

@@ -39,6 +39,7 @@ impl<T> Sequence<T> {
         Sequence { items }
     }
 
+    /// Puts an item behind the others; where memory is wanting, the item is dropped.
     pub fn push(&mut self, item: T) -> Result<(), AllocError>
     where
         T: Drop,
@@ -49,6 +50,7 @@ impl<T> Sequence<T> {
         Ok(())
     }
 
+    /// The items, borrowed where they lie.
     pub fn as_slice(&self) -> &[T]
         ensures { result.now ≡ self.now }
     {
