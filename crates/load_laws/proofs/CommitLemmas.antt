@@ -19,7 +19,7 @@ use Rattle.plain_sessions.specs.CommitRule as rule
 use Rattle.plain_sessions.specs.CommitRule.{both_merged, candidate, decide, is_unsettled, judged, recorded, without_conflicts}
 use Rattle.plain_sessions.specs.Records.{BranchState, is_same_state}
 use Rattle.load_laws.specs.Loaded.{load_schema, load_table, row}
-use Rattle.load_laws.specs.Parts.{Meets, MeetsAt, RowsMeet}
+use Rattle.load_laws.specs.Parts.{MeetsAt, MeetsPairs, RowsMeet}
 use Rattle.load_laws.specs.Parts.MeetsAt.{OwnMoved, OwnStayed}
 use Rattle.load_laws.specs.Steps.{Pair, table_name}
 use Rattle.load_laws.specs.Tables.{holding, rows_in, value_at, working}
@@ -29,7 +29,7 @@ use Rattle.load_laws.proofs.StatementLemmas.{none_null}
 
 -- ---- whole lists that are the same
 
-all_meet : (start present : Option (List Pair)) (own result : List Pair) → Meets start present own result → AllMeet (rows_in start) (rows_in present) own result
+all_meet : (start present : Option (List Pair)) (own result : List Pair) → MeetsPairs start present own result → AllMeet (rows_in start) (rows_in present) own result
 all_meet start present own result m =
     record { start_up = m.start_rows.rising; present_up = m.present_rows.rising; own_up = m.own_rows.rising; result_up = m.result_rows.rising; meets = m.at_keys }
 
@@ -83,7 +83,7 @@ whole pairs = record { database = holding (Some pairs); conflicts = 0 }
 abbrev no_others : Result MergedDatabase SchemaConflict
 no_others = Ok (record { database = []; conflicts = 0 })
 
-root_is : (start present : Option (List Pair)) (own result : List Pair) → Meets start present own result → root3 (holding start) (holding present) (holding (Some own)) ≡ Ok (whole result)
+root_is : (start present : Option (List Pair)) (own result : List Pair) → MeetsPairs start present own result → root3 (holding start) (holding present) (holding (Some own)) ≡ Ok (whole result)
 unfolding root3
 root_is None None own result m = ap (λ pairs. Ok (whole pairs)) (own_is [] [] own result (all_meet None None own result m) refl)
 root_is None (Some present) own result m = ap (λ one. step table_name one no_others) (either_is None present own result (all_meet None (Some present) own result m))
@@ -143,7 +143,7 @@ both_is head present pairs few =
     (and_from (is_database_within_limits (holding (Some pairs))) (is_database_within_limits []) (is_within pairs few) refl))
     ∙ ap (λ database. Ok (state_with head database)) (recorded_is pairs)
 
-merged_is : (head : List ℕ) (start present : Option (List Pair)) (own result : List Pair) → Meets start present own result
+merged_is : (head : List ℕ) (start present : Option (List Pair)) (own result : List Pair) → MeetsPairs start present own result
     → rule.merged (working head start) (working head present) (working head (Some own)) ≡ Ok (working head (Some result))
 merged_is head start present own result m =
     cond-false (is_unsettled (working head present) || is_unsettled (working head start) || is_unsettled (working head (Some own))) (Err 1213)
@@ -175,7 +175,7 @@ same_rows head present start e =
     let second = and_parts (heads && databases) staged first.0 in
     same_held present start (and_parts heads databases second.0).1
 
-candidate_is : (head : List ℕ) (start present : Option (List Pair)) (own result : List Pair) → Meets start present own result
+candidate_is : (head : List ℕ) (start present : Option (List Pair)) (own result : List Pair) → MeetsPairs start present own result
     → candidate (working head start) (working head present) (working head (Some own)) ≡ Ok (working head (Some result))
 candidate_is head start present own result m = by (is_same_state (working head present) (working head start)) refl where
   by : (b : Bool) → is_same_state (working head present) (working head start) ≡ b

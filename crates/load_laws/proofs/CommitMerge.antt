@@ -24,7 +24,7 @@ use Rattle.load_laws.specs.Loaded.{load_schema, load_table, row}
 use Rattle.load_laws.specs.Parts.{MeetsAt}
 use Rattle.load_laws.specs.Parts.MeetsAt.{OwnMoved, OwnStayed}
 use Rattle.load_laws.specs.Steps.{Pair}
-use Rattle.load_laws.specs.Tables.{AreRising, rows_in, value_at}
+use Rattle.load_laws.specs.Tables.{PairsRise, rows_in, value_at}
 use Rattle.load_laws.proofs.CommitRows.{keys_of_three, pair_at, pair_keys, pairs_gathered}
 use Rattle.load_laws.proofs.StatementCells.{is_eq_nat}
 
@@ -181,10 +181,10 @@ gathered_rows f (key ∷ keys) = by (f key) (gathered_rows f keys) where
 
 -- lists that meet key by key
 pub record AllMeet (start present own result : List Pair) : Type 0 where
-  pub start_up : AreRising start
-  pub present_up : AreRising present
-  pub own_up : AreRising own
-  pub result_up : AreRising result
+  pub start_up : PairsRise start
+  pub present_up : PairsRise present
+  pub own_up : PairsRise own
+  pub result_up : PairsRise result
   pub meets : (key : ℕ) → MeetsAt key start present own result
 
 none_inside : (key : ℕ) (start present own result : List Pair) → MeetsAt key start present own result → value_at key present ≡ None → value_at key own ≡ None → value_at key result ≡ None

@@ -10,7 +10,7 @@ use Rattle.std.proofs.lemmas.Bool.{cases_eq, cases_order, cond-false, cond-true,
 use Rattle.std.proofs.lemmas.Cmp.{ranked}
 use Rattle.plain_merge.specs.KeyByKey.{all_keys, before, gathered, key_among, keys_with}
 use Rattle.load_laws.specs.Steps.{Pair}
-use Rattle.load_laws.specs.Tables.{AreRising, value_at}
+use Rattle.load_laws.specs.Tables.{PairsRise, value_at}
 
 -- ---- the value at a key
 
@@ -53,7 +53,7 @@ same_rest x y xs ys one up over key e = elim (cases_eq x.key key) as (λ b. valu
 same_first : (x y : Pair) → x.key ≡ y.key → x.value ≡ y.value → x ≡ y
 same_first x y one same = ap (λ k. record { key = k; value = x.value }) one ∙ ap (λ v. record { key = y.key; value = v }) same
 
-pub same_pairs : (xs ys : List Pair) → AreRising xs → AreRising ys → ((key : ℕ) → value_at key xs ≡ value_at key ys) → xs ≡ ys
+pub same_pairs : (xs ys : List Pair) → PairsRise xs → PairsRise ys → ((key : ℕ) → value_at key xs ≡ value_at key ys) → xs ≡ ys
 same_pairs [] [] up over same = refl
 same_pairs [] (y ∷ ys) up over same = absurd (clash y ys [] tt (sym (same y.key)))
 same_pairs (x ∷ xs) [] up over same = absurd (clash x xs [] tt (same x.key))
@@ -98,11 +98,11 @@ from_lower : (low high : ℕ) (pairs : List Pair) → low ≤ high → From high
 from_lower low high [] least up = tt
 from_lower low high (pair ∷ pairs) least up = (omega (arith, least, up.0), from_lower low high pairs least up.1)
 
-keys_from : (least : ℕ) (pairs : List Pair) → From least pairs → AreRising pairs → KeysFrom least (pair_keys pairs)
+keys_from : (least : ℕ) (pairs : List Pair) → From least pairs → PairsRise pairs → KeysFrom least (pair_keys pairs)
 keys_from least [] from up = tt
 keys_from least (pair ∷ pairs) from up = (from.0, keys_from (suc pair.key) pairs (from_above pair.key pairs up.0) up.1)
 
-keys_rise : (pairs : List Pair) → AreRising pairs → KeysFrom 0 (pair_keys pairs)
+keys_rise : (pairs : List Pair) → PairsRise pairs → KeysFrom 0 (pair_keys pairs)
 keys_rise pairs up = keys_from 0 pairs (from_zero pairs) up
 
 -- ---- the keys of two lists
@@ -170,12 +170,12 @@ lacks_value at (pair ∷ pairs) gone =
 abbrev pub pair_at : (ℕ → Option ℕ) → ℕ → Option Pair
 pair_at f key = option_map (λ value. record { key = key; value = value }) (f key)
 
-gathered_rise : (f : ℕ → Option ℕ) (keys : List ℕ) (least : ℕ) → KeysFrom least keys → From least (gathered (pair_at f) keys) × AreRising (gathered (pair_at f) keys)
+gathered_rise : (f : ℕ → Option ℕ) (keys : List ℕ) (least : ℕ) → KeysFrom least keys → From least (gathered (pair_at f) keys) × PairsRise (gathered (pair_at f) keys)
 gathered_rise f [] least up = (tt, tt)
 gathered_rise f (key ∷ keys) least up = by (f key) (gathered_rise f keys (suc key) up.1) where
-  by : (v : Option ℕ) → From (suc key) (gathered (pair_at f) keys) × AreRising (gathered (pair_at f) keys)
+  by : (v : Option ℕ) → From (suc key) (gathered (pair_at f) keys) × PairsRise (gathered (pair_at f) keys)
       → From least (before (option_map (λ value. record { key = key; value = value }) v) (gathered (pair_at f) keys))
-      × AreRising (before (option_map (λ value. record { key = key; value = value }) v) (gathered (pair_at f) keys))
+      × PairsRise (before (option_map (λ value. record { key = key; value = value }) v) (gathered (pair_at f) keys))
   by None more = (from_lower least (suc key) (gathered (pair_at f) keys) (omega (arith, up.0)) more.0, more.1)
   by (Some v) more = ((up.0, from_lower least (suc key) (gathered (pair_at f) keys) (omega (arith, up.0)) more.0), (above_from key (gathered (pair_at f) keys) more.0, more.1))
 
@@ -199,7 +199,7 @@ abbrev pub keys_of_three : List Pair → List Pair → List Pair → List ℕ
 keys_of_three start present own = all_keys nat_cmp (pair_keys start) (pair_keys present) (pair_keys own)
 
 -- rows whose keys stand in one of three lists are gathered from the keys of the three
-pub pairs_gathered : (start present own result : List Pair) → AreRising start → AreRising present → AreRising own → AreRising result
+pub pairs_gathered : (start present own result : List Pair) → PairsRise start → PairsRise present → PairsRise own → PairsRise result
     → ((key : ℕ) → value_at key start ≡ None → value_at key present ≡ None → value_at key own ≡ None → value_at key result ≡ None)
     → gathered (pair_at (λ key. value_at key result)) (keys_of_three start present own) ≡ result
 pairs_gathered start present own result one two three four inside =

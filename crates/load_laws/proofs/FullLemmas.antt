@@ -5,14 +5,14 @@ use Rattle.std.proofs.lemmas.List.{length-map}
 use Rattle.workload.specs.Workload.{first_key}
 use Rattle.workload.proofs.WorkloadLemmas.{each_counts, total}
 use Rattle.load_laws.specs.Loaded.{all_steps, inserted, last_rows, loaded}
-use Rattle.load_laws.specs.Steps.{Begins, Commits, Drawn, Makes, Step, nothing_drawn, steps_of, with_batch, with_change, with_changes, with_opening, with_row, with_rows, with_step}
+use Rattle.load_laws.specs.Steps.{Begins, Commits, Drawn, LoadStep, Makes, nothing_drawn, steps_of, with_batch, with_change, with_changes, with_opening, with_row, with_rows, with_step}
 
 -- ---- how many rows a list of steps inserts
 
-many : List Step → ℕ
+many : List LoadStep → ℕ
 many steps = length (flat_map inserted steps)
 
-many_joined : (steps more : List Step) → many (steps ++ more) ≡ many steps + many more
+many_joined : (steps more : List LoadStep) → many (steps ++ more) ≡ many steps + many more
 unfolding many
 many_joined [] more = omega arith
 many_joined (step ∷ steps) more =
@@ -34,7 +34,7 @@ nothing_said : many [] ≡ 500 * 0
 unfolding many
 nothing_said = refl
 
-with_one : (step : Step) (n : ℕ) → many (step ∷ []) ≡ n → (d : Drawn) → many_in (with_step step d) ≡ many_in d + n
+with_one : (step : LoadStep) (n : ℕ) → many (step ∷ []) ≡ n → (d : Drawn) → many_in (with_step step d) ≡ many_in d + n
 unfolding many_in
 with_one step n is d = many_joined d.steps (step ∷ []) ∙ ap (λ (k : ℕ). many d.steps + k) is
 

@@ -12,13 +12,13 @@ use Rattle.script_text.specs.declared.scripts.Script.{Script}
 use Rattle.schema_model.specs.PlainCommits.{commit_address}
 use Rattle.plain_sessions.specs.Commands.{command}
 use Rattle.plain_sessions.specs.Records.{BranchState, Shared, first_commit, state_of}
-use Rattle.plain_sessions.specs.Runs.{Runner, Shortages, State, advance, commands_of, has_none_left, is_over, opened, plain_run, put_runner, runners_of, step, step_of, steps_along}
+use Rattle.plain_sessions.specs.Runs.{Runner, Shortages, State, advance, commands_of, has_none_left, is_over, nothing_refused, opened, plain_run, put_runner, runners_of, step, step_of, steps_along}
 use Rattle.plain_sessions.specs.Sessions.{new_session}
 use Rattle.plain_sessions.specs.declared.commands.Command.{Command}
 use Rattle.run_laws.proofs.ListLemmas.{get_put, get_put_other}
 use Rattle.workload.specs.Workload.{all_lines, names, workload}
 use Rattle.load_laws.specs.Batches.{AreBatches, Batch, after_all}
-use Rattle.load_laws.specs.Laws.{IsLoadedState, LoadEnds, is_answered, nothing_refused}
+use Rattle.load_laws.specs.Laws.{IsLoadedState, LoadEnds, is_answered}
 use Rattle.load_laws.specs.Loaded.{all_steps, last_rows, load_table, loaded}
 use Rattle.load_laws.specs.Parts.{RowsAreChanged, RowsAreInserted, RowsMeet, ScriptIsBatches, ScriptsAreBatches, TablesAreMade}
 use Rattle.load_laws.specs.Steps.{Pair, table_name}

@@ -8,9 +8,9 @@ use Rattle.schema_model.specs.Sameness.{is_same_conflict, is_same_database, is_s
 use Rattle.plain_sessions.specs.Records.{is_same_state}
 use Rattle.load_laws.specs.Batches.{IsOwn}
 use Rattle.load_laws.specs.Loaded.{load_schema, row}
-use Rattle.load_laws.specs.Parts.{Meets, MeetsAt, OwnMoved, OwnStayed}
+use Rattle.load_laws.specs.Parts.{MeetsAt, MeetsPairs, OwnMoved, OwnStayed}
 use Rattle.load_laws.specs.Steps.{Pair, table_name}
-use Rattle.load_laws.specs.Tables.{AreRows, IsFree, holding, rows_in, working}
+use Rattle.load_laws.specs.Tables.{ArePairRows, IsFree, holding, rows_in, working}
 use Rattle.load_laws.proofs.RunningRows.{AreBlocks, IsBlock, all_so, block_elsewhere, block_here, blocks_with, value_other, value_own, whole, whole_rows, with_block}
 
 -- ---- at each key
@@ -55,11 +55,11 @@ module _ (place : ℕ) (block : List Pair) (start present : ℕ → List Pair) (
     by (inr out) = other_key key out
 
   pub they_meet : (started found : Option (List Pair)) → rows_in started ≡ whole start 0 8 → rows_in found ≡ whole present 0 8 → (started ≢ None → found ≢ None)
-      → Meets started found (whole (with_block place block start) 0 8) (whole (with_block place block present) 0 8)
+      → MeetsPairs started found (whole (with_block place block start) 0 8) (whole (with_block place block present) 0 8)
   they_meet started found start_is present_is stays = record {
     stays = stays;
-    start_rows = subst AreRows (sym start_is) (whole_rows start starts);
-    present_rows = subst AreRows (sym present_is) (whole_rows present presents);
+    start_rows = subst ArePairRows (sym start_is) (whole_rows start starts);
+    present_rows = subst ArePairRows (sym present_is) (whole_rows present presents);
     own_rows = whole_rows (with_block place block start) (blocks_with place block start is starts);
     result_rows = whole_rows (with_block place block present) (blocks_with place block present is presents);
     at_keys = λ key.

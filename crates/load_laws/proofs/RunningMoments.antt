@@ -9,12 +9,12 @@ use Rattle.plain_sessions.specs.CommitRule.{decide}
 use Rattle.plain_sessions.specs.Moments.{After, Past, moment_at, past_moment, ruled, settled, without_commit}
 use Rattle.plain_sessions.specs.Records.{Branch, BranchState, Shared, state_of, with_branch}
 use Rattle.plain_sessions.specs.Replies.{done}
-use Rattle.plain_sessions.specs.Runs.{Runner, advance, step_of, went_on}
+use Rattle.plain_sessions.specs.Runs.{Runner, advance, nothing_refused, step_of, went_on}
 use Rattle.plain_sessions.specs.Sessions.{Session, Transaction, first_variables, head_of, over, started_at, within}
 use Rattle.plain_sessions.specs.declared.commands.Command.{Command}
 use Rattle.plain_sessions.specs.declared.commands.Command.TheVariants.{Begin, CommitAll}
 use Rattle.load_laws.specs.Batches.{Batch, BeginsByMaking, IsOwn, after_all, changes_of, rows_of}
-use Rattle.load_laws.specs.Laws.{is_answered, nothing_refused}
+use Rattle.load_laws.specs.Laws.{is_answered}
 use Rattle.load_laws.specs.Parts.{RowsAreChanged, RowsAreInserted, RowsMeet, TablesAreMade}
 use Rattle.load_laws.specs.Steps.{Pair, command_of}
 use Rattle.load_laws.specs.Tables.{IsSmall, rows_in, working}

@@ -6,7 +6,7 @@ use Rattle.std.proofs.lemmas.Bool.Decides.{nat_tests}
 use Rattle.basic_laws.proofs.Truths.{if_true}
 use Rattle.load_laws.specs.Batches.{IsOwn}
 use Rattle.load_laws.specs.Steps.{Pair}
-use Rattle.load_laws.specs.Tables.{AreRising, AreRows, IsFree, IsSmall, changed, changed_one, put, value_at}
+use Rattle.load_laws.specs.Tables.{ArePairRows, IsFree, IsSmall, PairsRise, changed, changed_one, put, value_at}
 use Rattle.run_laws.proofs.ListLemmas.{if_false}
 use Rattle.load_laws.proofs.StatementRows.{key_stays, put_length}
 
@@ -32,21 +32,21 @@ all_so P Q so (x ∷ xs) all = (so x all.0, all_so P Q so xs all.1)
 
 -- rows of its own, by rising keys
 pub record IsBlock (place : ℕ) (pairs : List Pair) : Type 0 where
-  pub rising : AreRising pairs
+  pub rising : PairsRise pairs
   pub small : AllByRecursion IsSmall pairs
   pub own : AllByRecursion (IsOwn place) pairs
   pub few : length pairs ≤ 500
 
-rising_front : (xs ys : List Pair) → AreRising (xs ++ ys) → AreRising xs
+rising_front : (xs ys : List Pair) → PairsRise (xs ++ ys) → PairsRise xs
 rising_front [] ys rises = tt
 rising_front (x ∷ xs) ys rises = (all_front (λ (later : Pair). x.key < later.key) xs ys rises.0, rising_front xs ys rises.1)
 
-rising_to : (xs ys : List Pair) (y : Pair) → AreRising (xs ++ y ∷ ys) → AllByRecursion (λ (other : Pair). other.key < y.key) xs
+rising_to : (xs ys : List Pair) (y : Pair) → PairsRise (xs ++ y ∷ ys) → AllByRecursion (λ (other : Pair). other.key < y.key) xs
 rising_to [] ys y rises = tt
 rising_to (x ∷ xs) ys y rises = ((all_behind (λ (later : Pair). x.key < later.key) xs (y ∷ ys) rises.0).0, rising_to xs ys y rises.1)
 
 rising_joined : (bound : ℕ) (xs ys : List Pair) → AllByRecursion (λ (x : Pair). x.key < bound) xs → AllByRecursion (λ (y : Pair). bound ≤ y.key) ys
-    → AreRising xs → AreRising ys → AreRising (xs ++ ys)
+    → PairsRise xs → PairsRise ys → PairsRise (xs ++ ys)
 rising_joined bound [] ys below above rises more = more
 rising_joined bound (x ∷ xs) ys below above rises more =
     let less : x.key < bound = below.0 in (
@@ -81,7 +81,7 @@ changed_all : (P : Pair → Type 0) (pair : Pair) → ((other : Pair) → P othe
 changed_all P pair keeps [] ys all = all
 changed_all P pair keeps (x ∷ xs) ys all = (keeps x all.0, changed_all P pair keeps xs ys all.1)
 
-changed_rising : (pair : Pair) (xs ys : List Pair) → AreRising (xs ++ ys) → AreRising (changed pair xs ++ ys)
+changed_rising : (pair : Pair) (xs ys : List Pair) → PairsRise (xs ++ ys) → PairsRise (changed pair xs ++ ys)
 changed_rising pair [] ys rises = rises
 changed_rising pair (x ∷ xs) ys rises =
     let key : (changed_one pair x).key ≡ x.key = key_stays pair x in (
@@ -175,7 +175,7 @@ whole_from f from count blocks =
     whole_all (λ (pair : Pair). 1000000 * from ≤ pair.key) f from count
     (λ p up. all_so (IsOwn p) (λ (pair : Pair). 1000000 * from ≤ pair.key) (λ pair own. own_from from p pair up own) (f p) (blocks p).own)
 
-whole_rising : (f : ℕ → List Pair) (from count : ℕ) → AreBlocks f → AreRising (whole f from count)
+whole_rising : (f : ℕ → List Pair) (from count : ℕ) → AreBlocks f → PairsRise (whole f from count)
 unfolding whole
 whole_rising f from zero blocks = tt
 whole_rising f from (suc count) blocks =
@@ -191,7 +191,7 @@ whole_few f from (suc count) blocks =
     let more : length (whole f (suc from) count) ≤ 500 * count = whole_few f (suc from) count blocks in
     omega (arith, length-append (f from) (whole f (suc from) count))
 
-pub whole_rows : (f : ℕ → List Pair) → AreBlocks f → AreRows (whole f 0 8)
+pub whole_rows : (f : ℕ → List Pair) → AreBlocks f → ArePairRows (whole f 0 8)
 whole_rows f blocks = record {
   rising = whole_rising f 0 8 blocks;
   small = whole_all IsSmall f 0 8 (λ p up. (blocks p).small);

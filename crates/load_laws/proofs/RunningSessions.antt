@@ -13,7 +13,7 @@ use Rattle.plain_sessions.specs.Merging.{Answers, Worked}
 use Rattle.plain_sessions.specs.Moments.{if_answered, past}
 use Rattle.plain_sessions.specs.Records.{BranchState}
 use Rattle.plain_sessions.specs.Replies.{counted, done}
-use Rattle.plain_sessions.specs.Runs.{Runner, advance}
+use Rattle.plain_sessions.specs.Runs.{Runner, advance, nothing_refused}
 use Rattle.plain_sessions.specs.Sessions.{Before, Head, Said, Session, Transaction, first_variables, is_changed, over, with_own}
 use Rattle.plain_sessions.specs.Statements.{worked}
 use Rattle.plain_sessions.specs.declared.commands.Command.{Command}
@@ -21,9 +21,9 @@ use Rattle.plain_sessions.specs.declared.commands.Command.TheVariants.{Begin, Co
 use Rattle.plain_sessions.specs.declared.commands.Work.{Work}
 use Rattle.plain_sessions.specs.declared.commands.Work.TheVariants.{Change}
 use Rattle.load_laws.specs.Batches.{Batch, IsOwn, after_all, all_changed, changes_of, opening_steps, rows_of, steps_in}
-use Rattle.load_laws.specs.Laws.{is_answered, nothing_refused}
+use Rattle.load_laws.specs.Laws.{is_answered}
 use Rattle.load_laws.specs.Parts.{RowsAreChanged, RowsAreInserted, TablesAreMade}
-use Rattle.load_laws.specs.Steps.{Commits as Committing, Inserts, Makes, Pair, Step, Updates, command_of, create, insert, update}
+use Rattle.load_laws.specs.Steps.{Commits as Committing, Inserts, LoadStep, Makes, Pair, Updates, command_of, create, insert, update}
 use Rattle.load_laws.specs.Tables.{IsSmall, changed, changed_one, changes, rows_in, working}
 use Rattle.load_laws.proofs.RunningMeeting.{state_differs}
 use Rattle.load_laws.proofs.RunningRows.{AreBlocks, IsBlock, all_behind, below_next, block_front, block_stays, blocks_with, changed_block, changed_whole, free_whole, more_rows, put_whole, room_whole, whole, whole_rows, whole_same, with_block}
@@ -89,19 +89,19 @@ pub record Waits (batches : List Batch) (head : List ℕ) (found : Option (List 
 
 -- ---- a batch's statements
 
-abbrev pub made_steps : Bool → List Step
+abbrev pub made_steps : Bool → List LoadStep
 made_steps makes = if makes then Makes ∷ [] else []
 
-abbrev pub change_steps : List Pair → List Batch → List Step
+abbrev pub change_steps : List Pair → List Batch → List LoadStep
 change_steps changes left = map Updates changes ++ Committing ∷ flat_map steps_in left
 
-abbrev pub row_steps : List Pair → List Pair → List Batch → List Step
+abbrev pub row_steps : List Pair → List Pair → List Batch → List LoadStep
 row_steps rows changes left = map Inserts rows ++ change_steps changes left
 
 regrouped : {X : Type 0} (a b c d : List X) (x : X) → (a ++ b ++ c ++ x ∷ []) ++ d ≡ a ++ (b ++ (c ++ x ∷ d))
 regrouped a b c d x = append_assoc (a ++ b ++ c) (x ∷ []) d ∙ append_assoc (a ++ b) c (x ∷ d) ∙ append_assoc a b (c ++ x ∷ d)
 
-begin_first : (makes : Bool) (more : List Step) → map command_of (opening_steps makes ++ more) ≡ Begin ∷ map command_of (made_steps makes ++ more)
+begin_first : (makes : Bool) (more : List LoadStep) → map command_of (opening_steps makes ++ more) ≡ Begin ∷ map command_of (made_steps makes ++ more)
 begin_first true more = refl
 begin_first false more = refl
 

@@ -5,8 +5,8 @@ use Rattle.std.proofs.lemmas.List.{append-nil, length_push, map-append}
 use Rattle.std.proofs.lemmas.Grind.{flat_map-append}
 use Rattle.workload.specs.Workload.{drawn, each, first_key, next}
 use Rattle.load_laws.specs.Batches.{Batch, BeginsByMaking, after, after_all, changes_of, opening_steps, rows_of, steps_in}
-use Rattle.load_laws.specs.Steps.{Begins, Commits, Drawn, Inserts, Makes, Pair, Step, Updates, steps_of, with_batch, with_change, with_changes, with_opening, with_row, with_rows, with_step}
-use Rattle.load_laws.specs.Tables.{AreRising}
+use Rattle.load_laws.specs.Steps.{Begins, Commits, Drawn, Inserts, LoadStep, Makes, Pair, Updates, steps_of, with_batch, with_change, with_changes, with_opening, with_row, with_rows, with_step}
+use Rattle.load_laws.specs.Tables.{PairsRise}
 use Rattle.load_laws.proofs.ScriptEach.{all_of_both, all_so, each_follows, each_holds, has_some}
 use Rattle.load_laws.proofs.ScriptValues.{Below, From, lasting, written_on}
 
@@ -67,13 +67,13 @@ pub flat_push : {A B : Type 0} (f : A → List B) (xs : List A) (x : A) → flat
 flat_push f xs x = flat_map-append f xs (x ∷ []) ∙ ap (λ ys. flat_map f xs ++ ys) (append-nil (f x))
 
 -- steps behind others
-abbrev behind : (Pair → Step) → List Step → Filled → Drawn
+abbrev behind : (Pair → LoadStep) → List LoadStep → Filled → Drawn
 behind f before filled = record { steps = before ++ map f filled.pairs; x = filled.x }
 
-pushed : (f : Pair → Step) (before : List Step) (pairs : List Pair) (pair : Pair) → before ++ map f pairs ++ f pair ∷ [] ≡ before ++ map f (pairs ++ pair ∷ [])
+pushed : (f : Pair → LoadStep) (before : List LoadStep) (pairs : List Pair) (pair : Pair) → before ++ map f pairs ++ f pair ∷ [] ≡ before ++ map f (pairs ++ pair ∷ [])
 pushed f before pairs pair = append_assoc before (map f pairs) (f pair ∷ []) ∙ ap (λ s. before ++ s) (sym (map-append f pairs (pair ∷ [])))
 
-none_behind : (f : Pair → Step) (d : Drawn) → d ≡ behind f d.steps (no_pairs d.x)
+none_behind : (f : Pair → LoadStep) (d : Drawn) → d ≡ behind f d.steps (no_pairs d.x)
 none_behind f d = ap (λ s. record { steps = s; x = d.x }) (sym (append-nil d.steps))
 
 rows_are : (first : ℕ) (d : Drawn) → with_rows first d ≡ behind Inserts d.steps (rows_drawn first d.x)
@@ -95,7 +95,7 @@ opening_is batch d =
       | false ↦ refl
     ]
 
-regroup : (s o r c e : List Step) → s ++ o ++ r ++ c ++ e ≡ s ++ (o ++ r ++ c ++ e)
+regroup : (s o r c e : List LoadStep) → s ++ o ++ r ++ c ++ e ≡ s ++ (o ++ r ++ c ++ e)
 regroup s o r c e = simp append_assoc
 
 abbrev laid : Batched → Drawn
@@ -104,8 +104,8 @@ laid b = record { steps = flat_map steps_in b.batches; x = b.x }
 batch_is : (session batch : ℕ) (b : Batched) → with_batch session batch (laid b) ≡ laid (one_drawn session batch b)
 batch_is session batch b =
     let first : ℕ = first_key session batch in
-    let before : List Step = flat_map steps_in b.batches in
-    let opening : List Step = opening_steps (batch == 0) in
+    let before : List LoadStep = flat_map steps_in b.batches in
+    let opening : List LoadStep = opening_steps (batch == 0) in
     let rows : Filled = rows_drawn first b.x in
     let changes : Filled = changes_drawn first rows.x in
     ap (λ d. with_step Commits (with_changes first (with_rows first d))) (opening_is batch (laid b))
@@ -140,7 +140,7 @@ from_there low high pairs all = all_so (IsWithin low high) (λ (pair : Pair). lo
 pub below_there : (low high : ℕ) (pairs : List Pair) → Within low high pairs → Below high pairs
 below_there low high pairs all = all_so (IsWithin low high) (λ (pair : Pair). pair.key < high) pairs (λ pair h. h.to) all
 
-rising_both : (at : ℕ) (xs ys : List Pair) → AreRising xs → AreRising ys → Below at xs → From at ys → AreRising (xs ++ ys)
+rising_both : (at : ℕ) (xs ys : List Pair) → PairsRise xs → PairsRise ys → Below at xs → From at ys → PairsRise (xs ++ ys)
 rising_both at [] ys one two below from = two
 rising_both at (x ∷ xs) ys one two below from = (
   all_of_both (λ (later : Pair). x.key < later.key) xs ys one.0 (all_so (λ (y : Pair). at ≤ y.key) (λ (y : Pair). x.key < y.key) ys (λ y h. le_trans below.0 h) from),
@@ -152,7 +152,7 @@ value_small n = omega arith
 
 -- the first rows of a batch
 record RowsStand (first count : ℕ) (pairs : List Pair) : Type 0 where
-  rising : AreRising pairs
+  rising : PairsRise pairs
   within : Within first (first + count) pairs
   many : length pairs ≡ count
 
@@ -191,7 +191,7 @@ abbrev pub writes_of : List Batch → List Pair
 writes_of batches = flat_map writes_in batches
 
 pub record Stand (session count : ℕ) (batches : List Batch) : Type 0 where
-  pub rising : AreRising (rows_of batches)
+  pub rising : PairsRise (rows_of batches)
   pub rows : Within (1000000 * session) (1000000 * session + 1000 * count) (rows_of batches)
   pub changes : Within (1000000 * session) (1000000 * session + 1000 * count) (changes_of batches)
   pub writes : Within (1000000 * session) (1000000 * session + 1000 * count) (writes_of batches)
@@ -224,7 +224,7 @@ one_stands session count b so_far =
     let writes_push : writes_of (b.batches ++ batch ∷ []) ≡ writes_of b.batches ++ (batch.rows ++ batch.changes) = flat_push writes_in b.batches batch in
     let more : (pairs : List Pair) → Within low first pairs → Within low high pairs = λ pairs h. wider low first low high pairs (le_refl low) (omega arith) h in
     record {
-      rising = subst AreRising (sym rows_push) (rising_both first (rows_of b.batches) batch.rows so_far.rising rows.rising (below_there low first (rows_of b.batches) so_far.rows) (from_there first (first + 50) batch.rows rows.within));
+      rising = subst PairsRise (sym rows_push) (rising_both first (rows_of b.batches) batch.rows so_far.rising rows.rising (below_there low first (rows_of b.batches) so_far.rows) (from_there first (first + 50) batch.rows rows.within));
       rows = subst (Within low high) (sym rows_push) (all_of_both (IsWithin low high) (rows_of b.batches) batch.rows (more (rows_of b.batches) so_far.rows) rows_in);
       changes = subst (Within low high) (sym changes_push) (all_of_both (IsWithin low high) (changes_of b.batches) batch.changes (more (changes_of b.batches) so_far.changes) changes_in);
       writes = subst (Within low high) (sym writes_push) (

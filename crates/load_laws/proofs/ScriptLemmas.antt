@@ -9,7 +9,7 @@ use Rattle.workload.specs.Workload.{all_lines}
 use Rattle.load_laws.specs.Batches.{AreBatches, Batch, IsOwn, after_all, changes_of, opening_steps, rows_of, steps_in}
 use Rattle.load_laws.specs.Loaded.{all_steps, inserted, last_rows, written}
 use Rattle.load_laws.specs.Parts.{IsSmallStep, ScriptsAreBatches, StepsAreRead}
-use Rattle.load_laws.specs.Steps.{Commits, Inserts, Pair, Step, Updates, command_of, steps_of, text_of}
+use Rattle.load_laws.specs.Steps.{Commits, Inserts, LoadStep, Pair, Updates, command_of, steps_of, text_of}
 use Rattle.load_laws.specs.Tables.{IsSmall}
 use Rattle.load_laws.proofs.ScriptBatches.{IsWithin, Stand, Within, batches_of, batches_stand, below_there, from_there, steps_are, writes_in, writes_of}
 use Rattle.load_laws.proofs.ScriptEach.{all_mapped, all_of_both, all_parts, all_so, has_some, map_where}
@@ -18,12 +18,12 @@ use Rattle.load_laws.proofs.ScriptValues.{Below, From, beside, lasting}
 
 -- ---- what the steps of a session write and insert
 
-gathered_twice : {A B : Type 0} (f : A → List Step) (g : A → List B) (h : Step → List B) → ((a : A) → flat_map h (f a) ≡ g a) → (xs : List A) → flat_map h (flat_map f xs) ≡ flat_map g xs
+gathered_twice : {A B : Type 0} (f : A → List LoadStep) (g : A → List B) (h : LoadStep → List B) → ((a : A) → flat_map h (f a) ≡ g a) → (xs : List A) → flat_map h (flat_map f xs) ≡ flat_map g xs
 gathered_twice f g h same [] = refl
 gathered_twice f g h same (x ∷ xs) =
     flat_map-append h (f x) (flat_map f xs) ∙ ap (λ ys. ys ++ flat_map h (flat_map f xs)) (same x) ∙ ap (λ ys. g x ++ ys) (gathered_twice f g h same xs)
 
-four_parts : (h : Step → List Pair) (o r c e : List Step) → flat_map h (o ++ r ++ c ++ e) ≡ flat_map h o ++ flat_map h r ++ flat_map h c ++ flat_map h e
+four_parts : (h : LoadStep → List Pair) (o r c e : List LoadStep) → flat_map h (o ++ r ++ c ++ e) ≡ flat_map h o ++ flat_map h r ++ flat_map h c ++ flat_map h e
 four_parts h o r c e =
     flat_map-append h (o ++ r ++ c) e ∙ ap (λ xs. xs ++ flat_map h e) (flat_map-append h (o ++ r) c ∙ ap (λ xs. xs ++ flat_map h c) (flat_map-append h o r))
 
@@ -164,9 +164,9 @@ steps_small [] rows changes = tt
 steps_small (batch ∷ batches) rows changes =
     let of_rows = all_parts IsSmall batch.rows (rows_of batches) rows in
     let of_changes = all_parts IsSmall batch.changes (changes_of batches) changes in
-    let opening : List Step = opening_steps batch.makes in
-    let inserts : List Step = map Inserts batch.rows in
-    let updates : List Step = map Updates batch.changes in
+    let opening : List LoadStep = opening_steps batch.makes in
+    let inserts : List LoadStep = map Inserts batch.rows in
+    let updates : List LoadStep = map Updates batch.changes in
     let one = all_of_both IsSmallStep opening inserts (opening_small batch.makes) (all_mapped IsSmallStep Inserts batch.rows of_rows.0) in
     let two = all_of_both IsSmallStep (opening ++ inserts) updates one (all_mapped IsSmallStep Updates batch.changes of_changes.0) in
     let three = all_of_both IsSmallStep (opening ++ inserts ++ updates) (Commits ∷ []) two (tt, tt) in

@@ -9,7 +9,7 @@ use Rattle.plain_sessions.specs.Runs.{commands_of}
 use Rattle.workload.specs.declared.speech.Speech.{Speech}
 use Rattle.workload.specs.Workload as said
 use Rattle.workload.specs.Workload.{all_lines, drawn, each, first_key, line, next, statements, with_begin, with_insert, with_inserts, with_session, with_text, with_update, with_updates}
-use Rattle.load_laws.specs.Steps.{Begins, Commits, Drawn, Inserts, Makes, Step, Updates, nothing_drawn, steps_of, text_of, with_batch, with_change, with_changes, with_opening, with_row, with_rows, with_step}
+use Rattle.load_laws.specs.Steps.{Begins, Commits, Drawn, Inserts, LoadStep, Makes, Updates, nothing_drawn, steps_of, text_of, with_batch, with_change, with_changes, with_opening, with_row, with_rows, with_step}
 use Rattle.load_laws.proofs.ScriptEach.{each_follows}
 
 -- ---- what steps say
@@ -17,10 +17,10 @@ use Rattle.load_laws.proofs.ScriptEach.{each_follows}
 spoken : Drawn → Speech
 spoken d = record { statements = map text_of d.steps; x = d.x }
 
-with_text_of : (steps : List Step) (step : Step) (x : ℕ) → ◌≡◌ {A = Speech} (record { statements = map text_of steps ++ text_of step ∷ []; x = x }) (record { statements = map text_of (steps ++ step ∷ []); x = x })
+with_text_of : (steps : List LoadStep) (step : LoadStep) (x : ℕ) → ◌≡◌ {A = Speech} (record { statements = map text_of steps ++ text_of step ∷ []; x = x }) (record { statements = map text_of (steps ++ step ∷ []); x = x })
 with_text_of steps step x = ap (λ texts. record { statements = texts; x = x }) (sym (map-append text_of steps (step ∷ [])))
 
-step_said : (step : Step) (d : Drawn) → with_text (text_of step) (spoken d) ≡ spoken (with_step step d)
+step_said : (step : LoadStep) (d : Drawn) → with_text (text_of step) (spoken d) ≡ spoken (with_step step d)
 unfolding spoken
 step_said step d = with_text_of d.steps step d.x
 

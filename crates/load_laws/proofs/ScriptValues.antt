@@ -6,7 +6,7 @@ use Rattle.std.proofs.lemmas.Bool.Decides.{eqb_tells}
 use Rattle.load_laws.specs.Batches.{all_changed}
 use Rattle.load_laws.specs.Loaded.{last_value}
 use Rattle.load_laws.specs.Steps.{Pair}
-use Rattle.load_laws.specs.Tables.{AreRising, changed, changed_one}
+use Rattle.load_laws.specs.Tables.{PairsRise, changed, changed_one}
 use Rattle.load_laws.proofs.ScriptEach.{all_so}
 
 -- ---- the last value
@@ -72,7 +72,7 @@ lasting_below high writes [] below = tt
 lasting_below high writes (row ∷ rows) below = (below.0, lasting_below high writes rows below.1)
 
 -- rows that are written once each keep their values
-pub rising_stays : (rows : List Pair) → AreRising rows → lasting rows rows ≡ rows
+pub rising_stays : (rows : List Pair) → PairsRise rows → lasting rows rows ≡ rows
 rising_stays [] rising = refl
 rising_stays (row ∷ rows) rising =
     ap (λ v. record { key = row.key; value = v } ∷ lasting (row ∷ rows) rows) (own_value (row.key == row.key))
@@ -105,7 +105,7 @@ all_changed_is (change ∷ changes) rows =
 
 -- ---- rows behind others, and what is written of them then
 
-pub written_on : (at : ℕ) (writes rows more changes : List Pair) → Below at writes → Below at rows → From at more → AreRising more
+pub written_on : (at : ℕ) (writes rows more changes : List Pair) → Below at writes → Below at rows → From at more → PairsRise more
     → all_changed changes (lasting writes rows ++ more) ≡ lasting (writes ++ (more ++ changes)) (rows ++ more)
 written_on at writes rows more changes one two three rising =
     all_changed_is changes (lasting writes rows ++ more)

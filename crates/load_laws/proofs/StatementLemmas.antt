@@ -24,7 +24,7 @@ use Rattle.load_laws.proofs.StatementRows.{more_by_key, put_length, rising_by_ke
 use Rattle.load_laws.specs.Loaded.{big_int, load_schema, load_table, row}
 use Rattle.load_laws.specs.Parts.{RowsAreChanged, RowsAreInserted, TablesAreMade}
 use Rattle.load_laws.specs.Steps.{Pair, create, insert, number, table_name, update}
-use Rattle.load_laws.specs.Tables.{AreRows, IsFree, IsSmall, changed, changed_one, changes, holding, is_other, put, rows_in, working}
+use Rattle.load_laws.specs.Tables.{ArePairRows, IsFree, IsSmall, changed, changed_one, changes, holding, is_other, put, rows_in, working}
 
 -- ---- CREATE
 
@@ -134,7 +134,7 @@ tests_bound pair small = ap (λ found. and_then found (λ one. Ok (one ∷ [])))
 abbrev turned_result : Checks → List Pair → List Later → Outcome Effect
 turned_result checks pairs turned = result_of checks (holding (Some pairs)) table_name (load_table pairs) (map (λ one. one.row) turned) (count_by (λ one. one.is_new) turned)
 
-rows_updated : (checks : Checks) (pair : Pair) (pairs : List Pair) → AreRows pairs → IsSmall pair
+rows_updated : (checks : Checks) (pair : Pair) (pairs : List Pair) → ArePairRows pairs → IsSmall pair
     → update_effect checks (holding (Some pairs)) (update pair) ≡ Ok (record { database = holding (Some (changed pair pairs)); count = Some (changes pair pairs) })
 rows_updated checks pair pairs rows small =
     ap (λ sets. and_then sets (λ sets. and_then (tests_of scope (update pair).filter) (λ tests. and_then (each (turned_small load_schema tests sets) (map row pairs)) (turned_result checks pairs)))) (sets_bound pair small)
@@ -169,7 +169,7 @@ row_made pair small =
 abbrev made_result : Checks → List Pair → List Cells → Outcome Effect
 made_result checks pairs made = result_of checks (holding (Some pairs)) table_name (load_table pairs) (map row pairs ++ made) (length made)
 
-row_inserted : (checks : Checks) (pair : Pair) (pairs : List Pair) → AreRows pairs → IsSmall pair → IsFree pair.key pairs → length pairs < 4000
+row_inserted : (checks : Checks) (pair : Pair) (pairs : List Pair) → ArePairRows pairs → IsSmall pair → IsFree pair.key pairs → length pairs < 4000
     → insert_effect checks (holding (Some pairs)) (insert pair) ≡ Ok (record { database = holding (Some (put pair pairs)); count = Some 1 })
 row_inserted checks pair pairs rows small free few =
     ap (λ read. and_then (and_then read (λ one. Ok (one ∷ []))) (λ told. and_then (each (new_row load_schema (0 ∷ 1 ∷ [])) told) (made_result checks pairs))) (tuple_read pair small)

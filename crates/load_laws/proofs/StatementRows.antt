@@ -10,7 +10,7 @@ use Rattle.plain_writes.specs.Writes.{by_key, keyed_cmp}
 use Rattle.load_laws.proofs.StatementCells.{rows_eq, rows_lt}
 use Rattle.load_laws.specs.Loaded.{load_schema, row}
 use Rattle.load_laws.specs.Steps.{Pair}
-use Rattle.load_laws.specs.Tables.{AreRising, IsFree, changed, changed_one, put}
+use Rattle.load_laws.specs.Tables.{IsFree, PairsRise, changed, changed_one, put}
 
 abbrev order : Cells → Cells → Ordering
 order = keyed_cmp load_schema
@@ -51,15 +51,15 @@ all_at : (test : Pair → Type 0) (held : List Pair) (pair : Pair) (pairs : List
 all_at test [] pair pairs all = all.0
 all_at test (other ∷ others) pair pairs all = all_at test others pair pairs all.1
 
-below_next : (held : List Pair) (pair : Pair) (pairs : List Pair) → AreRising (held ++ pair ∷ pairs) → AllByRecursion (λ (other : Pair). other.key < pair.key) held
+below_next : (held : List Pair) (pair : Pair) (pairs : List Pair) → PairsRise (held ++ pair ∷ pairs) → AllByRecursion (λ (other : Pair). other.key < pair.key) held
 below_next [] pair pairs rising = tt
 below_next (other ∷ others) pair pairs rising = (all_at (λ later. other.key < later.key) others pair pairs rising.0, below_next others pair pairs rising.1)
 
-gathered_rising : (held pairs : List Pair) → AreRising (held ++ pairs) → gathered held pairs ≡ held ++ pairs
+gathered_rising : (held pairs : List Pair) → PairsRise (held ++ pairs) → gathered held pairs ≡ held ++ pairs
 gathered_rising held [] rising = sym (append-nil held)
 gathered_rising held (pair ∷ pairs) rising =
     ap (λ more. gathered more pairs) (put_last pair held (below_next held pair pairs rising))
-    ∙ gathered_rising (held ++ pair ∷ []) pairs (subst AreRising (sym (append_assoc held (pair ∷ []) pairs)) rising)
+    ∙ gathered_rising (held ++ pair ∷ []) pairs (subst PairsRise (sym (append_assoc held (pair ∷ []) pairs)) rising)
     ∙ append_assoc held (pair ∷ []) pairs
 
 -- ---- rows whose keys are apart
@@ -72,7 +72,7 @@ apart_above : (key : ℕ) (pairs : List Pair) → AllByRecursion (λ (later : Pa
 apart_above key [] above = tt
 apart_above key (pair ∷ pairs) above = ((λ same. let e = above.0 in omega arith), apart_above key pairs above.1)
 
-apart_rising : (pairs : List Pair) → AreRising pairs → AreApart pairs
+apart_rising : (pairs : List Pair) → PairsRise pairs → AreApart pairs
 apart_rising [] rising = tt
 apart_rising (pair ∷ pairs) rising = (apart_above pair.key pairs rising.0, apart_rising pairs rising.1)
 
@@ -97,10 +97,10 @@ none_repeats (pair ∷ pairs) apart = neither_so (none_same pair pairs apart.0) 
 apart_by_key : (pairs : List Pair) → AreApart pairs → by_key load_schema (map row pairs) ≡ Ok (map row (gathered [] pairs))
 apart_by_key pairs apart = ap₂ (λ wrong rows. unless wrong 1062 (Ok rows)) (none_repeats pairs apart) (gathered_rows [] pairs)
 
-pub rising_by_key : (pairs : List Pair) → AreRising pairs → by_key load_schema (map row pairs) ≡ Ok (map row pairs)
+pub rising_by_key : (pairs : List Pair) → PairsRise pairs → by_key load_schema (map row pairs) ≡ Ok (map row pairs)
 rising_by_key pairs rising = apart_by_key pairs (apart_rising pairs rising) ∙ ap (λ kept. Ok (map row kept)) (gathered_rising [] pairs rising)
 
-pub more_by_key : (pairs : List Pair) (pair : Pair) → AreRising pairs → IsFree pair.key pairs → by_key load_schema (map row (pairs ++ pair ∷ [])) ≡ Ok (map row (put pair pairs))
+pub more_by_key : (pairs : List Pair) (pair : Pair) → PairsRise pairs → IsFree pair.key pairs → by_key load_schema (map row (pairs ++ pair ∷ [])) ≡ Ok (map row (put pair pairs))
 more_by_key pairs pair rising free =
     apart_by_key (pairs ++ pair ∷ []) (apart_more pairs pair (apart_rising pairs rising) free)
     ∙ ap (λ kept. Ok (map row kept)) (gathered_more [] pairs pair ∙ ap (put pair) (gathered_rising [] pairs rising))
@@ -118,7 +118,7 @@ above_changed : (key : ℕ) (pair : Pair) (pairs : List Pair) → AllByRecursion
 above_changed key pair [] above = tt
 above_changed key pair (other ∷ others) above = (subst (λ n. key < n) (sym (key_stays pair other)) above.0, above_changed key pair others above.1)
 
-pub rising_changed : (pair : Pair) (pairs : List Pair) → AreRising pairs → AreRising (changed pair pairs)
+pub rising_changed : (pair : Pair) (pairs : List Pair) → PairsRise pairs → PairsRise (changed pair pairs)
 rising_changed pair [] rising = tt
 rising_changed pair (other ∷ others) rising =
     (subst (λ n. AllByRecursion (λ (later : Pair). n < later.key) (changed pair others)) (sym (key_stays pair other)) (above_changed other.key pair others rising.0), rising_changed pair others rising.1)

@@ -1,8 +1,8 @@
 -- A session's batches, each a transaction, and the rows that they leave.
 use Rattle.std.specs.Prelude.{◌≡◌, ◌≢◌, ℕ, ◌+◌, ◌*◌, ◌<◌, ◌≤◌, true, Bool, if◌then◌else◌, List, [], ◌∷◌, ◌++◌, length, map}
 use Rattle.std.specs.List.{AllByRecursion, flat_map}
-use Rattle.load_laws.specs.Steps.{Begins, Commits, Inserts, Makes, Pair, Step, Updates}
-use Rattle.load_laws.specs.Tables.{AreRising, IsSmall, changed}
+use Rattle.load_laws.specs.Steps.{Begins, Commits, Inserts, LoadStep, Makes, Pair, Updates}
+use Rattle.load_laws.specs.Tables.{IsSmall, PairsRise, changed}
 
 pub record Batch : Type 0 where
   -- makes the table where there is none
@@ -10,10 +10,10 @@ pub record Batch : Type 0 where
   pub rows : List Pair
   pub changes : List Pair
 
-abbrev pub opening_steps : Bool → List Step
+abbrev pub opening_steps : Bool → List LoadStep
 opening_steps makes = if makes then Begins ∷ Makes ∷ [] else Begins ∷ []
 
-abbrev pub steps_in : Batch → List Step
+abbrev pub steps_in : Batch → List LoadStep
 steps_in batch = opening_steps batch.makes ++ map Inserts batch.rows ++ map Updates batch.changes ++ Commits ∷ []
 
 -- ---- the rows that batches leave
@@ -48,7 +48,7 @@ BeginsByMaking [] = Unit {0}
 BeginsByMaking (batch ∷ batches) = batch.makes ≡ true
 
 pub record AreBatches (place : ℕ) (batches : List Batch) : Type 0 where
-  pub rising : AreRising (rows_of batches)
+  pub rising : PairsRise (rows_of batches)
   pub small : AllByRecursion IsSmall (rows_of batches)
   pub small_changes : AllByRecursion IsSmall (changes_of batches)
   pub own : AllByRecursion (IsOwn place) (rows_of batches)

@@ -7,14 +7,10 @@ use Rattle.script_text.specs.declared.scripts.Moment.{Moment}
 use Rattle.plain_sessions.specs.Commands.{command}
 use Rattle.plain_sessions.specs.Records.{state_of}
 use Rattle.plain_sessions.specs.Replies.{is_refusal}
-use Rattle.plain_sessions.specs.Runs.{Runner, Shortages, State, plain_run}
+use Rattle.plain_sessions.specs.Runs.{Runner, State, nothing_refused, plain_run}
 use Rattle.workload.specs.Workload.{workload}
 use Rattle.load_laws.specs.Loaded.{loaded}
 use Rattle.load_laws.specs.Steps.{table_name}
-
--- memory is found for each statement, and no two byte strings have one address
-abbrev pub nothing_refused : Shortages
-nothing_refused session statement = None
 
 abbrev pub is_answered : Reply → Bool
 is_answered reply = not (is_refusal reply)

@@ -7,18 +7,18 @@ use Rattle.tuple_codec.specs.declared.values.Value.TheVariants as cell
 use Rattle.schema_model.specs.PlainTables.{PlainTable}
 use Rattle.schema_model.specs.declared.schemas.Column.{Column}
 use Rattle.schema_model.specs.declared.schemas.Schema.{Schema}
-use Rattle.load_laws.specs.Steps.{Inserts, Pair, Step, Updates, steps_of}
+use Rattle.load_laws.specs.Steps.{Inserts, LoadStep, Pair, Updates, steps_of}
 
 -- ---- what a list of steps writes
 
 -- what a step writes, if anything
-abbrev pub written : Step → List Pair
+abbrev pub written : LoadStep → List Pair
 written (Inserts pair) = pair ∷ []
 written (Updates pair) = pair ∷ []
 written step = []
 
 -- what a step inserts, if anything
-abbrev pub inserted : Step → List Pair
+abbrev pub inserted : LoadStep → List Pair
 inserted (Inserts pair) = pair ∷ []
 inserted step = []
 
@@ -28,7 +28,7 @@ last_value key value [] = value
 last_value key value (pair ∷ pairs) = last_value key (if pair.key == key then pair.value else value) pairs
 
 -- each pair that is inserted, in order, with the last value of its key
-abbrev pub last_rows : List Step → List Pair
+abbrev pub last_rows : List LoadStep → List Pair
 last_rows steps = map (λ pair. record { key = pair.key; value = last_value pair.key pair.value (flat_map written steps) }) (flat_map inserted steps)
 
 -- ---- the table
@@ -46,7 +46,7 @@ abbrev pub load_table : List Pair → PlainTable
 load_table pairs = record { schema = load_schema; rows = map row pairs; conflicts = []; violations = [] }
 
 -- session by session, as they stand in the script
-abbrev pub all_steps : ℕ → List Step
+abbrev pub all_steps : ℕ → List LoadStep
 all_steps seed = flat_map (steps_of seed) (0 ∷ 1 ∷ 2 ∷ 3 ∷ 4 ∷ 5 ∷ 6 ∷ 7 ∷ [])
 
 -- the table `load_rows` in the end

@@ -13,19 +13,19 @@ use Rattle.workload.specs.Workload.{workload}
 use Rattle.plain_sessions.specs.Runs.{commands_of}
 use Rattle.load_laws.specs.Batches.{AreBatches, Batch, after_all, steps_in}
 use Rattle.load_laws.specs.Loaded.{all_steps, last_rows}
-use Rattle.load_laws.specs.Steps.{Inserts, Pair, Step, Updates, command_of, create, insert, text_of, update}
-use Rattle.load_laws.specs.Tables.{AreRows, IsFree, IsSmall, changed, changes, put, rows_in, value_at, working}
+use Rattle.load_laws.specs.Steps.{Inserts, LoadStep, Pair, Updates, command_of, create, insert, text_of, update}
+use Rattle.load_laws.specs.Tables.{ArePairRows, IsFree, IsSmall, changed, changes, put, rows_in, value_at, working}
 
 -- ---- texts
 
 -- numbers that are written as they are read
-abbrev pub IsSmallStep : Step → Type 0
+abbrev pub IsSmallStep : LoadStep → Type 0
 IsSmallStep (Inserts pair) = IsSmall pair
 IsSmallStep (Updates pair) = IsSmall pair
 IsSmallStep step = Unit {0}
 
 abbrev pub StepsAreRead : Type 0
-StepsAreRead = (step : Step) → IsSmallStep step → command (text_of step) ≡ command_of step
+StepsAreRead = (step : LoadStep) → IsSmallStep step → command (text_of step) ≡ command_of step
 
 -- ---- the script
 
@@ -52,12 +52,12 @@ TablesAreMade = (session : Session) (t : Transaction) (head : List ℕ) (found :
 
 abbrev pub RowsAreInserted : Type 0
 RowsAreInserted = (session : Session) (t : Transaction) (head : List ℕ) (pair : Pair) (pairs : List Pair) → t.own ≡ working head (Some pairs)
-    → AreRows pairs → IsSmall pair → IsFree pair.key pairs → length pairs < 4000
+    → ArePairRows pairs → IsSmall pair → IsFree pair.key pairs → length pairs < 4000
     → worked session t (Change (write.Insert (insert pair))) ≡ Ok (Answers (counted 1) (working head (Some (put pair pairs))))
 
 abbrev pub RowsAreChanged : Type 0
 RowsAreChanged = (session : Session) (t : Transaction) (head : List ℕ) (pair : Pair) (pairs : List Pair) → t.own ≡ working head (Some pairs)
-    → AreRows pairs → IsSmall pair
+    → ArePairRows pairs → IsSmall pair
     → worked session t (Change (write.Update (update pair))) ≡ Ok (Answers (counted (changes pair pairs)) (working head (Some (changed pair pairs))))
 
 -- ---- COMMIT
@@ -68,15 +68,15 @@ pub data MeetsAt (key : ℕ) (start present own result : List Pair) : Type 0 whe
   OwnStayed : value_at key own ≡ value_at key start → value_at key result ≡ value_at key present → MeetsAt key start present own result
 
 -- a transaction's rows and those that others wrote since its start, under other keys
-pub record Meets (start present : Option (List Pair)) (own result : List Pair) : Type 0 where
+pub record MeetsPairs (start present : Option (List Pair)) (own result : List Pair) : Type 0 where
   -- a table that was there at the start is there still
   pub stays : start ≢ None → present ≢ None
-  pub start_rows : AreRows (rows_in start)
-  pub present_rows : AreRows (rows_in present)
-  pub own_rows : AreRows own
-  pub result_rows : AreRows result
+  pub start_rows : ArePairRows (rows_in start)
+  pub present_rows : ArePairRows (rows_in present)
+  pub own_rows : ArePairRows own
+  pub result_rows : ArePairRows result
   pub at_keys : (key : ℕ) → MeetsAt key (rows_in start) (rows_in present) own result
 
 abbrev pub RowsMeet : Type 0
-RowsMeet = (head : List ℕ) (start present : Option (List Pair)) (own result : List Pair) (variables : Variables) → Meets start present own result
+RowsMeet = (head : List ℕ) (start present : Option (List Pair)) (own result : List Pair) (variables : Variables) → MeetsPairs start present own result
     → decide (working head start) (working head present) (working head (Some own)) variables ≡ Ok (working head (Some result))

@@ -22,16 +22,16 @@ pub record Pair : Type 0 where
   pub key : ℕ
   pub value : ℕ
 
-pub data Step : Type 0 where
-  Begins : Step
-  Makes : Step
-  Inserts : Pair → Step
-  Updates : Pair → Step
-  Commits : Step
+pub data LoadStep : Type 0 where
+  Begins : LoadStep
+  Makes : LoadStep
+  Inserts : Pair → LoadStep
+  Updates : Pair → LoadStep
+  Commits : LoadStep
 
 -- ---- the text of a step, and what it asks
 
-abbrev pub text_of : Step → List ℕ
+abbrev pub text_of : LoadStep → List ℕ
 text_of Begins = codes "BEGIN"
 text_of Makes = create_text
 text_of (Inserts pair) = insert_text pair.key pair.value
@@ -64,7 +64,7 @@ update pair = record {
   filter = Some (expr.Compare (expr.Name (codes "id")) comparison.Equal (number pair.key));
 }
 
-abbrev pub command_of : Step → Command
+abbrev pub command_of : LoadStep → Command
 command_of Begins = Begin
 command_of Makes = Data (Change (write.Create create))
 command_of (Inserts pair) = Data (Change (write.Insert (insert pair)))
@@ -75,10 +75,10 @@ command_of Commits = CommitAll
 
 -- the steps so far, and the x that the next number is drawn from
 pub record Drawn : Type 0 where
-  pub steps : List Step
+  pub steps : List LoadStep
   pub x : ℕ
 
-abbrev pub with_step : Step → Drawn → Drawn
+abbrev pub with_step : LoadStep → Drawn → Drawn
 with_step step so_far = record so_far { steps = so_far.steps ++ step ∷ [] }
 
 -- a row of this key, whose value is drawn
@@ -112,5 +112,5 @@ with_batch session batch so_far =
 abbrev pub nothing_drawn : ℕ → ℕ → Drawn
 nothing_drawn seed session = record { steps = []; x = (seed + session) % 2 ^ 64 }
 
-unfoldable pub steps_of : ℕ → ℕ → List Step
+unfoldable pub steps_of : ℕ → ℕ → List LoadStep
 steps_of seed session = (each 10 (with_batch session) (nothing_drawn seed session)).steps

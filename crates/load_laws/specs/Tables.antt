@@ -9,9 +9,9 @@ use Rattle.load_laws.specs.Steps.{Pair, table_name}
 -- ---- rows
 
 -- the keys rise
-abbrev pub AreRising : List Pair → Type 0
-AreRising [] = Unit {0}
-AreRising (pair ∷ pairs) = AllByRecursion (λ (later : Pair). pair.key < later.key) pairs × AreRising pairs
+abbrev pub PairsRise : List Pair → Type 0
+PairsRise [] = Unit {0}
+PairsRise (pair ∷ pairs) = AllByRecursion (λ (later : Pair). pair.key < later.key) pairs × PairsRise pairs
 
 -- numbers that fit the columns
 pub record IsSmall (pair : Pair) : Type 0 where
@@ -19,8 +19,8 @@ pub record IsSmall (pair : Pair) : Type 0 where
   pub value_small : pair.value < 1000
 
 -- rows that the workload may have
-pub record AreRows (pairs : List Pair) : Type 0 where
-  pub rising : AreRising pairs
+pub record ArePairRows (pairs : List Pair) : Type 0 where
+  pub rising : PairsRise pairs
   pub small : AllByRecursion IsSmall pairs
   pub few : length pairs ≤ 4000
 

@@ -19,9 +19,9 @@ use Rattle.plain_sessions.specs.Commands.{command}
 use Rattle.plain_sessions.specs.Output.{shown, shown_branch}
 use Rattle.plain_sessions.specs.Records.{Branch, BranchState, Shared, is_branch, state_of}
 use Rattle.plain_sessions.specs.Replies.{is_refusal}
-use Rattle.plain_sessions.specs.Runs.{Runner, Shortages, State, plain_run}
+use Rattle.plain_sessions.specs.Runs.{Runner, Shortages, State, nothing_refused, plain_run}
 use Rattle.workload.specs.Workload.{workload}
-use Rattle.load_laws.specs.Laws.{IsLoadedState, LoadEnds, TableIsFull, is_answered, nothing_refused}
+use Rattle.load_laws.specs.Laws.{IsLoadedState, LoadEnds, TableIsFull, is_answered}
 use Rattle.load_laws.specs.Loaded.{loaded}
 use Rattle.script_run.proofs.CountLemmas.{sum_cons}
 use Rattle.load_run.specs.Loading.{IsFull, is_main, is_short, load_rows_in, refusals_in, rows_in, some_are_short, working_in}

@@ -25,7 +25,7 @@ use Rattle.script_text.specs.declared.scripts.Moment.{Moment}
 use Rattle.script_text.specs.declared.scripts.Script.{Script}
 use Rattle.plain_sessions.specs.Commands.{command}
 use Rattle.plain_sessions.specs.Output.{shown}
-use Rattle.plain_sessions.specs.Runs.{Runner, Shortages, State, is_over, opened, plain_run, put_runner, runners_of, step, step_of, steps_along}
+use Rattle.plain_sessions.specs.Runs.{Runner, Shortages, State, is_over, nothing_refused, opened, plain_run, put_runner, runners_of, step, step_of, steps_along}
 use Rattle.plain_sessions.specs.Records.{Shared}
 use Rattle.plain_sessions.specs.declared.commands.Command.{Command}
 use Rattle.run_laws.proofs.HistoryLemmas.{as_many_runners}
@@ -36,7 +36,7 @@ use Rattle.script_run.specs.declared.following.Replayed.{Replayed}
 use Rattle.script_run.specs.declared.following.Replayed.TheVariants as replayed
 use Rattle.script_run.specs.Scripts.{IsSoundScript}
 use Rattle.plain_run.specs.Asking.{asking, item_of}
-use Rattle.plain_run.specs.Plain.{is_by_rule, nothing_refused, plain_text}
+use Rattle.plain_run.specs.Plain.{is_by_rule, plain_text}
 
 -- ---- faults
 

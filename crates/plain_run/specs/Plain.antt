@@ -1,5 +1,5 @@
 -- The plain machine's text.
-use Rattle.std.specs.Prelude.{ℕ, ℤ, Bool, List, Option, None, is_none}
+use Rattle.std.specs.Prelude.{ℕ, ℤ, Bool, List, Option, is_none}
 use Rattle.std.specs.Option.{option_map}
 use Rattle.script_text.specs.Output.{shortage, text}
 use Rattle.script_text.specs.declared.replies.Reply.{Reply}
@@ -7,11 +7,7 @@ use Rattle.script_text.specs.declared.scripts.Moment.{Moment}
 use Rattle.script_text.specs.declared.scripts.Script.{Script}
 use Rattle.plain_sessions.specs.Commands.{command}
 use Rattle.plain_sessions.specs.Output.{shown}
-use Rattle.plain_sessions.specs.Runs.{Shortages, plain_run}
-
--- no statement finds no memory or meets two byte strings of one address
-abbrev pub nothing_refused : Shortages
-nothing_refused session statement = None
+use Rattle.plain_sessions.specs.Runs.{nothing_refused, plain_run}
 
 -- the text of the machine's run of a script along an order, with nothing refused; none where the order isn't one of the script's
 abbrev pub plain_text : (List ℕ → List ℕ) → ℤ → Script → List Moment → Option (List ℕ)

@@ -27,6 +27,10 @@ pub record State : Type 0 where
 abbrev pub Shortages : Type 0
 Shortages = ℕ → ℕ → Option Shortage
 
+-- memory is found for each statement, and no two byte strings have one address
+abbrev pub nothing_refused : Shortages
+nothing_refused session statement = None
+
 -- ---- on to the next moment
 
 -- a session goes on until it needs a moment, or has no statement left
