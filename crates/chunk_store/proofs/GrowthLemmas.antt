@@ -16,7 +16,7 @@ kinds_wider : (kind more : List ℕ → Bool) (xs : List Chunk) → ((bytes : Li
 kinds_wider kind more [] wider all = tt
 kinds_wider kind more (x ∷ xs) wider all = (wider x.1 all.0, kinds_wider kind more xs wider all.1)
 
-grows_itself : (kind : List ℕ → Bool) (d : Drafting) → Grows kind d d
+pub grows_itself : (kind : List ℕ → Bool) (d : Drafting) → Grows kind d d
 grows_itself kind d = record { more = []; base = refl; own = sym (append-nil d.chunks.own); segments = refl; kinds = tt; pages = omega arith }
 
 wider : (kind more : List ℕ → Bool) (d e : Drafting) → ((bytes : List ℕ) → kind bytes ≡ true → more bytes ≡ true) → Grows kind d e → Grows more d e

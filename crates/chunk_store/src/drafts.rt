@@ -316,6 +316,18 @@ impl<D: Digester> Draft<D> {
         }
     }
 
+    /// The own chunks alone, sealed to be appended to `store`; the draft stays as it is. A collision shows the store's bytes first. Whoever appends them
+    /// joins them there, as behind [`Draft::seal_own`].
+    pub fn sealed_for(&self, store: &Store) -> Result<Arc<Segment>, PutFault>
+        ensures sealed { IfOk result (λ sealed. arc_value sealed ≡ self.now.chunks.own) }
+        ensures agree { OnOk result (Agree (chunk_bytes (all_chunks store.now)) (chunk_bytes self.now.chunks.own)) }
+        ensures cause { IfErr result (IsCause (chunk_bytes (all_chunks store.now)) (chunk_bytes self.now.chunks.own)) }
+    {
+        self.fits(store)?;
+        let sealed = self.own_segment()?;
+        Ok(sealed)
+    }
+
     /// The own chunks.
     fn own_segment(&self) -> Result<Arc<Segment>, AllocError>
         ensures { IfOk result (λ sealed. arc_value sealed ≡ self.now.chunks.own) }

@@ -164,6 +164,11 @@ refusal_stays address chunks s p o v number is = by (candidate s p o) is where
   by (Err n) i = i
   by (Ok state) i = absurd i
 
+-- where the branch hasn't moved, the transaction's own state is judged
+pub unmoved_decided : (s p o : BranchState) (v : Variables) → is_same_state p s ≡ true → decide s p o v ≡ judged v o
+unfolding decide
+unmoved_decided s p o v same = ap (λ (outcome : Outcome BranchState). and_then outcome (judged v)) (unmoved s p o same)
+
 -- the state for which a record stands that was proposed
 pub record IsProposed (address : List ℕ → List ℕ) (chunks : Chunks) (rec : BranchRecord) (s p o : BranchState) (v : Variables) : Type 0 where
   pub state : BranchState

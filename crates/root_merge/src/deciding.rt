@@ -1,6 +1,6 @@
 //! The commit rule: what becomes of a branch where a transaction ends.
 
-ghost use Rattle.std.specs.Prelude.{◌≡◌, ◌&&◌, Bool, IfErr, IfOk, List, OnOk, Result, not};
+ghost use Rattle.std.specs.Prelude.{◌≡◌, ◌&&◌, Bool, IfErr, IfOk, List, OnOk, Result, not, true};
 ghost use Rattle.schema_model.specs.PlainTables.{PlainDatabase};
 ghost use Rattle.chunk_store.specs.Clashes.{IsReason};
 ghost use Rattle.chunk_store.specs.Drafts.{Grows, chunks_of};
@@ -8,7 +8,7 @@ ghost use Rattle.chunk_store.specs.Kinds.{is_data};
 ghost use Rattle.plain_merge.specs.RootMerge.{MergedDatabase, SchemaConflict, root3};
 ghost use Rattle.constraint_scan.specs.Scanning.{HasKeptAt, IsKeptAt};
 ghost use Rattle.plain_sessions.specs.CommitRule.{candidate, decide, is_none, judged, merged, recorded};
-ghost use Rattle.plain_sessions.specs.Records.{BranchState};
+ghost use Rattle.plain_sessions.specs.Records.{BranchState, is_same_state};
 ghost use Rattle.root_merge.specs.Deciding.{AreBoth, AreStates, IsSide, PassesAt, anew, are_unsettled, refusal, set, settled, together};
 ghost use Rattle.root_merge.specs.Merging.{AreRoots};
 ghost use Rattle.root_merge.specs.Settling.{AreSettledRoots};
@@ -317,6 +317,24 @@ fn judged<D: Digester>(
         Some(number) => Ok(Candidate::Refused(number)),
         None => Ok(Candidate::Record(decided)),
     }
+}
+
+/// What a branch's record becomes where a transaction ends and the branch hasn't moved since it began: the transaction's own, unless it has conflicts
+/// that aren't allowed or violations that aren't forced (9002 and 9003). It is [`candidate`] without a draft to work in.
+pub fn unmoved_candidate<D: Digester>(
+    alloc: Global,
+    draft: &Draft<D>,
+    own: &BranchRecord,
+    allow: bool,
+    force: bool,
+) -> Result<Candidate, AllocError>
+    requires own { HasBranchState D.address (chunks_of draft.now.chunks) own.now }
+    ensures is { (s p o : BranchState) (autocommit : Bool) → is_same_state p s ≡ true → BranchStateStands D.address (chunks_of draft.now.chunks) own.now o
+        → IfOk result (λ made. IsCandidate D.address (chunks_of draft.now.chunks) made (decide s p o (set autocommit allow force))) }
+{
+    laws_of_states();
+    let mut settled = Settled::new(alloc);
+    judged(alloc, draft, *own, allow, force, &mut settled)
 }
 
 /// What a branch's record becomes where a transaction ends: `start` is the record on which it began, `present` the branch's as it is now, and `own`
