@@ -1,13 +1,14 @@
 -- A run in which nothing is refused, and an order that is none of a script's.
 use Rattle.std.proofs.Common.{◌≡◌, refl, sym, ◌∙◌, ap, subst, ℕ, ℤ, zero, suc, ◌+◌, ◌-◌, ◌<◌, ◌≤◌, Bool, true, false, ◌&&◌, List, [], ◌∷◌, length, map, nat_lt, take, get_or, Option, None, Some, Result, Ok, Err, IfErr, slice_get, arith, if◌then◌else◌}
-use Rattle.std.specs.Prelude.{IsErr, is_none, slice_index_or, unwrap_or}
+use Rattle.std.specs.Prelude.{◌++◌, IsErr, codes, is_none, slice_index_or, unwrap_or}
+use Rattle.std.specs.Fmt.{decimal}
 use Rattle.std.specs.Result.{IsErrAnd}
 use Rattle.std.specs.List.{AllByRecursion, IsDistinct, list_all}
 use Rattle.std.specs.Option.{option_and_then, option_map}
 use Rattle.std.specs.Str.{bytes_eq}
 use Rattle.std.proofs.lemmas.Bool.Decides.{nat_tests}
 use Rattle.std.proofs.lemmas.Bool.{and_parts as both}
-use Rattle.std.proofs.lemmas.List.{length-set}
+use Rattle.std.proofs.lemmas.List.{append-nil, length-set}
 use Rattle.std.proofs.lemmas.List.Sums.{position_or_len_is}
 use Rattle.std.proofs.lemmas.Map.Keys.{apart_from_distinct}
 use Rattle.std.proofs.lemmas.Option.{slice_get_within}
@@ -16,7 +17,7 @@ use Rattle.basic_laws.proofs.Truths.{if_true}
 use Rattle.chunk_store.specs.declared.faults.PutFault.{PutFault}
 use Rattle.script_text.specs.Collisions.{AllTellTruly}
 use Rattle.script_text.specs.Input.{place_of}
-use Rattle.script_text.specs.Output.{Shortage, shortage, shortages_in, text}
+use Rattle.script_text.specs.Output.{Shortage, all_refused, newline, refused_text, refused_texts, shortage, shortages_in, stop_text, text}
 use Rattle.script_text.specs.Shown.{is_printable_moment}
 use Rattle.script_text.specs.declared.outputs.RunText.{RunText}
 use Rattle.script_text.specs.declared.outputs.StopText.{StopText}
@@ -24,19 +25,21 @@ use Rattle.script_text.specs.declared.replies.Reply.{Reply}
 use Rattle.script_text.specs.declared.scripts.Moment.{Moment}
 use Rattle.script_text.specs.declared.scripts.Script.{Script}
 use Rattle.plain_sessions.specs.Commands.{command}
-use Rattle.plain_sessions.specs.Output.{shown}
-use Rattle.plain_sessions.specs.Runs.{Runner, Shortages, State, is_over, nothing_refused, opened, plain_run, put_runner, runners_of, step, step_of, steps_along}
+use Rattle.plain_sessions.specs.Output.{IsPlainRun, shown}
+use Rattle.plain_sessions.specs.Runs.{Runner, Shortages, State, is_over, nothing_refused, opened, plain_run, put_runner, step, step_of, steps_along}
 use Rattle.plain_sessions.specs.Records.{Shared}
-use Rattle.plain_sessions.specs.declared.commands.Command.{Command}
 use Rattle.run_laws.proofs.HistoryLemmas.{as_many_runners}
-use Rattle.run_laws.specs.Orders.{asked_moment, asked_order}
+use Rattle.run_laws.specs.Orders.{IsTextOrder, asked_moment, asked_order}
 use Rattle.run_laws.specs.Replaying.{CantGoOn, IsStopped}
 use Rattle.script_run.specs.Following.{IsReplayed, IsStoppedAt, ReplaysAs}
 use Rattle.script_run.specs.declared.following.Replayed.{Replayed}
 use Rattle.script_run.specs.declared.following.Replayed.TheVariants as replayed
 use Rattle.script_run.specs.Scripts.{IsSoundScript}
 use Rattle.plain_run.specs.Asking.{asking, item_of}
+use Rattle.plain_run.specs.Following.{FollowsAs, IsPlainStop, TellsInTextOrder, plain_stop_text}
 use Rattle.plain_run.specs.Plain.{is_by_rule, plain_text}
+use Rattle.plain_run.specs.declared.following.Followed.{Followed}
+use Rattle.plain_run.specs.declared.following.Followed.TheVariants as followed
 
 -- ---- faults
 
@@ -73,6 +76,27 @@ same_answers a b same = λ i session statement. same session statement i
 nothing_told : (lists : List (List Reply)) → list_all (list_all is_by_rule) lists ≡ true → shortages_in lists ≡ nothing_refused
 nothing_told lists all =
     same_answers (shortages_in lists) nothing_refused (λ session statement. told_at (slice_index_or lists session []) (statement - 1) (session_at lists session all))
+
+-- ---- the lines of a stop before which nothing was refused
+
+none_texts : (name : List ℕ) (number : ℕ) (replies : List Reply) → list_all is_by_rule replies ≡ true → refused_texts name number replies ≡ []
+none_texts name number [] all = refl
+none_texts name number (reply ∷ replies) all =
+    let parts = both (is_by_rule reply) (list_all is_by_rule replies) all in
+    ap (λ (found : Option Shortage). refused_text name number found ++ refused_texts name (number + 1) replies) (none_is (shortage reply) parts.0)
+    ∙ none_texts name (number + 1) replies parts.1
+
+none_refused : (names : List (List ℕ)) (lists : List (List Reply)) → list_all (list_all is_by_rule) lists ≡ true → all_refused names lists ≡ []
+none_refused [] lists all = refl
+none_refused (name ∷ names) [] all = refl
+none_refused (name ∷ names) (replies ∷ lists) all =
+    let parts = both (list_all is_by_rule replies) (list_all (list_all is_by_rule) lists) all in
+    ap (λ (first : List ℕ). first ++ all_refused names lists) (none_texts name 1 replies parts.0) ∙ none_refused names lists parts.1
+
+stop_lines : (stop : StopText) → list_all (list_all is_by_rule) stop.replies ≡ true → stop_text stop ≡ plain_stop_text stop.item
+stop_lines stop ruled =
+    let front : List ℕ = codes "order item " ++ decimal stop.item ++ newline ++ codes "refused" in
+    ap (λ (told : List ℕ). front ++ told ++ newline) (none_refused stop.names stop.replies ruled) ∙ ap (λ (told : List ℕ). told ++ newline) (append-nil front)
 
 -- ---- the order that is asked for
 
@@ -166,63 +190,104 @@ module _ (address : List ℕ → List ℕ) (epoch : ℤ) (answers : Shortages) w
 
 -- ---- the machine's text
 
-module _ (address : List ℕ → List ℕ) (epoch : ℤ) (script : Script) (order : List Moment) where
-  abbrev text_in : Option State → Option (List ℕ)
-  text_in found = option_map (λ (state : State). text (shown address script order state)) found
+module _ (address : List ℕ → List ℕ) (epoch : ℤ) (script : Script) where
+  abbrev text_in : List Moment → Option State → Option (List ℕ)
+  text_in order found = option_map (λ (state : State). text (shown address script order state)) found
 
-  abbrev run_with : Shortages → Option State
-  run_with answers = plain_run command address script order answers epoch
+  abbrev run_with : List Moment → Shortages → Option State
+  run_with order answers = plain_run command address script order answers epoch
 
   -- an order with a moment of no session
-  others_unrun : list_all (is_printable_moment (length script.names)) order ≡ false → run_with nothing_refused ≡ None
+  others_unrun : (order : List Moment) → list_all (is_printable_moment (length script.names)) order ≡ false → run_with order nothing_refused ≡ None
   unfolding plain_run
-  others_unrun apart =
+  others_unrun order apart =
       let start : State = opened command address epoch nothing_refused script in
       let many : length start.runners ≡ length script.names = as_many_runners command nothing_refused script 0 script.names in
       ap (λ (found : Option State). option_and_then (λ (last : State). if list_all is_over last.runners then Some last else None) found)
       (none_of_others address epoch nothing_refused order start (ap (λ (n : ℕ). list_all (is_printable_moment n) order) many ∙ apart))
 
-  pub others_untold : list_all (is_printable_moment (length script.names)) order ≡ false → ◌≡◌ {A = Option (List ℕ)} None (plain_text address epoch script order)
-  others_untold apart = sym (ap text_in (others_unrun apart))
+  others_untold : (order : List Moment) → list_all (is_printable_moment (length script.names)) order ≡ false → plain_text address epoch script order ≡ None
+  others_untold order apart = ap (text_in order) (others_unrun order apart)
 
-  -- the script with this order in place of its own has the same runs
-  asked_run : (answers : Shortages) → plain_run command address (asking script order) order answers epoch ≡ run_with answers
+  shown_text : (order : List Moment) (found : Option State) (run : RunText) → option_map (shown address script order) found ≡ Some run → text_in order found ≡ Some (text run)
+  shown_text order None run is = absurd (cc)
+  shown_text order (Some state) run is = let same : shown address script order state ≡ run = cc in ap (λ (r : RunText). Some (text r)) same
+
+  -- a run whose replies tell of nothing
+  pub run_told : (run : RunText) → IsPlainRun command address epoch script run → list_all (list_all is_by_rule) run.replies ≡ true
+      → plain_text address epoch script run.order ≡ Some (text run)
+  run_told run plain ruled =
+      let free : option_map (shown address script run.order) (run_with run.order nothing_refused) ≡ Some run
+      = subst (λ (answers : Shortages). option_map (shown address script run.order) (run_with run.order answers) ≡ Some run) (nothing_told run.replies ruled) plain in
+      shown_text run.order (run_with run.order nothing_refused) run free
+
+  pub replay_told : (run : RunText) → IsReplayed address epoch script run → list_all (list_all is_by_rule) run.replies ≡ true
+      → plain_text address epoch script (asked_order script) ≡ Some (text run)
+  replay_told run replayed ruled =
+      subst (λ (order : List Moment). plain_text address epoch script order ≡ Some (text run)) replayed.order (run_told run replayed.plain ruled)
+
+  -- an order that can't be followed, or leaves a statement
+  stopped_unrun : (order : List Moment) (count : ℕ) (answers : Shortages) → IsStopped command address epoch script order count answers → run_with order answers ≡ None
   unfolding plain_run
-  asked_run answers = refl
+  stopped_unrun order count answers stopped =
+      cant_run address epoch answers order count (opened command address epoch answers script) stopped.state stopped.within stopped.followed stopped.stopped
 
-  shown_text : (found : Option State) (run : RunText) → option_map (shown address script order) found ≡ Some run → Some (text run) ≡ text_in found
-  shown_text None run is = absurd (cc)
-  shown_text (Some state) run is = let same : shown address script order state ≡ run = cc in ap (λ (r : RunText). Some (text r)) (sym same)
+  pub stop_told : (stop : StopText) → IsStoppedAt address epoch script stop → list_all (list_all is_by_rule) stop.replies ≡ true → IsPlainStop address epoch script (stop_text stop)
+  stop_told stop stops ruled =
+      let there : IsStopped command address epoch script (asked_order script) stops.count nothing_refused
+      = subst (λ (answers : Shortages). IsStopped command address epoch script (asked_order script) stops.count answers) (nothing_told stop.replies ruled) stops.stopped in
+      record {
+        count = stops.count;
+        stopped = there;
+        untold = ap (text_in (asked_order script)) (stopped_unrun (asked_order script) stops.count nothing_refused there);
+        prints = stop_lines stop ruled ∙ ap plain_stop_text stops.item;
+      }
 
+-- ---- as the steps of the calls over a script's own order, and over that of its lines, tell it
+
+module _ (address : List ℕ → List ℕ) (epoch date : ℤ) (script : Script) (seen : List (List Reply)) (same : date ≡ epoch) (ruled : list_all (list_all is_by_rule) seen ≡ true) where
+  module _ (replay : Replayed) (replays : ReplaysAs address date script replay) where
+    replays_then : ReplaysAs address epoch script replay
+    replays_then = subst (λ (e : ℤ). ReplaysAs address e script replay) same replays
+
+    pub went_run : (run : RunText) (written : List ℕ) → replay ≡ replayed.Run run → seen ≡ run.replies → written ≡ text run
+        → plain_text address epoch script (asked_order script) ≡ Some written
+    went_run run written is shows prints =
+        replay_told address epoch script run (subst (λ (r : Replayed). ReplaysAs address epoch script r) is replays_then)
+        (ap (λ (lists : List (List Reply)). list_all (list_all is_by_rule) lists) (sym shows) ∙ ruled)
+        ∙ ap (λ (bytes : List ℕ). Some bytes) (sym prints)
+
+    pub went_stop : (stop : StopText) (written : List ℕ) → replay ≡ replayed.Stop stop → seen ≡ stop.replies → written ≡ stop_text stop
+        → IsPlainStop address epoch script written
+    went_stop stop written is shows prints =
+        subst (λ (bytes : List ℕ). IsPlainStop address epoch script bytes) (sym prints)
+        (stop_told address epoch script stop (subst (λ (r : Replayed). ReplaysAs address epoch script r) is replays_then)
+        (ap (λ (lists : List (List Reply)). list_all (list_all is_by_rule) lists) (sym shows) ∙ ruled))
+
+  pub went_by_lines : (run : RunText) (written : List ℕ) → IsPlainRun command address date script run → IsTextOrder script run.order → seen ≡ run.replies → written ≡ text run
+      → TellsInTextOrder address epoch script written
+  went_by_lines run written plain order shows prints = (
+    run.order,
+    order,
+    run_told address epoch script run (subst (λ (e : ℤ). IsPlainRun command address e script run) same plain)
+        (ap (λ (lists : List (List Reply)). list_all (list_all is_by_rule) lists) (sym shows) ∙ ruled)
+        ∙ ap (λ (bytes : List ℕ). Some bytes) (sym prints),
+  )
+
+-- ---- along an order that the script is made to ask for
+
+module _ (address : List ℕ → List ℕ) (epoch : ℤ) (script : Script) (order : List Moment) where
   asked_back : IsSoundScript script → list_all (is_printable_moment (length script.names)) order ≡ true → asked_order (asking script order) ≡ order
   asked_back sound within = order_back script.names order sound.distinct within
 
-  -- a run along the whole order
-  pub run_told : (run : RunText) → IsSoundScript script → list_all (is_printable_moment (length script.names)) order ≡ true → IsReplayed address epoch (asking script order) run
-      → list_all (list_all is_by_rule) run.replies ≡ true → Some (text run) ≡ plain_text address epoch script order
-  run_told run sound within replayed ruled =
-      let made : run.order ≡ order = replayed.order ∙ asked_back sound within in
-      let first : option_map (shown address script order) (plain_run command address (asking script order) order (shortages_in run.replies) epoch) ≡ Some run
-      = subst (λ (moments : List Moment). option_map (shown address script moments) (plain_run command address (asking script order) moments (shortages_in run.replies) epoch) ≡ Some run) made replayed.plain in
-      let plain : option_map (shown address script order) (run_with (shortages_in run.replies)) ≡ Some run
-      = ap (option_map (shown address script order)) (sym (asked_run (shortages_in run.replies))) ∙ first in
-      let free : option_map (shown address script order) (run_with nothing_refused) ≡ Some run
-      = subst (λ (answers : Shortages). option_map (shown address script order) (run_with answers) ≡ Some run) (nothing_told run.replies ruled) plain in
-      shown_text (run_with nothing_refused) run free
-
-  -- an order that can't be followed, or leaves a statement
-  stopped_unrun : (count : ℕ) (answers : Shortages) → IsStopped command address epoch (asking script order) order count answers → run_with answers ≡ None
+  -- the script with this order in place of its own has the same texts
+  asked_text : (moments : List Moment) → plain_text address epoch (asking script order) moments ≡ plain_text address epoch script moments
   unfolding plain_run
-  stopped_unrun count answers stopped =
-      cant_run address epoch answers order count (opened command address epoch answers script) stopped.state stopped.within stopped.followed stopped.stopped
+  asked_text moments = refl
 
-  pub stop_told : (stop : StopText) → IsSoundScript script → list_all (is_printable_moment (length script.names)) order ≡ true → IsStoppedAt address epoch (asking script order) stop
-      → list_all (list_all is_by_rule) stop.replies ≡ true → ◌≡◌ {A = Option (List ℕ)} None (plain_text address epoch script order)
-  stop_told stop sound within stops ruled =
-      let there : IsStopped command address epoch (asking script order) order stops.count nothing_refused
-      = subst (λ (answers : Shortages). IsStopped command address epoch (asking script order) order stops.count answers) (nothing_told stop.replies ruled)
-      (subst (λ (moments : List Moment). IsStopped command address epoch (asking script order) moments stops.count (shortages_in stop.replies)) (asked_back sound within) stops.stopped) in
-      sym (ap text_in (stopped_unrun stops.count nothing_refused there))
+  asked_told : IsSoundScript script → list_all (is_printable_moment (length script.names)) order ≡ true
+      → plain_text address epoch (asking script order) (asked_order (asking script order)) ≡ plain_text address epoch script order
+  asked_told sound within = asked_text (asked_order (asking script order)) ∙ ap (plain_text address epoch script) (asked_back sound within)
 
 -- ---- as the steps of `plain_output` tell it
 
@@ -232,25 +297,23 @@ module _ (address : List ℕ → List ℕ) (epoch : ℤ) (script : Script) (orde
   tested_all = tested ∙ ap (λ (all : List (List ℕ)). list_all (is_printable_moment (length all)) order) named
 
   pub told_none : told ≡ false → ◌≡◌ {A = Option (List ℕ)} None (plain_text address epoch script order)
-  told_none apart = others_untold address epoch script order (sym tested_all ∙ apart)
+  told_none apart = sym (others_untold address epoch script order (sym tested_all ∙ apart))
 
-  module _ (date : ℤ) (replay : Replayed) (asked : Script) (seen : List (List Reply)) (sound : IsSoundScript script) (within : told ≡ true) (same : date ≡ epoch) (asks : asked ≡ asking script order) (replays : ReplaysAs address date asked replay) (ruled : list_all (list_all is_by_rule) seen ≡ true) where
-    came : ReplaysAs address epoch (asking script order) replay
-    came = subst (λ (e : ℤ). ReplaysAs address e (asking script order) replay) same (subst (λ (s : Script). ReplaysAs address date s replay) asks replays)
+  module _ (date : ℤ) (went : Followed) (asked : Script) (sound : IsSoundScript script) (within : told ≡ true) (same : date ≡ epoch) (asks : asked ≡ asking script order) (follows : FollowsAs address date asked went) where
+    came : FollowsAs address epoch (asking script order) went
+    came = subst (λ (e : ℤ). FollowsAs address e (asking script order) went) same (subst (λ (s : Script). FollowsAs address date s went) asks follows)
 
-    pub told_run : (run : RunText) (written : List ℕ) → replay ≡ replayed.Run run → seen ≡ run.replies → written ≡ text run
-        → ◌≡◌ {A = Option (List ℕ)} (Some written) (plain_text address epoch script order)
-    told_run run written is shows prints =
-        ap (λ (bytes : List ℕ). Some bytes) prints
-        ∙ run_told address epoch script order run sound (sym tested_all ∙ within) (subst (λ (r : Replayed). ReplaysAs address epoch (asking script order) r) is came)
-        (ap (λ (lists : List (List Reply)). list_all (list_all is_by_rule) lists) (sym shows) ∙ ruled)
+    as_asked : plain_text address epoch (asking script order) (asked_order (asking script order)) ≡ plain_text address epoch script order
+    as_asked = asked_told address epoch script order sound (sym tested_all ∙ within)
 
-    pub told_stop : (stop : StopText) → replay ≡ replayed.Stop stop → seen ≡ stop.replies → ◌≡◌ {A = Option (List ℕ)} None (plain_text address epoch script order)
-    told_stop stop is shows =
-        stop_told address epoch script order stop sound (sym tested_all ∙ within) (subst (λ (r : Replayed). ReplaysAs address epoch (asking script order) r) is came)
-        (ap (λ (lists : List (List Reply)). list_all (list_all is_by_rule) lists) (sym shows) ∙ ruled)
+    pub told_text : (written : List ℕ) → went ≡ followed.Text written → ◌≡◌ {A = Option (List ℕ)} (Some written) (plain_text address epoch script order)
+    told_text written is = sym (subst (λ (f : Followed). FollowsAs address epoch (asking script order) f) is came) ∙ as_asked
 
--- a collision that the real sessions' replies tell is one
+    pub told_stop : (written : List ℕ) → went ≡ followed.Stop written → ◌≡◌ {A = Option (List ℕ)} None (plain_text address epoch script order)
+    told_stop written is = sym (subst (λ (f : Followed). FollowsAs address epoch (asking script order) f) is came).untold ∙ as_asked
+
+-- ---- collisions that the real sessions' replies tell are collisions
+
 pub truly_run : (address : List ℕ → List ℕ) (epoch : ℤ) (script : Script) (replay : Replayed) (run : RunText) → ReplaysAs address epoch script replay → replay ≡ replayed.Run run → AllTellTruly address run.replies
 truly_run address epoch script replay run replays is = (subst (λ (r : Replayed). ReplaysAs address epoch script r) is replays).truly
 

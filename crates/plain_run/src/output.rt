@@ -1,4 +1,4 @@
-//! The plain machine's text.
+//! The plain machine's text along an order of moments.
 
 ghost use Rattle.std.specs.Prelude.{◌≡◌, ◌≤ℤ◌, IfErr, IfOk, pos};
 ghost use Rattle.chunk_store.specs.Digests.{cut_address};
@@ -7,17 +7,15 @@ ghost use Rattle.script_run.specs.Scripts.{IsSoundScript};
 ghost use Rattle.plain_run.specs.Plain.{plain_text};
 
 use crate::asking::{are_of_sessions, ask_along};
-use crate::shortages::find_shortage;
-use chunk_store::{PutFault, Sha512Cut};
-use script_run::{Replayed, replay_script};
-use script_text::{Moment, Script, print_output};
+use crate::following::{Followed, plain_output_in_given_order};
+use chunk_store::PutFault;
+use script_text::{Moment, Script};
 use std::alloc::Global;
 use tuple_codec::Blob;
-use wire_io::NoPace;
 
 /// The text of the plain machine's run of a script along an order, in which no statement is refused for want of memory or for a collision; none where the
-/// order isn't one of the script's. The order that the script itself may give isn't read. Addresses are those of [`Sha512Cut`], and commits bear the epoch as
-/// their date.
+/// order isn't one of the script's. The order that the script itself may give isn't read. Addresses are those of [`chunk_store::Sha512Cut`], and commits bear the
+/// epoch as their date.
 ///
 /// A statement that finds no memory, or two byte strings of one address, is answered so by the real sessions, and the machine's text isn't known then: the answer
 /// is that fault.
@@ -36,14 +34,8 @@ pub fn plain_output(
         return Ok(None);
     }
     let asked = ask_along(alloc, script, order)?;
-    match replay_script::<Sha512Cut, NoPace>(alloc, &NoPace, asked, epoch)? {
-        Replayed::Run(run) => {
-            find_shortage(run.replies.as_slice())?;
-            Ok(Some(print_output(alloc, &run)?))
-        }
-        Replayed::Stop(stop) => {
-            find_shortage(stop.replies.as_slice())?;
-            Ok(None)
-        }
+    match plain_output_in_given_order(alloc, asked, epoch)? {
+        Followed::Text(text) => Ok(Some(text)),
+        Followed::Stop(_) => Ok(None),
     }
 }
