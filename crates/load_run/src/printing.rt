@@ -19,7 +19,7 @@ pub fn print_load(alloc: Global, load: &Load) -> Result<Blob, AllocError>
 {
     let refusals = count_refusals(load.run.replies.as_slice())?;
     let mut out = Vec::new(alloc);
-    push_numbers(alloc, &mut out, load.seed, refusals, load.rows)?;
+    push_numbers(&mut out, load.seed, refusals, load.rows)?;
     push_working(&mut out, load.run.branches.as_slice())?;
     out.extend_from_slice(b"\n")?;
     push_if_trouble(alloc, &mut out, refusals, &load.run)?;
@@ -29,33 +29,22 @@ pub fn print_load(alloc: Global, load: &Load) -> Result<Blob, AllocError>
 // Each function below writes behind what `out` holds. Where memory was wanting, nothing is said of `out`.
 
 /// Writes the lines that end with numbers, and what stands before the address.
-fn push_numbers(
-    alloc: Global,
-    out: &mut Vec<u8>,
-    seed: u64,
-    refusals: u64,
-    rows: u64,
-) -> Result<(), AllocError>
+fn push_numbers(out: &mut Vec<u8>, seed: u64, refusals: u64, rows: u64) -> Result<(), AllocError>
     ensures { OnOk result (out.new.items ≡ out.old.items ++ number_lines seed refusals rows) }
 {
-    push_named(alloc, out, b"load ", seed)?;
-    push_named(
-        alloc,
-        out,
-        b"\nsessions 8\nstatements 4968\nrefused ",
-        refusals,
-    )?;
-    push_named(alloc, out, b"\nrows ", rows)?;
+    push_named(out, b"load ", seed)?;
+    push_named(out, b"\nsessions 8\nstatements 4968\nrefused ", refusals)?;
+    push_named(out, b"\nrows ", rows)?;
     out.extend_from_slice(b"\nworking ")?;
     Ok(())
 }
 
 /// Writes words and a number.
-fn push_named(alloc: Global, out: &mut Vec<u8>, words: &[u8], number: u64) -> Result<(), AllocError>
+fn push_named(out: &mut Vec<u8>, words: &[u8], number: u64) -> Result<(), AllocError>
     ensures { OnOk result (out.new.items ≡ out.old.items ++ (words.now ++ decimal number)) }
 {
     out.extend_from_slice(words)?;
-    push_number(alloc, out, number)
+    push_number(out, number)
 }
 
 /// Writes the address of what `main` is working on.

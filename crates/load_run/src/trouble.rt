@@ -21,45 +21,30 @@ pub(crate) fn push_trouble(
 ) -> Result<(), AllocError>
     ensures { OnOk result (out.new.items ≡ out.old.items ++ trouble run.now) }
 {
-    push_order(alloc, out, run.names.as_slice(), run.order.as_slice())?;
+    push_order(out, run.names.as_slice(), run.order.as_slice())?;
     out.extend_from_slice(b"refused")?;
     push_all_refused(alloc, out, run.names.as_slice(), run.replies.as_slice())?;
     out.extend_from_slice(b"\n")
 }
 
-fn push_order(
-    alloc: Global,
-    out: &mut Vec<u8>,
-    names: &[Text],
-    order: &[Moment],
-) -> Result<(), AllocError>
+fn push_order(out: &mut Vec<u8>, names: &[Text], order: &[Moment]) -> Result<(), AllocError>
     ensures { OnOk result (out.new.items ≡ out.old.items ++ order_line names.now order.now) }
 {
     out.extend_from_slice(b"order")?;
-    push_moments(alloc, out, names, order)?;
+    push_moments(out, names, order)?;
     out.extend_from_slice(b"\n")
 }
 
-fn push_moments(
-    alloc: Global,
-    out: &mut Vec<u8>,
-    names: &[Text],
-    order: &[Moment],
-) -> Result<(), AllocError>
+fn push_moments(out: &mut Vec<u8>, names: &[Text], order: &[Moment]) -> Result<(), AllocError>
     ensures { OnOk result (out.new.items ≡ out.old.items ++ flat_map (moment_text names.now) order.now) }
 {
     for moment in order {
-        push_moment(alloc, out, names, moment)?;
+        push_moment(out, names, moment)?;
     }
     Ok(())
 }
 
-fn push_moment(
-    alloc: Global,
-    out: &mut Vec<u8>,
-    names: &[Text],
-    moment: &Moment,
-) -> Result<(), AllocError>
+fn push_moment(out: &mut Vec<u8>, names: &[Text], moment: &Moment) -> Result<(), AllocError>
     ensures { OnOk result (out.new.items ≡ out.old.items ++ moment_text names.now moment.now) }
 {
     out.extend_from_slice(b" ")?;
@@ -67,7 +52,7 @@ fn push_moment(
         out.extend_from_slice(name.as_slice())?;
     }
     out.extend_from_slice(b"/")?;
-    push_number(alloc, out, u64::from(moment.statement))
+    push_number(out, u64::from(moment.statement))
 }
 
 fn push_all_refused(
@@ -112,7 +97,7 @@ fn push_if_short(
     ensures { OnOk result (out.new.items ≡ out.old.items ++ refused_text name.now number (shortage reply.now)) }
 {
     match reply {
-        Reply::Refused(refusal) => push_if_memory(alloc, out, name, number, *refusal),
+        Reply::Refused(refusal) => push_if_memory(out, name, number, *refusal),
         Reply::Collided(clash) => push_collided(alloc, out, name, number, clash),
         Reply::Done | Reply::Count(_) | Reply::Rows(_) | Reply::Syntax(_) => Ok(()),
     }
@@ -120,7 +105,6 @@ fn push_if_short(
 
 /// Writes a statement that was refused, if memory was wanting.
 fn push_if_memory(
-    alloc: Global,
     out: &mut Vec<u8>,
     name: &[u8],
     number: u64,
@@ -129,22 +113,16 @@ fn push_if_memory(
     ensures { OnOk result (out.new.items ≡ out.old.items ++ refused_text name.now number (shortage_of refusal)) }
 {
     match refusal {
-        1 => push_short(alloc, out, name, number, b"1"),
-        2 => push_short(alloc, out, name, number, b"2"),
+        1 => push_short(out, name, number, b"1"),
+        2 => push_short(out, name, number, b"2"),
         _ => Ok(()),
     }
 }
 
-fn push_short(
-    alloc: Global,
-    out: &mut Vec<u8>,
-    name: &[u8],
-    number: u64,
-    short: &[u8],
-) -> Result<(), AllocError>
+fn push_short(out: &mut Vec<u8>, name: &[u8], number: u64, short: &[u8]) -> Result<(), AllocError>
     ensures { OnOk result (out.new.items ≡ out.old.items ++ (codes " " ++ name.now ++ codes "/" ++ decimal number ++ codes ":" ++ short.now)) }
 {
-    push_item(alloc, out, name, number)?;
+    push_item(out, name, number)?;
     out.extend_from_slice(short)
 }
 
@@ -157,18 +135,18 @@ fn push_collided(
 ) -> Result<(), AllocError>
     ensures { OnOk result (out.new.items ≡ out.old.items ++ (codes " " ++ name.now ++ codes "/" ++ decimal number ++ codes ":" ++ shortage_text (Clashes clash.now))) }
 {
-    push_item(alloc, out, name, number)?;
+    push_item(out, name, number)?;
     push_strings(alloc, out, clash)
 }
 
 /// Writes a statement, by its session's name and its number.
-fn push_item(alloc: Global, out: &mut Vec<u8>, name: &[u8], number: u64) -> Result<(), AllocError>
+fn push_item(out: &mut Vec<u8>, name: &[u8], number: u64) -> Result<(), AllocError>
     ensures { OnOk result (out.new.items ≡ out.old.items ++ (codes " " ++ name.now ++ codes "/" ++ decimal number ++ codes ":")) }
 {
     out.extend_from_slice(b" ")?;
     out.extend_from_slice(name)?;
     out.extend_from_slice(b"/")?;
-    push_number(alloc, out, number)?;
+    push_number(out, number)?;
     out.extend_from_slice(b":")
 }
 

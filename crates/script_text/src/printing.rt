@@ -31,7 +31,7 @@ pub fn print_output(alloc: Global, run: &RunText) -> Result<Blob, AllocError>
         run.names.as_slice(),
         run.replies.as_slice(),
     )?;
-    push_order(alloc, &mut out, run.names.as_slice(), run.order.as_slice())?;
+    push_order(&mut out, run.names.as_slice(), run.order.as_slice())?;
     push_branches(&mut out, run.branches.as_slice())?;
     Ok(Blob::from_vec(out))
 }
@@ -60,7 +60,7 @@ fn push_replies(alloc: Global, out: &mut Vec<u8>, replies: &[Reply]) -> Result<(
     let mut number: u64 = 0;
     for reply in replies {
         number += 1;
-        push_number(alloc, out, number)?;
+        push_number(out, number)?;
         out.extend_from_slice(b" ")?;
         push_reply(alloc, out, reply)?;
         out.extend_from_slice(b"\n")?;
@@ -75,11 +75,11 @@ fn push_reply(alloc: Global, out: &mut Vec<u8>, reply: &Reply) -> Result<(), All
         Reply::Done => out.extend_from_slice(b"ok"),
         Reply::Count(rows) => {
             out.extend_from_slice(b"ok ")?;
-            push_number(alloc, out, *rows)
+            push_number(out, *rows)
         }
         Reply::Rows(answer) => push_answer(alloc, out, answer),
-        Reply::Refused(number) => push_refusal(alloc, out, *number),
-        Reply::Syntax(at) => push_syntax(alloc, out, *at),
+        Reply::Refused(number) => push_refusal(out, *number),
+        Reply::Syntax(at) => push_syntax(out, *at),
         Reply::Collided(clash) => {
             out.extend_from_slice(b"refused 3 collision")?;
             push_clash(alloc, out, clash)
@@ -87,11 +87,11 @@ fn push_reply(alloc: Global, out: &mut Vec<u8>, reply: &Reply) -> Result<(), All
     }
 }
 
-fn push_refusal(alloc: Global, out: &mut Vec<u8>, number: u16) -> Result<(), AllocError>
+fn push_refusal(out: &mut Vec<u8>, number: u16) -> Result<(), AllocError>
     ensures { OnOk result (out.new.items ≡ out.old.items ++ reply_text (Refused number)) }
 {
     out.extend_from_slice(b"refused ")?;
-    push_number(alloc, out, u64::from(number))?;
+    push_number(out, u64::from(number))?;
     out.extend_from_slice(b" ")?;
     match refusal_words(number) {
         Some(words) => out.extend_from_slice(words.as_bytes()),
@@ -99,11 +99,11 @@ fn push_refusal(alloc: Global, out: &mut Vec<u8>, number: u16) -> Result<(), All
     }
 }
 
-fn push_syntax(alloc: Global, out: &mut Vec<u8>, at: u32) -> Result<(), AllocError>
+fn push_syntax(out: &mut Vec<u8>, at: u32) -> Result<(), AllocError>
     ensures { OnOk result (out.new.items ≡ out.old.items ++ reply_text (Syntax at)) }
 {
     out.extend_from_slice(b"refused 1064 syntax at byte ")?;
-    push_number(alloc, out, u64::from(at))
+    push_number(out, u64::from(at))
 }
 
 /// Writes behind what `out` holds what follows the word `collision`: the address that two byte strings have, the one that
@@ -173,7 +173,7 @@ fn push_answer(alloc: Global, out: &mut Vec<u8>, answer: &Answer) -> Result<(), 
 {
     let rows = answer.rows.as_slice();
     out.extend_from_slice(b"rows ")?;
-    push_number(alloc, out, rows.len() as u64)?;
+    push_number(out, rows.len() as u64)?;
     out.extend_from_slice(b"\n")?;
     push_names(out, answer.names.as_slice())?;
     push_rows(alloc, out, answer.kinds.as_slice(), rows)
@@ -219,39 +219,24 @@ fn push_rows(
     Ok(())
 }
 
-fn push_order(
-    alloc: Global,
-    out: &mut Vec<u8>,
-    names: &[Text],
-    order: &[Moment],
-) -> Result<(), AllocError>
+fn push_order(out: &mut Vec<u8>, names: &[Text], order: &[Moment]) -> Result<(), AllocError>
     ensures { OnOk result (out.new.items ≡ out.old.items ++ order_line names.now order.now) }
 {
     out.extend_from_slice(b"order")?;
-    push_moments(alloc, out, names, order)?;
+    push_moments(out, names, order)?;
     out.extend_from_slice(b"\n")
 }
 
-fn push_moments(
-    alloc: Global,
-    out: &mut Vec<u8>,
-    names: &[Text],
-    order: &[Moment],
-) -> Result<(), AllocError>
+fn push_moments(out: &mut Vec<u8>, names: &[Text], order: &[Moment]) -> Result<(), AllocError>
     ensures { OnOk result (out.new.items ≡ out.old.items ++ flat_map (moment_text names.now) order.now) }
 {
     for moment in order {
-        push_moment(alloc, out, names, moment)?;
+        push_moment(out, names, moment)?;
     }
     Ok(())
 }
 
-fn push_moment(
-    alloc: Global,
-    out: &mut Vec<u8>,
-    names: &[Text],
-    moment: &Moment,
-) -> Result<(), AllocError>
+fn push_moment(out: &mut Vec<u8>, names: &[Text], moment: &Moment) -> Result<(), AllocError>
     ensures { OnOk result (out.new.items ≡ out.old.items ++ moment_text names.now moment.now) }
 {
     out.extend_from_slice(b" ")?;
@@ -259,5 +244,5 @@ fn push_moment(
         out.extend_from_slice(name.as_slice())?;
     }
     out.extend_from_slice(b"/")?;
-    push_number(alloc, out, u64::from(moment.statement))
+    push_number(out, u64::from(moment.statement))
 }

@@ -21,7 +21,7 @@ pub fn print_stop(alloc: Global, stop: &StopText) -> Result<Blob, AllocError>
 {
     let mut out = Vec::new(alloc);
     out.extend_from_slice(b"order item ")?;
-    push_number(alloc, &mut out, stop.item)?;
+    push_number(&mut out, stop.item)?;
     out.extend_from_slice(b"\n")?;
     out.extend_from_slice(b"refused")?;
     push_all_refused(
@@ -76,7 +76,7 @@ fn push_if_short(
     ensures { OnOk result (out.new.items ≡ out.old.items ++ refused_text name.now number (shortage reply.now)) }
 {
     match reply {
-        Reply::Refused(refusal) => push_if_memory(alloc, out, name, number, *refusal),
+        Reply::Refused(refusal) => push_if_memory(out, name, number, *refusal),
         Reply::Collided(clash) => push_collided(alloc, out, name, number, clash),
         Reply::Done | Reply::Count(_) | Reply::Rows(_) | Reply::Syntax(_) => Ok(()),
     }
@@ -84,7 +84,6 @@ fn push_if_short(
 
 /// Writes a statement that was refused, if memory was wanting.
 fn push_if_memory(
-    alloc: Global,
     out: &mut Vec<u8>,
     name: &[u8],
     number: u64,
@@ -93,22 +92,16 @@ fn push_if_memory(
     ensures { OnOk result (out.new.items ≡ out.old.items ++ refused_text name.now number (shortage_of refusal)) }
 {
     match refusal {
-        1 => push_short(alloc, out, name, number, b"1"),
-        2 => push_short(alloc, out, name, number, b"2"),
+        1 => push_short(out, name, number, b"1"),
+        2 => push_short(out, name, number, b"2"),
         _ => Ok(()),
     }
 }
 
-fn push_short(
-    alloc: Global,
-    out: &mut Vec<u8>,
-    name: &[u8],
-    number: u64,
-    short: &[u8],
-) -> Result<(), AllocError>
+fn push_short(out: &mut Vec<u8>, name: &[u8], number: u64, short: &[u8]) -> Result<(), AllocError>
     ensures { OnOk result (out.new.items ≡ out.old.items ++ (codes " " ++ name.now ++ codes "/" ++ decimal number ++ codes ":" ++ short.now)) }
 {
-    push_item(alloc, out, name, number)?;
+    push_item(out, name, number)?;
     out.extend_from_slice(short)
 }
 
@@ -121,18 +114,18 @@ fn push_collided(
 ) -> Result<(), AllocError>
     ensures { OnOk result (out.new.items ≡ out.old.items ++ (codes " " ++ name.now ++ codes "/" ++ decimal number ++ codes ":" ++ shortage_text (Clashes clash.now))) }
 {
-    push_item(alloc, out, name, number)?;
+    push_item(out, name, number)?;
     push_strings(alloc, out, clash)
 }
 
 /// Writes a statement, by its session's name and its number.
-fn push_item(alloc: Global, out: &mut Vec<u8>, name: &[u8], number: u64) -> Result<(), AllocError>
+fn push_item(out: &mut Vec<u8>, name: &[u8], number: u64) -> Result<(), AllocError>
     ensures { OnOk result (out.new.items ≡ out.old.items ++ (codes " " ++ name.now ++ codes "/" ++ decimal number ++ codes ":")) }
 {
     out.extend_from_slice(b" ")?;
     out.extend_from_slice(name)?;
     out.extend_from_slice(b"/")?;
-    push_number(alloc, out, number)?;
+    push_number(out, number)?;
     out.extend_from_slice(b":")
 }
 

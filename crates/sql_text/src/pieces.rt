@@ -98,8 +98,8 @@ pub fn push_literal(alloc: Global, out: &mut Vec<u8>, literal: &Literal) -> Resu
     ensures { OnOk result (out.new.items ≡ out.old.items ++ literal_text literal.now) }
 {
     match literal {
-        Literal::Whole(number) => push_number(alloc, out, *number),
-        Literal::Decimal(number, scale) => push_scaled(alloc, out, *scale, *number),
+        Literal::Whole(number) => push_number(out, *number),
+        Literal::Decimal(number, scale) => push_scaled(out, *scale, *number),
         Literal::Text(text) => push_quoted(out, text.as_slice()),
         Literal::Bytes(bytes) => push_byte_string(alloc, out, bytes.as_slice()),
         Literal::Bool(bit) => push_truth(out, *bit),

@@ -7,15 +7,16 @@ ghost use Rattle.std.specs.Fmt.{decimal, signed_decimal};
 ghost use Rattle.std.specs.List.{flat_map};
 ghost use Rattle.value_text.specs.Values.{byte_string, decimal_text, escaped_byte, padded, quoted, row_text, scale_of, scaled, truth, value_text, value_texts};
 
+use itoa::Buffer;
 use std::alloc::{AllocError, Global};
 use tuple_codec::{SqlType, Value};
 
 /// Writes a number in decimal.
-pub fn push_number(alloc: Global, out: &mut Vec<u8>, number: u64) -> Result<(), AllocError>
+pub fn push_number(out: &mut Vec<u8>, number: u64) -> Result<(), AllocError>
     ensures { OnOk result (out.new.items ≡ out.old.items ++ decimal number) }
 {
-    let text = number.to_string(alloc)?;
-    out.extend_from_slice(text.as_bytes())
+    let mut digits = Buffer::new();
+    out.extend_from_slice(digits.format(number).as_bytes())
 }
 
 /// Writes a row's values with commas between them, each in its column's type.
@@ -62,19 +63,19 @@ fn push_value(
 {
     match value {
         Value::Null => out.extend_from_slice(b"NULL"),
-        Value::Int(number) => push_signed(alloc, out, *number),
+        Value::Int(number) => push_signed(out, *number),
         Value::Bool(bit) => push_truth(out, *bit),
         Value::Text(text) => push_quoted(out, text.as_slice()),
         Value::Bytes(bytes) => push_byte_string(alloc, out, bytes.as_slice()),
-        Value::Decimal(number) => push_decimal(alloc, out, scale(kind), *number),
+        Value::Decimal(number) => push_decimal(out, scale(kind), *number),
     }
 }
 
-fn push_signed(alloc: Global, out: &mut Vec<u8>, number: i64) -> Result<(), AllocError>
+fn push_signed(out: &mut Vec<u8>, number: i64) -> Result<(), AllocError>
     ensures { OnOk result (out.new.items ≡ out.old.items ++ signed_decimal number) }
 {
-    let text = number.to_string(alloc)?;
-    out.extend_from_slice(text.as_bytes())
+    let mut digits = Buffer::new();
+    out.extend_from_slice(digits.format(number).as_bytes())
 }
 
 fn push_truth(out: &mut Vec<u8>, bit: bool) -> Result<(), AllocError>
@@ -135,31 +136,26 @@ fn scale(kind: &SqlType) -> u8
     }
 }
 
-fn push_decimal(alloc: Global, out: &mut Vec<u8>, scale: u8, number: i64) -> Result<(), AllocError>
+fn push_decimal(out: &mut Vec<u8>, scale: u8, number: i64) -> Result<(), AllocError>
     ensures { OnOk result (out.new.items ≡ out.old.items ++ decimal_text scale number) }
 {
     if number < 0 {
         out.push(b'-')?;
     }
-    push_scaled(alloc, out, scale, number.unsigned_abs())
+    push_scaled(out, scale, number.unsigned_abs())
 }
 
 /// Writes a number with so many of its digits behind the point, all of them.
-pub fn push_scaled(
-    alloc: Global,
-    out: &mut Vec<u8>,
-    scale: u8,
-    number: u64,
-) -> Result<(), AllocError>
+pub fn push_scaled(out: &mut Vec<u8>, scale: u8, number: u64) -> Result<(), AllocError>
     ensures { OnOk result (out.new.items ≡ out.old.items ++ scaled scale number) }
 {
     if scale == 0 {
-        return push_number(alloc, out, number);
+        return push_number(out, number);
     }
     let (whole, part) = parts_at(scale, number);
-    push_number(alloc, out, whole)?;
+    push_number(out, whole)?;
     out.extend_from_slice(b".")?;
-    push_padded(alloc, out, scale, part)
+    push_padded(out, scale, part)
 }
 
 /// The number before the point, and the one behind it.
@@ -174,10 +170,11 @@ fn parts_at(scale: u8, number: u64) -> (u64, u64)
 }
 
 /// Writes a number in at least so many digits.
-fn push_padded(alloc: Global, out: &mut Vec<u8>, width: u8, number: u64) -> Result<(), AllocError>
+fn push_padded(out: &mut Vec<u8>, width: u8, number: u64) -> Result<(), AllocError>
     ensures { OnOk result (out.new.items ≡ out.old.items ++ padded width number) }
 {
-    let text = number.to_string(alloc)?;
+    let mut digits = Buffer::new();
+    let text = digits.format(number);
     push_zeros(out, usize::from(width).saturating_sub(text.len()))?;
     out.extend_from_slice(text.as_bytes())
 }
