@@ -17,7 +17,7 @@ use std::alloc::{AllocError, Global};
 pub fn pieces_of(alloc: Global, text: &[u8], tokens: &[Token]) -> Result<Vec<Piece>, AllocError>
     ensures { IfOk result (λ pieces. pieces.items ≡ spec.pieces_of text.now tokens.now) }
 {
-    let mut pieces = Vec::new(alloc);
+    let mut pieces = Vec::with_capacity(alloc, tokens.len())?;
     for token in tokens {
         pieces.push(read_piece(alloc, text, token)?)?;
     }
@@ -32,7 +32,7 @@ pub fn canonical_pieces_of(
 ) -> Result<Vec<Piece>, AllocError>
     ensures { IfOk result (λ pieces. pieces.items ≡ spec.canonical_pieces_of text.now tokens.now) }
 {
-    let mut pieces = Vec::new(alloc);
+    let mut pieces = Vec::with_capacity(alloc, tokens.len())?;
     for token in tokens {
         pieces.push(read_canonical_piece(alloc, text, token)?)?;
     }

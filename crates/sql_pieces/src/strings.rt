@@ -22,7 +22,7 @@ pub fn string(alloc: Global, bytes: &[u8]) -> Result<Text, AllocError>
 fn unescaped(alloc: Global, quote: u8, bytes: &[u8]) -> Result<Text, AllocError>
     ensures { IfOk result (λ text. text ≡ string_from quote bytes.now) }
 {
-    let mut text = Text::new(alloc);
+    let mut text = Text::from_vec(Vec::with_capacity(alloc, bytes.len())?);
     let mut left = bytes;
     'bytes: while let [first, second, rest @ ..] = left {
         if *first == b'\\' {

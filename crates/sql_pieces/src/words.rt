@@ -6,6 +6,7 @@ ghost use Rattle.sql_pieces.specs.Values as spec;
 ghost use Rattle.sql_pieces.specs.Values.{lowered};
 
 use crate::slices::between;
+use smallvec::SmallVec;
 use sql_ast::{keyword_of, lower_case};
 use sql_grammar::Piece;
 use std::alloc::{AllocError, Global};
@@ -15,27 +16,28 @@ use tuple_codec::Text;
 pub fn word(alloc: Global, bytes: &[u8]) -> Result<Piece, AllocError>
     ensures { IfOk result (λ piece. piece ≡ spec.word bytes.now) }
 {
-    Ok(reserved_or_name(lower_text(alloc, bytes)?))
+    let name = lower_case_of(alloc, bytes)?;
+    reserved_or_name(alloc, name.as_slice())
 }
 
 /// A word of a canonical text: there a reserved word stands in capitals, and a name in lower case.
 pub fn canonical_word(alloc: Global, bytes: &[u8]) -> Result<Piece, AllocError>
     ensures { IfOk result (λ piece. piece ≡ spec.canonical_word bytes.now) }
 {
-    let name = lower_text(alloc, bytes)?;
-    if name.is(bytes) {
-        return Ok(Piece::Word(name));
+    let name = lower_case_of(alloc, bytes)?;
+    if name.as_slice() == bytes {
+        return Ok(Piece::Word(Text::from_slice(alloc, name.as_slice())?));
     }
-    Ok(reserved_or_name(name))
+    reserved_or_name(alloc, name.as_slice())
 }
 
 /// A word that is already in lower case.
-fn reserved_or_name(name: Text) -> Piece
-    ensures { result ≡ spec.word_by (keyword_of name) name }
+fn reserved_or_name(alloc: Global, name: &[u8]) -> Result<Piece, AllocError>
+    ensures { IfOk result (λ piece. piece ≡ spec.word_by (keyword_of name.now) name.now) }
 {
-    match keyword_of(name.as_slice()) {
-        Some(word) => Piece::Keyword(word),
-        None => Piece::Word(name),
+    match keyword_of(name) {
+        Some(word) => Ok(Piece::Keyword(word)),
+        None => Ok(Piece::Word(Text::from_slice(alloc, name)?)),
     }
 }
 
@@ -43,15 +45,17 @@ fn reserved_or_name(name: Text) -> Piece
 pub fn quoted(alloc: Global, bytes: &[u8]) -> Result<Piece, AllocError>
     ensures { IfOk result (λ piece. piece ≡ spec.quoted bytes.now) }
 {
-    Ok(Piece::Quoted(lower_text(alloc, between(bytes))?))
+    let name = lower_case_of(alloc, between(bytes))?;
+    Ok(Piece::Quoted(Text::from_slice(alloc, name.as_slice())?))
 }
 
-fn lower_text(alloc: Global, bytes: &[u8]) -> Result<Text, AllocError>
-    ensures { IfOk result (λ text. text ≡ lowered bytes.now) }
+/// A word in lower case. A reserved word takes no memory: none has more than 16 bytes.
+fn lower_case_of(alloc: Global, bytes: &[u8]) -> Result<SmallVec<u8, 16>, AllocError>
+    ensures { IfOk result (λ word. word.items ≡ lowered bytes.now) }
 {
-    let mut text = Text::new(alloc);
+    let mut word = SmallVec::new(alloc);
     for byte in bytes {
-        text.push(lower_case(*byte))?;
+        word.push(lower_case(*byte))?;
     }
-    Ok(text)
+    Ok(word)
 }

@@ -1,7 +1,7 @@
 use Rattle.std.proofs.Common.{◌≡◌, ◌++◌, drop}
 use Rattle.sql_pieces.specs.Values.{lowered}
-use Rattle.sql_pieces.proofs.words.lower_text.Given as goal
+use Rattle.sql_pieces.proofs.words.lower_case_of.Given as goal
 
 -- what was lowered, and what is left, give the word
 abbrev pub invariant-loop-byte : goal.invariant-loop-byte
-invariant-loop-byte l = l.text ++ lowered (drop l.byte-index l.bytes) ≡ lowered l.bytes
+invariant-loop-byte l = l.word.items ++ lowered (drop l.byte-index l.bytes) ≡ lowered l.bytes
