@@ -109,10 +109,10 @@ pub changed_at : (key k : List ℕ) (put : Option Span) (old new : List ℕ → 
     → ((q : List ℕ) → new q ≡ cond (bytes_eq key q) put (old q)) → (q : List ℕ) → new q ≡ cond (bytes_eq k q) put (old q)
 changed_at key k put old new same changed = subst (λ (x : List ℕ). (q : List ℕ) → new q ≡ cond (bytes_eq x q) put (old q)) same changed
 
-pub index_push : (cs : List Placed) (c : Placed) (old new : List ℕ → Option Span) → IsIndex cs old → span_at cs c.address.0 ≡ None
-    → ((k : List ℕ) → new k ≡ cond (bytes_eq c.address.0 k) (Some c.span) (old k)) → IsIndex (cs ++ c ∷ []) new
-index_push cs c old new index absent puts = record {
-  finds = λ k. puts k ∙ ap (λ o. cond (bytes_eq c.address.0 k) (Some c.span) o) (index.finds k) ∙ sym (span_push cs c k absent);
+pub index_push : (cs : List Placed) (c : Placed) (t : Bool) (old new : List ℕ → Option Span) → IsIndex cs t old → span_at cs c.address.0 ≡ None
+    → ((k : List ℕ) → new k ≡ cond (bytes_eq c.address.0 k) (Some c.span) (old k)) → IsIndex (cs ++ c ∷ []) t new
+index_push cs c t old new index absent puts = record {
+  finds = λ table k. puts k ∙ ap (λ o. cond (bytes_eq c.address.0 k) (Some c.span) o) (index.finds table k) ∙ sym (span_push cs c k absent);
   apart = apart_push cs c index.apart absent;
 }
 
@@ -121,30 +121,30 @@ pop_case true s o none = sym (none refl)
 pop_case false s o none = refl
 
 -- the table without the last chunk
-pub index_pop : (cs : List Placed) (c : Placed) (old new : List ℕ → Option Span) → IsIndex (cs ++ c ∷ []) old
-    → ((k : List ℕ) → new k ≡ cond (bytes_eq c.address.0 k) None (old k)) → IsIndex cs new
-index_pop cs c old new index takes =
+pub index_pop : (cs : List Placed) (c : Placed) (t : Bool) (old new : List ℕ → Option Span) → IsIndex (cs ++ c ∷ []) t old
+    → ((k : List ℕ) → new k ≡ cond (bytes_eq c.address.0 k) None (old k)) → IsIndex cs t new
+index_pop cs c t old new index takes =
     let absent = apart_last cs c index.apart in
     record {
-      finds = λ k. takes k ∙ ap (λ o. cond (bytes_eq c.address.0 k) None o) (index.finds k ∙ span_push cs c k absent)
+      finds = λ table k. takes k ∙ ap (λ o. cond (bytes_eq c.address.0 k) None o) (index.finds table k ∙ span_push cs c k absent)
           ∙ pop_case (bytes_eq c.address.0 k) c.span (span_at cs k)
           (λ here. ap (span_at cs) (sym (same_bytes c.address.0 k here)) ∙ absent);
       apart = apart_front cs (c ∷ []) index.apart;
     }
 
 -- the table is another one that finds the same
-pub index_same : (cs : List Placed) (old new : List ℕ → Option Span) → IsIndex cs old → ((k : List ℕ) → new k ≡ old k) → IsIndex cs new
-index_same cs old new index same = record { finds = λ k. same k ∙ index.finds k; apart = index.apart }
+pub index_same : (cs : List Placed) (t : Bool) (old new : List ℕ → Option Span) → IsIndex cs t old → ((k : List ℕ) → new k ≡ old k) → IsIndex cs t new
+index_same cs t old new index same = record { finds = λ table k. same k ∙ index.finds table k; apart = index.apart }
 
 restored_case : (t : Bool) (s other : Span) (o : Option Span) → (t ≡ true → o ≡ Some s) → cond t (Some s) (cond t (Some other) o) ≡ o
 restored_case true s other o there = sym (there refl)
 restored_case false s other o there = refl
 
 -- the table after another span was put at an address, and what was there put back
-pub index_restored : (cs : List Placed) (k : List ℕ) (s other : Span) (old between new : List ℕ → Option Span) → IsIndex cs old → old k ≡ Some s
-    → ((q : List ℕ) → between q ≡ cond (bytes_eq k q) (Some other) (old q)) → ((q : List ℕ) → new q ≡ cond (bytes_eq k q) (Some s) (between q)) → IsIndex cs new
-index_restored cs k s other old between new index there first second =
-    index_same cs old new index (λ q.
+pub index_restored : (cs : List Placed) (t : Bool) (k : List ℕ) (s other : Span) (old between new : List ℕ → Option Span) → IsIndex cs t old → old k ≡ Some s
+    → ((q : List ℕ) → between q ≡ cond (bytes_eq k q) (Some other) (old q)) → ((q : List ℕ) → new q ≡ cond (bytes_eq k q) (Some s) (between q)) → IsIndex cs t new
+index_restored cs t k s other old between new index there first second =
+    index_same cs t old new index (λ q.
     second q ∙ ap (λ o. cond (bytes_eq k q) (Some s) o) (first q)
     ∙ restored_case (bytes_eq k q) s other (old q) (λ same. ap old (sym (same_bytes k q same)) ∙ there))
 

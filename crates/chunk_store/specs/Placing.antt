@@ -1,5 +1,5 @@
 -- Chunks placed on pages, found by address.
-use Rattle.std.specs.Prelude.{◌≡◌, ◌≤◌, ◌++◌, ℕ, length, List, [], ◌∷◌, Option, Some, None, map, if◌then◌else◌, bytes_eq, is_some, unwrap_or}
+use Rattle.std.specs.Prelude.{◌≡◌, ◌≤◌, ◌++◌, ℕ, Bool, true, length, List, [], ◌∷◌, Option, Some, None, map, if◌then◌else◌, bytes_eq, is_some, unwrap_or}
 use Rattle.std.specs.List.{AllByRecursion}
 use Rattle.chunk_region.specs.declared.span.Span.{Span}
 use Rattle.chunk_region.specs.Pages as region
@@ -7,10 +7,11 @@ use Rattle.chunk_region.specs.Pages.{Pages, IsWritten, IsBeforeMark, behind}
 use Rattle.chunk_store.specs.declared.index.Placed.{Placed}
 use Rattle.chunk_store.specs.Chunks.{Chunk, AreNamed, IsSingle}
 
--- what an index has: where each chunk lies, in the order in which they came, and for how many more it has room
+-- what an index has: where each chunk lies, in the order in which they came, for how many more it has room, and whether it has a table
 pub record Indexed : Type 0 where
   pub placed : List Placed
   pub room : ℕ
+  pub has_table : Bool
 
 -- where the first chunk of an address lies
 abbrev pub span_at : List Placed → List ℕ → Option Span
@@ -35,9 +36,9 @@ abbrev pub AreApart : List Placed → Type 0
 AreApart [] = Unit {0}
 AreApart (c ∷ cs) = (span_at cs c.address.0 ≡ None) × AreApart cs
 
--- a table finds by address just where each chunk lies
-pub record IsIndex (placed : List Placed) (found : List ℕ → Option Span) : Type 0 where
-  pub finds : (k : List ℕ) → found k ≡ span_at placed k
+-- a table, where there is one, finds by address just where each chunk lies
+pub record IsIndex (placed : List Placed) (has_table : Bool) (found : List ℕ → Option Span) : Type 0 where
+  pub finds : has_table ≡ true → (k : List ℕ) → found k ≡ span_at placed k
   pub apart : AreApart placed
 
 -- the bytes that a span names

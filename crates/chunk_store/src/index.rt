@@ -34,11 +34,16 @@ impl Placed {
     }
 }
 
-/// Chunks in the order in which they were placed, with a table that finds them by address.
+/// The most chunks that a copy seeks from the front, without a table.
+const FEW: usize = 8;
+
+/// Chunks in the order in which they were placed, with a table that finds them by address. A copy of a few chunks has no table until chunks are
+/// added: what is sealed by one statement is a few chunks, and soon joined to others.
 #[derive(Debug, Drop)]
 pub(crate) struct Index {
     placed: Vec<Placed>,
     spans: HashMap<Key, Span>,
+    has_table: bool,
 }
 
 impl Model for Index {
@@ -49,9 +54,9 @@ impl Model for Index {
 
     ghost Value = { Indexed };
 
-    ghost view = { λ i. record { placed = i.placed.items; room = min (vec_capacity i.placed - vec_len i.placed) (spare i.spans) } };
+    ghost view = { λ i. record { placed = i.placed.items; room = min (vec_capacity i.placed - vec_len i.placed) (spare i.spans); has_table = i.has_table } };
 
-    ghost invariant = { λ i. IsIndex i.placed.items (get bytes_eq i.spans) };
+    ghost invariant = { λ i. IsIndex i.placed.items i.has_table (get bytes_eq i.spans) };
 }
 
 impl Index {
@@ -61,6 +66,7 @@ impl Index {
         Index {
             placed: Vec::new(alloc),
             spans: HashMap::new(alloc),
+            has_table: true,
         }
     }
 
@@ -88,20 +94,39 @@ impl Index {
     pub(crate) fn find(&self, address: &Address) -> Option<Span>
         ensures { result ≡ span_at self.now.placed address.now.0 }
     {
-        self.spans.get(&Key::of(address)).copied()
+        if self.has_table {
+            self.spans.get(&Key::of(address)).copied()
+        } else {
+            span_in(&self.placed, address)
+        }
     }
 
     /// Takes the memory for so many chunks more.
     pub(crate) fn make_room(&mut self, chunks: usize) -> Result<(), AllocError>
         ensures same { self.new.placed ≡ self.old.placed }
         ensures room { OnOk result (chunks ≤ self.new.room) }
+        ensures table { OnOk result (self.new.has_table ≡ true) }
     {
+        self.make_table()?;
         self.placed.reserve(chunks)?;
         self.spans.reserve(chunks)
     }
 
+    /// Makes the table, where there is none.
+    fn make_table(&mut self) -> Result<(), AllocError>
+        ensures same { self.new.placed ≡ self.old.placed }
+        ensures table { OnOk result (self.new.has_table ≡ true) }
+    {
+        if !self.has_table {
+            let whole = self.with_table(0)?;
+            *self = whole;
+        }
+        Ok(())
+    }
+
     /// Adds a chunk at the end.
     pub(crate) fn push(&mut self, chunk: Placed)
+        requires table { self.old.has_table ≡ true }
         requires room { 0 < self.old.room }
         requires absent { span_at self.old.placed chunk.address.0 ≡ None }
         ensures { self.new.placed ≡ self.old.placed ++ chunk ∷ [] }
@@ -115,7 +140,8 @@ impl Index {
 
     /// Adds a chunk at the end, unless one of its address is there: whether it was added. The table is searched once.
     pub(crate) fn add(&mut self, chunk: Placed) -> bool
-        requires { 0 < self.old.room }
+        requires table { self.old.has_table ≡ true }
+        requires room { 0 < self.old.room }
         ensures absent { result ≡ true → span_at self.old.placed chunk.address.0 ≡ None }
         ensures longer { result ≡ true → self.new.placed ≡ self.old.placed ++ chunk ∷ [] }
         ensures there { result ≡ false → is_some (span_at self.old.placed chunk.address.0) ≡ true }
@@ -134,17 +160,46 @@ impl Index {
         }
     }
 
-    /// A copy, with room for so many chunks more.
+    /// A copy, with room for so many chunks more where they come to more than a few.
     pub(crate) fn copied(&self, more: usize) -> Result<Index, AllocError>
         ensures { IfOk result (λ copy. copy.placed ≡ self.now.placed) }
     {
-        let mut copy = Index::new(self.allocator());
-        copy.make_room(self.len().saturating_add(more))?;
-        for at in 0..self.len() {
-            copy.make_room(1)?;
-            copy.push(self.at(at));
+        if self.len().saturating_add(more) <= FEW {
+            self.without_table()
+        } else {
+            self.with_table(more)
         }
-        Ok(copy)
+    }
+
+    fn without_table(&self) -> Result<Index, AllocError>
+        ensures { IfOk result (λ copy. copy.placed ≡ self.now.placed) }
+    {
+        let alloc = self.allocator();
+        Ok(Index {
+            placed: Vec::from_slice(alloc, &self.placed)?,
+            spans: HashMap::new(alloc),
+            has_table: false,
+        })
+    }
+
+    fn with_table(&self, more: usize) -> Result<Index, AllocError>
+        ensures same { IfOk result (λ copy. copy.placed ≡ self.now.placed) }
+        ensures table { IfOk result (λ copy. copy.has_table ≡ true) }
+    {
+        let alloc = self.allocator();
+        let count = self.len().saturating_add(more);
+        let mut placed = Vec::with_capacity(alloc, count)?;
+        let mut spans = HashMap::with_capacity(alloc, count)?;
+        for at in 0..self.len() {
+            let chunk = self.at(at);
+            placed.push(chunk)?;
+            spans.insert(Key::of(&chunk.address), chunk.span)?;
+        }
+        Ok(Index {
+            placed,
+            spans,
+            has_table: true,
+        })
     }
 
     /// Adds the chunks of another index whose addresses aren't there, where so many pages come before those that they
@@ -170,4 +225,16 @@ impl Index {
             }
         }
     }
+}
+
+/// Where the chunk of an address lies, sought from the front.
+fn span_in(placed: &[Placed], address: &Address) -> Option<Span>
+    ensures { result ≡ span_at placed.now address.now.0 }
+{
+    for chunk in placed {
+        if chunk.address == *address {
+            return Some(chunk.span);
+        }
+    }
+    None
 }

@@ -124,7 +124,7 @@ impl Segment {
         (placed.address, self.sealed.bytes(placed.span))
     }
 
-    /// The bytes at an address, by one look-up in a table.
+    /// The bytes at an address, by one look-up in a table, or among a few chunks from the front.
     pub(crate) fn get(&self, address: &Address) -> Option<&[u8]>
         ensures { option_map (λ bytes. bytes.now) result ≡ chunk_bytes self.now address.now.0 }
     {

@@ -86,7 +86,7 @@ impl Store {
         Ok(Store { segments })
     }
 
-    /// The bytes at an address, by one look-up in a table for each segment, the last one first: what was written last is read most.
+    /// The bytes at an address, by one look-up in each segment, the last one first: what was written last is read most.
     pub fn get(&self, address: &Address) -> Option<&[u8]>
         ensures held { option_map (λ bytes. bytes.now) result ≡ chunk_bytes (all_chunks self.now) address.now.0 }
         ensures single { IsSingle (all_chunks self.now) }

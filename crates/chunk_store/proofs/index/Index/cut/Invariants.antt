@@ -5,7 +5,7 @@ use Rattle.chunk_store.proofs.index.Index.cut.Given as goal
 
 abbrev pub invariant-chunks : goal.invariant-chunks
 invariant-chunks l = record {
-  index : IsIndex l.self-inside.placed.items (get bytes_eq l.self-inside.spans);
+  index : IsIndex l.self-inside.placed.items l.self-inside.has_table (get bytes_eq l.self-inside.spans);
   front : take l.count l.self-inside.placed.items ≡ take l.count l.fn.self.placed;
 }
 
