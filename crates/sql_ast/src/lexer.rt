@@ -52,13 +52,13 @@ fn read_to_end(alloc: Global, text: &[u8]) -> Result<Vec<Token>, ReadFault>
     requires { length text.now < 2 ^ 32 }
     ensures { ReadsAll (tokens text.now) result }
 {
-    let mut reading = Reading::new(alloc);
+    let mut reading = Reading::with_room(alloc, text.len())?;
     let mut at = 0u32;
     for byte in text {
-        reading.step_by(alloc, at, *byte)?;
+        reading.step_by(at, *byte)?;
         at += 1;
     }
-    reading.end_at(alloc, at)?;
+    reading.end_at(at)?;
     Ok(reading.done.into_vec())
 }
 
@@ -81,18 +81,19 @@ fn too_large() -> ReadFault
 }
 
 impl Reading {
-    fn new(alloc: Global) -> Reading
-        ensures { result ≡ nothing_read }
+    /// Nothing read yet, with room for so many tokens: a text has at most as many as it has bytes.
+    fn with_room(alloc: Global, tokens: usize) -> Result<Reading, AllocError>
+        ensures { IfOk result (λ reading. reading ≡ nothing_read) }
     {
-        Reading {
+        Ok(Reading {
             place: LexerState::Between,
             start: 0,
             held: Text::new(alloc),
             value: 0,
             digits: 0,
             last: Last::Other,
-            done: Sequence::new(alloc),
-        }
+            done: Sequence::from_vec(Vec::with_capacity(alloc, tokens)?),
+        })
     }
 
     fn count_digit(&mut self, byte: u8)
@@ -128,18 +129,12 @@ impl Reading {
         self.note(place, byte)
     }
 
-    fn close(
-        &mut self,
-        alloc: Global,
-        kind: TokenKind,
-        at: u32,
-        last: Last,
-    ) -> Result<(), AllocError>
+    fn close(&mut self, kind: TokenKind, at: u32, last: Last) -> Result<(), AllocError>
         ensures { OnOk result (self.new ≡ closed kind at last self.old) }
     {
         let start = self.start;
         self.place = LexerState::Between;
-        self.held = Text::new(alloc);
+        self.held.clear();
         self.value = 0;
         self.digits = 0;
         self.last = last;
@@ -150,81 +145,81 @@ impl Reading {
         })
     }
 
-    fn close_word(&mut self, alloc: Global, at: u32) -> Result<(), AllocError>
+    fn close_word(&mut self, at: u32) -> Result<(), AllocError>
         ensures { OnOk result (self.new ≡ closed_word at self.old) }
     {
         let last = after_word(self.held.as_slice());
-        self.close(alloc, TokenKind::Word, at, last)
+        self.close(TokenKind::Word, at, last)
     }
 
-    fn close_sign(&mut self, alloc: Global, sign: Sign, at: u32) -> Result<(), AllocError>
+    fn close_sign(&mut self, sign: Sign, at: u32) -> Result<(), AllocError>
         ensures { OnOk result (self.new ≡ closed_sign sign at self.old) }
     {
         let last = after_sign_of(sign, self.last);
-        self.close(alloc, TokenKind::Sign, at, last)
+        self.close(TokenKind::Sign, at, last)
     }
 
-    fn end_whole_at(&mut self, alloc: Global, at: u32) -> Result<(), ReadFault>
+    fn end_whole_at(&mut self, at: u32) -> Result<(), ReadFault>
         ensures { Goes (end_whole at self.old) result self.new }
     {
         if self.value > most_whole_after(self.last) {
             return Err(too_large());
         }
-        self.close(alloc, TokenKind::Whole, at, Last::Operand)?;
+        self.close(TokenKind::Whole, at, Last::Operand)?;
         Ok(())
     }
 
-    fn close_point(&mut self, alloc: Global, at: u32) -> Result<(), AllocError>
+    fn close_point(&mut self, at: u32) -> Result<(), AllocError>
         ensures { OnOk result (self.new ≡ with_point at self.old) }
     {
         self.start = at.saturating_sub(1);
-        self.close_sign(alloc, Sign::Point, at)
+        self.close_sign(Sign::Point, at)
     }
 
     /// Ends a whole literal, and a point behind it that isn't the literal's.
-    fn end_point_at(&mut self, alloc: Global, at: u32) -> Result<(), ReadFault>
+    fn end_point_at(&mut self, at: u32) -> Result<(), ReadFault>
         ensures { Goes (end_point at self.old) result self.new }
     {
-        self.end_whole_at(alloc, at.saturating_sub(1))?;
-        self.close_point(alloc, at)?;
+        self.end_whole_at(at.saturating_sub(1))?;
+        self.close_point(at)?;
         Ok(())
     }
 
-    fn end_decimal_at(&mut self, alloc: Global, at: u32) -> Result<(), ReadFault>
+    fn end_decimal_at(&mut self, at: u32) -> Result<(), ReadFault>
         ensures { Goes (end_decimal at self.old) result self.new }
     {
         if self.digits > MOST_DECIMAL_DIGITS {
             return Err(too_large());
         }
-        self.close(alloc, TokenKind::Decimal, at, Last::Operand)?;
+        self.close(TokenKind::Decimal, at, Last::Operand)?;
         Ok(())
     }
 
-    fn close_operand(&mut self, alloc: Global, kind: TokenKind, at: u32) -> Result<(), ReadFault>
+    fn close_operand(&mut self, kind: TokenKind, at: u32) -> Result<(), ReadFault>
         ensures { Goes (Ok (closed kind at Operand self.old)) result self.new }
     {
-        self.close(alloc, kind, at, Last::Operand)?;
+        self.close(kind, at, Last::Operand)?;
         Ok(())
     }
 
     /// Ends the open token, if there is one, before a byte or the text's end at `at`.
-    fn end_at(&mut self, alloc: Global, at: u32) -> Result<(), ReadFault>
+    fn end_at(&mut self, at: u32) -> Result<(), ReadFault>
         ensures { Goes (ended self.old.place at self.old) result self.new }
     {
         match self.place {
             LexerState::Between => Ok(()),
             LexerState::InWord | LexerState::AfterX => {
-                self.close_word(alloc, at)?;
+                self.close_word(at)?;
                 Ok(())
             }
-            LexerState::InWhole => self.end_whole_at(alloc, at),
-            LexerState::AtPoint => self.end_point_at(alloc, at),
-            LexerState::InDecimal => self.end_decimal_at(alloc, at),
-            LexerState::AfterQuote(_) => self.close_operand(alloc, TokenKind::Text, at),
-            LexerState::AfterBytes => self.close_operand(alloc, TokenKind::Bytes, at),
-            LexerState::AfterName => self.close_operand(alloc, TokenKind::Quoted, at),
+            LexerState::InWhole => self.end_whole_at(at),
+            LexerState::AtPoint => self.end_point_at(at),
+            LexerState::InDecimal => self.end_decimal_at(at),
+            LexerState::AfterQuote(_) => self.close_operand(TokenKind::Text, at),
+            LexerState::AfterBytes => self.close_operand(TokenKind::Bytes, at),
+            LexerState::AfterName => self.close_operand(TokenKind::Quoted, at),
             LexerState::AfterSign(sign) => {
-                self.close_sign(alloc, sign, at)?;
+                self.close_sign(sign, at)?;
                 Ok(())
             }
             LexerState::InString(_)
@@ -260,13 +255,7 @@ impl Reading {
         self.open(first_place_of(byte), at, byte)
     }
 
-    fn go_on(
-        &mut self,
-        alloc: Global,
-        next: Option<LexerState>,
-        at: u32,
-        byte: u8,
-    ) -> Result<(), ReadFault>
+    fn go_on(&mut self, next: Option<LexerState>, at: u32, byte: u8) -> Result<(), ReadFault>
         ensures { Goes (gone_on next at byte self.old) result self.new }
     {
         match next {
@@ -275,16 +264,16 @@ impl Reading {
                 Ok(())
             }
             None => {
-                self.end_at(alloc, at)?;
+                self.end_at(at)?;
                 self.begin_with(at, byte)
             }
         }
     }
 
     /// Reads one more byte of the text.
-    fn step_by(&mut self, alloc: Global, at: u32, byte: u8) -> Result<(), ReadFault>
+    fn step_by(&mut self, at: u32, byte: u8) -> Result<(), ReadFault>
         ensures { Goes (step at byte self.old) result self.new }
     {
-        self.go_on(alloc, place_after(self.place, byte), at, byte)
+        self.go_on(place_after(self.place, byte), at, byte)
     }
 }

@@ -68,6 +68,13 @@ impl Text {
         Ok(())
     }
 
+    /// Takes all bytes away. The memory stays, for bytes to come.
+    pub fn clear(&mut self)
+        ensures { self.new ≡ [] }
+    {
+        self.bytes.clear();
+    }
+
     /// Puts a copy of these bytes behind the text, all of them or none.
     pub fn extend_from_slice(&mut self, piece: &[u8]) -> Result<(), AllocError>
         ensures ok { OnOk result (self.new ≡ self.old ++ piece.now) }
