@@ -1,10 +1,6 @@
 -- Addresses that were seen to have recorded nothing: what they stand for, later, and with one more; and what some tables have recorded.
-use Rattle.std.proofs.Common.{◌≡◌, refl, sym, ap, ◌∙◌, subst, ℕ, true, false, Bool, cond, ◌||◌, List, [], ◌∷◌, Option, Some, None, is_some, true≢false}
-use Rattle.std.specs.BTreeSet.{BTreeSet, IsUnchanged, Updates}
-use Rattle.std.specs.BTreeMap.{is_at}
-use Rattle.std.specs.Ordering.{nat_cmp}
-use Rattle.std.specs.Cmp.Lexicographic.{bytes_decides, slice_cmp}
-use Rattle.std.proofs.lemmas.Map.Text.{is_eq-slice_cmp}
+use Rattle.std.proofs.Common.{◌≡◌, refl, sym, ap, ◌∙◌, subst, ℕ, true, false, Bool, ◌||◌, List, [], ◌∷◌, ◌++◌, bytes_eq, Option, Some, None, is_some, true≢false}
+use Rattle.basic_laws.proofs.Bytes.{same_bytes}
 use Rattle.tuple_codec.specs.declared.addresses.Address.{Address}
 use Rattle.schema_model.specs.PlainTables as plain
 use Rattle.schema_model.specs.PlainTables.{PlainDatabase, PlainTable}
@@ -19,13 +15,13 @@ use Rattle.root_merge.specs.declared.settling.Settled.{Settled}
 
 -- ---- what they stand for
 
-pub table_seen : (address : List ℕ → List ℕ) (chunks : Chunks) → TablesStand → (settled : Settled) → AreSettledRoots address chunks settled → (k : List ℕ) → has settled.tables k ≡ true
+pub table_seen : (address : List ℕ → List ℕ) (chunks : Chunks) → TablesStand → (settled : Settled) → AreSettledRoots address chunks settled → (k : List ℕ) → has settled.tables.items k ≡ true
     → (contents : PlainTable) → IsTableAt address chunks k contents → nothing_left ≡ table_left contents
 table_seen address chunks laws settled seen k is contents at =
     let one = seen.tables k is in
     sym one.bare ∙ ap table_left (laws.one address chunks k one.contents contents one.at at)
 
-pub database_seen : (address : List ℕ → List ℕ) (chunks : Chunks) → DatabasesStand → (settled : Settled) → AreSettledRoots address chunks settled → (k : List ℕ) → has settled.databases k ≡ true
+pub database_seen : (address : List ℕ → List ℕ) (chunks : Chunks) → DatabasesStand → (settled : Settled) → AreSettledRoots address chunks settled → (k : List ℕ) → has settled.databases.items k ≡ true
     → (contents : PlainDatabase) → IsDatabaseAt address chunks k contents → nothing_left ≡ database_left contents
 database_seen address chunks laws settled seen k is contents at =
     let one = seen.databases k is in
@@ -40,40 +36,23 @@ settled_later address old new more tables databases settled seen = record {
 
 -- ---- one more
 
-one_more : (seen more : BTreeSet (List ℕ)) (k : List ℕ) (P : List ℕ → Type 0) → Updates (slice_cmp nat_cmp) seen more k true → P k → ((q : List ℕ) → has seen q ≡ true → P q)
-    → (q : List ℕ) → has more q ≡ true → P q
-one_more seen more k P updates new old q is = by (is_at (slice_cmp nat_cmp k) q) refl (sym (updates.0 q) ∙ is) where
-  by : (b : Bool) → is_at (slice_cmp nat_cmp k) q ≡ b → cond b true (has seen q) ≡ true → P q
-  by true e h = subst P ((bytes_decides k q).0 (sym (is_eq-slice_cmp k q) ∙ e)) new
-  by false e h = old q h
+or_there : (a b : Bool) → b ≡ true → (a || b) ≡ true
+or_there true b e = refl
+or_there false b e = e
 
-unchanged : (seen more : BTreeSet (List ℕ)) → IsUnchanged seen more → (q : List ℕ) → has more q ≡ true → has seen q ≡ true
-unchanged seen more same q is = sym (ap (λ (s : BTreeSet (List ℕ)). has s q) (λ i. record { keys = same i })) ∙ is
+head_case : (P : List ℕ → Type 0) (x q : List ℕ) (b rest : Bool) → bytes_eq x q ≡ b → (b || rest) ≡ true → (bytes_eq x q ≡ true → P q) → (rest ≡ true → P q) → P q
+head_case P x q true rest e is here later = here e
+head_case P x q false rest e is here later = later is
 
-abbrev with_tables : Settled → BTreeSet (List ℕ) → Settled
-with_tables settled more = record { tables = more; databases = settled.databases }
-
-abbrev with_databases : Settled → BTreeSet (List ℕ) → Settled
-with_databases settled more = record { tables = settled.tables; databases = more }
-
-module _ (address : List ℕ → List ℕ) (chunks : Chunks) (settled : Settled) (seen : AreSettledRoots address chunks settled) (more : BTreeSet (List ℕ)) where
-  pub table_more : (k : List ℕ) → Updates (slice_cmp nat_cmp) settled.tables more k true → IsSettledTable address chunks k → AreSettledRoots address chunks (with_tables settled more)
-  table_more k updates new = record { tables = one_more settled.tables more k (IsSettledTable address chunks) updates new seen.tables; databases = seen.databases }
-
-  pub database_more : (k : List ℕ) → Updates (slice_cmp nat_cmp) settled.databases more k true → IsSettledDatabase address chunks k → AreSettledRoots address chunks (with_databases settled more)
-  database_more k updates new = record { tables = seen.tables; databases = one_more settled.databases more k (IsSettledDatabase address chunks) updates new seen.databases }
-
-  pub tables_same : IsUnchanged settled.tables more → AreSettledRoots address chunks (with_tables settled more)
-  tables_same same = record { tables = λ k is. seen.tables k (unchanged settled.tables more same k is); databases = seen.databases }
-
-  pub databases_same : IsUnchanged settled.databases more → AreSettledRoots address chunks (with_databases settled more)
-  databases_same same = record { tables = seen.tables; databases = λ k is. seen.databases k (unchanged settled.databases more same k is) }
+pub one_more : (seen : List (List ℕ)) (k : List ℕ) (P : List ℕ → Type 0) → P k → ((q : List ℕ) → has seen q ≡ true → P q) → (q : List ℕ) → has (seen ++ k ∷ []) q ≡ true → P q
+one_more [] k P new old q is = head_case P k q (bytes_eq k q) false refl is (λ e. subst P (same_bytes k q e) new) (λ e. absurd (true≢false (sym e)))
+one_more (x ∷ seen) k P new old q is =
+    head_case P x q (bytes_eq x q) (has (seen ++ k ∷ []) q) refl is (λ e. old q (ap (λ (t : Bool). t || has seen q) e))
+    (λ later. one_more seen k P new (λ r found. old r (or_there (bytes_eq x r) (has seen r) found)) q later)
 
 -- none was seen yet
-pub none_seen : (address : List ℕ → List ℕ) (chunks : Chunks) (tables databases : BTreeSet (List ℕ)) → tables.keys ≡ [] → databases.keys ≡ [] → AreSettledRoots address chunks (record { tables = tables; databases = databases })
-none_seen address chunks tables databases first second = record { tables = λ k is. absurd (none tables first k is); databases = λ k is. absurd (none databases second k is) } where
-  none : (seen : BTreeSet (List ℕ)) → seen.keys ≡ [] → (k : List ℕ) → has seen k ≡ true → ⊥
-  none seen bare k is = true≢false (sym is ∙ ap (λ (s : BTreeSet (List ℕ)). has s k) (λ i. record { keys = bare i }))
+pub none_seen : (seen : List (List ℕ)) → seen ≡ [] → (P : List ℕ → Type 0) → (k : List ℕ) → has seen k ≡ true → P k
+none_seen seen bare P k is = absurd (true≢false (sym is ∙ ap (λ (l : List (List ℕ)). has l k) bare))
 
 -- ---- what some tables have recorded
 

@@ -10,9 +10,7 @@ use Rattle.tuple_codec.proofs.FieldLemmas.{address_is}
 use Rattle.schema_model.specs.PlainTables.{PlainDatabase, PlainTable, conflict_item, conflict_items, violation_item, violation_items}
 use Rattle.schema_model.specs.Sameness.{SamenessIsEquality, is_same_database, is_same_option}
 use Rattle.chunk_store.specs.Chunks.{Chunks, Extends}
-use Rattle.chunk_store.specs.Standing.{IsTree}
-use Rattle.table_root.specs.Standing.{AreThere, DatabasesStand, IsTableOf, named_tables}
-use Rattle.table_root.specs.declared.records.StoredTable.{StoredTable}
+use Rattle.table_root.specs.Standing.{AreThere, DatabasesStand, named_tables}
 use Rattle.table_root.specs.declared.records.TableEntry.{TableEntry}
 use Rattle.constraint_scan.specs.Scanning.{IsKeptAt}
 use Rattle.plain_sessions.specs.CommitRule.{is_none}
@@ -86,14 +84,6 @@ one_record address chunks laws told present start p s one two same =
     λ i. record { head = head i; working = working i; staged = staged i; merging = merging i }
 
 -- ---- what tables have recorded
-
-pub conflicts_tree : (address : List ℕ → List ℕ) (chunks : Chunks) (table : StoredTable) (contents : PlainTable) → IsTableOf address chunks table contents → IsTree address chunks table.conflicts.0 (conflict_items contents)
-conflicts_tree address chunks table contents stands =
-    subst (λ (k : List ℕ). IsTree address chunks k (conflict_items contents)) (sym (ap (λ (t : StoredTable). t.conflicts.0) stands.value)) stands.trees.conflicts
-
-pub violations_tree : (address : List ℕ → List ℕ) (chunks : Chunks) (table : StoredTable) (contents : PlainTable) → IsTableOf address chunks table contents → IsTree address chunks table.violations.0 (violation_items contents)
-violations_tree address chunks table contents stands =
-    subst (λ (k : List ℕ). IsTree address chunks k (violation_items contents)) (sym (ap (λ (t : StoredTable). t.violations.0) stands.value)) stands.trees.violations
 
 pub some_conflicts : (contents : PlainTable) (found : Bool) → found ≡ not (length (conflict_items contents) == 0) → found ≡ not (is_none contents.conflicts)
 some_conflicts contents found is = is ∙ ap (λ (n : ℕ). not (n == 0)) (length-map contents.conflicts (conflict_item contents.schema))

@@ -1,8 +1,6 @@
 -- What tables have recorded, and addresses of tables and databases that have recorded nothing.
-use Rattle.std.specs.Prelude.{◌≡◌, ℕ, Bool, true, false, ◌||◌, not, List}
-use Rattle.std.specs.BTreeSet.{BTreeSet, contains}
-use Rattle.std.specs.Ordering.{nat_cmp}
-use Rattle.std.specs.Cmp.Lexicographic.{slice_cmp}
+use Rattle.std.specs.Prelude.{◌≡◌, ℕ, Bool, true, false, ◌||◌, not, List, bytes_eq}
+use Rattle.std.specs.List.{list_any}
 use Rattle.schema_model.specs.PlainTables.{PlainDatabase, PlainTable}
 use Rattle.chunk_store.specs.Chunks.{Chunks}
 use Rattle.table_root.specs.Standing.{IsDatabaseAt, IsTableAt}
@@ -41,11 +39,11 @@ pub record IsSettledDatabase (address : List ℕ → List ℕ) (chunks : Chunks)
   pub at : IsDatabaseAt address chunks k contents
   pub bare : database_left contents ≡ nothing_left
 
--- the set has this address
-abbrev pub has : BTreeSet (List ℕ) → List ℕ → Bool
-has seen k = contains (slice_cmp nat_cmp) seen k
+-- this address was seen
+abbrev pub has : List (List ℕ) → List ℕ → Bool
+has seen k = list_any (λ known. bytes_eq known k) seen
 
 -- each address that was seen stands for such a table, or for such a database
 pub record AreSettledRoots (address : List ℕ → List ℕ) (chunks : Chunks) (settled : Settled) : Type 0 where
-  pub tables : (k : List ℕ) → has settled.tables k ≡ true → IsSettledTable address chunks k
-  pub databases : (k : List ℕ) → has settled.databases k ≡ true → IsSettledDatabase address chunks k
+  pub tables : (k : List ℕ) → has settled.tables.items k ≡ true → IsSettledTable address chunks k
+  pub databases : (k : List ℕ) → has settled.databases.items k ≡ true → IsSettledDatabase address chunks k

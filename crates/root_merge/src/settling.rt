@@ -17,9 +17,9 @@ use crate::laws::laws_of_growth;
 use crate::reading::read_tables;
 use chunk_store::Draft;
 use prolly_tree::count;
+use smallvec::SmallVec;
 use std::alloc::{AllocError, Global};
-use std::collections::BTreeSet;
-use table_root::{TableEntry, read_table};
+use table_root::{TableEntry, recorded_roots};
 use tuple_codec::{Address, BranchRecord, Digester};
 
 /// Whether tables have recorded conflicts, and whether violations.
@@ -30,11 +30,18 @@ pub(crate) struct Left {
 }
 
 /// Addresses of tables and of databases that were seen to have recorded neither conflicts nor violations. They need no second look: an address
-/// stands for one table, also once the draft has grown.
+/// stands for one table, also once the draft has grown. They are few, since a database has at most 256 tables, and the first ones take no memory.
 #[derive(Drop)]
 pub(crate) struct Settled {
-    tables: BTreeSet<[u8; 20]>,
-    databases: BTreeSet<[u8; 20]>,
+    tables: SmallVec<[u8; 20], 8>,
+    databases: SmallVec<[u8; 20], 4>,
+}
+
+/// Whether an address is one of these.
+fn is_among(seen: &[[u8; 20]], address: &Address) -> bool
+    ensures { result ≡ has seen.now address.now.0 }
+{
+    seen.iter().any(|known| *known == address.0)
 }
 
 impl Settled {
@@ -43,21 +50,21 @@ impl Settled {
         ensures { (address : List ℕ → List ℕ) (chunks : Chunks) → AreSettledRoots address chunks result }
     {
         Settled {
-            tables: BTreeSet::new(alloc),
-            databases: BTreeSet::new(alloc),
+            tables: SmallVec::new(alloc),
+            databases: SmallVec::new(alloc),
         }
     }
 
     fn has_table(&self, address: &Address) -> bool
-        ensures { result ≡ has self.now.tables address.now.0 }
+        ensures { result ≡ has self.now.tables.items address.now.0 }
     {
-        self.tables.contains(&address.0)
+        is_among(self.tables.as_slice(), address)
     }
 
     fn has_database(&self, address: &Address) -> bool
-        ensures { result ≡ has self.now.databases address.now.0 }
+        ensures { result ≡ has self.now.databases.items address.now.0 }
     {
-        self.databases.contains(&address.0)
+        is_among(self.databases.as_slice(), address)
     }
 
     /// Keeps the address of a table that has recorded nothing.
@@ -70,7 +77,7 @@ impl Settled {
         requires table { IsSettledTable D.address (chunks_of draft.now.chunks) address.now.0 }
         ensures { AreSettledRoots D.address (chunks_of draft.now.chunks) self.new }
     {
-        self.tables.insert(address.0)?;
+        self.tables.push(address.0)?;
         Ok(())
     }
 
@@ -84,7 +91,7 @@ impl Settled {
         requires database { IsSettledDatabase D.address (chunks_of draft.now.chunks) address.now.0 }
         ensures { AreSettledRoots D.address (chunks_of draft.now.chunks) self.new }
     {
-        self.databases.insert(address.0)?;
+        self.databases.push(address.0)?;
         Ok(())
     }
 }
@@ -117,28 +124,22 @@ fn has_rows_too<D: Digester>(draft: &Draft<D>, root: &Address, other: &Address, 
 }
 
 /// What the table at an address has recorded.
-fn read_left<D: Digester>(
-    alloc: Global,
-    draft: &Draft<D>,
-    address: &Address,
-) -> Result<Left, AllocError>
+fn read_left<D: Digester>(draft: &Draft<D>, address: &Address) -> Left
     requires { (contents : PlainTable) × IsTableAt D.address (chunks_of draft.now.chunks) address.now.0 contents }
-    ensures { (contents : PlainTable) → IsTableAt D.address (chunks_of draft.now.chunks) address.now.0 contents
-        → IfOk result (λ left. left ≡ table_left contents) }
+    ensures { (contents : PlainTable) → IsTableAt D.address (chunks_of draft.now.chunks) address.now.0 contents → result ≡ table_left contents }
 {
     laws_of_growth();
-    let table = read_table(alloc, draft, address)?;
-    let conflicts = has_rows(draft, &table.conflicts);
-    let violations = has_rows_too(draft, &table.violations, &table.conflicts, conflicts);
-    Ok(Left {
+    let roots = recorded_roots(draft, address);
+    let conflicts = has_rows(draft, &roots.conflicts);
+    let violations = has_rows_too(draft, &roots.violations, &roots.conflicts, conflicts);
+    Left {
         conflicts,
         violations,
-    })
+    }
 }
 
 /// The same, where a table that was seen isn't read again.
 fn left_in_table<D: Digester>(
-    alloc: Global,
     draft: &Draft<D>,
     address: &Address,
     settled: &mut Settled,
@@ -156,7 +157,7 @@ fn left_in_table<D: Digester>(
             violations: false,
         });
     }
-    let left = read_left(alloc, draft, address)?;
+    let left = read_left(draft, address);
     if is_any(left) {
         return Ok(left);
     }
@@ -175,7 +176,6 @@ fn either(one: Left, other: Left) -> Left
 
 /// What some of these tables have recorded. There are few tables, so the calls don't go deep.
 fn left_in_tables<D: Digester>(
-    alloc: Global,
     draft: &Draft<D>,
     tables: &[TableEntry],
     settled: &mut Settled,
@@ -192,8 +192,8 @@ fn left_in_tables<D: Digester>(
             violations: false,
         });
     };
-    let one = left_in_table(alloc, draft, &first.table, settled)?;
-    let more = left_in_tables(alloc, draft, rest, settled)?;
+    let one = left_in_table(draft, &first.table, settled)?;
+    let more = left_in_tables(draft, rest, settled)?;
     Ok(either(one, more))
 }
 
@@ -218,7 +218,7 @@ pub(crate) fn left_in_database<D: Digester>(
         });
     }
     let tables = read_tables(alloc, draft, database)?;
-    let left = left_in_tables(alloc, draft, tables.as_slice(), settled)?;
+    let left = left_in_tables(draft, tables.as_slice(), settled)?;
     if is_any(left) {
         return Ok(left);
     }

@@ -6,6 +6,7 @@ use Rattle.schema_model.specs.SchemaBytes.{schema_bytes}
 use Rattle.schema_model.specs.Schemas.{is_schema}
 use Rattle.schema_model.specs.WrittenForms.{table_form}
 use Rattle.chunk_store.specs.Chunks.{Chunks}
+use Rattle.table_root.specs.declared.records.RecordedRoots.{RecordedRoots}
 use Rattle.table_root.specs.declared.records.StoredTable.{StoredTable}
 
 -- twenty bytes
@@ -15,6 +16,10 @@ is_address address = length address.0 == 20
 -- a table's bytes
 abbrev pub written_table : StoredTable → List ℕ
 written_table table = table_form table.schema table.rows.0 (map (λ index. index.0) table.indexes) table.conflicts.0 table.violations.0
+
+-- the roots of what a table has recorded
+abbrev pub recorded_roots : StoredTable → RecordedRoots
+recorded_roots table = record { conflicts = table.conflicts; violations = table.violations }
 
 -- each root has twenty bytes
 pub record HasRoots (table : StoredTable) : Type 0 where

@@ -43,7 +43,7 @@ fn database_bytes(alloc: Global, tables: &[TableEntry]) -> Result<Blob, AllocErr
     ensures database { OnOk result (IsStoredDatabase tables.now) }
     ensures size { IfOk result (λ bytes. length bytes ≤ 65536) }
 {
-    let mut out = Vec::new(alloc);
+    let mut out = Vec::with_capacity(alloc, tables.len().saturating_mul(85).saturating_add(3))?;
     push_count(&mut out, tables)?;
     push_items(&mut out, tables)?;
     Ok(Blob::from_vec(out))

@@ -19,5 +19,5 @@ pub use databases::{read_database, write_database};
 pub use heads::{BranchHead, Heads, Look};
 pub use laws::{law_of_databases, law_of_tables, law_of_written_forms};
 pub use names::BranchName;
-pub use records::{StoredTable, TableEntry};
-pub use tables::{read_table, write_table};
+pub use records::{RecordedRoots, StoredTable, TableEntry};
+pub use tables::{read_table, recorded_roots, write_table};

@@ -14,6 +14,13 @@ pub struct StoredTable {
     pub violations: Address,
 }
 
+/// The roots of the trees of what a table has recorded.
+#[derive(Clone, Copy, Debug, PartialEq, Eq)]
+pub struct RecordedRoots {
+    pub conflicts: Address,
+    pub violations: Address,
+}
+
 /// A table in a database: its name, and the address of its written form.
 #[derive(Clone, Debug, Drop, PartialEq, Eq)]
 pub struct TableEntry {

@@ -1,6 +1,6 @@
 //! Tables written into drafts, and read back.
 
-ghost use Rattle.std.specs.Prelude.{◌≡◌, ◌<◌, ◌≤◌, ◌^◌, ◌++◌, [], ◌∷◌, true, length, OnOk, OnErr, IfOk, IfErr};
+ghost use Rattle.std.specs.Prelude.{◌≡◌, ◌<◌, ◌≤◌, ◌-◌, ◌^◌, ◌++◌, [], ◌∷◌, true, drop, length, take, OnOk, OnErr, IfOk, IfErr};
 ghost use Rattle.std.specs.Int.{w32, to_be_bytes};
 ghost use Rattle.std.specs.List.{flat_map};
 ghost use Rattle.tuple_codec.specs.Fronts.{Gives};
@@ -10,11 +10,11 @@ ghost use Rattle.chunk_store.specs.Drafts.{Grows, Puts, chunks_of};
 ghost use Rattle.chunk_store.specs.Kinds.{is_table};
 ghost use Rattle.table_root.specs.Finds.{Finds};
 ghost use Rattle.table_root.specs.Reading.{schema_text, table_of};
-ghost use Rattle.table_root.specs.Tables.{HasRoots, HasTable, IsStoredTable, IsTableFound, written_table};
+ghost use Rattle.table_root.specs.Tables.{HasRoots, HasTable, IsStoredTable, IsTableFound, recorded_roots, written_table};
 
 use crate::fields::{address_at, after_kind, four_at, push_address};
 use crate::parts::{items_at, push_items};
-use crate::records::StoredTable;
+use crate::records::{RecordedRoots, StoredTable};
 use chunk_store::{Draft, PutFault, law_of_growth};
 use schema_model::{Schema, law_of_schemas, read_schema, write_schema};
 use std::alloc::{AllocError, Global};
@@ -47,9 +47,15 @@ fn table_bytes(alloc: Global, table: &StoredTable) -> Result<Blob, AllocError>
     ensures table { OnOk result (IsStoredTable table.now) }
     ensures size { IfOk result (λ bytes. length bytes ≤ 65536) }
 {
-    let schema = write_schema(alloc, &table.schema)?;
-    let mut out = Vec::new(alloc);
-    push_schema(&mut out, schema.as_slice())?;
+    let written = write_schema(alloc, &table.schema)?;
+    let schema = written.as_slice();
+    let roots = table.indexes.as_slice().len().saturating_add(3);
+    let room = schema
+        .len()
+        .saturating_add(5)
+        .saturating_add(roots.saturating_mul(20));
+    let mut out = Vec::with_capacity(alloc, room)?;
+    push_schema(&mut out, schema)?;
     push_roots(&mut out, table)?;
     Ok(Blob::from_vec(out))
 }
@@ -92,6 +98,31 @@ pub fn read_table<D: Digester>(
         Ok(table) => Ok(table),
         Err(Unread::Memory) => Err(AllocError),
         Err(Unread::Malformed) => unreachable!(),
+    }
+}
+
+/// The roots of what the table has recorded whose written form is found at the address. They stand at its end, so it takes no memory.
+pub fn recorded_roots<D: Digester>(draft: &Draft<D>, address: &Address) -> RecordedRoots
+    requires { HasTable (chunks_of draft.now.chunks) address.now.0 }
+    ensures { (table : StoredTable) → IsTableFound (chunks_of draft.now.chunks) address.now.0 table → result ≡ recorded_roots table }
+{
+    let Some(bytes) = draft.get(address) else {
+        unreachable!()
+    };
+    roots_at_end(bytes)
+}
+
+/// The last two addresses of bytes.
+fn roots_at_end(bytes: &[u8]) -> RecordedRoots
+    requires { 40 ≤ length bytes.now }
+    ensures conflicts { result.conflicts.0 ≡ drop (length bytes.now - 40) (take (length bytes.now - 20) bytes.now) }
+    ensures violations { result.violations.0 ≡ drop (length bytes.now - 20) bytes.now }
+{
+    let (rest, violations) = bytes.split_at(bytes.len() - 20);
+    let (_, conflicts) = rest.split_at(rest.len() - 20);
+    RecordedRoots {
+        conflicts: Address::from_slice(conflicts),
+        violations: Address::from_slice(violations),
     }
 }
 

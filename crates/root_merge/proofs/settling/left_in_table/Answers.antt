@@ -11,4 +11,4 @@ pub keep_table-requires-clause-table : goal.keep_table-requires-clause-table
 keep_table-requires-clause-table g c κs within =
     let contents = c.requires.table.0 in
     let at = c.requires.table.1 in
-    record { contents = contents; at = at; bare = sym (c.in_ok-left.ensures contents at) ∙ is_bare c.in_ok-left.left (sym c.is_any.ensures ∙ c.if-is_any.false) }
+    record { contents = contents; at = at; bare = sym (c.read_left-left.ensures contents at) ∙ is_bare c.read_left-left.result (sym c.is_any.ensures ∙ c.if-is_any.false) }

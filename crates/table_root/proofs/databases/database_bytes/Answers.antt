@@ -7,8 +7,8 @@ push_items-requires c = short_fits c.args.tables.now c.requires.names
 
 pub returns-clause-bytes : goal.returns-clause-bytes
 returns-clause-bytes c =
-    database_join c.args.tables.now c.new-out.result.items c.push_count.new.out.items c.push_items.new.out.items c.from_vec.result
-    c.new-out.ensures.items c.in_ok-push_count.ensures c.in_ok-push_items.ensures.bytes c.from_vec.ensures
+    database_join c.args.tables.now c.in_ok-out.out.items c.push_count.new.out.items c.push_items.new.out.items c.from_vec.result
+    c.in_ok-out.ensures.items c.in_ok-push_count.ensures c.in_ok-push_items.ensures.bytes c.from_vec.ensures
 
 pub returns-clause-database : goal.returns-clause-database
 returns-clause-database c = record {
