@@ -9,6 +9,7 @@ use crate::bytes::Text;
 use crate::fields::push_long;
 use crate::forms::Form;
 use crate::numbers::{bool_front, number_front, push_number};
+use crate::sizes::{key_size, row_size};
 use crate::texts::{push_escaped, text_front};
 use crate::unread::Unread;
 use crate::values::{Blob, Row, SqlType, Value, value_fits};
@@ -19,7 +20,11 @@ pub fn encode(alloc: Global, form: Form, row: &Row) -> Result<Blob, AllocError>
     requires { list_all (is_spelled form) row.now ≡ true }
     ensures { IfOk result (λ blob. blob ≡ spelling form row.now) }
 {
-    let mut out = Vec::new(alloc);
+    let size = match form {
+        Form::Key => key_size(row.as_slice()),
+        Form::Row => row_size(row.as_slice()),
+    };
+    let mut out = Vec::with_capacity(alloc, size as usize)?;
     for value in row.as_slice() {
         push_cell(&mut out, form, value)?;
     }
