@@ -5,7 +5,6 @@
 #![tactic(auto)]
 
 mod changes;
-mod copies;
 mod entries;
 mod indexes;
 mod laws;

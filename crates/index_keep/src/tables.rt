@@ -10,14 +10,13 @@ ghost use Rattle.table_root.specs.Standing.{IsTableOf};
 ghost use Rattle.index_keep.specs.Keeping.{CanEditTable, with_rows};
 
 use crate::changes::row_changes;
-use crate::copies::copy_schema;
 use crate::indexes::edit_indexes;
 use chunk_store::{Draft, PutFault};
 use prolly_edit::apply;
 use std::alloc::Global;
 use table_root::StoredTable;
 use table_rows::law_of_row_items;
-use tuple_codec::{Digester, Edit, Sequence};
+use tuple_codec::{Digester, Edit};
 
 /// Edits a table's rows and, with them, the list of each of its indexes. All else of the table stays.
 ///
@@ -26,11 +25,11 @@ use tuple_codec::{Digester, Edit, Sequence};
 pub fn apply_with_indexes<D: Digester>(
     alloc: Global,
     draft: &mut Draft<D>,
-    table: &StoredTable,
+    table: StoredTable,
     edits: &[Edit],
 ) -> Result<StoredTable, PutFault>
-    requires { (contents : PlainTable) × (rows : List Cells) × CanEditTable D.address (chunks_of draft.old.chunks) table.now edits.now contents rows }
-    ensures ok { (contents : PlainTable) (rows : List Cells) → CanEditTable D.address (chunks_of draft.old.chunks) table.now edits.now contents rows
+    requires { (contents : PlainTable) × (rows : List Cells) × CanEditTable D.address (chunks_of draft.old.chunks) table edits.now contents rows }
+    ensures ok { (contents : PlainTable) (rows : List Cells) → CanEditTable D.address (chunks_of draft.old.chunks) table edits.now contents rows
         → IfOk result (λ made. IsTableOf D.address (chunks_of draft.new.chunks) made (with_rows contents rows)) }
     ensures grows { Grows is_node draft.old draft.new }
     ensures cause { IfErr result (IsReason D.address (chunks_of draft.new.chunks)) }
@@ -49,11 +48,9 @@ pub fn apply_with_indexes<D: Digester>(
         changes.as_slice(),
     )?;
     Ok(StoredTable {
-        schema: copy_schema(alloc, &table.schema)?,
         rows,
         indexes,
-        conflicts: table.conflicts,
-        violations: table.violations,
+        ..table
     })
 }
 
@@ -61,23 +58,17 @@ pub fn apply_with_indexes<D: Digester>(
 fn apply_to_rows<D: Digester>(
     alloc: Global,
     draft: &mut Draft<D>,
-    table: &StoredTable,
+    table: StoredTable,
     edits: &[Edit],
 ) -> Result<StoredTable, PutFault>
-    requires none { table.now.indexes ≡ [] }
-    requires can { (contents : PlainTable) × (rows : List Cells) × CanEditTable D.address (chunks_of draft.old.chunks) table.now edits.now contents rows }
-    ensures ok { (contents : PlainTable) (rows : List Cells) → CanEditTable D.address (chunks_of draft.old.chunks) table.now edits.now contents rows
+    requires none { table.indexes ≡ [] }
+    requires can { (contents : PlainTable) × (rows : List Cells) × CanEditTable D.address (chunks_of draft.old.chunks) table edits.now contents rows }
+    ensures ok { (contents : PlainTable) (rows : List Cells) → CanEditTable D.address (chunks_of draft.old.chunks) table edits.now contents rows
         → IfOk result (λ made. IsTableOf D.address (chunks_of draft.new.chunks) made (with_rows contents rows)) }
     ensures grows { Grows is_node draft.old draft.new }
     ensures cause { IfErr result (IsReason D.address (chunks_of draft.new.chunks)) }
 {
     law_of_row_items();
     let rows = apply(alloc, draft, &table.rows, edits)?;
-    Ok(StoredTable {
-        schema: copy_schema(alloc, &table.schema)?,
-        rows,
-        indexes: Sequence::new(alloc),
-        conflicts: table.conflicts,
-        violations: table.violations,
-    })
+    Ok(StoredTable { rows, ..table })
 }

@@ -45,17 +45,17 @@ pub(crate) fn laws_of_growth()
 fn with_theirs<D: Digester>(
     alloc: Global,
     draft: &mut Draft<D>,
-    table: &StoredTable,
+    table: StoredTable,
 ) -> Result<StoredTable, PutFault>
-    requires { (contents : PlainTable) × CanTake D.address (chunks_of draft.old.chunks) table.now contents }
-    ensures stands { (contents : PlainTable) → CanTake D.address (chunks_of draft.old.chunks) table.now contents
+    requires { (contents : PlainTable) × CanTake D.address (chunks_of draft.old.chunks) table contents }
+    ensures stands { (contents : PlainTable) → CanTake D.address (chunks_of draft.old.chunks) table contents
         → IfOk result (λ made. IsTableOf D.address (chunks_of draft.new.chunks) made (with_rows contents (rows_after side.Theirs contents))) }
     ensures grows { Grows is_node draft.old draft.new }
     ensures cause { IfErr result (IsReason D.address (chunks_of draft.new.chunks)) }
 {
     law_of_row_items();
     keys_are_one_spelling();
-    let edits = theirs_edits(alloc, draft, table)?;
+    let edits = theirs_edits(alloc, draft, &table)?;
     apply_with_indexes(alloc, draft, table, edits.as_slice())
 }
 
@@ -75,7 +75,7 @@ fn with_side<D: Digester>(
     law_of_growth();
     match side {
         Side::Ours => Ok(table),
-        Side::Theirs => with_theirs(alloc, draft, &table),
+        Side::Theirs => with_theirs(alloc, draft, table),
     }
 }
 

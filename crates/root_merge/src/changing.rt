@@ -107,12 +107,12 @@ fn rows_are_short<D: Digester>(
 fn with_edits<D: Digester>(
     alloc: Global,
     draft: &mut Draft<D>,
-    ours: &StoredTable,
+    ours: StoredTable,
     merged: &StoredTable,
     edits: &[Edit],
 ) -> Result<StoredTable, PutFault>
-    requires { (before : PlainTable) × (contents : PlainTable) × HasEdits D.address (chunks_of draft.old.chunks) ours.now merged.now edits.now before contents }
-    ensures stands { (before contents : PlainTable) → HasEdits D.address (chunks_of draft.old.chunks) ours.now merged.now edits.now before contents
+    requires { (before : PlainTable) × (contents : PlainTable) × HasEdits D.address (chunks_of draft.old.chunks) ours merged.now edits.now before contents }
+    ensures stands { (before contents : PlainTable) → HasEdits D.address (chunks_of draft.old.chunks) ours merged.now edits.now before contents
         → IfOk result (λ made. IsTableOf D.address (chunks_of draft.new.chunks) made contents) }
     ensures grows { Grows is_node draft.old draft.new }
     ensures cause { IfErr result (IsReason D.address (chunks_of draft.new.chunks)) }
@@ -132,12 +132,12 @@ fn with_edits<D: Digester>(
 fn keep_edits<D: Digester>(
     alloc: Global,
     draft: &mut Draft<D>,
-    ours: &StoredTable,
+    ours: StoredTable,
     merged: &StoredTable,
     edits: &[Edit],
 ) -> Result<Became, PutFault>
-    requires { (before : PlainTable) × (contents : PlainTable) × HasEdits D.address (chunks_of draft.old.chunks) ours.now merged.now edits.now before contents }
-    ensures made { (before contents : PlainTable) → HasEdits D.address (chunks_of draft.old.chunks) ours.now merged.now edits.now before contents
+    requires { (before : PlainTable) × (contents : PlainTable) × HasEdits D.address (chunks_of draft.old.chunks) ours merged.now edits.now before contents }
+    ensures made { (before contents : PlainTable) → HasEdits D.address (chunks_of draft.old.chunks) ours merged.now edits.now before contents
         → IfOk result (λ became. IsBecome D.address (chunks_of draft.new.chunks) became (of_table contents)) }
     ensures grows { Grows is_data draft.old draft.new }
     ensures cause { IfErr result (IsReason D.address (chunks_of draft.new.chunks)) }
@@ -156,20 +156,20 @@ fn keep_edits<D: Digester>(
 pub(crate) fn keep_changes<D: Digester>(
     alloc: Global,
     draft: &mut Draft<D>,
-    ours: &StoredTable,
+    ours: StoredTable,
     merged: &StoredTable,
 ) -> Result<Became, MergeFault>
-    requires { (before : PlainTable) × (contents : PlainTable) × CanKeep D.address (chunks_of draft.old.chunks) ours.now merged.now before contents }
-    ensures made { (before contents : PlainTable) → CanKeep D.address (chunks_of draft.old.chunks) ours.now merged.now before contents
+    requires { (before : PlainTable) × (contents : PlainTable) × CanKeep D.address (chunks_of draft.old.chunks) ours merged.now before contents }
+    ensures made { (before contents : PlainTable) → CanKeep D.address (chunks_of draft.old.chunks) ours merged.now before contents
         → IfOk result (λ became. IsBecome D.address (chunks_of draft.new.chunks) became (of_table contents)) }
-    ensures fault { (before contents : PlainTable) → CanKeep D.address (chunks_of draft.old.chunks) ours.now merged.now before contents
+    ensures fault { (before contents : PlainTable) → CanKeep D.address (chunks_of draft.old.chunks) ours merged.now before contents
         → IfErr result (IsLimitFault (is_table_within_limits contents)) }
     ensures grows { Grows is_data draft.old draft.new }
     ensures cause { IfErr result (IsMergeReason D.address (chunks_of draft.new.chunks)) }
 {
     laws_of_growth();
-    let changes = changes_between(alloc, draft, ours, merged)?;
-    let short = rows_are_short(alloc, draft, ours, merged, changes.as_slice())?;
+    let changes = changes_between(alloc, draft, &ours, merged)?;
+    let short = rows_are_short(alloc, draft, &ours, merged, changes.as_slice())?;
     if !short {
         return Err(MergeFault::Limit);
     }

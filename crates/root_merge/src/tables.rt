@@ -158,13 +158,13 @@ fn keep_rows<D: Digester>(
 fn keep_merge<D: Digester>(
     alloc: Global,
     draft: &mut Draft<D>,
-    ours: &StoredTable,
+    ours: StoredTable,
     table: StoredTable,
 ) -> Result<Became, MergeFault>
-    requires { (before : PlainTable) × (contents : PlainTable) × IsMergeOf D.address (chunks_of draft.old.chunks) ours.now table before contents }
-    ensures made { (before contents : PlainTable) → IsMergeOf D.address (chunks_of draft.old.chunks) ours.now table before contents
+    requires { (before : PlainTable) × (contents : PlainTable) × IsMergeOf D.address (chunks_of draft.old.chunks) ours table before contents }
+    ensures made { (before contents : PlainTable) → IsMergeOf D.address (chunks_of draft.old.chunks) ours table before contents
         → IfOk result (λ became. IsBecome D.address (chunks_of draft.new.chunks) became (of_table contents)) }
-    ensures fault { (before contents : PlainTable) → IsMergeOf D.address (chunks_of draft.old.chunks) ours.now table before contents
+    ensures fault { (before contents : PlainTable) → IsMergeOf D.address (chunks_of draft.old.chunks) ours table before contents
         → IfErr result (IsLimitFault (is_table_within_limits contents)) }
     ensures grows { Grows is_data draft.old draft.new }
     ensures cause { IfErr result (IsMergeReason D.address (chunks_of draft.new.chunks)) }
@@ -181,12 +181,12 @@ fn keep_merge<D: Digester>(
 fn merge_sides<D: Digester>(
     alloc: Global,
     draft: &mut Draft<D>,
-    sides: &Sides,
+    sides: Sides,
 ) -> Result<Became, MergeFault>
-    requires { (contents : PlainSides) × (table : PlainTable) × CanMergeSides D.address (chunks_of draft.old.chunks) sides.now contents table }
-    ensures made { (contents : PlainSides) (table : PlainTable) → CanMergeSides D.address (chunks_of draft.old.chunks) sides.now contents table
+    requires { (contents : PlainSides) × (table : PlainTable) × CanMergeSides D.address (chunks_of draft.old.chunks) sides contents table }
+    ensures made { (contents : PlainSides) (table : PlainTable) → CanMergeSides D.address (chunks_of draft.old.chunks) sides contents table
         → IfOk result (λ became. IsBecome D.address (chunks_of draft.new.chunks) became (of_table table)) }
-    ensures fault { (contents : PlainSides) (table : PlainTable) → CanMergeSides D.address (chunks_of draft.old.chunks) sides.now contents table
+    ensures fault { (contents : PlainSides) (table : PlainTable) → CanMergeSides D.address (chunks_of draft.old.chunks) sides contents table
         → IfErr result (IsLimitFault (is_table_within_limits table)) }
     ensures grows { Grows is_data draft.old draft.new }
     ensures cause { IfErr result (IsMergeReason D.address (chunks_of draft.new.chunks)) }
@@ -199,7 +199,7 @@ fn merge_sides<D: Digester>(
         &sides.ours,
         &sides.theirs,
     )?;
-    keep_merge(alloc, draft, &sides.ours, table)
+    keep_merge(alloc, draft, sides.ours, table)
 }
 
 /// The same of tables at addresses.
@@ -221,7 +221,7 @@ fn merge_rows<D: Digester>(
 {
     laws_of_growth();
     let sides = sides_at(alloc, draft, base, ours, theirs)?;
-    merge_sides(alloc, draft, &sides)
+    merge_sides(alloc, draft, sides)
 }
 
 /// What becomes of the tables of one name, whose schemas merge.

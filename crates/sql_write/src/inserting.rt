@@ -94,7 +94,7 @@ fn insert_edits<D: Digester>(
         database,
         found.tables,
         name,
-        &found.table,
+        found.table,
         edits.as_slice(),
         rows,
         written,

@@ -33,11 +33,11 @@ pub(crate) fn put_rows<D: Digester>(
     draft: &mut Draft<D>,
     tables: Vec<TableEntry>,
     name: &[u8],
-    table: &StoredTable,
+    table: StoredTable,
     edits: &[Edit],
 ) -> Result<Address, PutFault>
-    requires { (database : PlainDatabase) × (contents : PlainTable) × (rows : List Cells) × CanPut D.address (chunks_of draft.old.chunks) tables.items table.now edits.now database contents rows }
-    ensures stands { (database : PlainDatabase) (contents : PlainTable) (rows : List Cells) → CanPut D.address (chunks_of draft.old.chunks) tables.items table.now edits.now database contents rows
+    requires { (database : PlainDatabase) × (contents : PlainTable) × (rows : List Cells) × CanPut D.address (chunks_of draft.old.chunks) tables.items table edits.now database contents rows }
+    ensures stands { (database : PlainDatabase) (contents : PlainTable) (rows : List Cells) → CanPut D.address (chunks_of draft.old.chunks) tables.items table edits.now database contents rows
         → IfOk result (λ at. IsReadAt D.address (chunks_of draft.new.chunks) at.0 (replaced name.now (with_rows contents rows) database)) }
     ensures grows { Grows is_data draft.old draft.new }
     ensures cause { IfErr result (IsReason D.address (chunks_of draft.new.chunks)) }
@@ -83,15 +83,15 @@ pub(crate) fn fill_table<D: Digester>(
     database: &Address,
     tables: Vec<TableEntry>,
     name: &[u8],
-    table: &StoredTable,
+    table: StoredTable,
     edits: &[Edit],
     rows: u64,
     count: u64,
 ) -> Result<Written, SqlFault>
     requires { (before : PlainDatabase) × (contents : PlainTable) × (after : List Cells)
-        × CanFill D.address (chunks_of draft.old.chunks) database.now.0 tables.items table.now edits.now rows before contents after }
+        × CanFill D.address (chunks_of draft.old.chunks) database.now.0 tables.items table edits.now rows before contents after }
     ensures done { (before : PlainDatabase) (contents : PlainTable) (after : List Cells)
-        → CanFill D.address (chunks_of draft.old.chunks) database.now.0 tables.items table.now edits.now rows before contents after
+        → CanFill D.address (chunks_of draft.old.chunks) database.now.0 tables.items table edits.now rows before contents after
         → Makes D.address (chunks_of draft.new.chunks) result (filled checks before name.now contents count after) }
     ensures grows { Grows is_data draft.old draft.new }
 {

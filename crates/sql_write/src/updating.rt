@@ -64,7 +64,7 @@ fn put_turned<D: Digester>(
         database,
         found.tables,
         name,
-        &found.table,
+        found.table,
         edits.as_slice(),
         count,
         turned.count,

@@ -13,7 +13,7 @@ apply_with_indexes-requires-after_bounds g c κs within =
     let few : length c.as_slice.result.now < 2 ^ 62 = omega (arith, most) in (
       contents,
       rows_after side.Theirs contents,
-      can_edit c.law_of_row_items.ensures c.keys_are_one_spelling.ensures g.D.Digester.address (chunks_of c.args.draft.now.chunks) c.args.table.now contents can
+      can_edit c.law_of_row_items.ensures c.keys_are_one_spelling.ensures g.D.Digester.address (chunks_of c.args.draft.now.chunks) c.args.table contents can
           c.as_slice.result.now (c.as_slice.ensures ∙ c.in_ok-edits.ensures contents can.stands) few,
     )
 
@@ -22,5 +22,5 @@ returns-clause-stands g c = λ contents can.
     let most = c.as_slice.type_inv.1 in
     let few : length c.as_slice.result.now < 2 ^ 62 = omega (arith, most) in
     c.apply_with_indexes.ensures.ok contents (rows_after side.Theirs contents)
-    (can_edit c.law_of_row_items.ensures c.keys_are_one_spelling.ensures g.D.Digester.address (chunks_of c.args.draft.now.chunks) c.args.table.now contents can
+    (can_edit c.law_of_row_items.ensures c.keys_are_one_spelling.ensures g.D.Digester.address (chunks_of c.args.draft.now.chunks) c.args.table contents can
     c.as_slice.result.now (c.as_slice.ensures ∙ c.in_ok-edits.ensures contents can.stands) few)

@@ -19,7 +19,7 @@ keep_edits-requires-after_bounds g c κs within =
     let contents = c.requires.1 in
     let can = c.requires.2 in
     let are = c.in_ok-changes.ensures before contents can in
-    let has : HasChanges g.D.Digester.address (chunks_of c.args.draft.now.chunks) c.args.ours.now c.args.merged.now c.as_slice.result.now before contents = record { can = can; changes_are = c.as_slice.ensures.value ∙ are } in (
+    let has : HasChanges g.D.Digester.address (chunks_of c.args.draft.now.chunks) c.args.ours c.args.merged.now c.as_slice.result.now before contents = record { can = can; changes_are = c.as_slice.ensures.value ∙ are } in (
       before,
       contents,
       record {
@@ -32,7 +32,7 @@ keep_edits-requires-after_bounds g c κs within =
 pub returns-clause-made : goal.returns-clause-made
 returns-clause-made g c = λ before contents can.
     let are = c.in_ok-changes.ensures before contents can in
-    let has : HasChanges g.D.Digester.address (chunks_of c.args.draft.now.chunks) c.args.ours.now c.args.merged.now c.as_slice.result.now before contents = record { can = can; changes_are = c.as_slice.ensures.value ∙ are } in
+    let has : HasChanges g.D.Digester.address (chunks_of c.args.draft.now.chunks) c.args.ours c.args.merged.now c.as_slice.result.now before contents = record { can = can; changes_are = c.as_slice.ensures.value ∙ are } in
     c.in_ok-became.ensures.made before contents (record {
       can = can;
       within = table_within contents can.made.limits (sym (c.in_ok-short.ensures before contents has) ∙ c.if-not-short.false) can.made.settled;

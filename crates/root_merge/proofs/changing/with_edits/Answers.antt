@@ -11,7 +11,7 @@ apply_with_indexes-requires-after_bounds g c κs within =
     let has = c.requires.2 in (
       before,
       contents.rows,
-      edits_can g.D.Digester.address (chunks_of c.args.draft.now.chunks) c.args.ours.now c.args.merged.now before contents has.can has.within c.args.edits.now has.edits_are,
+      edits_can g.D.Digester.address (chunks_of c.args.draft.now.chunks) c.args.ours c.args.merged.now before contents has.can has.within c.args.edits.now has.edits_are,
     )
 
 pub returns-clause-stands : goal.returns-clause-stands
@@ -24,5 +24,5 @@ returns-clause-stands g c = λ before contents has.
     let merged = c.args.merged.now in
     table_kept address (chunks_of new.chunks) c.in_ok-kept.kept merged before contents has.can.same
     (c.in_ok-kept.ensures.ok before contents.rows
-    (edits_can address (chunks_of old.chunks) c.args.ours.now merged before contents has.can has.within c.args.edits.now has.edits_are))
+    (edits_can address (chunks_of old.chunks) c.args.ours merged before contents has.can has.within c.args.edits.now has.edits_are))
     (laws.values.unindexed_later address (chunks_of old.chunks) (chunks_of new.chunks) contents merged more has.can.made.stands)

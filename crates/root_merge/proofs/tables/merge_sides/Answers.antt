@@ -12,7 +12,7 @@ use Rattle.root_merge.proofs.tables.merge_sides.Goals as goal
 
 pub returns-in_err-table-clause-fault : goal.returns-in_err-table-clause-fault
 returns-in_err-table-clause-fault g c = λ contents table can.
-    let sides = c.args.sides.now in
+    let sides = c.args.sides in
     let stand = subst (λ (base : Option StoredTable). AreKeptSides g.D.Digester.address (chunks_of c.args.draft.now.chunks) base sides.ours sides.theirs contents) (sym c.as_ref.ensures.value) can.stand in
     same_fault (IsLimitFault (is_table_within_limits table)) c.from_residual.result c.in_err-table.field-0.0
     (fault_limit contents table c.in_err-table.field-0.0 can.comes (c.in_err-table.ensures.fault contents stand)) c.from_residual.ensures
@@ -24,7 +24,7 @@ keep_merge-requires-after_bounds g c κs within =
     let new = c.merge_kept_table.new.draft in
     let laws = c.laws_of_growth.ensures in
     let more : Extends (chunks_of old.chunks) (chunks_of new.chunks) = laws.drafts.longer_extends old.chunks new.chunks (laws.growth.is_longer is_node old new c.merge_kept_table.ensures.grows) in
-    let sides = c.args.sides.now in
+    let sides = c.args.sides in
     let contents = c.requires.0 in
     let table = c.requires.1 in
     let can = c.requires.2 in
@@ -45,7 +45,7 @@ returns-clause-made g c = λ contents table can.
     let new = c.merge_kept_table.new.draft in
     let laws = c.laws_of_growth.ensures in
     let more : Extends (chunks_of old.chunks) (chunks_of new.chunks) = laws.drafts.longer_extends old.chunks new.chunks (laws.growth.is_longer is_node old new c.merge_kept_table.ensures.grows) in
-    let sides = c.args.sides.now in
+    let sides = c.args.sides in
     let stand = subst (λ (base : Option StoredTable). AreKeptSides address (chunks_of old.chunks) base sides.ours sides.theirs contents) (sym c.as_ref.ensures.value) can.stand in
     c.keep_merge.ensures.made contents.ours table (record {
       stands = laws.values.later address (chunks_of old.chunks) (chunks_of new.chunks) contents.ours sides.ours more can.stand.sides.our_side.stands;
@@ -60,7 +60,7 @@ returns-clause-fault g c = λ contents table can.
     let new = c.merge_kept_table.new.draft in
     let laws = c.laws_of_growth.ensures in
     let more : Extends (chunks_of old.chunks) (chunks_of new.chunks) = laws.drafts.longer_extends old.chunks new.chunks (laws.growth.is_longer is_node old new c.merge_kept_table.ensures.grows) in
-    let sides = c.args.sides.now in
+    let sides = c.args.sides in
     let stand = subst (λ (base : Option StoredTable). AreKeptSides address (chunks_of old.chunks) base sides.ours sides.theirs contents) (sym c.as_ref.ensures.value) can.stand in
     c.keep_merge.ensures.fault contents.ours table (record {
       stands = laws.values.later address (chunks_of old.chunks) (chunks_of new.chunks) contents.ours sides.ours more can.stand.sides.our_side.stands;
@@ -75,3 +75,6 @@ returns-clause-grows g c =
     let new = c.keep_merge.new.draft in
     let laws = c.laws_of_growth.ensures.growth in
     laws.in_steps is_data old mid new (node_data laws old mid c.merge_kept_table.ensures.grows) c.keep_merge.ensures.grows
+
+pub returns-in_err-table-clause-grows : goal.returns-in_err-table-clause-grows
+returns-in_err-table-clause-grows g c = node_data c.laws_of_growth.ensures.growth c.args.draft.now c.merge_kept_table.new.draft c.merge_kept_table.ensures.grows
