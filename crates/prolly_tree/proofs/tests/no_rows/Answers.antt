@@ -1,10 +1,16 @@
 use Rattle.std.proofs.Common.{◌≡◌, ℕ, List, [], Some, refl, sym, ap, ◌∙◌, subst}
 use Rattle.tuple_codec.specs.Trees.{bytes_of}
 use Rattle.chunk_store.specs.Drafts.{chunks_of}
+<<<<<<< HEAD:crates/prolly_tree/proofs/tests/no_rows/Answers.antt
 use Rattle.chunk_store.specs.Standing.{IsTree}
 use Rattle.prolly_tree.specs.Samples.{by_length}
 use Rattle.prolly_tree.proofs.SampleLemmas.{empty_tree}
 use Rattle.prolly_tree.proofs.tests.no_rows.Goals as goal
+=======
+use Rattle.unit_tests.specs.Samples.{by_length}
+use Rattle.unit_tests.proofs.SampleTrees.{empty_tree}
+use Rattle.unit_tests.proofs.trees.no_rows.Goals as goal
+>>>>>>> 43af30ac (An import that nothing used):crates/unit_tests/proofs/trees/no_rows/Answers.antt
 
 pub count-requires-clause-tree : goal.count-requires-clause-tree
 count-requires-clause-tree g c κs =
