@@ -6,8 +6,6 @@
 
 mod decisions;
 mod outcomes;
-#[cfg(test)]
-mod tests;
 
 pub use decisions::{Decision, decide_row};
 pub use outcomes::{RowOutcome, merge_row};

@@ -3,7 +3,5 @@ pub mod GrowthLemmas
 pub mod NodeLemmas
 pub mod ClosingLemmas
 pub mod ClimbLemmas
-pub mod SampleLemmas
-mod Vectors
 pub mod RefLemmas
 pub mod SubtreeLemmas

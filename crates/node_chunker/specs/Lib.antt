@@ -3,4 +3,3 @@ pub mod Growth
 pub mod Subtrees
 pub mod Steps
 pub mod Closing
-pub mod Samples

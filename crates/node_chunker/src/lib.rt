@@ -13,6 +13,3 @@ mod towers;
 
 pub use builds::build;
 pub use towers::Tower;
-
-#[cfg(test)]
-mod tests;

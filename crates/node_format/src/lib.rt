@@ -23,6 +23,3 @@ pub use known::{KnownNode, first_name, first_row};
 pub use laws::{law_of_items, law_of_spelling};
 pub use node::{Malformed, NodeRef};
 pub use writing::{name_size, row_size, write_inner, write_leaf};
-
-#[cfg(test)]
-mod tests;

@@ -2,4 +2,3 @@ pub mod ChangeLaws
 pub mod TurnLemmas
 pub mod Arms
 pub mod Comparisons
-mod Vectors

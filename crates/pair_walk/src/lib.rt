@@ -7,6 +7,3 @@ mod reads;
 pub use comparing::changes;
 pub use reads::ReadCount;
 pub use tuple_codec::ItemChange;
-
-#[cfg(test)]
-mod tests;

@@ -5,4 +5,3 @@ pub mod StageLemmas
 pub mod FrontLemmas
 pub mod SubtreeLaws
 pub mod TurnLemmas
-pub mod SampleLemmas

@@ -3,4 +3,3 @@ pub mod Names
 pub mod Editing
 pub mod Fronts
 pub mod Stages
-pub mod Samples

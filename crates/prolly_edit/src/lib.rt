@@ -9,6 +9,3 @@ mod paths;
 mod reading;
 
 pub use applying::apply;
-
-#[cfg(test)]
-mod tests;

@@ -2,7 +2,5 @@ pub mod Lookups
 pub mod Descents
 pub mod PassingLemmas
 pub mod WalkLemmas
-pub mod SampleLemmas
 pub mod FrontLemmas
 pub mod MeetLemmas
-mod Vectors

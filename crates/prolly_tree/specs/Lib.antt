@@ -1,6 +1,5 @@
 pub mod Lists
 pub mod Walks
 pub mod Heads
-pub mod Samples
 pub mod Fronts
 pub mod Meets

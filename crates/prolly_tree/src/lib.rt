@@ -14,6 +14,3 @@ pub use nodes::{count, get, known_at, node_at};
 pub use scans::{Scan, scan_from};
 pub use steps::WalkHead;
 pub use walks::Walk;
-
-#[cfg(test)]
-mod tests;

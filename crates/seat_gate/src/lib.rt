@@ -20,8 +20,6 @@ mod seat;
 mod seating;
 mod stand;
 mod steps;
-#[cfg(test)]
-mod tests;
 mod turns;
 mod value;
 mod workers;

@@ -5,5 +5,4 @@ pub mod Utf8Lemmas
 pub mod CellLemmas
 pub mod OrderLemmas
 pub mod AddressLemmas
-mod Vectors
 pub mod FieldLemmas

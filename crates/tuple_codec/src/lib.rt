@@ -22,8 +22,6 @@ mod row_codec;
 mod rows;
 mod sequences;
 mod sizes;
-#[cfg(test)]
-mod tests;
 mod texts;
 mod unread;
 mod values;

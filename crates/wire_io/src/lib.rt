@@ -13,6 +13,3 @@ pub use memory::{MemorySink, MemorySource};
 pub use moving::{ReadStop, read_up_to, write_whole};
 pub use outside::{Failed, NoPace, Pacer, Sink, Source};
 pub use standard::{StdSink, StdSource};
-
-#[cfg(test)]
-mod tests;

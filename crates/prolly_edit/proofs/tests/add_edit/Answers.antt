@@ -1,6 +1,0 @@
-use Rattle.std.proofs.Common.{arith}
-use Rattle.prolly_edit.proofs.SampleLemmas.{edit_below}
-use Rattle.prolly_edit.proofs.tests.add_edit.Goals as goal
-
-pub returns : goal.returns
-returns c = edit_below _ _ _ c.args.number c.in_ok-push.ensures.items c.in_ok-key.ensures c.in_ok-value.ensures (omega (arith, c.requires.few)) c.requires.are

@@ -1,0 +1,33 @@
+//! Trees built row by row, with their addresses.
+
+use crate::samples::{draft_of, rows_of};
+use chunk_store::PutFault;
+use node_chunker::build;
+use std::alloc::Global;
+use std::test::*;
+use tuple_codec::Address;
+
+/// How many rows a tree has, and its address, by another program.
+const TREES: [(u32, &str); 5] = [
+    (0, "tnsisfafg3u4fma8t8nhfedvot1d6jhe"),
+    (1, "dstj129duvpvir8ive8lgvcmmh06i5fg"),
+    (2, "tu6bo5ru7gcac4b7ic1tr4oo2rat7de2"),
+    // 16 leaves below one node
+    (500, "btku9at6h77u1vsem8gc2d670lujviru"),
+    // 148 leaves, below three nodes below one
+    (5_000, "j1rb2b7ptid2e2pvo2tjcvdh5qoo1grh"),
+];
+
+fn root_below(alloc: Global, count: u32) -> Result<Address, PutFault> {
+    let mut draft = draft_of(alloc)?;
+    let rows = rows_of(alloc, count, |number| Some((number % 256) as u8))?;
+    build(alloc, &mut draft, &rows)
+}
+
+#[test]
+fn a_tree_has_the_address_of_its_rows(rt: HostRuntime) {
+    for (count, want) in TREES {
+        let root = root_below(rt.alloc(), count).expect(&rt, "memory for a tree");
+        assert!(rt; &root.text()[..] == want.as_bytes(), "{count} rows");
+    }
+}
