@@ -11,7 +11,7 @@ use Rattle.chunk_store.specs.Laws.{ChunksFollow}
 use Rattle.commit_graph.specs.Commits.{HasCommit, HasOneSpelling, IsCommitFound, parts_of}
 use Rattle.commit_graph.specs.Standing.{CommitsFollow}
 use Rattle.commit_graph.specs.declared.commits.CommitRecord.{CommitRecord}
-use Rattle.constraint_scan.specs.Scanning.{IsKeptAt}
+use Rattle.table_root.specs.Kept.{IsKeptAt}
 use Rattle.table_root.specs.Standing.{DatabasesStand}
 use Rattle.plain_sessions.specs.Records.{database_in, root_of}
 use Rattle.session_laws.specs.Commits.{CommitsAreThere}

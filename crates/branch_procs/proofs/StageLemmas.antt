@@ -8,7 +8,7 @@ use Rattle.tuple_codec.specs.declared.records.BranchRecord.{BranchRecord}
 use Rattle.schema_model.specs.Limits.{most_tables}
 use Rattle.schema_model.specs.PlainTables.{PlainDatabase, PlainTable}
 use Rattle.chunk_store.specs.Chunks.{Chunks, Extends}
-use Rattle.constraint_scan.specs.Scanning.{IsKeptAt}
+use Rattle.table_root.specs.Kept.{IsKeptAt}
 use Rattle.expr_eval.specs.Binding.{Outcome, and_then}
 use Rattle.table_root.specs.Standing.{AreThere, DatabasesStand, named_tables}
 use Rattle.table_root.specs.declared.records.TableEntry.{TableEntry}

@@ -6,7 +6,7 @@ use Rattle.schema_model.specs.Limits.{is_database_within_limits, is_named_within
 use Rattle.schema_model.specs.PlainTables.{PlainDatabase}
 use Rattle.schema_model.proofs.SizeLemmas.{kept_few}
 use Rattle.chunk_store.specs.Chunks.{Chunks, Extends}
-use Rattle.constraint_scan.specs.Scanning.{IsKeptAt}
+use Rattle.table_root.specs.Kept.{IsKeptAt}
 use Rattle.table_root.specs.Standing.{TablesStand, named_tables}
 use Rattle.table_root.specs.declared.records.TableEntry.{TableEntry}
 use Rattle.sql_write.proofs.TableLemmas.{stand_later}

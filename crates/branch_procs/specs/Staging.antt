@@ -4,7 +4,7 @@ use Rattle.std.specs.Option.{option_or}
 use Rattle.tuple_codec.specs.declared.addresses.Address.{Address}
 use Rattle.tuple_codec.specs.declared.records.BranchRecord.{BranchRecord}
 use Rattle.chunk_store.specs.Chunks.{Chunks}
-use Rattle.constraint_scan.specs.Scanning.{IsKeptAt}
+use Rattle.table_root.specs.Kept.{IsKeptAt}
 use Rattle.expr_eval.specs.Binding.{Outcome}
 use Rattle.schema_model.specs.PlainTables.{PlainDatabase}
 use Rattle.table_root.specs.declared.records.TableEntry.{TableEntry}

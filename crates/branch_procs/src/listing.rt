@@ -7,7 +7,7 @@ ghost use Rattle.schema_model.specs.PlainTables.{PlainDatabase};
 ghost use Rattle.chunk_store.specs.Clashes.{IsReason};
 ghost use Rattle.chunk_store.specs.Drafts.{Grows, chunks_of};
 ghost use Rattle.chunk_store.specs.Kinds.{is_database};
-ghost use Rattle.constraint_scan.specs.Scanning.{HasKeptAt, IsKeptAt};
+ghost use Rattle.table_root.specs.Kept.{HasKeptAt, IsKeptAt};
 ghost use Rattle.sql_write.specs.Listing.{count_before, placed, without};
 ghost use Rattle.sql_write.specs.Putting.{address_in};
 ghost use Rattle.branch_procs.specs.Listing.{AreFewTables};

@@ -4,7 +4,7 @@ ghost use Rattle.std.specs.Prelude.{◌≡◌, IfOk, true};
 ghost use Rattle.schema_model.specs.PlainCommits.{Commits, is_known};
 ghost use Rattle.chunk_store.specs.Chunks.{chunk_bytes};
 ghost use Rattle.chunk_store.specs.Drafts.{chunks_of};
-ghost use Rattle.constraint_scan.specs.Scanning.{IsKeptAt};
+ghost use Rattle.table_root.specs.Kept.{IsKeptAt};
 ghost use Rattle.plain_sessions.specs.Records.{root_of};
 ghost use Rattle.session_laws.specs.Commits.{CommitsAreThere};
 

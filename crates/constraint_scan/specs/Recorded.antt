@@ -3,10 +3,10 @@ use Rattle.std.specs.Prelude.{◌≡◌, ℕ, List, map}
 use Rattle.std.specs.List.{flat_map}
 use Rattle.schema_model.specs.PlainTables.{IsDatabase, NamedTable, PlainDatabase}
 use Rattle.chunk_store.specs.Chunks.{Chunks}
-use Rattle.plain_schemas.specs.Statements.{checks}
+use Rattle.plain_writes.specs.CheckTexts.{checks}
 use Rattle.plain_writes.specs.Violations.{violations, violations_in}
 use Rattle.constraint_scan.specs.Recording.{IsRecordable, recorded_as, with_list}
-use Rattle.constraint_scan.specs.Scanning.{IsKeptAt}
+use Rattle.table_root.specs.Kept.{IsKeptAt}
 use Rattle.constraint_scan.specs.Written.{written_in}
 
 -- a table with all of its violations in the database

@@ -19,7 +19,7 @@ use Rattle.table_root.specs.Standing.{AreThere, IsTableAt, IsTableOf}
 use Rattle.table_root.specs.declared.records.StoredTable.{StoredTable}
 use Rattle.table_root.specs.declared.records.TableEntry as entries
 use Rattle.plain_writes.specs.Violations.{Found, table_in}
-use Rattle.constraint_scan.specs.Scanning.{IsKeptAt}
+use Rattle.table_root.specs.Kept.{IsKeptAt}
 use Rattle.constraint_scan.specs.Written.{written_in}
 use Rattle.constraint_scan.specs.declared.listing.ListedViolation as listing
 

@@ -1,21 +1,10 @@
--- Databases that addresses in a draft stand for, as scans read them.
-use Rattle.std.specs.Prelude.{◌≡◌, ◌||◌, ℕ, Bool, true, not, List, [], map}
+-- Databases and tables, as scans read them.
+use Rattle.std.specs.Prelude.{◌||◌, Bool, not, [], map}
 use Rattle.std.specs.List.{list_any}
-use Rattle.schema_model.specs.Limits.{is_database_within_limits}
 use Rattle.schema_model.specs.Schemas.{is_empty}
 use Rattle.schema_model.specs.declared.schemas.Schema.{Schema}
 use Rattle.schema_model.specs.PlainTables as plain
 use Rattle.schema_model.specs.PlainTables.{PlainDatabase, PlainTable}
-use Rattle.chunk_store.specs.Chunks.{Chunks}
-use Rattle.table_root.specs.Standing.{IsDatabaseAt}
-
--- the address stands for the database, which keeps the limits on data
-pub record IsKeptAt (address : List ℕ → List ℕ) (chunks : Chunks) (k : List ℕ) (database : PlainDatabase) : Type 0 where
-  pub stands : IsDatabaseAt address chunks k database
-  pub within : is_database_within_limits database ≡ true
-
-abbrev pub HasKeptAt : (List ℕ → List ℕ) → Chunks → List ℕ → Type 0
-HasKeptAt address chunks k = (database : PlainDatabase) × IsKeptAt address chunks k database
 
 -- a table by its schema and rows alone: what a constraint looks at
 abbrev pub bare_table : PlainTable → PlainTable

@@ -8,7 +8,7 @@ ghost use Rattle.schema_model.specs.PlainTables.{NamedTable, PlainDatabase, Plai
 ghost use Rattle.chunk_store.specs.Chunks.{Chunks};
 ghost use Rattle.chunk_store.specs.Drafts.{chunks_of};
 ghost use Rattle.plain_sql.specs.Plans.{meaning};
-ghost use Rattle.plain_schemas.specs.Statements.{checks};
+ghost use Rattle.plain_writes.specs.CheckTexts.{checks};
 ghost use Rattle.plain_writes.specs.Violations.{breaks_check, is_false, parent_keys, same_types, types_at};
 ghost use Rattle.table_root.specs.Standing.{IsTableOf};
 ghost use Rattle.constraint_scan.specs.Changed.{is_failed, is_missed, is_missed_row, is_orphan, is_orphan_by, is_repeated, repeats_by};

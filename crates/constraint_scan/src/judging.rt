@@ -5,7 +5,7 @@ ghost use Rattle.std.specs.List.{list_any};
 ghost use Rattle.schema_model.specs.PlainTables.{PlainDatabase, PlainTable};
 ghost use Rattle.chunk_store.specs.Drafts.{chunks_of};
 ghost use Rattle.plain_writes.specs.Violations.{first_violation};
-ghost use Rattle.plain_schemas.specs.Statements.{checks};
+ghost use Rattle.plain_writes.specs.CheckTexts.{checks};
 ghost use Rattle.table_root.specs.Standing.{AreThere, CanRead, IsReadAt, IsTableAt};
 ghost use Rattle.constraint_scan.specs.Scanning.{has_constraints, is_constrained};
 

@@ -7,7 +7,7 @@ ghost use Rattle.chunk_store.specs.Drafts.{chunks_of};
 ghost use Rattle.table_root.specs.Standing.{AreThere, CanRead, IsReadAt};
 ghost use Rattle.plain_writes.specs.Seen.{broken_seen, found_seen, named_seen};
 ghost use Rattle.plain_writes.specs.Violations.{violations};
-ghost use Rattle.plain_schemas.specs.Statements.{checks};
+ghost use Rattle.plain_writes.specs.CheckTexts.{checks};
 ghost use Rattle.constraint_scan.specs.Written.{fits, fits_in, written, written_in};
 
 use crate::canonical::CanonicalChecks;

@@ -15,7 +15,7 @@ ghost use Rattle.chunk_store.specs.Kinds.{is_data};
 ghost use Rattle.chunk_store.specs.Standing.{IsTree};
 ghost use Rattle.table_root.specs.Standing.{AreThere, IsTableAt};
 ghost use Rattle.plain_writes.specs.Violations.{Found};
-ghost use Rattle.constraint_scan.specs.Scanning.{IsKeptAt};
+ghost use Rattle.table_root.specs.Kept.{IsKeptAt};
 ghost use Rattle.constraint_scan.specs.Recording.{AreRising, CanRecord, CanRecordEach, CanRecordTable, IsEntryOf, MayBeWritten, MayStand, has_name, is_listed, listed_if, listed_item, listed_items, recorded_as, with_list};
 
 use crate::laws::laws_of_growth;

@@ -14,7 +14,7 @@ use Rattle.plain_sql.specs.Lists.{in_order}
 use Rattle.plain_merge.specs.RootMerge.{MergedDatabase, SchemaConflict, either_table, or_by_rows, root3, step, unmerged}
 use Rattle.plain_merge.specs.RootMerge as roots
 use Rattle.plain_writes.specs.Violations.{breaks_not_null, violation, violations_in}
-use Rattle.plain_schemas.specs.Statements.{checks}
+use Rattle.plain_writes.specs.CheckTexts.{checks}
 use Rattle.plain_sessions.specs.CommitRule as rule
 use Rattle.plain_sessions.specs.CommitRule.{both_merged, candidate, decide, is_unsettled, judged, recorded, without_conflicts}
 use Rattle.plain_sessions.specs.Records.{BranchState, is_same_state}

@@ -18,7 +18,8 @@ use Rattle.plain_writes.specs.declared.updating.Later.{Later}
 use Rattle.plain_sessions.specs.Merging.{Answers}
 use Rattle.plain_sessions.specs.Replies.{done}
 use Rattle.plain_sessions.specs.Statements.{changed as changed_database, worked, write_worked}
-use Rattle.plain_schemas.specs.Statements.{checks, write_effect}
+use Rattle.plain_schemas.specs.Statements.{write_effect}
+use Rattle.plain_writes.specs.CheckTexts.{checks}
 use Rattle.load_laws.proofs.StatementCells.{chosen, condition_is, constant, given_number, kept_number, key_test, number_bound, rows_same, scope}
 use Rattle.load_laws.proofs.StatementRows.{more_by_key, put_length, rising_by_key, rising_changed, rows_more}
 use Rattle.load_laws.specs.Loaded.{big_int, load_schema, load_table, row}

@@ -18,7 +18,7 @@ use Rattle.table_root.specs.Tables.{IsTableFound}
 use Rattle.table_root.specs.declared.heads.Look.{Look}
 use Rattle.table_root.specs.declared.records.StoredTable.{StoredTable}
 use Rattle.table_root.specs.declared.records.TableEntry as entries
-use Rattle.constraint_scan.specs.Scanning.{HasKeptAt, IsKeptAt}
+use Rattle.table_root.specs.Kept.{HasKeptAt, IsKeptAt}
 use Rattle.plain_sessions.specs.Records.{Branch, BranchState, Shared, is_branch, state_of}
 use Rattle.session_laws.specs.Changes.{BranchStands, Paired, Parts, StateStands}
 use Rattle.session_laws.specs.Laws.{StatesFollow, head_in}

@@ -7,7 +7,7 @@ ghost use Rattle.chunk_store.specs.Chunks.{chunk_bytes};
 ghost use Rattle.chunk_store.specs.Drafts.{chunks_of};
 ghost use Rattle.chunk_store.specs.Stores.{all_chunks};
 ghost use Rattle.table_root.specs.Standing.{AreThere, IsTableAt};
-ghost use Rattle.constraint_scan.specs.Scanning.{HasKeptAt, IsKeptAt};
+ghost use Rattle.table_root.specs.Kept.{HasKeptAt, IsKeptAt};
 ghost use Rattle.plain_sessions.specs.Records.{Shared};
 ghost use Rattle.session_laws.specs.Changes.{StateStands};
 ghost use Rattle.load_run.specs.Loading.{is_main, load_rows_in, rows_in};

@@ -8,7 +8,7 @@ use Rattle.chunk_store.specs.Chunks.{Chunks}
 use Rattle.constraint_scan.specs.Recorded.{AllAreRecorded}
 use Rattle.constraint_scan.specs.Recording as recording
 use Rattle.constraint_scan.specs.Recording.{may_stand, may_stand_in}
-use Rattle.constraint_scan.specs.Scanning.{IsKeptAt}
+use Rattle.table_root.specs.Kept.{IsKeptAt}
 use Rattle.constraint_scan.specs.Written.{written, written_in}
 use Rattle.constraint_scan.specs.declared.listing.ListedViolation.{ListedViolation}
 use Rattle.expr_eval.specs.Binding.{Outcome, and_then}
@@ -16,7 +16,7 @@ use Rattle.schema_model.specs.PlainTables.{PlainDatabase, PlainTable}
 use Rattle.schema_model.proofs.SizeLemmas.{few_tables}
 use Rattle.table_root.specs.Standing.{IsReadAt}
 use Rattle.plain_merge.specs.RootMerge.{MergedDatabase, SchemaConflict}
-use Rattle.plain_schemas.specs.Statements.{checks}
+use Rattle.plain_writes.specs.CheckTexts.{checks}
 use Rattle.plain_sessions.specs.CommitRule.{is_none}
 use Rattle.plain_sessions.specs.Merging.{if_within_limits, or_schema_conflict}
 use Rattle.plain_sql.specs.Lists.{unless}

@@ -18,12 +18,12 @@ use Rattle.chunk_store.specs.Chunks.{Chunks, Extends}
 use Rattle.chunk_store.specs.Drafts.{Drafting, Grows}
 use Rattle.chunk_store.specs.Kinds.{is_data, is_database, is_either, is_node, is_table}
 use Rattle.chunk_store.specs.Laws.{DraftsGrow}
-use Rattle.constraint_scan.specs.Scanning.{IsKeptAt}
+use Rattle.table_root.specs.Kept.{IsKeptAt}
 use Rattle.constraint_scan.proofs.RecordLemmas.{there_later}
 use Rattle.expr_eval.specs.Binding.{Outcome, and_then}
 use Rattle.table_root.specs.Standing.{AreThere, IsReadAt, IsTableAt, TablesStand, named_tables}
 use Rattle.table_root.specs.declared.records.TableEntry as entries
-use Rattle.plain_schemas.specs.Statements.{checks}
+use Rattle.plain_writes.specs.CheckTexts.{checks}
 use Rattle.plain_sql.specs.Lists.{each, unless}
 use Rattle.plain_writes.specs.Violations.{first_violation, is_called}
 use Rattle.plain_sessions.specs.Branching.{is_in}

@@ -16,7 +16,7 @@ use Rattle.chunk_store.specs.Standing.{IsThere}
 use Rattle.chunk_store.specs.Stores.{IsBrought, all_chunks, joined}
 use Rattle.chunk_store.specs.declared.faults.PutFault.{PutFault}
 use Rattle.commit_graph.specs.Standing.{IsCommitThere}
-use Rattle.constraint_scan.specs.Scanning.{IsKeptAt}
+use Rattle.table_root.specs.Kept.{IsKeptAt}
 use Rattle.expr_eval.specs.Binding.{Outcome, and_then}
 use Rattle.plain_merge.specs.RootMerge.{MergedDatabase}
 use Rattle.plain_sql.specs.Lists.{unless}

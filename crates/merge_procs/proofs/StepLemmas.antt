@@ -13,7 +13,7 @@ use Rattle.chunk_store.specs.declared.faults.PutFault.{PutFault}
 use Rattle.chunk_store.specs.declared.faults.PutFault.TheVariants.{Memory, Collision}
 use Rattle.chunk_store.proofs.ChunkLemmas.{at_join, either_some}
 use Rattle.chunk_store.specs.Kinds.{is_data}
-use Rattle.constraint_scan.specs.Scanning.{IsKeptAt}
+use Rattle.table_root.specs.Kept.{IsKeptAt}
 use Rattle.expr_eval.specs.Binding.{Outcome, and_then}
 use Rattle.plain_sql.specs.Lists.{unless}
 use Rattle.schema_model.specs.PlainCommits.{Commits, is_known}

@@ -15,7 +15,7 @@ use Rattle.commit_graph.specs.Standing as graph
 use Rattle.commit_graph.specs.Standing.{CommitsStand}
 use Rattle.commit_graph.specs.declared.walks.Rank.{Rank}
 use Rattle.commit_graph.proofs.WalkLemmas.{first_or_later, to_left}
-use Rattle.constraint_scan.specs.Scanning.{IsKeptAt}
+use Rattle.table_root.specs.Kept.{IsKeptAt}
 use Rattle.expr_eval.specs.Binding.{Outcome, and_then}
 use Rattle.merge_base.specs.Common.{HasCommon}
 use Rattle.schema_model.specs.PlainCommits.{AncestorsFollow, AreGrown, Commits, IsAncestor, IsBase, IsBaseOrNone, base, commit_cmp, height_of, is_ancestor, is_known}

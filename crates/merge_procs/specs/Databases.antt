@@ -2,13 +2,13 @@
 use Rattle.std.specs.Prelude.{◌≡◌, ℕ, Bool, true, false, List, Ok, Err}
 use Rattle.std.specs.List.{flat_map}
 use Rattle.chunk_store.specs.Chunks.{Chunks}
-use Rattle.constraint_scan.specs.Scanning.{IsKeptAt}
+use Rattle.table_root.specs.Kept.{IsKeptAt}
 use Rattle.constraint_scan.specs.Written.{written_in}
 use Rattle.constraint_scan.specs.declared.listing.ListedViolation.{ListedViolation}
 use Rattle.expr_eval.specs.Binding.{Outcome, and_then}
 use Rattle.schema_model.specs.PlainTables.{PlainDatabase}
 use Rattle.plain_merge.specs.RootMerge.{MergedDatabase, root3}
-use Rattle.plain_schemas.specs.Statements.{checks}
+use Rattle.plain_writes.specs.CheckTexts.{checks}
 use Rattle.plain_sessions.specs.CommitRule.{recorded}
 use Rattle.plain_sessions.specs.Merging.{if_within_limits, is_clean, or_schema_conflict}
 use Rattle.plain_writes.specs.Violations.{violations}

@@ -6,7 +6,7 @@ use Rattle.tuple_codec.specs.declared.records.BranchRecord.{BranchRecord}
 use Rattle.chunk_store.specs.Chunks.{chunk_bytes}
 use Rattle.chunk_store.specs.Drafts.{DraftParts, Drafting, Grows, IsSound, chunks_of}
 use Rattle.chunk_store.specs.Kinds.{is_data}
-use Rattle.constraint_scan.specs.Scanning.{IsKeptAt}
+use Rattle.table_root.specs.Kept.{IsKeptAt}
 use Rattle.schema_model.specs.PlainCommits.{Commits, PlainCommit, is_known}
 use Rattle.schema_model.specs.PlainTables.{PlainDatabase}
 use Rattle.script_text.specs.declared.replies.Reply.{Reply}

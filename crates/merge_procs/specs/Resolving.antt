@@ -16,7 +16,7 @@ use Rattle.conflict_tables.specs.Conflicts.{theirs_edit}
 use Rattle.table_root.specs.Standing.{AreThere, IsReadAt, IsTableAt, IsTableOf, named_tables}
 use Rattle.table_root.specs.declared.records.StoredTable.{StoredTable}
 use Rattle.table_root.specs.declared.records.TableEntry as entries
-use Rattle.plain_schemas.specs.Statements.{checks}
+use Rattle.plain_writes.specs.CheckTexts.{checks}
 use Rattle.plain_sql.specs.Lists.{each}
 use Rattle.plain_writes.specs.Violations.{first_violation}
 use Rattle.plain_sessions.specs.Merging.{breaks_index, breaks_null, is_theirs, may_settle, names_meant, resolve, rows_after, takes_bad_row, takes_theirs, their_rows, unless_violated}

@@ -4,7 +4,7 @@ use Rattle.std.specs.List.{find}
 use Rattle.std.specs.Option.{option_map}
 use Rattle.chunk_store.specs.Chunks.{Chunks, chunk_bytes}
 use Rattle.chunk_store.specs.Drafts.{DraftParts, chunks_of}
-use Rattle.constraint_scan.specs.Scanning.{IsKeptAt}
+use Rattle.table_root.specs.Kept.{IsKeptAt}
 use Rattle.expr_eval.specs.Binding.{and_then}
 use Rattle.schema_model.specs.PlainCommits.{Commits, is_ancestor, is_known}
 use Rattle.schema_model.specs.PlainTables.{PlainDatabase}

@@ -3,7 +3,7 @@
 ghost use Rattle.std.specs.Prelude.{◌≡◌, ◌≤◌, IfErr, IfOk, Some};
 ghost use Rattle.chunk_store.specs.Drafts.{IsNamed, chunks_of, pages_in};
 ghost use Rattle.chunk_store.specs.Laws.{ChunksFollow, DraftsFollow, DraftsGrow};
-ghost use Rattle.constraint_scan.specs.Scanning.{HasKeptAt};
+ghost use Rattle.table_root.specs.Kept.{HasKeptAt};
 ghost use Rattle.plain_sessions.specs.Sessions as plain;
 ghost use Rattle.plain_sessions.specs.Statements.{worked};
 ghost use Rattle.plain_sessions.specs.declared.commands.Work.TheVariants as work;

@@ -7,7 +7,7 @@ ghost use Rattle.schema_model.specs.PlainTables.{PlainDatabase, PlainTable};
 ghost use Rattle.chunk_store.specs.Clashes.{IsReason};
 ghost use Rattle.chunk_store.specs.Drafts.{Grows, chunks_of};
 ghost use Rattle.chunk_store.specs.Kinds.{is_data, is_database};
-ghost use Rattle.constraint_scan.specs.Scanning.{HasKeptAt, IsKeptAt};
+ghost use Rattle.table_root.specs.Kept.{HasKeptAt, IsKeptAt};
 ghost use Rattle.table_root.specs.Standing.{AreThere, IsReadAt, IsTableAt, named_tables};
 ghost use Rattle.plain_sessions.specs.Merging.{has_too_many_rows, names_meant, resolve};
 ghost use Rattle.plain_sessions.specs.Records.{BranchState};

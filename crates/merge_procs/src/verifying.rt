@@ -9,7 +9,7 @@ ghost use Rattle.schema_model.specs.PlainTables.{PlainDatabase};
 ghost use Rattle.table_root.specs.Standing.{DatabasesStand};
 ghost use Rattle.tuple_codec.specs.declared.values.Value.TheVariants as cell;
 ghost use Rattle.chunk_store.specs.Kinds.{is_data};
-ghost use Rattle.constraint_scan.specs.Scanning.{IsKeptAt};
+ghost use Rattle.table_root.specs.Kept.{IsKeptAt};
 ghost use Rattle.plain_sessions.specs.Merging.{verified, verify};
 ghost use Rattle.plain_sessions.specs.Records.{BranchState};
 ghost use Rattle.plain_sessions.specs.Replies.{number_field, one_row};

@@ -5,7 +5,7 @@ ghost use Rattle.std.specs.Option.{option_map};
 ghost use Rattle.chunk_store.specs.Chunks.{Chunks, chunk_bytes};
 ghost use Rattle.chunk_store.specs.Drafts.{chunks_of};
 ghost use Rattle.commit_graph.specs.Commits.{is_commit_found};
-ghost use Rattle.constraint_scan.specs.Scanning.{IsKeptAt};
+ghost use Rattle.table_root.specs.Kept.{IsKeptAt};
 ghost use Rattle.plain_sessions.specs.Branching.{commit_named, resolved};
 ghost use Rattle.plain_sessions.specs.Records.{BranchState};
 ghost use Rattle.plain_sessions.specs.Sessions as plain;

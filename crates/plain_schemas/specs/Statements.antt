@@ -2,16 +2,11 @@
 use Rattle.sql_ast.specs.declared.statements.Write.{Write}
 use Rattle.sql_ast.specs.declared.statements.Write.TheVariants as write
 use Rattle.schema_model.specs.PlainTables.{PlainDatabase}
-use Rattle.sql_pieces.specs.Checking.{canonical_expression}
 use Rattle.expr_eval.specs.Binding.{Outcome}
-use Rattle.plain_writes.specs.Violations.{Checks, checks_by}
+use Rattle.plain_writes.specs.CheckTexts.{checks}
 use Rattle.plain_writes.specs.Writes.{Effect, delete_effect, insert_effect, update_effect}
 use Rattle.plain_schemas.specs.Altered.{alter_effect}
 use Rattle.plain_schemas.specs.Effects.{create_effect, drop_effect}
-
--- a CHECK's text is judged by the expression whose canonical text it is
-abbrev pub checks : Checks
-checks = checks_by canonical_expression
 
 unfoldable pub write_effect : PlainDatabase → Write → Outcome Effect
 write_effect database (write.Create create) = create_effect database create

@@ -29,7 +29,7 @@ use Rattle.plain_sessions.specs.Records.{BranchState, clean_at, root_of}
 use Rattle.plain_sessions.specs.Sessions.{Session, Transaction, own_root}
 use Rattle.script_text.specs.declared.replies.Reply.{Reply}
 use Rattle.plain_sessions.specs.Replies.{number_field, one_row, text_field}
-use Rattle.plain_schemas.specs.Statements.{checks}
+use Rattle.plain_writes.specs.CheckTexts.{checks}
 use Rattle.plain_sessions.specs.CommitRule.{is_none, recorded}
 use Rattle.plain_sessions.specs.Branching.{is_in, resolved}
 

@@ -6,7 +6,7 @@ use Rattle.schema_model.specs.PlainCommits.{Commits, IsAncestor, PlainCommit, is
 use Rattle.schema_model.specs.PlainTables.{NamedTable, PlainDatabase}
 use Rattle.plain_sessions.specs.Records.{BranchState, Shared}
 use Rattle.plain_sessions.specs.Sessions.{Session, Transaction}
-use Rattle.plain_schemas.specs.Statements.{checks}
+use Rattle.plain_writes.specs.CheckTexts.{checks}
 
 -- each CHECK is a canonical text with a meaning over its table's columns
 abbrev pub has_meant_checks : NamedTable → Bool

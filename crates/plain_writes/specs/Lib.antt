@@ -1,4 +1,5 @@
 pub mod Violations
+pub mod CheckTexts
 pub mod Writes
 pub mod Seen
 pub mod Typed

@@ -18,10 +18,10 @@ use Rattle.std.proofs.lemmas.Bool.{and_parts, and_right as and_fails}
 use Rattle.basic_laws.proofs.Lists.{none_below}
 use Rattle.basic_laws.proofs.Truths.{not_true as bool_false, not_false as bool_true}
 use Rattle.plain_writes.specs.Violations.{Found, table_in, violations}
-use Rattle.plain_schemas.specs.Statements.{checks}
+use Rattle.plain_writes.specs.CheckTexts.{checks}
 use Rattle.constraint_scan.specs.Recorded.{AllAreRecorded}
 use Rattle.constraint_scan.specs.Recording as recording
-use Rattle.constraint_scan.specs.Scanning.{IsKeptAt}
+use Rattle.table_root.specs.Kept.{IsKeptAt}
 use Rattle.constraint_scan.specs.Written.{written, written_in}
 use Rattle.constraint_scan.specs.declared.listing.ListedViolation.{ListedViolation}
 use Rattle.plain_sessions.specs.CommitRule.{both_merged, candidate, decide, has_violations, is_in_conflict, is_in_violation, is_none, judged, merged, recorded, without_conflicts}

@@ -13,7 +13,7 @@ use Rattle.table_root.specs.Standing.{IsTableAt, TablesStand, named_tables}
 use Rattle.table_root.specs.declared.records.TableEntry.{TableEntry}
 use Rattle.plain_merge.specs.RootMerge.{table_in}
 use Rattle.table_merge.specs.Merging.{PlainSides}
-use Rattle.constraint_scan.specs.Scanning.{IsKeptAt}
+use Rattle.table_root.specs.Kept.{IsKeptAt}
 use Rattle.root_merge.specs.Choosing.{address_in}
 use Rattle.root_merge.specs.Kept.{AreKept, AreKeptSides, IsKeptPerhaps, IsKeptTable}
 

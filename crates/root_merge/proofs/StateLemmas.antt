@@ -12,7 +12,7 @@ use Rattle.schema_model.specs.Sameness.{SamenessIsEquality, is_same_database, is
 use Rattle.chunk_store.specs.Chunks.{Chunks, Extends}
 use Rattle.table_root.specs.Standing.{AreThere, DatabasesStand, named_tables}
 use Rattle.table_root.specs.declared.records.TableEntry.{TableEntry}
-use Rattle.constraint_scan.specs.Scanning.{IsKeptAt}
+use Rattle.table_root.specs.Kept.{IsKeptAt}
 use Rattle.plain_sessions.specs.CommitRule.{is_none}
 use Rattle.plain_sessions.specs.Records.{BranchState, is_same_state}
 use Rattle.root_merge.specs.Merging.{AreRoots}

@@ -5,7 +5,7 @@ use Rattle.chunk_store.specs.Chunks.{Chunks}
 use Rattle.schema_model.specs.PlainTables.{PlainDatabase}
 use Rattle.expr_eval.specs.Binding.{Outcome, and_then}
 use Rattle.plain_merge.specs.RootMerge.{MergedDatabase, SchemaConflict, root3}
-use Rattle.constraint_scan.specs.Scanning.{IsKeptAt}
+use Rattle.table_root.specs.Kept.{IsKeptAt}
 use Rattle.plain_sessions.specs.CommitRule.{both_merged, is_unsettled, recorded, without_conflicts}
 use Rattle.plain_sessions.specs.Records.{BranchState}
 use Rattle.tuple_codec.specs.declared.records.BranchRecord.{BranchRecord}

@@ -19,7 +19,7 @@ use Rattle.table_merge.specs.Merging as merging
 use Rattle.table_merge.specs.Merging.{PlainSides, keeps_limits, merged_contents}
 use Rattle.table_merge.specs.declared.faults.MergeFault.{MergeFault}
 use Rattle.table_merge.specs.declared.faults.MergeFault.TheVariants as fault
-use Rattle.constraint_scan.specs.Scanning.{IsKeptAt}
+use Rattle.table_root.specs.Kept.{IsKeptAt}
 use Rattle.root_merge.specs.Kept.{AreKeptSides, IsKeptPerhaps}
 use Rattle.root_merge.specs.Names.{LeadTo, Wanted, together}
 use Rattle.root_merge.specs.declared.merging.Merged.{Merged}

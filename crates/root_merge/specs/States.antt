@@ -5,7 +5,7 @@ use Rattle.tuple_codec.specs.declared.addresses.Address.{Address}
 use Rattle.tuple_codec.specs.declared.records.BranchRecord.{BranchRecord}
 use Rattle.chunk_store.specs.Chunks.{Chunks}
 use Rattle.expr_eval.specs.Binding.{Outcome}
-use Rattle.constraint_scan.specs.Scanning.{IsKeptAt}
+use Rattle.table_root.specs.Kept.{IsKeptAt}
 use Rattle.plain_sessions.specs.Records.{BranchState}
 use Rattle.root_merge.specs.declared.candidates.Candidate.{Candidate}
 use Rattle.root_merge.specs.declared.candidates.Candidate.TheVariants as candidate

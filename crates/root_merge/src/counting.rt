@@ -5,7 +5,7 @@ ghost use Rattle.schema_model.specs.PlainTables.{PlainDatabase, PlainTable};
 ghost use Rattle.chunk_store.specs.Drafts.{chunks_of};
 ghost use Rattle.plain_merge.specs.RootMerge.{MergedDatabase, MergedTable, root3};
 ghost use Rattle.table_merge.specs.Merging.{PlainSides};
-ghost use Rattle.constraint_scan.specs.Scanning.{HasKeptAt};
+ghost use Rattle.table_root.specs.Kept.{HasKeptAt};
 ghost use Rattle.root_merge.specs.Choosing.{LeadsTo};
 ghost use Rattle.root_merge.specs.Merging.{AreRoots, CanMergeRows, Part};
 ghost use Rattle.root_merge.specs.Names.{LeadTo, Wanted, together};

@@ -6,7 +6,7 @@ ghost use Rattle.chunk_store.specs.Clashes.{IsReason};
 ghost use Rattle.chunk_store.specs.Drafts.{Grows, chunks_of};
 ghost use Rattle.chunk_store.specs.Kinds.{is_data};
 ghost use Rattle.plain_merge.specs.RootMerge.{MergedDatabase, SchemaConflict, root3};
-ghost use Rattle.constraint_scan.specs.Scanning.{HasKeptAt, IsKeptAt};
+ghost use Rattle.table_root.specs.Kept.{HasKeptAt, IsKeptAt};
 ghost use Rattle.plain_sessions.specs.CommitRule.{candidate, decide, is_none, judged, merged, recorded};
 ghost use Rattle.plain_sessions.specs.Records.{BranchState, is_same_state};
 ghost use Rattle.root_merge.specs.Deciding.{AreBoth, AreStates, IsSide, PassesAt, anew, are_unsettled, refusal, set, settled, together};

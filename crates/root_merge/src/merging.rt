@@ -8,7 +8,7 @@ ghost use Rattle.chunk_store.specs.Drafts.{Grows, chunks_of};
 ghost use Rattle.chunk_store.specs.Kinds.{is_data, is_database};
 ghost use Rattle.plain_merge.specs.RootMerge.{MergedDatabase, root3};
 ghost use Rattle.table_merge.specs.Merging.{IsMergeReason};
-ghost use Rattle.constraint_scan.specs.Scanning.{HasKeptAt, IsKeptAt};
+ghost use Rattle.table_root.specs.Kept.{HasKeptAt, IsKeptAt};
 ghost use Rattle.root_merge.specs.Kept.{AreKept};
 ghost use Rattle.root_merge.specs.Merging.{AreMade, AreRoots, CanMerge, IsFaultOf, IsLimitFault, IsMadeOf, IsMergedDatabase, are_within};
 ghost use Rattle.root_merge.specs.Names.{LeadTo, Wanted, all_wanted, listed_as, together};

@@ -4,7 +4,7 @@ ghost use Rattle.std.specs.Prelude.{◌≡◌, Option, IfOk};
 ghost use Rattle.schema_model.specs.PlainTables.{PlainDatabase, PlainTable};
 ghost use Rattle.chunk_store.specs.Drafts.{chunks_of};
 ghost use Rattle.table_merge.specs.Merging.{AreSides, IsSide, IsSidePerhaps, PlainSides};
-ghost use Rattle.constraint_scan.specs.Scanning.{HasKeptAt, IsKeptAt};
+ghost use Rattle.table_root.specs.Kept.{HasKeptAt, IsKeptAt};
 ghost use Rattle.root_merge.specs.Kept.{AreKept, AreKeptSides, IsKeptPerhaps, IsKeptTable};
 
 use crate::laws::laws_of_growth;

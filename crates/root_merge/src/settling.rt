@@ -7,7 +7,7 @@ ghost use Rattle.chunk_store.specs.Chunks.{Chunks};
 ghost use Rattle.chunk_store.specs.Drafts.{chunks_of};
 ghost use Rattle.chunk_store.specs.Standing.{IsTree};
 ghost use Rattle.table_root.specs.Standing.{AreThere, IsTableAt};
-ghost use Rattle.constraint_scan.specs.Scanning.{HasKeptAt, IsKeptAt};
+ghost use Rattle.table_root.specs.Kept.{HasKeptAt, IsKeptAt};
 ghost use Rattle.plain_sessions.specs.CommitRule.{is_unsettled};
 ghost use Rattle.plain_sessions.specs.Records.{BranchState};
 ghost use Rattle.root_merge.specs.Settling.{AreSettledRoots, IsSettledDatabase, IsSettledTable, database_left, either, has, is_any, state_left, table_left};

@@ -32,7 +32,7 @@ use Rattle.sql_ast.specs.declared.statements.Write.TheVariants as write
 use Rattle.sql_rules.specs.Defaults.{has_outside_default}
 use Rattle.sql_rules.specs.Names.{is_long_worded, is_system_name}
 use Rattle.sql_rules.specs.Outside.{makes_some_long, statement_outside}
-use Rattle.schema_laws.specs.Laws.{IsFit}
+use Rattle.sound_laws.specs.Fit.{IsFit}
 use Rattle.sound_laws.proofs.Kept.{creates_kept}
 use Rattle.sound_laws.proofs.Readers.{filled_all}
 use Rattle.canonical_laws.specs.Sound.{is_element, is_filled, is_names, is_perhaps}

@@ -1,24 +1,17 @@
 -- What CREATE, DROP and ALTER keep.
-use Rattle.std.specs.Prelude.{◌≡◌, false, true, IfOk}
+use Rattle.std.specs.Prelude.{IfOk}
 use Rattle.schema_model.specs.PlainTables.{PlainDatabase}
 use Rattle.sql_ast.specs.declared.statements.Alter.{Alter}
-use Rattle.sql_ast.specs.declared.statements.Statement.TheVariants as statement
 use Rattle.sql_ast.specs.declared.statements.Write.{Write}
 use Rattle.sql_ast.specs.declared.statements.Write.TheVariants as write
 use Rattle.sql_ast.specs.declared.tables.CreateTable.{CreateTable}
 use Rattle.sql_ast.specs.declared.tables.DropTable.{DropTable}
-use Rattle.sql_rules.specs.Outside.{outside}
-use Rattle.canonical_laws.specs.Sound.{is_sound}
+use Rattle.sound_laws.specs.Fit.{IsFit}
 use Rattle.plain_writes.specs.Violations.{Checks}
 use Rattle.plain_schemas.specs.Altered.{alter_effect}
 use Rattle.plain_schemas.specs.Effects.{create_effect, drop_effect}
 use Rattle.plain_schemas.specs.Statements.{write_effect}
 use Rattle.write_laws.specs.Laws.{IsKept}
-
--- a statement that a text can be, and that the text alone doesn't refuse
-pub record IsFit (write : Write) : Type 0 where
-  pub inside : outside (statement.Write write) ≡ false
-  pub sound : is_sound (statement.Write write) ≡ true
 
 pub record SchemasKeep : Type 0 where
   pub creates : (database : PlainDatabase) (create : CreateTable) → IsKept database → IsFit (write.Create create) → IfOk (create_effect database create) (λ effect. IsKept effect.database)

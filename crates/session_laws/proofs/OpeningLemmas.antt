@@ -16,7 +16,7 @@ use Rattle.chunk_store.specs.Standing.{IsThere}
 use Rattle.commit_graph.specs.Commits.{IsCommit}
 use Rattle.commit_graph.specs.Standing.{IsCommitThere}
 use Rattle.table_root.specs.Standing.{IsDatabaseAt}
-use Rattle.constraint_scan.specs.Scanning.{IsKeptAt}
+use Rattle.table_root.specs.Kept.{IsKeptAt}
 use Rattle.plain_sessions.specs.Branching.{is_branch_there}
 use Rattle.plain_sessions.specs.Records.{clean_at, first_commit, no_commits, opening}
 use Rattle.plain_sessions.specs.StateLimits.{is_date}

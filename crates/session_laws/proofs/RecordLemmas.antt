@@ -13,7 +13,7 @@ use Rattle.schema_model.specs.PlainTables.{PlainDatabase}
 use Rattle.schema_model.specs.Sameness.{SamenessIsEquality, is_same_option}
 use Rattle.chunk_store.specs.Chunks.{Chunks, Extends}
 use Rattle.table_root.specs.Standing.{DatabasesStand}
-use Rattle.constraint_scan.specs.Scanning.{IsKeptAt}
+use Rattle.table_root.specs.Kept.{IsKeptAt}
 use Rattle.plain_sessions.specs.Records.{BranchState, is_same_state}
 use Rattle.session_laws.specs.Laws.{RecordsFollow}
 use Rattle.session_laws.specs.Records.{RecordStands}

@@ -24,7 +24,8 @@ use Rattle.plain_schemas.specs.Altered.{altered, change_of, is_open, table_after
 use Rattle.plain_schemas.specs.Effects.{changed_to, check_allowed, create_effect, drop_effect, foreign_allowed, if_within, is_child, is_there, judged, key_lists, with_table, without_table}
 use Rattle.plain_schemas.specs.Lists.{all_allowed}
 use Rattle.plain_schemas.specs.Made.{columns_made, schema_of}
-use Rattle.plain_schemas.specs.Statements.{checks, write_effect}
+use Rattle.plain_schemas.specs.Statements.{write_effect}
+use Rattle.plain_writes.specs.CheckTexts.{checks}
 use Rattle.plain_schemas.specs.declared.changing.ColumnChange.{ColumnChange}
 use Rattle.plain_sessions.specs.Statements.{counted_or_done}
 use Rattle.session_txn.specs.Writing.{written_reply}

@@ -11,7 +11,7 @@ use Rattle.basic_laws.proofs.Truths.{not_true}
 use Rattle.chunk_store.specs.Chunks.{Chunks}
 use Rattle.conflict_tables.specs.Conflicts as conflicts
 use Rattle.conflict_tables.specs.Conflicts.{is_among}
-use Rattle.constraint_scan.specs.Scanning.{IsKeptAt}
+use Rattle.table_root.specs.Kept.{IsKeptAt}
 use Rattle.edit_laws.proofs.Orders.{apart, greater, less_trans}
 use Rattle.expr_eval.specs.Binding.{Outcome, and_then}
 use Rattle.plain_sessions.specs.Branching.{put_table, table_cmp}

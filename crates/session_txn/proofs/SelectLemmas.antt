@@ -22,7 +22,7 @@ use Rattle.system_tables.specs.Known.{as_named, named_read, system_tables}
 use Rattle.tuple_codec.specs.declared.answers.Answer.{Answer}
 use Rattle.chunk_store.specs.Chunks.{Chunks}
 use Rattle.chunk_store.specs.Drafts.{chunks_of}
-use Rattle.constraint_scan.specs.Scanning.{HasKeptAt, IsKeptAt}
+use Rattle.table_root.specs.Kept.{HasKeptAt, IsKeptAt}
 use Rattle.schema_model.specs.Limits.{is_named_within_limits, most_tables}
 use Rattle.table_root.specs.Standing.{CanRead, IsReadAt}
 use Rattle.expr_eval.specs.Binding.{Outcome, and_then}

@@ -9,7 +9,7 @@ use Rattle.chunk_store.specs.Chunks.{Chunk, chunk_bytes}
 use Rattle.chunk_store.specs.Drafts.{Drafting, DraftParts, IsNamed, chunks_of}
 use Rattle.chunk_store.specs.Stores.{all_chunks}
 use Rattle.chunk_store.specs.Kinds.{is_commit}
-use Rattle.constraint_scan.specs.Scanning.{HasKeptAt, IsKeptAt}
+use Rattle.table_root.specs.Kept.{HasKeptAt, IsKeptAt}
 use Rattle.table_root.specs.declared.heads.Look.{Look}
 use Rattle.script_text.specs.Output.{shortage}
 use Rattle.script_text.specs.declared.replies.Reply.{Reply}

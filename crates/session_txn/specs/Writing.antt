@@ -4,7 +4,7 @@ use Rattle.tuple_codec.specs.declared.addresses.Address.{Address}
 use Rattle.chunk_store.specs.Drafts.{Drafting, Grows, chunks_of}
 use Rattle.chunk_store.specs.Kinds.{is_data}
 use Rattle.chunk_store.specs.declared.faults.Clash.{Clash}
-use Rattle.constraint_scan.specs.Scanning.{IsKeptAt}
+use Rattle.table_root.specs.Kept.{IsKeptAt}
 use Rattle.expr_eval.specs.Binding.{Outcome}
 use Rattle.plain_writes.specs.Writes.{Effect}
 use Rattle.plain_sessions.specs.Statements.{counted_or_done}

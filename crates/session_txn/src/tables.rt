@@ -8,7 +8,7 @@ ghost use Rattle.chunk_store.specs.Kinds.{is_data};
 ghost use Rattle.table_root.specs.Standing.{IsReadAt, IsTableAt, IsTableOf};
 ghost use Rattle.plain_writes.specs.Writes.{replaced};
 ghost use Rattle.constraint_scan.specs.Recording.{MayStand};
-ghost use Rattle.constraint_scan.specs.Scanning.{HasKeptAt, IsKeptAt};
+ghost use Rattle.table_root.specs.Kept.{HasKeptAt, IsKeptAt};
 ghost use Rattle.sql_write.specs.Putting.{AreListed, AreListedAt, MayReplace, address_in, readdress, readdressed};
 
 use crate::laws::laws_of_growth;

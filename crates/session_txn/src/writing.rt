@@ -4,7 +4,7 @@ ghost use Rattle.std.specs.Prelude.{◌≡◌, ◌≤◌, true};
 ghost use Rattle.chunk_store.specs.Laws.{ChunksFollow, DraftsFollow, DraftsGrow};
 ghost use Rattle.chunk_store.specs.Drafts.{Grows, IsNamed, Longer, chunks_of, pages_in};
 ghost use Rattle.chunk_store.specs.Kinds.{is_data};
-ghost use Rattle.constraint_scan.specs.Scanning.{HasKeptAt, IsKeptAt};
+ghost use Rattle.table_root.specs.Kept.{HasKeptAt, IsKeptAt};
 ghost use Rattle.schema_model.specs.PlainTables.{PlainDatabase};
 ghost use Rattle.script_text.specs.Collisions.{TellsTruly};
 ghost use Rattle.plain_sessions.specs.Moments.{is_in_transaction};
@@ -13,7 +13,7 @@ ghost use Rattle.plain_sessions.specs.declared.commands.Command.TheVariants as c
 ghost use Rattle.plain_sessions.specs.declared.commands.Work.TheVariants as work;
 ghost use Rattle.sql_write.specs.Writing.{Writes};
 ghost use Rattle.table_root.specs.Standing.{DatabasesStand};
-ghost use Rattle.schema_laws.specs.Laws.{IsFit};
+ghost use Rattle.sound_laws.specs.Fit.{IsFit};
 ghost use Rattle.session_laws.specs.Laws.{RecordsFollow, TransactionsFollow};
 ghost use Rattle.session_state.specs.Standing.{IsInTransaction, SessionStands};
 ghost use Rattle.session_txn.specs.Answering.{AnswersAlone};

@@ -11,7 +11,7 @@ use Rattle.schema_model.specs.WrittenForms.{CommitParts}
 use Rattle.chunk_store.specs.Chunks.{Chunk, Chunks}
 use Rattle.chunk_store.specs.Kinds.{is_commit}
 use Rattle.commit_graph.specs.Commits.{IsCommitFound, HasCommit, is_commit_found}
-use Rattle.constraint_scan.specs.Scanning.{IsKeptAt}
+use Rattle.table_root.specs.Kept.{IsKeptAt}
 use Rattle.table_root.specs.Standing.{IsDatabaseAt}
 use Rattle.plain_writes.proofs.InsertionLemmas.{two, clash, left_so, right_so}
 use Rattle.plain_sessions.specs.Branching.{commit_named, heads_in, or_commit, resolved}

@@ -31,11 +31,12 @@ use Rattle.plain_writes.specs.Writes.{Effect, replaced}
 use Rattle.plain_schemas.specs.Altered.{alter_effect, altered, change_of, is_open, schema_after, small_row_after, table_after}
 use Rattle.plain_schemas.specs.declared.changing.ColumnChange.{ColumnChange}
 use Rattle.plain_schemas.specs.Effects.{changed_to}
-use Rattle.constraint_scan.specs.Scanning.{IsKeptAt}
+use Rattle.table_root.specs.Kept.{IsKeptAt}
 use Rattle.index_keep.specs.Keeping.{table_of_rows}
 use Rattle.write_laws.specs.Laws.{IsKept}
 use Rattle.write_laws.proofs.DatabaseLemmas.{found_kept}
-use Rattle.schema_laws.specs.Laws.{IsFit, SchemasKeep}
+use Rattle.schema_laws.specs.Laws.{SchemasKeep}
+use Rattle.sound_laws.specs.Fit.{IsFit}
 use Rattle.sql_write.specs.Altering.{CanRebuild}
 use Rattle.sql_write.specs.Finding.{Finds}
 use Rattle.sql_write.specs.Making.{Makes, of_put}

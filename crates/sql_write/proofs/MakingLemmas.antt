@@ -15,7 +15,7 @@ use Rattle.table_root.specs.Standing.{IsTableAt, TablesStand}
 use Rattle.table_root.specs.declared.records.TableEntry.{TableEntry}
 use Rattle.plain_writes.specs.Writes.{Effect}
 use Rattle.plain_schemas.specs.Effects.{changed_to, empty_table, with_table}
-use Rattle.constraint_scan.specs.Scanning.{IsKeptAt}
+use Rattle.table_root.specs.Kept.{IsKeptAt}
 use Rattle.write_laws.proofs.DatabaseLemmas.{IsKeptTable}
 use Rattle.sql_write.specs.Adding.{CanAdd}
 use Rattle.sql_write.specs.Building.{CanBuild}

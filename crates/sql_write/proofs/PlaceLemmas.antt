@@ -24,7 +24,7 @@ use Rattle.plain_sql.specs.declared.faults.Refused.{Refused}
 use Rattle.plain_sql.specs.declared.faults.Refused.TheVariants.{Memory, By}
 use Rattle.plain_writes.specs.Violations.{Checks}
 use Rattle.plain_writes.specs.Writes.{Effect, filled, inserted, keyed_cmp, new_row, places_named, result_of, tuple_said}
-use Rattle.constraint_scan.specs.Scanning.{IsKeptAt}
+use Rattle.table_root.specs.Kept.{IsKeptAt}
 use Rattle.write_laws.proofs.DatabaseLemmas.{IsKeptTable, found_kept, limits_so, rows_good}
 use Rattle.write_laws.proofs.OrderLemmas.{in_order_all, in_order_length}
 use Rattle.write_laws.proofs.RowLemmas.{all_left, all_right}

@@ -19,11 +19,12 @@ use Rattle.plain_writes.specs.Writes.{Effect}
 use Rattle.plain_schemas.specs.Effects.{changed_to, check_allowed, create_effect, drop_effect, empty_table, foreign_allowed, is_there, key_lists, with_table, without_table}
 use Rattle.plain_schemas.specs.Lists.{all_allowed}
 use Rattle.plain_schemas.specs.Made.{columns_made, schema_of}
-use Rattle.constraint_scan.specs.Scanning.{IsKeptAt}
+use Rattle.table_root.specs.Kept.{IsKeptAt}
 use Rattle.write_laws.specs.Laws.{IsKept}
 use Rattle.write_laws.proofs.DatabaseLemmas.{IsKeptTable, found_kept}
 use Rattle.write_laws.proofs.OutcomeLemmas.{then_so, unless_so}
-use Rattle.schema_laws.specs.Laws.{IsFit, SchemasKeep}
+use Rattle.schema_laws.specs.Laws.{SchemasKeep}
+use Rattle.sound_laws.specs.Fit.{IsFit}
 use Rattle.sql_ast.specs.declared.statements.Write.TheVariants as write
 use Rattle.sql_write.specs.Adding.{CanAdd}
 use Rattle.sql_write.specs.Listing.{without}

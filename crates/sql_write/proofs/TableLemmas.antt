@@ -16,7 +16,7 @@ use Rattle.table_root.specs.Standing.{DatabasesStand, IsReadAt, IsTableAt, Table
 use Rattle.table_root.specs.declared.records.TableEntry.{TableEntry}
 use Rattle.plain_writes.specs.Violations.{is_called, table_in}
 use Rattle.plain_writes.specs.Writes.{replaced, replaced_in}
-use Rattle.constraint_scan.specs.Scanning.{IsKeptAt}
+use Rattle.table_root.specs.Kept.{IsKeptAt}
 use Rattle.write_laws.proofs.DatabaseLemmas.{length_same, names_by, names_rise, tables_are}
 use Rattle.write_laws.proofs.OrderLemmas.{right_so, two}
 use Rattle.sql_write.specs.Putting.{AreListed, AreListedAt, address_in, readdress, readdressed}

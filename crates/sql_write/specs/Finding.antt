@@ -4,7 +4,7 @@ use Rattle.schema_model.specs.PlainTables.{PlainDatabase, PlainTable}
 use Rattle.chunk_store.specs.Chunks.{Chunks}
 use Rattle.table_root.specs.Standing.{IsTableOf, named_tables}
 use Rattle.plain_writes.specs.Violations.{table_in}
-use Rattle.constraint_scan.specs.Scanning.{IsKeptAt}
+use Rattle.table_root.specs.Kept.{IsKeptAt}
 use Rattle.sql_write.specs.declared.faults.SqlFault.{SqlFault}
 use Rattle.sql_write.specs.declared.faults.SqlFault.TheVariants as fault
 use Rattle.sql_write.specs.declared.finding.Found.{Found}

@@ -4,7 +4,7 @@ use Rattle.chunk_store.specs.Chunks.{Chunks}
 use Rattle.chunk_store.specs.Clashes.{IsMet}
 use Rattle.expr_eval.specs.Binding.{Outcome}
 use Rattle.plain_writes.specs.Writes.{Effect}
-use Rattle.constraint_scan.specs.Scanning.{IsKeptAt}
+use Rattle.table_root.specs.Kept.{IsKeptAt}
 use Rattle.sql_write.specs.declared.faults.SqlFault.{SqlFault}
 use Rattle.sql_write.specs.declared.faults.SqlFault.TheVariants as fault
 use Rattle.sql_write.specs.declared.writing.Written.{Written}

@@ -8,8 +8,8 @@ ghost use Rattle.chunk_store.specs.Drafts.{Grows, chunks_of};
 ghost use Rattle.chunk_store.specs.Kinds.{is_data};
 ghost use Rattle.table_root.specs.Standing.{IsReadAt};
 ghost use Rattle.plain_schemas.specs.Effects.{create_effect, with_table};
-ghost use Rattle.constraint_scan.specs.Scanning.{HasKeptAt, IsKeptAt};
-ghost use Rattle.schema_laws.specs.Laws.{IsFit};
+ghost use Rattle.table_root.specs.Kept.{HasKeptAt, IsKeptAt};
+ghost use Rattle.sound_laws.specs.Fit.{IsFit};
 ghost use Rattle.sql_write.specs.Adding.{CanAdd};
 ghost use Rattle.sql_write.specs.Making.{Makes};
 

@@ -10,7 +10,7 @@ ghost use Rattle.chunk_store.specs.Kinds.{is_data};
 ghost use Rattle.table_root.specs.Standing.{CanRead, IsReadAt};
 ghost use Rattle.plain_writes.specs.Violations.{first_violation};
 ghost use Rattle.plain_writes.specs.Writes.{effect_if, filled, replaced, with_rows};
-ghost use Rattle.plain_schemas.specs.Statements.{checks};
+ghost use Rattle.plain_writes.specs.CheckTexts.{checks};
 ghost use Rattle.sql_write.specs.Making.{Makes};
 ghost use Rattle.sql_write.specs.Putting.{CanFill, CanPut};
 

@@ -3,9 +3,9 @@
 ghost use Rattle.schema_model.specs.PlainTables.{PlainDatabase};
 ghost use Rattle.chunk_store.specs.Drafts.{Grows, Longer, chunks_of};
 ghost use Rattle.chunk_store.specs.Kinds.{is_data};
-ghost use Rattle.constraint_scan.specs.Scanning.{HasKeptAt, IsKeptAt};
+ghost use Rattle.table_root.specs.Kept.{HasKeptAt, IsKeptAt};
 ghost use Rattle.plain_schemas.specs.Statements.{write_effect};
-ghost use Rattle.schema_laws.specs.Laws.{IsFit};
+ghost use Rattle.sound_laws.specs.Fit.{IsFit};
 ghost use Rattle.sql_write.specs.Making.{Makes};
 ghost use Rattle.sql_write.specs.Writing.{Writes};
 

@@ -12,7 +12,7 @@ use Rattle.plain_sql.specs.Lists.{repeats}
 use Rattle.plain_writes.specs.Violations.{violations_in}
 use Rattle.plain_writes.specs.Writes.{keyed_cmp}
 use Rattle.plain_writes.proofs.SortLemmas.{risen_once}
-use Rattle.plain_schemas.specs.Statements.{checks}
+use Rattle.plain_writes.specs.CheckTexts.{checks}
 use Rattle.plain_sessions.specs.CommitRule.{recorded, with_violations}
 use Rattle.write_laws.specs.Laws.{IsKept}
 use Rattle.write_laws.proofs.OrderLemmas.{both_so}

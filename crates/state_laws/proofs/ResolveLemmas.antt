@@ -18,7 +18,7 @@ use Rattle.sql_procedures.specs.declared.requests.Side.{Side}
 use Rattle.sql_procedures.specs.declared.requests.Side.TheVariants as side
 use Rattle.expr_eval.specs.Binding.{Outcome}
 use Rattle.plain_sql.specs.Lists.{each, has, repeats, unless}
-use Rattle.plain_schemas.specs.Statements.{checks}
+use Rattle.plain_writes.specs.CheckTexts.{checks}
 use Rattle.plain_writes.specs.Violations.{first_violation}
 use Rattle.plain_writes.specs.Writes.{keyed_cmp}
 use Rattle.plain_writes.proofs.SortLemmas.{risen_once}

@@ -6,7 +6,8 @@ use Rattle.sql_ast.specs.declared.statements.Write.TheVariants as write
 use Rattle.expr_eval.specs.Binding.{Outcome}
 use Rattle.plain_sql.specs.Plans.{answer}
 use Rattle.plain_schemas.specs.Statements.{write_effect}
-use Rattle.schema_laws.specs.Laws.{AllKeep, IsFit}
+use Rattle.schema_laws.specs.Laws.{AllKeep}
+use Rattle.sound_laws.specs.Fit.{IsFit}
 use Rattle.table_merge.specs.Laws.{MergesAreTables}
 use Rattle.plain_sessions.specs.declared.commands.Work.{Work}
 use Rattle.plain_sessions.specs.declared.commands.Work.TheVariants.{Ask, Change, Add, ResetTo, Commit, Merge, Resolve, Verify}

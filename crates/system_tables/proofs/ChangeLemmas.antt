@@ -5,7 +5,7 @@ use Rattle.std.specs.List.{AllByRecursion, find, flat_map}
 use Rattle.std.specs.Option.{option_map}
 use Rattle.std.specs.Cmp.Lexicographic.{bytes_decides}
 use Rattle.chunk_store.specs.Chunks.{Chunks}
-use Rattle.constraint_scan.specs.Scanning.{IsKeptAt}
+use Rattle.table_root.specs.Kept.{IsKeptAt}
 use Rattle.plain_merge.specs.KeyByKey.{all_keys}
 use Rattle.plain_merge.specs.RootMerge.{names_of}
 use Rattle.plain_sessions.specs.Sessions.{Transaction, own_root}

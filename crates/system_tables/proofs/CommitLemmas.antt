@@ -6,7 +6,7 @@ use Rattle.basic_laws.proofs.Options.{some_there as some_known}
 use Rattle.chunk_store.specs.Chunks.{Chunks}
 use Rattle.commit_graph.specs.Commits.{HasCommit, HasOneSpelling, IsCommitFound}
 use Rattle.commit_graph.specs.Standing.{CommitsFollow}
-use Rattle.constraint_scan.specs.Scanning.{IsKeptAt}
+use Rattle.table_root.specs.Kept.{IsKeptAt}
 use Rattle.plain_sessions.specs.Records.{database_in, root_of}
 use Rattle.plain_sessions.specs.Sessions.{Transaction, own_root}
 use Rattle.plain_sessions.specs.SystemTables.{committed}

@@ -5,7 +5,7 @@ use Rattle.chunk_store.specs.Drafts.{DraftParts, chunks_of}
 use Rattle.chunk_store.specs.Chunks.{chunk_bytes}
 use Rattle.chunk_store.specs.Laws.{ChunksFollow}
 use Rattle.commit_graph.specs.Standing.{CommitsFollow, CommitsStand}
-use Rattle.constraint_scan.specs.Scanning.{IsKeptAt}
+use Rattle.table_root.specs.Kept.{IsKeptAt}
 use Rattle.plain_sessions.specs.Sessions as plain
 use Rattle.plain_sessions.specs.Sessions.{Transaction, own_root}
 use Rattle.schema_model.specs.PlainCommits.{is_known}

@@ -3,7 +3,7 @@ use Rattle.std.specs.Prelude.{◌≡◌, ℕ, Bool, true, false, if◌then◌els
 use Rattle.std.specs.List.{flat_map}
 use Rattle.chunk_store.specs.Chunks.{Chunks}
 use Rattle.commit_graph.specs.Standing.{CommitsStand}
-use Rattle.constraint_scan.specs.Scanning.{IsKeptAt}
+use Rattle.table_root.specs.Kept.{IsKeptAt}
 use Rattle.plain_sessions.specs.Sessions.{Transaction, own_root}
 use Rattle.plain_sessions.specs.SystemTables.{row_if}
 use Rattle.schema_model.specs.Limits.{is_database_within_limits}

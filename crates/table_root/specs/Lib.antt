@@ -3,6 +3,7 @@ pub mod Databases
 pub mod Branches
 pub mod Spellings
 pub mod Standing
+pub mod Kept
 pub mod Finds
 pub mod Reading
 pub mod Names

@@ -3,7 +3,7 @@ use Rattle.std.specs.List.{list_any}
 use Rattle.std.proofs.lemmas.Result.{IfOk-weaker}
 use Rattle.basic_laws.proofs.Lists.{any_first, any_later, none_below as no_items}
 use Rattle.schema_model.specs.declared.schemas.CheckDef.{CheckDef}
-use Rattle.plain_schemas.specs.Statements.{checks}
+use Rattle.plain_writes.specs.CheckTexts.{checks}
 use Rattle.plain_writes.specs.Violations.{breaks_check}
 use Rattle.constraint_scan.proofs.PairLemmas.{by_first}
 use Rattle.constraint_scan.proofs.changing.+has_failed_by_any.Goals as goal

@@ -1,6 +1,6 @@
 use Rattle.std.proofs.Common.{◌≡◌, ◌-◌, ◌∙◌, sym, drop, length, take}
 use Rattle.std.proofs.lemmas.Result.{IfOk-weaker}
-use Rattle.plain_schemas.specs.Statements.{checks}
+use Rattle.plain_writes.specs.CheckTexts.{checks}
 use Rattle.constraint_scan.specs.Changed.{is_failed}
 use Rattle.constraint_scan.specs.Pairs.{some_come}
 use Rattle.constraint_scan.proofs.PairLemmas.{first_not, first_so, none_below, none_come, pair_parts, failed_come}

@@ -2,7 +2,7 @@ use Rattle.std.proofs.Common.{◌∙◌, List, ap}
 use Rattle.std.specs.List.{list_any}
 use Rattle.schema_model.specs.declared.schemas.CheckDef.{CheckDef}
 use Rattle.tuple_codec.specs.Rows.{Cells}
-use Rattle.plain_schemas.specs.Statements.{checks}
+use Rattle.plain_writes.specs.CheckTexts.{checks}
 use Rattle.plain_writes.specs.Violations.{breaks_check}
 use Rattle.constraint_scan.proofs.FoundLemmas.{so_found}
 use Rattle.constraint_scan.proofs.MemberLemmas.{any_swapped}

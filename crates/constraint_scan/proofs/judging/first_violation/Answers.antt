@@ -3,7 +3,7 @@ use Rattle.std.proofs.lemmas.Slice.Eq.{bytes_eq-Decides}
 use Rattle.chunk_store.specs.Drafts.{chunks_of}
 use Rattle.table_root.specs.Standing.{IsDatabaseAt}
 use Rattle.plain_writes.specs.Violations.{first_violation}
-use Rattle.plain_schemas.specs.Statements.{checks}
+use Rattle.plain_writes.specs.CheckTexts.{checks}
 use Rattle.constraint_scan.proofs.judging.first_violation.Goals as goal
 
 pub returns-then-eq : goal.returns-then-eq

@@ -1,7 +1,7 @@
 use Rattle.std.proofs.Common.{◌≡◌, ◌∙◌, IfOk, ap, map, subst}
 use Rattle.plain_writes.specs.Seen.{named_seen}
 use Rattle.plain_writes.specs.Violations.{first_violation}
-use Rattle.plain_schemas.specs.Statements.{checks}
+use Rattle.plain_writes.specs.CheckTexts.{checks}
 use Rattle.constraint_scan.proofs.judging.judged.Goals as goal
 
 pub returns : goal.returns

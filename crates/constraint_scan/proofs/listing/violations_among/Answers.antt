@@ -2,7 +2,7 @@ use Rattle.std.proofs.Common.{◌≡◌, ◌∙◌, IfOk, ap, map, subst}
 use Rattle.std.specs.List.{flat_map, list_all}
 use Rattle.plain_writes.specs.Seen.{found_seen, named_seen}
 use Rattle.plain_writes.specs.Violations.{violations}
-use Rattle.plain_schemas.specs.Statements.{checks}
+use Rattle.plain_writes.specs.CheckTexts.{checks}
 use Rattle.constraint_scan.specs.Written.{fits_in, written_in}
 use Rattle.constraint_scan.proofs.ThinLemmas.{thin_fits, written_thin}
 use Rattle.constraint_scan.proofs.listing.violations_among.Goals as goal

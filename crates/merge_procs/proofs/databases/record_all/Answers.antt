@@ -3,8 +3,8 @@ use Rattle.std.proofs.lemmas.Result.{IfOk-weaker}
 use Rattle.schema_model.specs.PlainTables.{PlainDatabase}
 use Rattle.chunk_store.specs.Drafts.{chunks_of}
 use Rattle.constraint_scan.specs.Recording.{recorded_as}
-use Rattle.constraint_scan.specs.Scanning.{IsKeptAt}
-use Rattle.plain_schemas.specs.Statements.{checks}
+use Rattle.table_root.specs.Kept.{IsKeptAt}
+use Rattle.plain_writes.specs.CheckTexts.{checks}
 use Rattle.plain_sessions.specs.CommitRule.{recorded}
 use Rattle.plain_writes.specs.Violations.{violations}
 use Rattle.merge_procs.proofs.DatabasesLemmas.{can_record}

@@ -5,9 +5,9 @@ use Rattle.schema_model.specs.PlainTables.{PlainDatabase}
 use Rattle.chunk_store.specs.Chunks.{Extends}
 use Rattle.chunk_store.specs.Drafts.{chunks_of}
 use Rattle.plain_writes.specs.Violations.{violations}
-use Rattle.plain_schemas.specs.Statements.{checks}
+use Rattle.plain_writes.specs.CheckTexts.{checks}
 use Rattle.constraint_scan.specs.Recording.{recorded_as}
-use Rattle.constraint_scan.specs.Scanning.{IsKeptAt}
+use Rattle.table_root.specs.Kept.{IsKeptAt}
 use Rattle.plain_sessions.specs.CommitRule.{is_none, recorded}
 use Rattle.root_merge.specs.declared.settling.Left.{Left}
 use Rattle.root_merge.proofs.DecideLemmas.{all_recorded, can_record, read_kept, stays_recorded}

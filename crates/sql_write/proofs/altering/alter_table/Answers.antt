@@ -8,7 +8,7 @@ use Rattle.plain_writes.specs.Violations.{table_in}
 use Rattle.plain_writes.specs.Writes.{replaced}
 use Rattle.plain_schemas.specs.Altered.{alter_effect}
 use Rattle.plain_schemas.specs.Effects.{changed_to}
-use Rattle.plain_schemas.specs.Statements.{checks}
+use Rattle.plain_writes.specs.CheckTexts.{checks}
 use Rattle.index_keep.specs.Keeping.{table_of_rows}
 use Rattle.sql_write.specs.Altering.{CanRebuild}
 use Rattle.sql_write.proofs.AlteringLemmas.{alters, bare_after, found_parts, may_rebuild, put_makes}

@@ -5,7 +5,7 @@ use Rattle.schema_model.specs.PlainTables.{row_items}
 use Rattle.expr_eval.specs.Binding.{Outcome}
 use Rattle.index_keep.specs.Entries.{AreSorted}
 use Rattle.plain_sql.specs.Lists.{in_order, repeats}
-use Rattle.plain_schemas.specs.Statements.{checks}
+use Rattle.plain_writes.specs.CheckTexts.{checks}
 use Rattle.plain_writes.specs.Writes.{Effect, filled, keyed_cmp}
 use Rattle.sql_write.specs.Making.{Makes}
 use Rattle.sql_write.proofs.PlaceLemmas.{by_key_filled, by_key_refused, can_fill, count_edits, repeats_are, rows_tree}

@@ -6,7 +6,7 @@ use Rattle.schema_model.specs.Limits.{is_row_within_limits}
 use Rattle.schema_model.specs.PlainTables.{is_row}
 use Rattle.schema_model.specs.declared.schemas.Schema.{Schema}
 use Rattle.expr_eval.specs.Binding.{Outcome, and_then}
-use Rattle.plain_schemas.specs.Statements.{checks}
+use Rattle.plain_writes.specs.CheckTexts.{checks}
 use Rattle.plain_writes.specs.Writes.{Effect, result_of}
 use Rattle.write_laws.proofs.RowLemmas.{all_left}
 use Rattle.sql_write.specs.Finding.{IsFound}

@@ -5,7 +5,7 @@ use Rattle.chunk_store.specs.Kinds.{is_data}
 use Rattle.schema_model.specs.Limits.{most_rows}
 use Rattle.plain_writes.specs.Violations.{first_violation}
 use Rattle.plain_writes.specs.Writes.{effect_if, replaced, with_rows}
-use Rattle.plain_schemas.specs.Statements.{checks}
+use Rattle.plain_writes.specs.CheckTexts.{checks}
 use Rattle.sql_write.specs.Making.{Makes}
 use Rattle.sql_write.proofs.TableLemmas.{read_later}
 use Rattle.sql_write.proofs.putting.fill_table.Goals as goal

@@ -2,7 +2,7 @@ use Rattle.std.proofs.Common.{ℕ, List, Option, sym, ap, ◌∙◌, subst}
 use Rattle.chunk_store.specs.Drafts.{chunks_of}
 use Rattle.schema_model.specs.PlainTables.{PlainTable}
 use Rattle.expr_eval.specs.Binding.{Outcome, and_then}
-use Rattle.plain_schemas.specs.Statements.{checks}
+use Rattle.plain_writes.specs.CheckTexts.{checks}
 use Rattle.plain_sql.specs.Lists.{or_refuse}
 use Rattle.plain_writes.specs.Violations.{table_in}
 use Rattle.plain_writes.specs.Writes.{Effect, deleted}

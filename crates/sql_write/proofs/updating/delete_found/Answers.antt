@@ -4,7 +4,7 @@ use Rattle.schema_model.specs.declared.schemas.Schema.{Schema}
 use Rattle.chunk_store.specs.Drafts.{chunks_of}
 use Rattle.expr_eval.specs.Binding.{Outcome, and_then}
 use Rattle.expr_eval.specs.declared.bound.BoundExpr.{BoundExpr}
-use Rattle.plain_schemas.specs.Statements.{checks}
+use Rattle.plain_writes.specs.CheckTexts.{checks}
 use Rattle.plain_sql.specs.Answers.{Meaning}
 use Rattle.plain_sql.specs.Plans.{meaning}
 use Rattle.plain_writes.specs.Violations.{own_scope}

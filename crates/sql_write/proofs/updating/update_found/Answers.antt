@@ -3,7 +3,7 @@ use Rattle.tuple_codec.specs.Rows.{Cells}
 use Rattle.schema_model.specs.declared.schemas.Schema.{Schema}
 use Rattle.chunk_store.specs.Drafts.{chunks_of}
 use Rattle.expr_eval.specs.Binding.{Outcome, and_then}
-use Rattle.plain_schemas.specs.Statements.{checks}
+use Rattle.plain_writes.specs.CheckTexts.{checks}
 use Rattle.plain_writes.specs.Writes.{Effect, filled, updated}
 use Rattle.sql_write.specs.Changes.{change_of, change_seen}
 use Rattle.sql_write.specs.Finding.{IsFound}
