@@ -16,8 +16,11 @@ pub mod ReadBack
 pub mod Depths
 pub mod WrittenNodes
 pub mod Given
+pub mod GivenTests
 pub mod StringTexts
 pub mod TokenPieces
+pub mod OpenTokens
+pub mod ReadTokens
 pub mod TextUtf8
 pub mod StoredTexts
 mod Vectors

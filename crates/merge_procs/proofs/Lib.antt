@@ -5,6 +5,7 @@ mod DatabasesLemmas
 pub mod ClosingLemmas
 mod VerifyingLemmas
 mod PlanningLemmas
+mod DecidingLemmas
 mod TheirsLemmas
 mod TakingLemmas
 mod SettleLemmas

@@ -19,7 +19,7 @@ use Rattle.write_laws.proofs.OrderLemmas.{two}
 use Rattle.write_laws.proofs.OutcomeLemmas.{ok_same, unless_so}
 use Rattle.schema_laws.specs.Laws.{AllKeep, SchemasKeep}
 use Rattle.schema_laws.proofs.Altering.{alters_keep}
-use Rattle.schema_laws.proofs.Creating.{creates_keep}
+use Rattle.schema_laws.proofs.CreatedSchemas.{creates_keep}
 use Rattle.schema_laws.proofs.DatabaseParts.{left_if, left_kept, without_kept}
 
 -- ---- DROP

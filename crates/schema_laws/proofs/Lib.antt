@@ -11,4 +11,5 @@ pub mod ColumnPlaces
 pub mod CreateColumns
 pub mod CreateNames
 pub mod Creating
+pub mod CreatedSchemas
 pub mod Keeping

@@ -2,6 +2,7 @@ pub mod CountLemmas
 pub mod EndLemmas
 pub mod FollowLemmas
 pub mod GoingLemmas
+pub mod LeftLemmas
 pub mod LineLemmas
 pub mod OpenLemmas
 pub mod PlanningLemmas

@@ -1,23 +1,17 @@
--- Calls that may have a decision of their own: from what the code's steps hand over to what the statement is served with.
-use Rattle.std.proofs.Common.{◌≡◌, refl, ◌∙◌, sym, ap, subst, inl, inr, ℕ, ℤ, Bool, true, false, List, [], ◌∷◌, Option, Some, None, Ok, Err, IfOk, IfErr, is_some, not, option_map, slice_get, if◌then◌else◌}
+-- Calls that may have a decision of their own: how they go on, and what is planned.
+use Rattle.std.proofs.Common.{◌≡◌, refl, ◌∙◌, sym, ap, subst, ℕ, ℤ, Bool, true, false, List, [], ◌∷◌, Option, Some, None, Ok, Err, IfOk, not, option_map}
 use Rattle.std.specs.Prelude.{Result}
 use Rattle.std.specs.Arc.{arc_value}
-use Rattle.std.specs.Option.{option_and_then, option_map_or}
-use Rattle.basic_laws.proofs.Options.{some_there}
-use Rattle.chunk_store.specs.Chunks.{AreNamed, Chunk, IsSingle, Lists, chunk_bytes}
-use Rattle.chunk_store.specs.Clashes.{IsCause}
+use Rattle.std.specs.Option.{option_map_or}
+use Rattle.chunk_store.specs.Chunks.{AreNamed, Chunk, IsSingle, Lists}
 use Rattle.chunk_store.specs.Drafts.{DraftParts, IsNamed}
-use Rattle.chunk_store.specs.Laws.{ChunksFollow}
 use Rattle.chunk_store.specs.Stores.{IsUnion, all_chunks}
 use Rattle.chunk_store.specs.declared.faults.PutFault.{PutFault}
-use Rattle.chunk_store.specs.declared.faults.PutFault.TheVariants.{Memory, Collision}
 use Rattle.expr_eval.specs.Binding.{Outcome, and_then}
 use Rattle.plain_sql.specs.Lists.{unless}
-use Rattle.tuple_codec.specs.declared.records.BranchRecord.{BranchRecord}
-use Rattle.script_text.specs.Collisions.{IsFault, TellsTruly}
-use Rattle.script_text.specs.Output.{Shortage, shortage}
+use Rattle.script_text.specs.Collisions.{TellsTruly}
+use Rattle.script_text.specs.Output.{shortage}
 use Rattle.script_text.specs.declared.replies.Reply.{Reply}
-use Rattle.script_text.specs.declared.replies.Reply.TheVariants as print
 use Rattle.sql_procedures.specs.declared.requests.CommitRequest.{CommitRequest}
 use Rattle.sql_procedures.specs.declared.requests.MergeRequest.{MergeRequest}
 use Rattle.table_root.specs.declared.heads.Look.{Look}
@@ -25,48 +19,33 @@ use Rattle.plain_sessions.specs.Branching.{to_commit}
 use Rattle.plain_sessions.specs.CommitRule.{decide}
 use Rattle.plain_sessions.specs.Merging.{Worked, Answers, Closes, Ending, Committing, Forwarding, Joining}
 use Rattle.plain_sessions.specs.Moments as machine
-use Rattle.plain_sessions.specs.Moments.{Past, alone_by, closed, commit_of, committed_as, decided_closing, forwarded, if_answered, if_closing, is_in_transaction, merged_as, moment_in, moment_of, past, settled, start_of, unless_moved, with_change}
+use Rattle.plain_sessions.specs.Moments.{closed, commit_of, committed_as, forwarded, merged_as, settled, unless_moved, with_change}
 use Rattle.plain_sessions.specs.Records.{BranchState, Shared, commit_on, is_same_state, state_of}
-use Rattle.plain_sessions.specs.Replies.{is_refusal, refused}
-use Rattle.plain_sessions.specs.Runs.{awaiting}
+use Rattle.plain_sessions.specs.Replies.{refused}
 use Rattle.plain_sessions.specs.Sessions as plain
-use Rattle.plain_sessions.specs.Sessions.{Closing, Transaction, over, own_root, within}
+use Rattle.plain_sessions.specs.Sessions.{Transaction, own_root, within}
 use Rattle.plain_sessions.specs.Statements.{worked}
-use Rattle.plain_sessions.specs.declared.commands.Command.{Command}
-use Rattle.plain_sessions.specs.declared.commands.Command.TheVariants.{Data}
 use Rattle.plain_sessions.specs.declared.commands.Work.{Work}
 use Rattle.plain_sessions.specs.declared.commands.Work.TheVariants as work
-use Rattle.run_laws.specs.Turns.{InOneTurn}
 use Rattle.session_laws.specs.Changes.{Parts, StateStands}
 use Rattle.session_laws.specs.Commits.{AreAmong, HasNoCommit}
 use Rattle.session_laws.specs.Laws.{StatesFollow, with_record}
 use Rattle.session_laws.specs.Transactions.{IsLookOf, StartStands}
 use Rattle.session_state.specs.Standing.{SessionStands}
 use Rattle.session_state.specs.declared.sessions.Session.{Session}
-use Rattle.session_txn.specs.Showing.{IsDue, is_sound_reply}
-use Rattle.session_txn.proofs.ShowLemmas.{plain_told}
+use Rattle.session_txn.specs.Showing.{is_sound_reply}
 use Rattle.branch_procs.specs.Closing.{IsVerdict}
 use Rattle.merge_procs.specs.Closing.{IsAsBefore, is_closing}
 use Rattle.shared_db.specs.Plans.{PlanIs, brought}
-use Rattle.shared_db.specs.Shared.{AreWith, IsSettled, changed_lines, noted, record_at}
+use Rattle.shared_db.specs.Shared.{AreWith, IsSettled, changed_lines}
 use Rattle.shared_db.specs.declared.changes.DecisionPlan.{DecisionPlan}
 use Rattle.shared_db.specs.declared.changes.RecordChange.{RecordChange}
-use Rattle.serving.specs.Answering.{Concluded, HasStartedTo}
-use Rattle.serving.specs.Branching.{Went}
-use Rattle.serving.specs.Closing.{ClosedAs, LeavesAs}
-use Rattle.serving.specs.Kinds.{may_close}
-use Rattle.serving.specs.Planning.{IfSettled, IsPlanned, IsPlannedFor, by_closing}
-use Rattle.serving.specs.Serving.{Fails, IsBefore, IsBetween, turn_at}
+use Rattle.serving.specs.Closing.{ClosedAs}
+use Rattle.serving.specs.Serving.{IsBefore}
 use Rattle.serving.specs.Starting.{HasStarted}
-use Rattle.serving.specs.Steps.{after_start, fault_reply, number_at}
-use Rattle.serving.specs.declared.meeting.Pending.TheVariants as pending
-use Rattle.serving.proofs.AnswerLemmas.{over_stands, short_alone, started_answered, went_of}
 use Rattle.serving.proofs.DecisionLemmas.{brought_is, stands_still, union_with}
-use Rattle.serving.proofs.GrowthLemmas.{SettlingFollows, commits_among, present_again, settled_own, still_closed}
-use Rattle.serving.proofs.MomentLemmas.{both_at, in_one_turn}
+use Rattle.serving.proofs.GrowthLemmas.{still_closed}
 use Rattle.serving.proofs.RuleLemmas.{refused_plainly}
-use Rattle.serving.proofs.StartLemmas.{fault_came, fault_refused, over_same}
-use Rattle.serving.proofs.WorkLemmas.{Came, Faulted, Starved, never_answered, refused_after, same_work, start_is}
 
 -- ---- how it goes on
 
@@ -169,10 +148,10 @@ module _ {D : Type 0} {old new : Session D} (looked : IsAsBefore old new) where
 -- ---- what a decision answers
 
 -- no want of memory, no collision, and it can be printed
-record IsPlainly (address : List ℕ → List ℕ) (reply : Reply) : Type 0 where
-  short : shortage reply ≡ None
-  sound : is_sound_reply reply ≡ true
-  truly : TellsTruly address reply
+pub record IsPlainly (address : List ℕ → List ℕ) (reply : Reply) : Type 0 where
+  pub short : shortage reply ≡ None
+  pub sound : is_sound_reply reply ≡ true
+  pub truly : TellsTruly address reply
 
 abbrev Plainly : (List ℕ → List ℕ) → Outcome machine.Change → Type 0
 Plainly address (Ok change) = IsPlainly address change.reply
@@ -192,7 +171,7 @@ module _ (address : List ℕ → List ℕ) (epoch : ℤ) (shared : Shared) (p : 
       let plain = refused_plainly t.start present own p.variables number is in
       record { short = plain.short; sound = plain.sound; truly = tt }
 
-  plainly_closed : (ending : Ending) → Plainly address (closed address epoch shared.commits p t present ending)
+  pub plainly_closed : (ending : Ending) → Plainly address (closed address epoch shared.commits p t present ending)
   plainly_closed (Committing own message) = plainly_by own message (decide t.start present own p.variables) refl
   plainly_closed (Forwarding other) = plainly_unmoved address t present (forwarded shared.commits other) (record { short = refl; sound = refl; truly = tt })
   plainly_closed (Joining database other message) =
@@ -202,16 +181,16 @@ module _ (address : List ℕ → List ℕ) (epoch : ℤ) (shared : Shared) (p : 
   plainly ending outcome is = subst (Plainly address) is (plainly_closed ending)
 
   -- the plan's reply is the outcome's
-  planned_plainly : (look : Look) (plan : DecisionPlan) (outcome : Outcome machine.Change) → Plainly address outcome → PlanIs address look shared.commits plan outcome → IsPlainly address plan.reply
+  pub planned_plainly : (look : Look) (plan : DecisionPlan) (outcome : Outcome machine.Change) → Plainly address outcome → PlanIs address look shared.commits plan outcome → IsPlainly address plan.reply
   planned_plainly look plan (Ok change) so planned = subst (IsPlainly address) (sym planned.reply) so
   planned_plainly look plan (Err number) so planned = subst (IsPlainly address) (sym planned.reply) so
 
-  named_by : (look : Look) (plan : DecisionPlan) (outcome : Outcome machine.Change) → PlanIs address look shared.commits plan outcome → AreNamed address (brought plan)
+  pub named_by : (look : Look) (plan : DecisionPlan) (outcome : Outcome machine.Change) → PlanIs address look shared.commits plan outcome → AreNamed address (brought plan)
   named_by look plan (Ok change) planned = planned.stands.named
   named_by look plan (Err number) planned = subst (λ (sealed : Option _). AreNamed address (option_map_or arc_value sealed [])) (sym planned.sealed) tt
 
   -- the plan was settled, on a state that may have grown since the one that was looked at
-  closed_by : (found : Shared) (among : AreAmong shared.commits found.commits) (ending : Ending) (follow : StatesFollow) (parts new : Parts) (look : Look) (plan : DecisionPlan) (outcome : Outcome machine.Change)
+  pub closed_by : (found : Shared) (among : AreAmong shared.commits found.commits) (ending : Ending) (follow : StatesFollow) (parts new : Parts) (look : Look) (plan : DecisionPlan) (outcome : Outcome machine.Change)
       → closed address epoch shared.commits p t present ending ≡ outcome → state_of found.branches p.branch ≡ Some present
       → IsLookOf address look shared → look.branch ≡ p.branch → Lists (all_chunks look.store) parts.chunks → StateStands address parts found
       → PlanIs address look shared.commits plan outcome → IsSingle new.chunks
@@ -255,254 +234,3 @@ module _ (address : List ℕ → List ℕ) (epoch : ℤ) (shared : Shared) (p : 
         moments = settled.moments;
         numbers = settled.numbers;
       }
-
--- ---- from the plan to what was settled
-
-module _ {D : Type 0} (address : List ℕ → List ℕ) (epoch : ℤ) (session : Session D) (look : Look) (plan : DecisionPlan) (p : plain.Session) (t : Transaction) (ending : Ending) where
-  plan_plainly : IsPlanned address session look plan p t (by_closing address epoch p t ending) → IsPlainly address plan.reply
-  plan_plainly planned =
-      planned_plainly address epoch planned.seen p t planned.present look plan _ (plainly_closed address epoch planned.seen p t planned.present ending) planned.is
-
-  pub closing_sound : IsPlanned address session look plan p t (by_closing address epoch p t ending) → (result : Result (Option Reply) PutFault) → IfSettled result (λ reply. reply ≡ plan.reply)
-      → IfSettled result (λ reply. is_sound_reply reply ≡ true)
-  closing_sound planned (Ok (Some reply)) said = ap is_sound_reply said ∙ (plan_plainly planned).sound
-  closing_sound planned (Ok None) said = tt
-  closing_sound planned (Err fault) said = tt
-
-  pub closing_truly : IsPlanned address session look plan p t (by_closing address epoch p t ending) → (result : Result (Option Reply) PutFault) → IfSettled result (λ reply. reply ≡ plan.reply)
-      → IfSettled result (TellsTruly address)
-  closing_truly planned (Ok (Some reply)) said = subst (TellsTruly address) (sym said) (plan_plainly planned).truly
-  closing_truly planned (Ok None) said = tt
-  closing_truly planned (Err fault) said = tt
-
-  pub closing_fault : ChunksFollow → (parts : Parts) (shared : Shared) → IsPlannedFor address session look plan p t (by_closing address epoch p t ending) parts shared
-      → (result : Result (Option Reply) PutFault) → IfErr result (IsCause (chunk_bytes parts.chunks) (chunk_bytes (brought plan))) → IfErr result (IsFault address)
-  closing_fault chunks_follow parts shared has (Ok settled) cause = tt
-  closing_fault chunks_follow parts shared has (Err Memory) cause = tt
-  closing_fault chunks_follow parts shared has (Err (Collision clash)) cause = record {
-    first = chunks_follow.is_named address parts.chunks clash.address.0 clash.first has.here.state_stands.named cause.is_held;
-    second = chunks_follow.is_named address (brought plan) clash.address.0 clash.second
-        (named_by address epoch has.planned.seen p t has.planned.present look plan _ has.planned.is) cause.is_brought;
-    differ = cause.differ;
-  }
-
-  pub closed_planned : (laws : SettlingFollows) (parts new : Parts) (shared : Shared) → IsPlannedFor address session look plan p t (by_closing address epoch p t ending) parts shared
-      → record_at look.branch parts.branches ≡ Some look.rec → IsSingle new.chunks → IsSettled p.number p.statement look.branch plan.change (option_map arc_value plan.sealed) parts new
-      → ClosedAs address epoch p t ending shared parts new plan.reply
-  closed_planned laws parts new shared has there single settled =
-      let d = has.planned.decides in
-      closed_by address epoch has.planned.seen p t has.planned.present shared (commits_among laws address session look p t has.planned.seen has.planned.present d parts shared has.here.state_stands has.grown)
-      ending laws.states parts new look plan _ refl (present_again laws address session look p t has.planned.seen has.planned.present d parts shared has.here.state_stands has.grown there)
-      d.look_is d.branch has.grown has.here.state_stands has.planned.is single settled
-
-  pub closed_result : (laws : SettlingFollows) (parts new : Parts) (number : ℕ) → number ≡ number_at session.position → (result : Result (Option Reply) PutFault)
-      → IfSettled result (λ reply. reply ≡ plan.reply) → IfSettled result (λ reply. IsSettled session.number number look.branch plan.change (option_map arc_value plan.sealed) parts new)
-      → IfSettled result (λ reply. IsSingle new.chunks) → IfSettled result (λ reply. record_at look.branch parts.branches ≡ Some look.rec)
-      → IfSettled result (λ reply. (shared : Shared) → IsPlannedFor address session look plan p t (by_closing address epoch p t ending) parts shared → ClosedAs address epoch p t ending shared parts new reply)
-  closed_result laws parts new number is (Ok (Some reply)) said settled single there = λ shared has.
-      subst (λ (r : Reply). ClosedAs address epoch p t ending shared parts new r) (sym said)
-      (closed_planned laws parts new shared has there single (settled_own address session p has.here.session_stands number is look.branch plan.change (option_map arc_value plan.sealed) parts new settled))
-  closed_result laws parts new number is (Ok None) said settled single there = tt
-  closed_result laws parts new number is (Err fault) said settled single there = tt
-
--- ---- the moment of the decision
-
-same_awaiting : (p : plain.Session) (t u : Transaction) (at : plain.Place) (asked : Work) → worked (awaiting p u at) t asked ≡ worked p t asked
-unfolding worked
-same_awaiting p t u at asked = same_work (awaiting p u at) t u asked ∙ sym (same_work p t u asked)
-
-module _ (address : List ℕ → List ℕ) (epoch : ℤ) where
-  settled_out : (shared last : Shared) (p : plain.Session) (outcome : Outcome machine.Change) (reply : Reply) → LeavesAs address shared p outcome last reply
-      → settled address shared p (over p) outcome ≡ Some (last, Past (over p, reply))
-  settled_out shared last p (Ok change) reply leaves =
-      ap (option_map (λ (left : Shared). (left, Past (over p, change.reply)))) leaves.0 ∙ ap (λ (r : Reply). Some (last, Past (over p, r))) (sym leaves.1)
-  settled_out shared last p (Err number) reply leaves = λ i. Some (sym leaves.0 i, Past (over p, sym leaves.1 i))
-
-  closing_moment : (shared last : Shared) (p : plain.Session) (t : Transaction) (asked : Work) (call : Ending) (present : BranchState) (outcome : Outcome machine.Change) (reply : Reply)
-      → p.transaction ≡ Some t → worked p t asked ≡ Ok (Closes call) → state_of shared.branches p.branch ≡ Some present
-      → closed address epoch shared.commits p t present call ≡ outcome → LeavesAs address shared p outcome last reply
-      → decided_closing address epoch asked shared p ≡ Some (last, Past (over p, reply))
-  closing_moment shared last p t asked call present outcome reply transaction work_is there is leaves =
-      both_at address epoch (λ (o : Transaction) (now : BranchState). if_closing address epoch shared p o now (worked p o asked)) shared p t present transaction there
-      ∙ ap (if_closing address epoch shared p t present) work_is
-      ∙ ap (settled address shared p (over p)) is
-      ∙ settled_out shared last p outcome reply leaves
-
--- ---- in the open transaction
-
-module _ {D : Type 0} (address : List ℕ → List ℕ) (epoch : ℤ) (session : Session D) (parts : Parts) (p : plain.Session) (shared : Shared) (before : IsBefore address session parts p shared)
-    (t : Transaction) (transaction : p.transaction ≡ Some t) (asked : Work) where
-  waits_open : (call : Ending) → worked p t asked ≡ Ok (Closes call) → alone_by None p (Data asked) ≡ None
-  waits_open call work_is =
-      ap (λ (o : Option Transaction). option_and_then (λ u. if_answered p u (worked p u asked)) o) transaction ∙ ap (if_answered p t) work_is
-
-  -- it was decided on
-  pub closed_open : (ending : Ending) (new : Parts) (ended : Session D) (reply : Reply) → worked p t asked ≡ Ok (Closes ending)
-      → ClosedAs address epoch p t ending shared parts new reply → ended ≡ record session { start = None }
-      → Went address epoch p (Data asked) shared parts new ended reply
-  closed_open ending new ended reply work_is c ended_is =
-      let moment : moment_of address epoch shared p (Data asked) ≡ Some (c.last, Past (over p, reply)) =
-      ap (λ (o : Option Transaction). if is_some o then decided_closing address epoch asked shared p else start_of shared p asked) transaction
-      ∙ closing_moment address epoch shared c.last p t asked ending c.present c.outcome reply transaction work_is c.there c.is c.leaves in
-      subst (λ (s : Session D). Went address epoch p (Data asked) shared parts new s reply) (sym ended_is) (record {
-        said = over p;
-        last = c.last;
-        is = subst (λ (want : Option Shortage). InOneTurn address epoch want p (Data asked) (turn_at p shared c.last) (past p.statement (over p, reply))) (sym c.short)
-            (in_one_turn address epoch None shared c.last p (Data asked) (over p, reply) before.before (waits_open ending work_is) moment);
-        session_stands = over_stands address session p before.session_stands;
-        number = refl;
-        state_stands = c.state_stands;
-        placed = ap (λ (all : List (List ℕ)). slice_get all p.number) c.places ∙ before.placed;
-        others = λ at other. ap (λ (all : List (List ℕ)). slice_get all at) c.places;
-        later = λ k bytes listed. c.chunks k bytes (before.later k bytes listed);
-        grown = c.chunks;
-        moments = c.moments;
-        numbers = c.numbers;
-      })
-
-  -- memory or an address failed
-  pub fails_open : (fault : PutFault) → Fails p (Data asked) fault
-  fails_open fault = short_alone fault p (Data asked) (ap (λ (o : Option Transaction). not (is_some o)) transaction)
-
-closes_by : (p : plain.Session) (t : Transaction) (outcome : Outcome Worked) → if_answered p t outcome ≡ None → (ending : Ending) × (outcome ≡ Ok (Closes ending))
-closes_by p t (Ok (Closes ending)) waits = (ending, refl)
-closes_by p t (Ok (Answers reply own)) waits = absurd (cc)
-closes_by p t (Err number) waits = absurd (cc)
-
--- one that isn't answered by the session itself has its decision
-pub closes_open : (p : plain.Session) (t : Transaction) (asked : Work) → p.transaction ≡ Some t → alone_by None p (Data asked) ≡ None
-    → (ending : Ending) × (worked p t asked ≡ Ok (Closes ending))
-closes_open p t asked transaction waits =
-    closes_by p t (worked p t asked) (sym (ap (λ (o : Option Transaction). option_and_then (λ u. if_answered p u (worked p u asked)) o) transaction) ∙ waits)
-
--- outside a transaction memory alone fails
-pub fails_outside : (p : plain.Session) (asked : Command) (fault : PutFault) → fault ≡ Memory → Fails p asked fault
-fails_outside p asked Memory is = refl
-fails_outside p asked (Collision clash) is = absurd (cc)
-
--- ---- outside a transaction
-
-module _ {D : Type 0} (address : List ℕ → List ℕ) (epoch : ℤ) (session : Session D) (parts now : Parts) (p : plain.Session) (t : Transaction) (shared : Shared)
-    (has : HasStarted address session parts now p t shared) (asked : Work) where
-  abbrev ended : Session D
-  ended = record session { start = None }
-
-  ended_stands : SessionStands address ended p
-  ended_stands = subst (λ (q : plain.Session). SessionStands address ended q) (over_same p has.none) (over_stands address session (within p t) has.stands)
-
-  refused_went : (after : plain.Session) (reply : Reply) → is_refusal reply ≡ true → Came p t asked after reply
-      → Went address epoch p (Data asked) shared parts now ended (after_start reply)
-  refused_went after reply refusal came =
-      subst (λ (q : Parts). Went address epoch p (Data asked) shared parts q ended (after_start reply)) (sym has.now_is)
-      (went_of address epoch has.old ended parts p shared has.before (Data asked) (noted p.number p.statement parts) (after_start reply)
-      (started_answered address epoch has.old ended parts p shared has.before (Data asked) p (after_start reply)
-      (refused_after address epoch shared p t asked after reply (never_answered p t asked reply refusal) has.before.before has.none has.taken_is came)
-      ended_stands (record { number = refl; branch = refl }) has.later))
-
-  -- it was dropped, and its transaction with it
-  abbrev DroppedWith : Session D → Reply → Type 0
-  DroppedWith dropped reply = Went address epoch p (Data asked) shared parts now dropped reply
-
-  dropped_so : (dropped : Session D) (said reply : Reply) → dropped ≡ ended → reply ≡ after_start said → DroppedWith ended (after_start said) → DroppedWith dropped reply
-  dropped_so dropped said reply dropped_is is went =
-      subst (λ (s : Session D). DroppedWith s reply) (sym dropped_is) (subst (DroppedWith ended) (sym is) went)
-
-  -- memory or an address failed behind the start
-  pub faulted_started : (fault : PutFault) (dropped : Session D) (said reply : Reply) → dropped ≡ ended → said ≡ fault_reply fault → reply ≡ after_start said → DroppedWith dropped reply
-  faulted_started fault dropped said reply dropped_is said_is is =
-      dropped_so dropped said reply dropped_is is
-      (subst (λ (r : Reply). DroppedWith ended (after_start r)) (sym said_is) (refused_went p (fault_reply fault) (fault_refused fault) (fault_came p t asked p fault)))
-
-  -- it was refused before its decision
-  pub refused_started : (number : ℕ) (dropped : Session D) (said reply : Reply) → worked (within p t) t asked ≡ Err number → IsDue 1 (print.Refused number) said → dropped ≡ ended
-      → reply ≡ after_start said → DroppedWith dropped reply
-  refused_started number dropped said reply inside_is due dropped_is is = dropped_so dropped said reply dropped_is is (by due) where
-    by : IsDue 1 (print.Refused number) said → DroppedWith ended (after_start said)
-    by (inl plain) =
-        refused_went p said (ap is_refusal plain.1) (Faulted number (sym (same_work p t t asked) ∙ inside_is) plain.1 (ap shortage plain.1 ∙ plain_told (print.Refused number) plain.0))
-    by (inr starved) = refused_went p said (ap is_refusal starved) (Starved starved)
-
-  -- its decision is to come
-  pub closing_to_come : (ending : Ending) → may_close asked ≡ true → worked (within p t) t asked ≡ Ok (Closes ending)
-      → HasStartedTo address epoch p (Data asked) shared parts now session pending.Closing
-  closing_to_come ending closes inside_is =
-      let work_is : worked p t asked ≡ Ok (Closes ending) = sym (same_work p t t asked) ∙ inside_is in
-      record {
-        work = asked;
-        asked_is = refl;
-        outside = has.none;
-        transaction = t;
-        place = Closing;
-        started = start_is address epoch shared p t asked has.none has.taken_is (Ok (Closes ending)) work_is;
-        awaits = (refl, closes, (ending, same_awaiting p t t Closing asked ∙ work_is));
-        session_stands = has.stands;
-        later = has.later;
-        new_is = has.now_is;
-      }
-
--- ---- the decision behind a start
-
-abbrev work_in : Work → Command → Work
-work_in other (Data asked) = asked
-work_in other command = other
-
-module _ {D : Type 0} (address : List ℕ → List ℕ) (epoch : ℤ) (session : Session D) (parts : Parts) (q : plain.Session) (asked : Command) (shared : Shared)
-    (between : IsBetween address session parts q asked pending.Closing shared) (work : Work) (asked_is : asked ≡ Data work) where
-  same_asked : between.work ≡ work
-  same_asked = ap (work_in work) (sym between.asked_is ∙ asked_is)
-
-  pub may_close_between : may_close work ≡ true
-  may_close_between = ap may_close (sym same_asked) ∙ between.awaits.1
-
-  pub closes_between : (ending : Ending) × (worked q between.transaction work ≡ Ok (Closes ending))
-  closes_between = (between.awaits.2.0, ap (worked q between.transaction) (sym same_asked) ∙ between.awaits.2.1)
-
-  -- it was decided on
-  pub concluded : (new : Parts) (left : Session D) (reply : Reply) → ClosedAs address epoch q between.transaction closes_between.0 shared parts new reply
-      → left ≡ record session { start = None } → Concluded address epoch q asked shared parts new left reply
-  concluded new left reply c left_is =
-      let moment : moment_in address epoch None shared q asked q.place ≡ Some (c.last, Past (over q, reply)) =
-      ap (moment_in address epoch None shared q asked) between.awaits.0
-      ∙ ap (λ (command : Command). moment_in address epoch None shared q command Closing) asked_is
-      ∙ closing_moment address epoch shared c.last q between.transaction work closes_between.0 c.present c.outcome reply between.has closes_between.1 c.there c.is c.leaves in
-      subst (λ (s : Session D). Concluded address epoch q asked shared parts new s reply) (sym left_is) (record {
-        said = over q;
-        last = c.last;
-        short = c.short;
-        is = moment;
-        session_stands = over_stands address session q between.here.session_stands;
-        still = record { number = refl; branch = refl };
-        state_stands = c.state_stands;
-        places = c.places;
-        later = λ k bytes listed. c.chunks k bytes (between.here.later k bytes listed);
-        grown = c.chunks;
-        moments = c.moments;
-        numbers = c.numbers;
-      })
-
--- ---- whether the session is in a transaction
-
-pub inside_by : (address : List ℕ → List ℕ) (draft : DraftParts) (start : Option Look) (rec : BranchRecord) (t : Option Transaction) → StartStands address draft start rec t
-    → is_some start ≡ is_some t
-inside_by address draft None rec None stands = refl
-inside_by address draft (Some look) rec (Some t) stands = refl
-inside_by address draft None rec (Some t) stands = absurd stands
-inside_by address draft (Some look) rec None stands = absurd stands
-
-pub inside : {D : Type 0} (address : List ℕ → List ℕ) (session : Session D) (p : plain.Session) → SessionStands address session p → is_some session.start ≡ is_some p.transaction
-inside address session p stands = inside_by address session.draft.chunks session.start session.own p.transaction stands.transaction
-
--- a session that is in this transaction is in one
-pub inside_one : (p : plain.Session) (t : Transaction) → p.transaction ≡ Some t → is_in_transaction p ≡ true
-inside_one p t transaction = ap (λ (o : Option Transaction). is_some o) transaction
-
-pub none_there : (o : Option Transaction) → is_some o ≡ false → o ≡ None
-none_there None is = refl
-none_there (Some t) is = absurd (cc)
-
-module _ {D : Type 0} (address : List ℕ → List ℕ) (session : Session D) where
-  pub open_there : is_some session.start ≡ true → (p : plain.Session) → SessionStands address session p → (t : Transaction) × (p.transaction ≡ Some t)
-  open_there is p stands = some_there p.transaction (sym (inside address session p stands) ∙ is)
-
-  pub none_open : is_some session.start ≡ false → (p : plain.Session) → SessionStands address session p → p.transaction ≡ None
-  none_open is p stands = none_there p.transaction (sym (inside address session p stands) ∙ is)

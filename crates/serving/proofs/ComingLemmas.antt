@@ -29,7 +29,7 @@ use Rattle.serving.specs.Serving.{Fails, IsBefore, PassesAlone}
 use Rattle.serving.specs.Steps.{IsStillAt, fault_reply, number_at}
 use Rattle.serving.proofs.AloneLemmas.{alone_before, still_alone}
 use Rattle.serving.proofs.AnswerLemmas.{same_number}
-use Rattle.serving.proofs.ClosingLemmas.{inside_by as started_by}
+use Rattle.serving.proofs.SettlingLemmas.{inside_by as started_by}
 
 -- ---- the session goes on
 

@@ -5,6 +5,7 @@ pub mod BeginLemmas
 pub mod BegunLemmas
 pub mod BranchLemmas
 pub mod ClosingLemmas
+pub mod SettlingLemmas
 pub mod ComingLemmas
 pub mod ConcludeLemmas
 pub mod DecisionLemmas

@@ -25,7 +25,7 @@ use Rattle.serving.specs.Serving.{IsBefore}
 use Rattle.serving.specs.Starting.{Begins}
 use Rattle.serving.specs.declared.meeting.Begun.{Begun}
 use Rattle.serving.proofs.AnswerLemmas.{short_alone}
-use Rattle.serving.proofs.ClosingLemmas.{closes_open, open_there}
+use Rattle.serving.proofs.SettlingLemmas.{closes_open, open_there}
 use Rattle.serving.proofs.MeetLemmas.{FailsAs, commit_goes, switch_goes, waits_by}
 
 -- ---- which statements have one

@@ -1,7 +1,9 @@
 pub mod AloneLemmas
 pub mod CommitLemmas
+pub mod UnmovedLemmas
 pub mod CountLemmas
 pub mod DeleteLemmas
+pub mod PutBackLemmas
 pub mod DropLemmas
 pub mod FoundLemmas
 pub mod SelectLemmas

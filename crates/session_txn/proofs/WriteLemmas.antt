@@ -40,7 +40,7 @@ use Rattle.session_state.specs.declared.sessions.Session.{Session}
 use Rattle.session_txn.specs.Answering.{AnswersAlone}
 use Rattle.session_txn.specs.Deleting.{turn_effect}
 use Rattle.session_txn.specs.Writing.{IsExcused, IsRefusedBy, TurnsRoot, written_reply}
-use Rattle.session_txn.proofs.DeleteLemmas.{IsWell, reply_turned, well_kept, write_turned}
+use Rattle.session_txn.proofs.PutBackLemmas.{IsWell, reply_turned, well_kept, write_turned}
 use Rattle.session_txn.proofs.AloneLemmas.{answers_due, answers_so, collides, starves, takes_none, worked_ill, worked_well}
 use Rattle.session_txn.proofs.SessionLemmas.{own_kept}
 use Rattle.session_txn.proofs.ShowLemmas.{due_truly}

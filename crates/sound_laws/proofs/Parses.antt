@@ -10,7 +10,7 @@ use Rattle.sql_parse.specs.Parsing.{is_misused, judged, placed, refused, stateme
 use Rattle.sql_pieces.specs.Values.{pieces_of}
 use Rattle.sql_rules.specs.Outside.{outside}
 use Rattle.sql_statements.specs.Statements.{statement_of}
-use Rattle.canonical_laws.proofs.TokenPieces.{tokens_are_given}
+use Rattle.canonical_laws.proofs.ReadTokens.{tokens_are_given}
 use Rattle.sound_laws.specs.Laws.{ParsesSound}
 use Rattle.canonical_laws.specs.Sound.{is_sound}
 use Rattle.sound_laws.proofs.Statements.{reads_sound}

@@ -20,7 +20,8 @@ use Rattle.grammar_laws.specs.Spelling.{is_tree, mark}
 use Rattle.grammar_laws.proofs.Sound.{Gives as GivesTree, expression_sound}
 use Rattle.grammar_laws.proofs.Growth.{IsTree}
 use Rattle.canonical_laws.specs.Written.{after_piece, are_given, is_given, is_name, is_written}
-use Rattle.canonical_laws.proofs.Given.{Gave, expression_given, operand}
+use Rattle.canonical_laws.proofs.Given.{Gave, operand}
+use Rattle.canonical_laws.proofs.GivenTests.{expression_given}
 use Rattle.canonical_laws.proofs.WrittenNodes.{IsWritten}
 use Rattle.canonical_laws.specs.Sound.{is_expr, is_filled, is_perhaps}
 

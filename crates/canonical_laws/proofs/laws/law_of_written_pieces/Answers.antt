@@ -1,5 +1,5 @@
-use Rattle.canonical_laws.proofs.Given.{reads_written}
-use Rattle.canonical_laws.proofs.TokenPieces.{tokens_are_given}
+use Rattle.canonical_laws.proofs.GivenTests.{reads_written}
+use Rattle.canonical_laws.proofs.ReadTokens.{tokens_are_given}
 use Rattle.canonical_laws.proofs.laws.law_of_written_pieces.Goals as goal
 
 pub returns : goal.returns

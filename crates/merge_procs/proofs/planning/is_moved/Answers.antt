@@ -1,5 +1,5 @@
 use Rattle.std.proofs.Common.{◌∙◌}
-use Rattle.merge_procs.proofs.PlanningLemmas.{is_moved}
+use Rattle.merge_procs.proofs.DecidingLemmas.{is_moved}
 use Rattle.merge_procs.proofs.planning.is_moved.Goals as goal
 
 pub returns-in-Some : goal.returns-in-Some

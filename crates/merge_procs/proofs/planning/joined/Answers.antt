@@ -6,7 +6,7 @@ use Rattle.plain_sessions.specs.Merging.{merge_reply}
 use Rattle.plain_sessions.specs.Records.{commit_on}
 use Rattle.branch_procs.proofs.CommittingLemmas.{fault_told}
 use Rattle.branch_procs.specs.Committing.{IsCommitWritten, parents_on}
-use Rattle.merge_procs.proofs.PlanningLemmas.{joined_told}
+use Rattle.merge_procs.proofs.DecidingLemmas.{joined_told}
 use Rattle.merge_procs.proofs.planning.joined.Goals as goal
 
 pub returns-in_err-head-clause-fault : goal.returns-in_err-head-clause-fault

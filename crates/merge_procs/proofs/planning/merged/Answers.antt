@@ -10,7 +10,7 @@ use Rattle.branch_procs.specs.Committing.{CanCommit, parents_on}
 use Rattle.merge_procs.specs.Databases.{IsMet, merged_of}
 use Rattle.merge_procs.specs.Planning.{IsJoined}
 use Rattle.merge_procs.specs.declared.databases.Met.{Met}
-use Rattle.merge_procs.proofs.PlanningLemmas.{can_commit, is_met_clean, joining_state, merged_told}
+use Rattle.merge_procs.proofs.DecidingLemmas.{can_commit, is_met_clean, joining_state, merged_told}
 use Rattle.merge_procs.proofs.planning.merged.Goals as goal
 
 pub returns-in_err-root-clause-fault : goal.returns-in_err-root-clause-fault

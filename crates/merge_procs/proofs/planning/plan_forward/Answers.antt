@@ -1,5 +1,6 @@
 use Rattle.plain_sessions.specs.Moments.{forwarded}
-use Rattle.merge_procs.proofs.PlanningLemmas.{all_there, known_now, plans_forward, refuses, start_of}
+use Rattle.merge_procs.proofs.PlanningLemmas.{refuses, start_of}
+use Rattle.merge_procs.proofs.DecidingLemmas.{all_there, known_now, plans_forward}
 use Rattle.merge_procs.proofs.planning.plan_forward.Goals as goal
 
 pub returns-then-is_moved-clause-planned : goal.returns-then-is_moved-clause-planned

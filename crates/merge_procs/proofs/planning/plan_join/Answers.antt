@@ -6,7 +6,8 @@ use Rattle.plain_sessions.specs.Moments.{merged_as}
 use Rattle.plain_sessions.specs.Records.{commit_on, root_of}
 use Rattle.plain_sessions.specs.Sessions.{own_root}
 use Rattle.merge_procs.specs.Planning.{IsMergeCommitted, message_on}
-use Rattle.merge_procs.proofs.PlanningLemmas.{can_merge, fit_parts, plans_joined, refuses, start_of}
+use Rattle.merge_procs.proofs.PlanningLemmas.{fit_parts, refuses, start_of}
+use Rattle.merge_procs.proofs.DecidingLemmas.{can_merge, plans_joined}
 use Rattle.merge_procs.proofs.planning.plan_join.Goals as goal
 
 pub merge_message-requires-clause-name : goal.merge_message-requires-clause-name

@@ -6,7 +6,8 @@ use Rattle.session_state.specs.declared.sessions.Session.{Session}
 use Rattle.serving.specs.Serving.{Concludes, IsBetween}
 use Rattle.serving.specs.Steps.{number_at}
 use Rattle.script_run.specs.declared.players.Stage.TheVariants as stage
-use Rattle.script_run.proofs.GoingLemmas.{fewer_left, has_decided, has_room, may_number, more_of, more_said, was_dropped}
+use Rattle.script_run.proofs.GoingLemmas.{has_decided, has_room, may_number, more_of, more_said, was_dropped}
+use Rattle.script_run.proofs.LeftLemmas.{fewer_left}
 use Rattle.script_run.proofs.going.decide.Goals as goal
 
 pub conclude_by-requires-clause-between : goal.conclude_by-requires-clause-between

@@ -2,7 +2,7 @@ use Rattle.std.proofs.Common.{◌∙◌, ℕ, ℤ, inl, inr, ap, subst, arith, w
 use Rattle.std.proofs.lemmas.Int.{to_z-of_z}
 use Rattle.serving.specs.Serving.{Passes}
 use Rattle.script_run.specs.Following.{IsLed, is_next_at, is_settled}
-use Rattle.script_run.proofs.GoingLemmas.{further_on, is_past, stands_after}
+use Rattle.script_run.proofs.LeftLemmas.{further_on, is_past, stands_after}
 use Rattle.script_run.proofs.going.follow.Goals as goal
 
 pub lead_at-made-requires-clause-player : goal.lead_at-made-requires-clause-player

@@ -1,6 +1,6 @@
 use Rattle.std.proofs.Common.{◌∙◌, refl, ap, arith}
 use Rattle.script_run.specs.Following.{is_settled}
-use Rattle.script_run.proofs.GoingLemmas.{further_on, still}
+use Rattle.script_run.proofs.LeftLemmas.{further_on, still}
 use Rattle.script_run.proofs.going.go_on.Goals as goal
 
 pub statements-init : goal.statements-init

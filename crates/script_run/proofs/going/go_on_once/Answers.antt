@@ -1,7 +1,8 @@
 use Rattle.std.proofs.Common.{◌≡◌, ◌∙◌, refl, sym, ap, length, arith}
 use Rattle.plain_sessions.specs.Commands.{command}
 use Rattle.plain_sessions.specs.Sessions.{is_before_statement}
-use Rattle.script_run.proofs.GoingLemmas.{answers, as_many, asked_of, at_less, before_of, fails_for, fewer_left, free_is, has_room, may_number, next_asks, said_less, said_of, settled_at_end, settled_waiting, still, unsettled}
+use Rattle.script_run.proofs.GoingLemmas.{answers, as_many, asked_of, before_of, fails_for, free_is, has_room, may_number, next_asks, said_of}
+use Rattle.script_run.proofs.LeftLemmas.{at_less, fewer_left, said_less, settled_at_end, settled_waiting, still, unsettled}
 use Rattle.script_run.proofs.going.go_on_once.Goals as goal
 
 pub returns-then-not-is_free-clause-goes : goal.returns-then-not-is_free-clause-goes

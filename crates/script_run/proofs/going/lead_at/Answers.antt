@@ -3,7 +3,8 @@ use Rattle.std.proofs.lemmas.Bool.{false≢true}
 use Rattle.std.proofs.lemmas.Int.{to_z-of_z}
 use Rattle.serving.specs.Steps.{number_at}
 use Rattle.script_run.specs.Following.{IsLed}
-use Rattle.script_run.proofs.GoingLemmas.{as_many, more_left, needs, number_is_at, still}
+use Rattle.script_run.proofs.GoingLemmas.{as_many, more_left, needs, number_is_at}
+use Rattle.script_run.proofs.LeftLemmas.{still}
 use Rattle.script_run.proofs.going.lead_at.Goals as goal
 
 pub returns-then-not-is_next-clause-led : goal.returns-then-not-is_next-clause-led

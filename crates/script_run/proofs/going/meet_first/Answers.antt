@@ -10,7 +10,8 @@ use Rattle.serving.specs.Starting.{Begins, BegunTellsTruly, IsSoundBegun, IsStar
 use Rattle.serving.specs.declared.meeting.Begun.{Begun}
 use Rattle.serving.specs.Steps.{number_at}
 use Rattle.script_run.specs.declared.players.Stage.TheVariants as stage
-use Rattle.script_run.proofs.GoingLemmas.{answers, fewer_left, has_room, may_number, met_once, more_of, more_said, started_left}
+use Rattle.script_run.proofs.GoingLemmas.{answers, has_room, may_number, met_once, more_of, more_said}
+use Rattle.script_run.proofs.LeftLemmas.{fewer_left, started_left}
 use Rattle.script_run.proofs.going.meet_first.Goals as goal
 
 pub meet_by-requires-clause-before : goal.meet_by-requires-clause-before

@@ -6,7 +6,8 @@ use Rattle.serving.specs.Serving.{IsSoundMet, MeetsOnce, Meets, MetTellsTruly, S
 use Rattle.serving.specs.Starting.{IsStarted}
 use Rattle.serving.specs.declared.meeting.Met.{Met}
 use Rattle.script_run.specs.declared.players.Stage.TheVariants as stage
-use Rattle.script_run.proofs.GoingLemmas.{fewer_left, into_more, into_number, into_room, met_once, one_less, was_started}
+use Rattle.script_run.proofs.GoingLemmas.{into_more, into_number, into_room, met_once, was_started}
+use Rattle.script_run.proofs.LeftLemmas.{fewer_left, one_less}
 use Rattle.script_run.proofs.going.work_out.Goals as goal
 
 pub work_started-requires-clause-started : goal.work_started-requires-clause-started

@@ -1,7 +1,7 @@
 use Rattle.std.proofs.Common.{ℤ, refl, subst, w64}
 use Rattle.std.proofs.lemmas.Int.{to_z-of_z}
 use Rattle.serving.specs.Closing.{ClosedAs}
-use Rattle.serving.proofs.ClosingLemmas.{closed_open}
+use Rattle.serving.proofs.SettlingLemmas.{closed_open}
 use Rattle.serving.proofs.StateLemmas.{here_before}
 use Rattle.serving.proofs.closing.decide_open.Goals as goal
 

@@ -2,7 +2,8 @@ use Rattle.std.proofs.Common.{refl, subst}
 use Rattle.plain_sessions.specs.Sessions.{within}
 use Rattle.plain_sessions.specs.Statements.{worked}
 use Rattle.serving.specs.Closing.{IsCourse}
-use Rattle.serving.proofs.ClosingLemmas.{closing_to_come, ending_of, faulted_started, refused_started, still_stands, still_started}
+use Rattle.serving.proofs.ClosingLemmas.{ending_of, still_stands, still_started}
+use Rattle.serving.proofs.SettlingLemmas.{closing_to_come, faulted_started, refused_started}
 use Rattle.serving.proofs.StartLemmas.{has_answered}
 use Rattle.serving.proofs.closing.follow_started.Goals as goal
 

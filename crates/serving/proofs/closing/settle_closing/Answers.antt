@@ -1,5 +1,5 @@
 use Rattle.serving.specs.Planning.{by_closing}
-use Rattle.serving.proofs.ClosingLemmas.{closed_result, closing_fault, closing_sound, closing_truly}
+use Rattle.serving.proofs.SettlingLemmas.{closed_result, closing_fault, closing_sound, closing_truly}
 use Rattle.serving.proofs.GrowthLemmas.{SettlingFollows}
 use Rattle.serving.proofs.PlanningLemmas.{still_there}
 use Rattle.serving.proofs.closing.settle_closing.Goals as goal

@@ -1,7 +1,7 @@
 use Rattle.std.proofs.Common.{ℤ, refl, subst, w64}
 use Rattle.std.proofs.lemmas.Int.{to_z-of_z}
 use Rattle.serving.specs.Closing.{ClosedAs}
-use Rattle.serving.proofs.ClosingLemmas.{closes_between, concluded}
+use Rattle.serving.proofs.SettlingLemmas.{closes_between, concluded}
 use Rattle.serving.proofs.concluding.conclude_closing.Goals as goal
 
 pub returns-clause-concluded : goal.returns-clause-concluded

@@ -2,7 +2,7 @@ use Rattle.std.proofs.Common.{ℤ, None, refl, sym, subst, w64}
 use Rattle.std.proofs.lemmas.Int.{to_z-of_z}
 use Rattle.plain_sessions.specs.declared.commands.Command.TheVariants.{Data}
 use Rattle.serving.specs.Branching.{Went}
-use Rattle.serving.proofs.ClosingLemmas.{closes_open, none_open, open_there}
+use Rattle.serving.proofs.SettlingLemmas.{closes_open, none_open, open_there}
 use Rattle.serving.proofs.MeetLemmas.{closing_may, waits_by}
 use Rattle.serving.proofs.meeting.meet_work.Goals as goal
 

@@ -3,7 +3,7 @@ use Rattle.std.proofs.lemmas.Int.{to_z-of_z}
 use Rattle.session_laws.specs.Changes.{Parts}
 use Rattle.serving.specs.Serving.{IsBetween}
 use Rattle.serving.specs.declared.meeting.Pending.TheVariants as pending
-use Rattle.serving.proofs.ClosingLemmas.{closes_between, concluded}
+use Rattle.serving.proofs.SettlingLemmas.{closes_between, concluded}
 use Rattle.serving.proofs.MeetLemmas.{concluded_on}
 use Rattle.serving.proofs.PlannedLemmas.{closing_settled, concludes_anew, for_closing, for_command, lost, room_on, same_on, still_on}
 use Rattle.serving.proofs.planned.conclude_closing_planned.Goals as goal

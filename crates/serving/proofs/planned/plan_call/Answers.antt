@@ -1,6 +1,6 @@
 use Rattle.std.proofs.Common.{w64}
 use Rattle.std.proofs.lemmas.Int.{to_z-of_z}
-use Rattle.serving.proofs.ClosingLemmas.{closes_between}
+use Rattle.serving.proofs.SettlingLemmas.{closes_between}
 use Rattle.serving.proofs.MeetLemmas.{closing_may}
 use Rattle.serving.proofs.PlannedLemmas.{plans_closing}
 use Rattle.serving.proofs.planned.plan_call.Goals as goal

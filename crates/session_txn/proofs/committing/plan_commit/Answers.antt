@@ -2,7 +2,7 @@ use Rattle.std.proofs.Common.{◌≡◌, ◌∙◌, Option, subst, sym}
 use Rattle.std.specs.Prelude.{IfSome}
 use Rattle.table_root.specs.declared.heads.Look.{Look}
 use Rattle.session_state.proofs.ChangeLemmas.{record_by}
-use Rattle.session_txn.proofs.CommitLemmas.{own_state}
+use Rattle.session_txn.proofs.UnmovedLemmas.{own_state}
 use Rattle.session_txn.proofs.committing.plan_commit.Goals as goal
 
 pub plan_own-requires-clause-unmoved : goal.plan_own-requires-clause-unmoved

@@ -1,6 +1,7 @@
 use Rattle.std.specs.Arc.{arc_value}
 use Rattle.chunk_store.specs.Drafts.{chunks_of}
-use Rattle.session_txn.proofs.CommitLemmas.{own_decided, own_told, refused}
+use Rattle.session_txn.proofs.CommitLemmas.{refused}
+use Rattle.session_txn.proofs.UnmovedLemmas.{own_decided, own_told}
 use Rattle.session_txn.proofs.committing.plan_own.Goals as goal
 
 pub returns-in-Refused-clause-planned : goal.returns-in-Refused-clause-planned

@@ -1,5 +1,5 @@
 use Rattle.std.proofs.Common.{◌∙◌, sym}
-use Rattle.session_txn.proofs.DeleteLemmas.{violations_named}
+use Rattle.session_txn.proofs.PutBackLemmas.{violations_named}
 use Rattle.session_txn.proofs.deleting.list_named.Goals as goal
 
 pub returns-then-is_below-2 : goal.returns-then-is_below-2
