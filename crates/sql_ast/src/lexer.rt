@@ -9,12 +9,13 @@ ghost use Rattle.sql_ast.specs.declared.places.Last.TheVariants.{Operand};
 
 use crate::bytes::{lower_case, separates};
 use crate::faults::{ReadFault, Refusal};
+use crate::held::Held;
 use crate::marks::{after_sign_of, after_word, first_place_of, most_whole_after, place_after};
 use crate::places::{Last, LexerState};
 use crate::signs::Sign;
 use crate::tokens::{Token, TokenKind};
 use std::alloc::{AllocError, Global};
-use tuple_codec::{Sequence, Text};
+use tuple_codec::Sequence;
 
 /// What each whole literal above 2^63 reads as.
 const TOO_LARGE: u64 = (1 << 63) + 1;
@@ -28,7 +29,7 @@ pub struct Reading {
     /// Where the open token begins.
     pub start: u32,
     /// An open word, in lower case.
-    pub held: Text,
+    pub held: Held,
     /// An open literal's digits as a number, and how many they are.
     pub value: u64,
     pub digits: u8,
@@ -88,7 +89,7 @@ impl Reading {
         Ok(Reading {
             place: LexerState::Between,
             start: 0,
-            held: Text::new(alloc),
+            held: Held::new(alloc),
             value: 0,
             digits: 0,
             last: Last::Other,

@@ -7,6 +7,7 @@
 mod bytes;
 mod expressions;
 mod faults;
+mod held;
 mod keywords;
 mod lexer;
 mod limits;
