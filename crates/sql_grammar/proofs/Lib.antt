@@ -1,2 +1,3 @@
+pub mod LoneLiterals
 pub mod Turns
 mod Vectors

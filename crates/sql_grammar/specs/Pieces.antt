@@ -1,5 +1,5 @@
 -- What a piece is taken for.
-use Rattle.std.specs.Prelude.{ℕ, Bool, true, false, if◌then◌else◌, List, Option, Some, None, codes}
+use Rattle.std.specs.Prelude.{ℕ, Bool, true, false, ◌&&◌, if◌then◌else◌, List, ◌∷◌, Option, Some, None, is_some, codes}
 use Rattle.std.specs.Str.{bytes_eq}
 use denote.Enum.Bare.{sameb}
 use Rattle.sql_ast.specs.contracts.signs.Sign as sign_contracts
@@ -114,3 +114,14 @@ function_named name =
 abbrev pub function_of : Piece → Option Function
 function_of (piece.Word name) = function_named name
 function_of _ = None
+
+-- a comma or a closing parenthesis, with which no expression goes on
+abbrev pub ends_expression : Piece → Bool
+ends_expression (piece.Sign sign.Comma) = true
+ends_expression (piece.Sign sign.CloseParenthesis) = true
+ends_expression _ = false
+
+-- a literal that is a whole expression
+abbrev pub is_lone_literal : List Piece → Bool
+is_lone_literal (t ∷ u ∷ ts) = ends_expression u && is_some (literal_of t)
+is_lone_literal _ = false

@@ -1,10 +1,13 @@
 //! The rules that hold expressions take the reader of those as a parameter, so that each is proved by itself.
 
+ghost use Rattle.std.specs.Prelude.{◌≡◌, true};
 ghost use Rattle.sql_grammar.specs.Reading.{Reads};
 ghost use Rattle.sql_grammar.specs.Expressions as spec;
 ghost use Rattle.sql_grammar.specs.Nests.{Nests};
+ghost use Rattle.sql_grammar.specs.Pieces.{is_lone_literal};
 
 use crate::cursors::Cursor;
+use crate::heads::is_lone_literal;
 use crate::stops::Stop;
 use sql_ast::{Expr, MOST_OPEN};
 use std::alloc::Global;
@@ -57,10 +60,25 @@ fn read_expression(alloc: Global, cursor: &mut Cursor<'_>, depth: usize) -> Resu
     Ok(boxed_expression(alloc, cursor, depth)?.into_inner())
 }
 
+/// The literal that the pieces begin with, where it is a whole expression. By the rules it would be put into a box and taken out again.
+#[tactic(auto, using(crate::proofs::LoneLiterals::lone_read, crate::proofs::LoneLiterals::lone_stop))]
+fn lone_literal(alloc: Global, cursor: &mut Cursor<'_>) -> Result<Expr, Stop>
+    requires { is_lone_literal cursor.old ≡ true }
+    ensures { Reads (spec.any cursor.old) result cursor.new }
+{
+    match cursor.literal(alloc) {
+        Ok(literal) => Ok(Expr::Literal(literal)),
+        Err(stop) => Err(stop),
+    }
+}
+
 /// The expression that the pieces begin with, with no more open parentheses than a statement may have.
 #[tactic(auto, unfolding(crate::specs::Expressions::any))]
 pub fn read_any(alloc: Global, cursor: &mut Cursor<'_>) -> Result<Expr, Stop>
     ensures { Reads (spec.any cursor.old) result cursor.new }
 {
+    if is_lone_literal(cursor.rest()) {
+        return lone_literal(alloc, cursor);
+    }
     read_expression(alloc, cursor, MOST_DEPTH)
 }

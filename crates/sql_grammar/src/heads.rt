@@ -1,6 +1,6 @@
 //! What a piece is taken for.
 
-ghost use Rattle.std.specs.Prelude.{◌≡◌, IfOk};
+ghost use Rattle.std.specs.Prelude.{◌≡◌, is_some, IfOk};
 ghost use Rattle.sql_grammar.specs.Pieces as spec;
 
 use crate::pieces::Piece;
@@ -139,6 +139,36 @@ pub fn literal_of(alloc: Global, piece: &Piece) -> Result<Option<Literal>, Alloc
         )?)))),
         Piece::Keyword(word) => Ok(keyword_literal(*word)),
         _ => Ok(None),
+    }
+}
+
+/// Whether a piece is a literal.
+fn is_literal(piece: &Piece) -> bool
+    ensures { result ≡ is_some (spec.literal_of piece.now) }
+{
+    match piece {
+        Piece::Whole(_) | Piece::Decimal(..) | Piece::Text(_) | Piece::Bytes(_) => true,
+        Piece::Keyword(word) => keyword_literal(*word).is_some(),
+        _ => false,
+    }
+}
+
+fn ends_expression(piece: &Piece) -> bool
+    ensures { result ≡ spec.ends_expression piece.now }
+{
+    match piece {
+        Piece::Sign(Sign::Comma | Sign::CloseParenthesis) => true,
+        _ => false,
+    }
+}
+
+/// Whether the expression that the pieces begin with is a literal, as is seen from the piece behind it.
+pub fn is_lone_literal(pieces: &[Piece]) -> bool
+    ensures { result ≡ spec.is_lone_literal pieces.now }
+{
+    match pieces {
+        [first, second, ..] => ends_expression(second) && is_literal(first),
+        _ => false,
     }
 }
 
