@@ -115,18 +115,16 @@ impl<F: Fn(Global, &mut Cursor<'_>, usize) -> Result<Boxed<Expr>, Stop>> Grammar
         column(self.alloc, cursor)
     }
 
-    #[tactic(auto, unfolding(crate::specs::Expressions::plain_atom, crate::specs::Expressions::literal_ahead))]
+    #[tactic(auto, unfolding(crate::specs::Expressions::plain_atom, crate::specs::Expressions::literal_ahead, crate::specs::Reading::literal))]
     fn plain_atom(&self, cursor: &mut Cursor<'_>) -> Result<Boxed<Expr>, Stop>
         requires { Nests self.now.depth (F.pre self.now.expression) (F.post self.now.expression) }
         ensures { Reads (spec.plain_atom (spec.expression self.now.depth) cursor.old) result cursor.new }
     {
-        match cursor.literal_ahead(self.alloc)? {
-            Some(literal) => {
-                cursor.skip();
-                Ok(Boxed::new(self.alloc, Expr::Literal(literal))?)
-            }
-            None => self.other_atom(cursor),
+        if cursor.sees_literal() {
+            let literal = cursor.literal(self.alloc)?;
+            return Ok(Boxed::new(self.alloc, Expr::Literal(literal))?);
         }
+        self.other_atom(cursor)
     }
 
     /// Reads a literal, a column, a variable, a call, or an expression in parentheses. A function's word that no `(` follows is a column.

@@ -1,24 +1,25 @@
 //! A place in a list of pieces, from which pieces are looked at and taken one by one.
 
-ghost use Rattle.std.specs.Prelude.{◌≡◌, Ok, IfOk, length, drop};
+ghost use Rattle.std.specs.Prelude.{◌≡◌, Ok, is_some, length, drop};
 ghost use Rattle.sql_grammar.specs.Reading as spec;
 ghost use Rattle.sql_grammar.specs.Reading.{Reads};
 ghost use Rattle.sql_grammar.specs.Pieces.{literal_of};
 
 use crate::heads::{
-    is_keyword, is_named, is_sign, is_word, literal_of, name_of, string_of, whole_of,
+    is_keyword, is_literal, is_named, is_sign, is_word, literal_of, name_of, string_of, whole_of,
 };
 use crate::pieces::Piece;
 use crate::stops::Stop;
 use sql_ast::{Keyword, Literal, Sign};
-use std::alloc::{AllocError, Global};
+use std::alloc::Global;
 use std::marker::Model;
+use std::mem::take;
 use tuple_codec::Text;
 
-/// A place in a list of pieces, seen by contracts as the pieces from there on.
+/// A place in a list of pieces, seen by contracts as the pieces from there on. Names and literals are moved out of the pieces.
 #[derive(Drop)]
 pub struct Cursor<'a> {
-    rest: &'a [Piece],
+    rest: &'a mut [Piece],
 }
 
 impl<'a> Model for Cursor<'a> {
@@ -31,15 +32,15 @@ impl<'a> Model for Cursor<'a> {
 }
 
 impl<'a> Cursor<'a> {
-    /// A place before the first of these pieces, which are borrowed.
-    pub fn new(pieces: &'a [Piece]) -> Cursor<'a>
-        ensures { result ≡ pieces.now }
+    /// A place before the first of these pieces, which are borrowed. Nothing is said of what is left of them.
+    pub fn new(pieces: &'a mut [Piece]) -> Cursor<'a>
+        ensures { result ≡ pieces.old }
     {
         Cursor { rest: pieces }
     }
 
     /// The pieces from here on.
-    pub fn rest(&self) -> &'a [Piece]
+    pub fn rest(&self) -> &[Piece]
         ensures { result.now ≡ self.now }
     {
         self.rest
@@ -56,7 +57,7 @@ impl<'a> Cursor<'a> {
     pub fn skip(&mut self)
         ensures { self.new ≡ drop 1 self.old }
     {
-        if let [_, rest @ ..] = self.rest {
+        if let [_, rest @ ..] = take(&mut self.rest) {
             self.rest = rest;
         }
     }
@@ -66,7 +67,7 @@ impl<'a> Cursor<'a> {
     pub fn sees(&self, sign: Sign) -> bool
         ensures { result ≡ spec.sees sign self.now }
     {
-        match self.rest {
+        match self.rest() {
             [first, ..] => is_sign(sign, first),
             [] => false,
         }
@@ -77,7 +78,7 @@ impl<'a> Cursor<'a> {
     pub fn sees_keyword(&self, word: Keyword) -> bool
         ensures { result ≡ spec.sees_keyword word self.now }
     {
-        match self.rest {
+        match self.rest() {
             [first, ..] => is_keyword(word, first),
             [] => false,
         }
@@ -88,7 +89,7 @@ impl<'a> Cursor<'a> {
     pub fn sees_word(&self, word: &[u8]) -> bool
         ensures { result ≡ spec.sees_word word.now self.now }
     {
-        match self.rest {
+        match self.rest() {
             [first, ..] => is_word(word, first),
             [] => false,
         }
@@ -99,8 +100,18 @@ impl<'a> Cursor<'a> {
     pub fn sees_name(&self) -> bool
         ensures { result ≡ spec.sees_name self.now }
     {
-        match self.rest {
+        match self.rest() {
             [first, ..] => is_named(first),
+            [] => false,
+        }
+    }
+
+    /// Whether a literal comes next, also TRUE, FALSE or NULL.
+    pub fn sees_literal(&self) -> bool
+        ensures { result ≡ is_some (spec.seen literal_of self.now) }
+    {
+        match self.rest() {
+            [first, ..] => is_literal(first),
             [] => false,
         }
     }
@@ -171,13 +182,13 @@ impl<'a> Cursor<'a> {
         Ok(())
     }
 
-    /// Takes a copy of a name, bare or from backquotes, or stops where none comes next.
+    /// Takes a name, bare or from backquotes, or stops where none comes next.
     #[tactic(auto, unfolding(crate::specs::Reading::name))]
     pub fn name(&mut self, alloc: Global) -> Result<Text, Stop>
         ensures { Reads (spec.name self.old) result self.new }
     {
         let name = match self.rest {
-            [first, ..] => name_of(alloc, first)?,
+            [first, ..] => name_of(alloc, first),
             [] => None,
         };
         self.take(name)
@@ -200,41 +211,34 @@ impl<'a> Cursor<'a> {
     pub fn whole(&mut self) -> Result<u64, Stop>
         ensures { Reads (spec.whole self.old) result self.new }
     {
-        let whole = match self.rest {
+        let whole = match self.rest() {
             [first, ..] => whole_of(first),
             [] => None,
         };
         self.take(whole)
     }
 
-    /// Takes a copy of a string's bytes, without quotes and escapes, or stops where none comes next; a byte string is none.
+    /// Takes a string's bytes, without quotes and escapes, or stops where none comes next; a byte string is none.
     #[tactic(auto, unfolding(crate::specs::Reading::string))]
     pub fn string(&mut self, alloc: Global) -> Result<Text, Stop>
         ensures { Reads (spec.string self.old) result self.new }
     {
         let string = match self.rest {
-            [first, ..] => string_of(alloc, first)?,
+            [first, ..] => string_of(alloc, first),
             [] => None,
         };
         self.take(string)
     }
 
-    /// The literal that comes next, if one does, without moving past it.
-    pub fn literal_ahead(&self, alloc: Global) -> Result<Option<Literal>, AllocError>
-        ensures { IfOk result (λ literal. literal ≡ spec.seen literal_of self.now) }
-    {
-        match self.rest {
-            [first, ..] => literal_of(alloc, first),
-            [] => Ok(None),
-        }
-    }
-
-    /// Takes a copy of a literal, also of TRUE, FALSE or NULL, or stops where none comes next; a minus belongs to no literal.
+    /// Takes a literal, also of TRUE, FALSE or NULL, or stops where none comes next; a minus belongs to no literal.
     #[tactic(auto, unfolding(crate::specs::Reading::literal))]
     pub fn literal(&mut self, alloc: Global) -> Result<Literal, Stop>
         ensures { Reads (spec.literal self.old) result self.new }
     {
-        let literal = self.literal_ahead(alloc)?;
+        let literal = match self.rest {
+            [first, ..] => literal_of(alloc, first),
+            [] => None,
+        };
         self.take(literal)
     }
 

@@ -1,11 +1,12 @@
 //! What a piece is taken for.
 
-ghost use Rattle.std.specs.Prelude.{◌≡◌, is_some, IfOk};
+ghost use Rattle.std.specs.Prelude.{◌≡◌, is_some};
 ghost use Rattle.sql_grammar.specs.Pieces as spec;
 
 use crate::pieces::Piece;
 use sql_ast::{Comparison, Keyword, Literal, Sign, Term};
-use std::alloc::{AllocError, Global};
+use std::alloc::Global;
+use std::mem::replace;
 use tuple_codec::{Sequence, Text};
 
 /// How a comparison goes on behind its first sum.
@@ -83,14 +84,14 @@ pub fn is_named(piece: &Piece) -> bool
     }
 }
 
-/// A copy of the name that a piece is, bare or from backquotes; None for all else, reserved words too.
-pub fn name_of(alloc: Global, piece: &Piece) -> Result<Option<Text>, AllocError>
-    ensures { IfOk result (λ name. name ≡ spec.name_of piece.now) }
+/// Moves the name out that a piece is, bare or from backquotes; None for all else, reserved words too.
+pub fn name_of(alloc: Global, piece: &mut Piece) -> Option<Text>
+    ensures { result ≡ spec.name_of piece.old }
 {
     match piece {
-        Piece::Word(found) => Ok(Some(Text::from_slice(alloc, found.as_slice())?)),
-        Piece::Quoted(found) => Ok(Some(Text::from_slice(alloc, found.as_slice())?)),
-        _ => Ok(None),
+        Piece::Word(found) => Some(replace(found, Text::new(alloc))),
+        Piece::Quoted(found) => Some(replace(found, Text::new(alloc))),
+        _ => None,
     }
 }
 
@@ -104,13 +105,13 @@ pub fn whole_of(piece: &Piece) -> Option<u64>
     }
 }
 
-/// A copy of a string's bytes; None for all else, byte strings too.
-pub fn string_of(alloc: Global, piece: &Piece) -> Result<Option<Text>, AllocError>
-    ensures { IfOk result (λ string. string ≡ spec.string_of piece.now) }
+/// Moves a string's bytes out; None for all else, byte strings too.
+pub fn string_of(alloc: Global, piece: &mut Piece) -> Option<Text>
+    ensures { result ≡ spec.string_of piece.old }
 {
     match piece {
-        Piece::Text(value) => Ok(Some(Text::from_slice(alloc, value.as_slice())?)),
-        _ => Ok(None),
+        Piece::Text(value) => Some(replace(value, Text::new(alloc))),
+        _ => None,
     }
 }
 
@@ -125,25 +126,22 @@ fn keyword_literal(word: Keyword) -> Option<Literal>
     }
 }
 
-/// A copy of the literal that a piece is, TRUE, FALSE and NULL included; None where it is none.
-pub fn literal_of(alloc: Global, piece: &Piece) -> Result<Option<Literal>, AllocError>
-    ensures { IfOk result (λ literal. literal ≡ spec.literal_of piece.now) }
+/// Moves the literal out that a piece is, TRUE, FALSE and NULL included; None where it is none.
+pub fn literal_of(alloc: Global, piece: &mut Piece) -> Option<Literal>
+    ensures { result ≡ spec.literal_of piece.old }
 {
     match piece {
-        Piece::Whole(value) => Ok(Some(Literal::Whole(*value))),
-        Piece::Decimal(value, places) => Ok(Some(Literal::Decimal(*value, *places))),
-        Piece::Text(value) => Ok(Some(Literal::Text(Text::from_slice(alloc, value.as_slice())?))),
-        Piece::Bytes(value) => Ok(Some(Literal::Bytes(Sequence::from_vec(Vec::from_slice(
-            alloc,
-            value.as_slice(),
-        )?)))),
-        Piece::Keyword(word) => Ok(keyword_literal(*word)),
-        _ => Ok(None),
+        Piece::Whole(value) => Some(Literal::Whole(*value)),
+        Piece::Decimal(value, places) => Some(Literal::Decimal(*value, *places)),
+        Piece::Text(value) => Some(Literal::Text(replace(value, Text::new(alloc)))),
+        Piece::Bytes(value) => Some(Literal::Bytes(replace(value, Sequence::new(alloc)))),
+        Piece::Keyword(word) => keyword_literal(*word),
+        _ => None,
     }
 }
 
-/// Whether a piece is a literal.
-fn is_literal(piece: &Piece) -> bool
+/// Whether a piece is a literal, TRUE, FALSE and NULL included.
+pub fn is_literal(piece: &Piece) -> bool
     ensures { result ≡ is_some (spec.literal_of piece.now) }
 {
     match piece {

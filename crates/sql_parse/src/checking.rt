@@ -37,12 +37,12 @@ pub fn read_check(alloc: Global, text: &[u8]) -> Result<Option<Expr>, AllocError
 fn expression_in(alloc: Global, text: &[u8], tokens: &[Token]) -> Result<Option<Expr>, AllocError>
     ensures { IfOk result (λ expr. expr ≡ spec.expression_in text.now tokens.now) }
 {
-    let pieces = canonical_pieces_of(alloc, text, tokens)?;
-    expression_of(alloc, pieces.as_slice())
+    let mut pieces = canonical_pieces_of(alloc, text, tokens)?;
+    expression_of(alloc, pieces.as_mut_slice())
 }
 
-fn expression_of(alloc: Global, pieces: &[Piece]) -> Result<Option<Expr>, AllocError>
-    ensures { IfOk result (λ expr. expr ≡ spec.all_of (any pieces.now)) }
+fn expression_of(alloc: Global, pieces: &mut [Piece]) -> Result<Option<Expr>, AllocError>
+    ensures { IfOk result (λ expr. expr ≡ spec.all_of (any pieces.old)) }
 {
     let mut cursor = Cursor::new(pieces);
     match read_any(alloc, &mut cursor) {

@@ -28,18 +28,18 @@ fn read_tokens(alloc: Global, text: &[u8], tokens: &[Token]) -> Result<Statement
     requires { length text.now < 2 ^ 32 }
     ensures { LexingGives (statement_in text.now tokens.now) result }
 {
-    let pieces = pieces_of(alloc, text, tokens)?;
-    read_pieces(alloc, text, tokens, pieces.as_slice())
+    let mut pieces = pieces_of(alloc, text, tokens)?;
+    read_pieces(alloc, text, tokens, pieces.as_mut_slice())
 }
 
 fn read_pieces(
     alloc: Global,
     text: &[u8],
     tokens: &[Token],
-    pieces: &[Piece],
+    pieces: &mut [Piece],
 ) -> Result<Statement, ReadFault>
     requires { length text.now < 2 ^ 32 }
-    ensures { LexingGives (statement_by text.now tokens.now pieces.now) result }
+    ensures { LexingGives (statement_by text.now tokens.now pieces.old) result }
 {
     if is_beyond_grammar(pieces) {
         return Err(refused(9013));
@@ -53,10 +53,10 @@ fn read_placed(
     alloc: Global,
     text: &[u8],
     tokens: &[Token],
-    pieces: &[Piece],
+    pieces: &mut [Piece],
 ) -> Result<Statement, ReadFault>
     requires { length text.now < 2 ^ 32 }
-    ensures { LexingGives (placed text.now tokens.now (statement_of pieces.now)) result }
+    ensures { LexingGives (placed text.now tokens.now (statement_of pieces.old)) result }
 {
     match read_statement(alloc, pieces) {
         Ok(statement) => Ok(statement),

@@ -141,9 +141,10 @@ fn finished<T: Drop>(read: T, rest: &[Piece]) -> Result<T, Stop>
 /// The statement that the pieces are.
 ///
 /// Where they are none, `Stop::At` has the number of pieces from the first one that goes on with no statement.
+/// The texts that are names and literals of the statement are moved into it.
 #[tactic(auto, unfolding(crate::specs::Statements::statement_of))]
-pub fn read_statement(alloc: Global, pieces: &[Piece]) -> Result<Statement, Stop>
-    ensures { ReadsWhole (spec.statement_of pieces.now) result }
+pub fn read_statement(alloc: Global, pieces: &mut [Piece]) -> Result<Statement, Stop>
+    ensures { ReadsWhole (spec.statement_of pieces.old) result }
 {
     let mut cursor = Cursor::new(pieces);
     let statement = any_statement(alloc, &mut cursor)?;
