@@ -198,7 +198,7 @@ fn small_row_after(
     ensures { Gives result (small_row_after schema.now change.now row.now) }
 {
     let after = row_after(alloc, change, row)?;
-    if is_large(alloc, schema, after.as_slice())? {
+    if is_large(schema, after.as_slice()) {
         return Err(Refused::By(9010));
     }
     Ok(after)

@@ -14,6 +14,7 @@ use crate::limits::is_large;
 use expr_eval::BoundExpr;
 use plain_sql::{Refused, ask, bound};
 use schema_model::{Column, Schema};
+use smallvec::SmallVec;
 use sql_ast::{InsertCell, Tuple};
 use sql_values::may_assign;
 use std::alloc::{AllocError, Global};
@@ -119,24 +120,23 @@ fn named_place(schema: &Schema, name: &[u8]) -> Result<usize, Refused>
     }
 }
 
-fn places_of_names(
-    alloc: Global,
-    schema: &Schema,
-    names: &[Text],
-) -> Result<Sequence<usize>, Refused>
-    ensures { Gives result (each (named_place schema.now) names.now) }
+/// Places of columns. Those of a small table need no memory of their own.
+pub type Places = SmallVec<usize, 8>;
+
+fn places_of_names(alloc: Global, schema: &Schema, names: &[Text]) -> Result<Places, Refused>
+    ensures { GivesBy (λ places. places.items) result (each (named_place schema.now) names.now) }
 {
-    let mut places = Sequence::new(alloc);
+    let mut places = SmallVec::new(alloc);
     for name in names {
         places.push(named_place(schema, name.as_slice())?)?;
     }
     Ok(places)
 }
 
-fn all_places(alloc: Global, count: usize) -> Result<Sequence<usize>, AllocError>
-    ensures { IfOk result (λ places. places ≡ range_with_len 0 count) }
+fn all_places(alloc: Global, count: usize) -> Result<Places, AllocError>
+    ensures { IfOk result (λ places. places.items ≡ range_with_len 0 count) }
 {
-    let mut places = Sequence::new(alloc);
+    let mut places = SmallVec::new(alloc);
     for place in 0..count {
         places.push(place)?;
     }
@@ -148,8 +148,8 @@ pub fn places_named(
     alloc: Global,
     schema: &Schema,
     columns: &Option<Sequence<Text>>,
-) -> Result<Sequence<usize>, Refused>
-    ensures { Gives result (places_named schema.now columns.now) }
+) -> Result<Places, Refused>
+    ensures { GivesBy (λ places. places.items) result (places_named schema.now columns.now) }
 {
     match columns {
         Some(names) => places_of_names(alloc, schema, names.as_slice()),
@@ -221,7 +221,7 @@ fn new_row(alloc: Global, schema: &Schema, places: &[usize], said: &[Given]) -> 
     ensures { Gives result (new_row schema.now places.now (map given_seen said.now)) }
 {
     let row = new_cells(alloc, schema, places, said)?;
-    if is_large(alloc, schema, row.as_slice())? {
+    if is_large(schema, row.as_slice()) {
         return Err(Refused::By(9010));
     }
     Ok(row)

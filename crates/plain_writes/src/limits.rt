@@ -1,38 +1,37 @@
-//! Rows that pass a limit.
+//! Rows that pass a limit. What cells take is counted where they stand, so nothing is copied.
 
-ghost use Rattle.std.specs.Prelude.{◌≡◌, IfOk};
+ghost use Rattle.std.specs.Prelude.{◌≡◌, ◌-◌, ◌^◌, length, min};
 ghost use Rattle.std.specs.List.{list_all};
-ghost use Rattle.schema_model.specs.Limits.{is_row_within_limits, is_short_in, is_short_key, is_short_row};
+ghost use Rattle.tuple_codec.specs.KeyBytes.{key_bytes, key_cell};
+ghost use Rattle.tuple_codec.specs.RowBytes.{row_bytes};
+ghost use Rattle.tuple_codec.specs.Rows.{cell_at, key_of};
+ghost use Rattle.schema_model.specs.Limits.{is_short_in, is_short_key, is_short_row};
 ghost use Rattle.schema_model.specs.PlainTables.{is_keyed, primary_key, unkeyed_from};
 ghost use Rattle.plain_writes.specs.Writes.{is_large};
 
 use schema_model::limits::{MOST_INDEX_BYTES, MOST_KEY_BYTES, MOST_ROW_BYTES};
 use schema_model::{IndexDef, Schema};
-use std::alloc::{AllocError, Global};
-use tuple_codec::{Row, Sequence, Value, copy_value, key_of, key_size, row_size};
+use tuple_codec::{Value, key_cell_size, row_cell_size};
 
-fn is_short_key(key: &[Value]) -> bool
-    ensures { result ≡ is_short_key key.now }
+/// The bytes in a key of the cell at a place, of NULL where there is none.
+fn cell_size_at(row: &[Value], place: usize) -> u64
+    ensures { result ≡ min (length (key_cell (cell_at row.now place))) (2 ^ 64 - 1) }
 {
-    key_size(key) <= MOST_KEY_BYTES as u64
-}
-
-fn is_short_in(alloc: Global, row: &[Value], index: &IndexDef) -> Result<bool, AllocError>
-    ensures { IfOk result (λ short. short ≡ is_short_in row.now index.now) }
-{
-    let cells = key_of(alloc, index.columns.as_slice(), row)?;
-    Ok(key_size(cells.as_slice()) <= MOST_INDEX_BYTES as u64)
-}
-
-fn are_short_in(alloc: Global, row: &[Value], indexes: &[IndexDef]) -> Result<bool, AllocError>
-    ensures { IfOk result (λ short. short ≡ list_all (is_short_in row.now) indexes.now) }
-{
-    for index in indexes {
-        if !is_short_in(alloc, row, index)? {
-            return Ok(false);
-        }
+    match row.get(place) {
+        Some(cell) => key_cell_size(cell),
+        None => key_cell_size(&Value::Null),
     }
-    Ok(true)
+}
+
+/// The bytes of the key that the cells at these places are.
+fn size_at(places: &[u8], row: &[Value]) -> u64
+    ensures { result ≡ min (length (key_bytes (key_of places.now row.now))) (2 ^ 64 - 1) }
+{
+    let mut size = 0u64;
+    for place in places {
+        size = size.saturating_add(cell_size_at(row, usize::from(*place)));
+    }
+    size
 }
 
 fn is_keyed(key: &[u8], position: usize) -> bool
@@ -41,36 +40,49 @@ fn is_keyed(key: &[u8], position: usize) -> bool
     key.iter().any(|other| usize::from(*other) == position)
 }
 
-/// The cells that aren't in the primary key.
-fn unkeyed(alloc: Global, key: &[u8], row: &[Value]) -> Result<Row, AllocError>
-    ensures { IfOk result (λ cells. cells ≡ unkeyed_from key.now 0 row.now) }
+/// The bytes of the cells that aren't in the primary key.
+fn size_beside(key: &[u8], row: &[Value]) -> u64
+    ensures { result ≡ min (length (row_bytes (unkeyed_from key.now 0 row.now))) (2 ^ 64 - 1) }
 {
-    let mut cells = Sequence::new(alloc);
+    let mut size = 0u64;
     for (position, value) in row.iter().enumerate() {
         if !is_keyed(key, position) {
-            cells.push(copy_value(alloc, value)?)?;
+            size = size.saturating_add(row_cell_size(value));
         }
     }
-    Ok(cells)
+    size
 }
 
-fn is_short_row(alloc: Global, schema: &Schema, row: &[Value]) -> Result<bool, AllocError>
-    ensures { IfOk result (λ short. short ≡ is_short_row schema.now row.now) }
+fn is_short_key(schema: &Schema, row: &[Value]) -> bool
+    ensures { result ≡ is_short_key (primary_key schema.now row.now) }
 {
-    let cells = unkeyed(alloc, schema.key.as_slice(), row)?;
-    Ok(row_size(cells.as_slice()) <= MOST_ROW_BYTES as u64)
+    size_at(schema.key.as_slice(), row) <= MOST_KEY_BYTES as u64
+}
+
+fn is_short_in(row: &[Value], index: &IndexDef) -> bool
+    ensures { result ≡ is_short_in row.now index.now }
+{
+    size_at(index.columns.as_slice(), row) <= MOST_INDEX_BYTES as u64
+}
+
+fn are_short_in(row: &[Value], indexes: &[IndexDef]) -> bool
+    ensures { result ≡ list_all (is_short_in row.now) indexes.now }
+{
+    indexes.iter().all(|index| is_short_in(row, index))
+}
+
+fn is_short_row(schema: &Schema, row: &[Value]) -> bool
+    ensures { result ≡ is_short_row schema.now row.now }
+{
+    size_beside(schema.key.as_slice(), row) <= MOST_ROW_BYTES as u64
 }
 
 /// Whether the row, its primary key or its columns in an index are longer than they may be.
-pub fn is_large(alloc: Global, schema: &Schema, row: &[Value]) -> Result<bool, AllocError>
-    ensures { IfOk result (λ large. large ≡ is_large schema.now row.now) }
+pub fn is_large(schema: &Schema, row: &[Value]) -> bool
+    ensures { result ≡ is_large schema.now row.now }
 {
-    let key = key_of(alloc, schema.key.as_slice(), row)?;
-    if !is_short_key(key.as_slice()) {
-        return Ok(true);
-    }
-    if !are_short_in(alloc, row, schema.indexes.as_slice())? {
-        return Ok(true);
-    }
-    Ok(!is_short_row(alloc, schema, row)?)
+    let short = is_short_key(schema, row)
+        && are_short_in(row, schema.indexes.as_slice())
+        && is_short_row(schema, row);
+    !short
 }

@@ -145,7 +145,7 @@ fn turned_small(
     ensures { Gives result (turned_small schema.now (map meaning tests.now) (map setting_seen settings.now) row.now) }
 {
     let later = turned(alloc, schema, tests, settings, row)?;
-    if later.is_new && is_large(alloc, schema, later.row.as_slice())? {
+    if later.is_new && is_large(schema, later.row.as_slice()) {
         return Err(Refused::By(9010));
     }
     Ok(later)

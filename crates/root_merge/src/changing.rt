@@ -39,7 +39,7 @@ fn is_short(alloc: Global, schema: &Schema, change: &ItemChange) -> Result<bool,
         None => Ok(true),
         Some(value) => {
             let row = row_of(alloc, schema, change.key.as_slice(), value.as_slice())?;
-            Ok(!is_large(alloc, schema, row.as_slice())?)
+            Ok(!is_large(schema, row.as_slice()))
         }
     }
 }

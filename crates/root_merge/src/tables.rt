@@ -40,7 +40,7 @@ fn are_short(alloc: Global, schema: &Schema, rows: &[Row]) -> Result<bool, Alloc
     ensures { IfOk result (λ short. short ≡ list_all (is_row_within_limits schema.now) rows.now) }
 {
     for row in rows {
-        if is_large(alloc, schema, row.as_slice())? {
+        if is_large(schema, row.as_slice()) {
             return Ok(false);
         }
     }
