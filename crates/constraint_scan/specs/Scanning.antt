@@ -1,5 +1,5 @@
 -- Databases and tables, as scans read them.
-use Rattle.std.specs.Prelude.{◌||◌, Bool, not, [], map}
+use Rattle.std.specs.Prelude.{◌||◌, Bool, List, ℕ, not, [], map, bytes_eq, if◌then◌else◌}
 use Rattle.std.specs.List.{list_any}
 use Rattle.schema_model.specs.Schemas.{is_empty}
 use Rattle.schema_model.specs.declared.schemas.Schema.{Schema}
@@ -33,3 +33,10 @@ is_constrained schema = list_any (λ index. index.unique) schema.indexes || (not
 -- some table has one
 abbrev pub has_constraints : PlainDatabase → Bool
 has_constraints database = list_any (λ named. is_constrained named.table.schema) database
+
+-- the same of one of these, and of all, once the table of this name has this schema
+abbrev pub constrained_beside : List ℕ → Schema → List ℕ → Schema → Bool
+constrained_beside name schema other its = if bytes_eq other name then is_constrained schema else is_constrained its
+
+abbrev pub has_constraints_beside : List ℕ → Schema → PlainDatabase → Bool
+has_constraints_beside name schema database = list_any (λ named. constrained_beside name schema named.name named.table.schema) database

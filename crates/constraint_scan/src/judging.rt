@@ -7,7 +7,7 @@ ghost use Rattle.chunk_store.specs.Drafts.{chunks_of};
 ghost use Rattle.plain_writes.specs.Violations.{first_violation};
 ghost use Rattle.plain_writes.specs.CheckTexts.{checks};
 ghost use Rattle.table_root.specs.Standing.{AreThere, CanRead, IsReadAt, IsTableAt};
-ghost use Rattle.constraint_scan.specs.Scanning.{has_constraints, is_constrained};
+ghost use Rattle.constraint_scan.specs.Scanning.{constrained_beside, has_constraints, has_constraints_beside, is_constrained};
 
 use crate::canonical::CanonicalChecks;
 use crate::changing::told_by_pairs;
@@ -68,6 +68,47 @@ fn is_any_constrained<D: Digester>(
         return Ok(true);
     }
     is_any_constrained(alloc, draft, rest)
+}
+
+/// Whether a table has one. That of this name isn't read: it has this schema.
+fn is_one_constrained<D: Digester>(
+    alloc: Global,
+    draft: &Draft<D>,
+    entry: &TableEntry,
+    name: &[u8],
+    schema: &Schema,
+) -> Result<bool, AllocError>
+    requires { (contents : PlainTable) × IsTableAt D.address (chunks_of draft.now.chunks) entry.now.table.0 contents }
+    ensures { (contents : PlainTable) → IsTableAt D.address (chunks_of draft.now.chunks) entry.now.table.0 contents
+        → IfOk result (λ found. found ≡ constrained_beside name.now schema.now entry.now.name contents.schema) }
+{
+    if entry.name.is(name) {
+        return Ok(is_constrained(schema));
+    }
+    is_table_constrained(alloc, draft, &entry.table)
+}
+
+/// Whether some table of a database has a constraint beside NOT NULL, once the table of this name has this schema: that table isn't read, nor are
+/// those behind the first that has one. There are few tables, so the calls don't go deep.
+pub fn is_constrained_beside<D: Digester>(
+    alloc: Global,
+    draft: &Draft<D>,
+    entries: &[TableEntry],
+    name: &[u8],
+    schema: &Schema,
+) -> Result<bool, AllocError>
+    requires { (database : PlainDatabase) × AreThere D.address (chunks_of draft.now.chunks) database entries.now }
+    ensures { (database : PlainDatabase) → AreThere D.address (chunks_of draft.now.chunks) database entries.now
+        → IfOk result (λ found. found ≡ has_constraints_beside name.now schema.now database) }
+{
+    let [first, rest @ ..] = entries else {
+        return Ok(false);
+    };
+    let found = is_one_constrained(alloc, draft, first, name, schema)?;
+    if found {
+        return Ok(true);
+    }
+    is_constrained_beside(alloc, draft, rest, name, schema)
 }
 
 /// Whether some table of the database at an address has a constraint beside NOT NULL. No row is read.
@@ -145,6 +186,31 @@ pub fn first_violation<D: Digester>(
         return Ok(None);
     }
     if is_database_constrained(alloc, draft, new)? {
+        told(alloc, draft, old, new)
+    } else {
+        Ok(None)
+    }
+}
+
+/// The same refusal, where it is known whether some table of the new database has a constraint beside NOT NULL.
+pub fn first_violation_if<D: Digester>(
+    alloc: Global,
+    draft: &Draft<D>,
+    old: &Address,
+    new: &Address,
+    constrained: bool,
+) -> Result<Option<u16>, AllocError>
+    requires old { CanRead D.address (chunks_of draft.now.chunks) old.now.0 }
+    requires new { (after : PlainDatabase) × IsReadAt D.address (chunks_of draft.now.chunks) new.now.0 after × (constrained ≡ has_constraints after) }
+    ensures { (before after : PlainDatabase) → IsReadAt D.address (chunks_of draft.now.chunks) old.now.0 before → IsReadAt D.address (chunks_of draft.now.chunks) new.now.0 after
+        → IfOk result (λ number. number ≡ first_violation checks before after) }
+{
+    law_of_databases();
+    law_of_refusals();
+    if old == new {
+        return Ok(None);
+    }
+    if constrained {
         told(alloc, draft, old, new)
     } else {
         Ok(None)

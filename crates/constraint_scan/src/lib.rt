@@ -21,7 +21,7 @@ mod seeking;
 mod thinning;
 
 pub use canonical::CanonicalChecks;
-pub use judging::first_violation;
+pub use judging::{first_violation, first_violation_if, is_constrained_beside};
 pub use laws::law_of_recording;
 pub use listing::{ListedViolation, violations};
 pub use reading::{read_schemas, read_tables};

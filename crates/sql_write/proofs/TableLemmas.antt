@@ -1,5 +1,6 @@
 -- Databases as the lists of the names and addresses of their tables.
-use Rattle.std.proofs.Common.{◌≡◌, refl, sym, ap, ◌∙◌, subst, ℕ, ◌<◌, ◌≤◌, ◌^◌, true, cond, ◌&&◌, nat_le, nat_cmp, is_lt, List, [], ◌∷◌, length, bytes_eq, Option, Some, None, unwrap_or, suc, arith}
+use Rattle.std.proofs.Common.{◌≡◌, refl, sym, ap, ◌∙◌, subst, ℕ, ◌<◌, ◌≤◌, ◌^◌, true, false, cond, ◌&&◌, ◌||◌, nat_le, nat_cmp, is_lt, List, [], ◌∷◌, ◌++◌, map, take, drop, length, bytes_eq, Option, Some, None, unwrap_or, suc, arith}
+use Rattle.std.proofs.lemmas.List.{append-nil, drop_all, take_all}
 use Rattle.std.specs.Cmp.Lexicographic.{bytes_decides, slice_cmp}
 use Rattle.std.specs.List.{AllByRecursion, find, list_all}
 use Rattle.std.specs.Option.{option_map}
@@ -12,13 +13,14 @@ use Rattle.schema_model.specs.WrittenForms.{table_address}
 use Rattle.schema_model.proofs.SizeLemmas.{kept_few, short_names as short_in}
 use Rattle.chunk_store.specs.Chunks.{Chunks, Extends}
 use Rattle.table_root.specs.Databases.{has_short_name, names_rise as heads_rise}
-use Rattle.table_root.specs.Standing.{DatabasesStand, IsReadAt, IsTableAt, TablesStand, named_tables}
+use Rattle.table_root.specs.Standing.{AreThere, DatabasesStand, IsReadAt, IsTableAt, TablesStand, named_tables}
 use Rattle.table_root.specs.declared.records.TableEntry.{TableEntry}
 use Rattle.plain_writes.specs.Violations.{is_called, table_in}
 use Rattle.plain_writes.specs.Writes.{replaced, replaced_in}
 use Rattle.table_root.specs.Kept.{IsKeptAt}
 use Rattle.write_laws.proofs.DatabaseLemmas.{length_same, names_by, names_rise, tables_are}
 use Rattle.write_laws.proofs.OrderLemmas.{right_so, two}
+use Rattle.constraint_scan.specs.Scanning.{constrained_beside, has_constraints, has_constraints_beside, is_constrained}
 use Rattle.sql_write.specs.Putting.{AreListed, AreListedAt, address_in, readdress, readdressed}
 
 -- ---- a database that keeps the limits
@@ -105,6 +107,10 @@ absent address name (named ∷ database) e = two (bytes_eq named.name name)
 
 -- ---- one table replaced
 
+-- what a loop that changes each item in its place comes to at its end
+pub all_written : {A : Type 0} (f : A → A) (ys xs : List A) (i : ℕ) → length xs ≤ i → ys ≡ map f (take i xs) ++ drop i xs → ys ≡ map f xs
+all_written f ys xs i last e = e ∙ ap (λ rest. map f (take i xs) ++ rest) (drop_all i xs last) ∙ append-nil (map f (take i xs)) ∙ ap (map f) (take_all i xs last)
+
 one_readdressed : (address : List ℕ → List ℕ) (name : List ℕ) (contents : PlainTable) (named : plain.NamedTable)
     → readdress name (record { 0 = table_address address contents }) (record { name = named.name; table = record { 0 = table_address address named.table } })
     ≡ record { name = (replaced_in name contents named).name; table = record { 0 = table_address address (replaced_in name contents named).table } }
@@ -143,3 +149,22 @@ listed_put address old new more laws tables made name database contents k are at
 
 pub read_later : (address : List ℕ → List ℕ) (old new : Chunks) → Extends old new → DatabasesStand → (k : List ℕ) (database : PlainDatabase) → IsReadAt address old k database → IsReadAt address new k database
 read_later address old new more laws k database read = record { stands = laws.later address old new k database more read.stands; few = read.few }
+
+-- ---- what constrains a database
+
+pub listed_there : (address : List ℕ → List ℕ) (chunks : Chunks) (tables read : List TableEntry) (database : PlainDatabase) → AreListed address chunks tables database
+    → read ≡ tables → AreThere address chunks database read
+listed_there address chunks tables read database are is = record { stand = are.stand; listed = is ∙ are.listed }
+
+one_constrained : (name : List ℕ) (contents : PlainTable) (named : plain.NamedTable)
+    → constrained_beside name contents.schema named.name named.table.schema ≡ is_constrained (replaced_in name contents named).table.schema
+one_constrained name contents named = elim (bytes_eq named.name name) as (λ b. cond b (is_constrained contents.schema) (is_constrained named.table.schema)
+    ≡ is_constrained (cond b (record { name = name; table = contents }) named).table.schema) [
+      | true ↦ refl
+      | false ↦ refl
+    ]
+
+-- a table put in place of another constrains by its own schema
+pub constrained_replaced : (name : List ℕ) (contents : PlainTable) (database : PlainDatabase) → has_constraints_beside name contents.schema database ≡ has_constraints (replaced name contents database)
+constrained_replaced name contents [] = refl
+constrained_replaced name contents (named ∷ database) = λ i. one_constrained name contents named i || constrained_replaced name contents database i

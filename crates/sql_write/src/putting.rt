@@ -1,6 +1,6 @@
 //! A table whose rows are edited, put into the database in which it stands, and judged there.
 
-ghost use Rattle.std.specs.Prelude.{IfErr, IfOk, List, Some, nat_lt};
+ghost use Rattle.std.specs.Prelude.{◌≡◌, IfErr, IfOk, List, Some, nat_lt};
 ghost use Rattle.tuple_codec.specs.Rows.{Cells};
 ghost use Rattle.schema_model.specs.Limits.{most_rows};
 ghost use Rattle.schema_model.specs.PlainTables.{PlainDatabase, PlainTable};
@@ -11,6 +11,7 @@ ghost use Rattle.table_root.specs.Standing.{CanRead, IsReadAt};
 ghost use Rattle.plain_writes.specs.Violations.{first_violation};
 ghost use Rattle.plain_writes.specs.Writes.{effect_if, filled, replaced, with_rows};
 ghost use Rattle.plain_writes.specs.CheckTexts.{checks};
+ghost use Rattle.constraint_scan.specs.Scanning.{has_constraints};
 ghost use Rattle.sql_write.specs.Making.{Makes};
 ghost use Rattle.sql_write.specs.Putting.{CanFill, CanPut};
 
@@ -19,7 +20,7 @@ use crate::laws::laws_of_growth;
 use crate::tables::put_table;
 use crate::writing::Written;
 use chunk_store::{Draft, PutFault};
-use constraint_scan::first_violation;
+use constraint_scan::{first_violation_if, is_constrained_beside};
 use index_keep::apply_with_indexes;
 use schema_model::limits::MOST_ROWS;
 use std::alloc::Global;
@@ -47,21 +48,23 @@ pub(crate) fn put_rows<D: Digester>(
     put_table(alloc, draft, tables, name, &made)
 }
 
-/// What a statement that wrote rows comes to: refused by the violations that it brings, then by the number of rows that the table has.
+/// What a statement that wrote rows comes to: refused by the violations that it brings, which only constraints beside NOT NULL may have, then by the
+/// number of rows that the table has.
 fn judged<D: Digester>(
     alloc: Global,
     draft: &Draft<D>,
     old: &Address,
     new: Address,
+    constrained: bool,
     rows: u64,
     count: u64,
 ) -> Result<Written, SqlFault>
     requires old { CanRead D.address (chunks_of draft.now.chunks) old.now.0 }
-    requires new { CanRead D.address (chunks_of draft.now.chunks) new.0 }
+    requires new { (after : PlainDatabase) × IsReadAt D.address (chunks_of draft.now.chunks) new.0 after × (constrained ≡ has_constraints after) }
     ensures { (before after : PlainDatabase) → IsReadAt D.address (chunks_of draft.now.chunks) old.now.0 before → IsReadAt D.address (chunks_of draft.now.chunks) new.0 after
         → Makes D.address (chunks_of draft.now.chunks) result (effect_if (first_violation checks before after) (nat_lt most_rows rows) (record { database = after; count = Some count })) }
 {
-    match first_violation(alloc, draft, old, &new)? {
+    match first_violation_if(alloc, draft, old, &new, constrained)? {
         Some(number) => Err(SqlFault::Refused(number)),
         None => {
             if rows > MOST_ROWS {
@@ -96,6 +99,7 @@ pub(crate) fn fill_table<D: Digester>(
     ensures grows { Grows is_data draft.old draft.new }
 {
     laws_of_growth();
+    let constrained = is_constrained_beside(alloc, draft, tables.as_slice(), name, &table.schema)?;
     let new = put_rows(alloc, draft, tables, name, table, edits)?;
-    judged(alloc, draft, database, new, rows, count)
+    judged(alloc, draft, database, new, constrained, rows, count)
 }

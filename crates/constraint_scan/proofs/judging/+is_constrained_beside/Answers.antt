@@ -1,0 +1,40 @@
+use Rattle.std.proofs.Common.{◌≡◌, ◌∙◌, sym, ap, List, ℕ}
+use Rattle.std.proofs.lemmas.Result.{IfOk-weaker}
+use Rattle.basic_laws.proofs.Lists.{any_first, any_later, none_below}
+use Rattle.schema_model.specs.PlainTables.{NamedTable}
+use Rattle.chunk_store.specs.Drafts.{chunks_of}
+use Rattle.constraint_scan.specs.Scanning.{constrained_beside, has_constraints_beside}
+use Rattle.constraint_scan.proofs.StandLemmas.{parts_of, there_none}
+use Rattle.constraint_scan.proofs.judging.+is_constrained_beside.Goals as goal
+
+pub is_one_constrained-requires-after_bounds : goal.is_one_constrained-requires-after_bounds
+is_one_constrained-requires-after_bounds g t c κs within =
+    let parts = parts_of g.D.Digester.address (chunks_of c.args.draft.now.chunks) c.requires.0 c.args.entries.now c.first-item.result c.requires.1 c.first-item.is c.in-len1-up.len_at_least in
+    (parts.named.table, parts.at)
+
+pub is_constrained_beside-requires-after_bounds : goal.is_constrained_beside-requires-after_bounds
+is_constrained_beside-requires-after_bounds g t c κs within =
+    let parts = parts_of g.D.Digester.address (chunks_of c.args.draft.now.chunks) c.requires.0 c.args.entries.now c.first-item.result c.requires.1 c.first-item.is c.in-len1-up.len_at_least in
+    (parts.others, parts.there)
+
+pub returns-in_default : goal.returns-in_default
+returns-in_default g t c = λ database there.
+    sym (ap (has_constraints_beside c.args.name.now c.args.schema.now) (there_none g.D.Digester.address (chunks_of c.args.draft.now.chunks) database c.args.entries.now (none_below c.args.entries.now c.in_default.len_below) there))
+
+pub returns-then-found : goal.returns-then-found
+returns-then-found g t c = λ database there.
+    let name = c.args.name.now in
+    let schema = c.args.schema.now in
+    let parts = parts_of g.D.Digester.address (chunks_of c.args.draft.now.chunks) database c.args.entries.now c.first-item.result there c.first-item.is c.in-len1-up.len_at_least in
+    any_first (λ (named : NamedTable). constrained_beside name schema named.name named.table.schema) database parts.named parts.others c.in_ok-found.found parts.both
+    (c.in_ok-found.ensures parts.named.table parts.at ∙ ap (λ (n : List ℕ). constrained_beside name schema n parts.named.table.schema) parts.name) c.if-found.true
+
+pub returns : goal.returns
+returns g t c = λ database there.
+    let name = c.args.name.now in
+    let schema = c.args.schema.now in
+    let parts = parts_of g.D.Digester.address (chunks_of c.args.draft.now.chunks) database c.args.entries.now c.first-item.result there c.first-item.is c.in-len1-up.len_at_least in
+    IfOk-weaker c.is_constrained_beside.result (λ rest. rest ≡ has_constraints_beside name schema parts.others) (λ rest. rest ≡ has_constraints_beside name schema database)
+    (λ rest later. any_later (λ (named : NamedTable). constrained_beside name schema named.name named.table.schema) database parts.named parts.others c.in_ok-found.found rest parts.both
+    (c.in_ok-found.ensures parts.named.table parts.at ∙ ap (λ (n : List ℕ). constrained_beside name schema n parts.named.table.schema) parts.name) c.if-found.false later)
+    (c.is_constrained_beside.ensures parts.others parts.there)
