@@ -58,31 +58,27 @@ pub(crate) fn table_at<D: Digester>(
 }
 
 /// Puts an address under a name, in place of that which stood there.
-fn readdressed(
-    alloc: Global,
-    tables: Vec<TableEntry>,
-    name: &[u8],
-    table: Address,
-) -> Result<Vec<TableEntry>, AllocError>
-    ensures { IfOk result (λ made. made.items ≡ readdressed name.now table tables.items) }
+fn put_address(tables: &mut Vec<TableEntry>, name: &[u8], table: Address)
+    ensures { tables.new.items ≡ readdressed name.now table tables.old.items }
 {
-    let mut made = Vec::with_capacity(alloc, tables.len())?;
-    for named in tables {
-        made.push(readdress(named, name, table))?;
-    }
-    Ok(made)
+    readdress_all(tables.as_mut_slice(), name, table);
 }
 
-fn readdress(named: TableEntry, name: &[u8], table: Address) -> TableEntry
-    ensures { result ≡ readdress name.now table named }
+/// The same of entries in a slice.
+fn readdress_all(tables: &mut [TableEntry], name: &[u8], table: Address)
+    ensures { tables.new ≡ readdressed name.now table tables.old }
 {
-    if named.name.as_slice() == name {
-        TableEntry {
-            name: named.name,
-            table,
-        }
-    } else {
-        named
+    for named in tables.iter_mut() {
+        readdress(named, name, table);
+    }
+}
+
+/// The same of one of them.
+fn readdress(named: &mut TableEntry, name: &[u8], table: Address)
+    ensures { named.new ≡ readdress name.now table named.old }
+{
+    if named.name.is(name) {
+        named.table = table;
     }
 }
 
@@ -124,7 +120,7 @@ pub(crate) fn keep_table<D: Digester>(
 pub(crate) fn put_table<D: Digester>(
     alloc: Global,
     draft: &mut Draft<D>,
-    tables: Vec<TableEntry>,
+    mut tables: Vec<TableEntry>,
     name: &[u8],
     table: &StoredTable,
 ) -> Result<Address, PutFault>
@@ -136,6 +132,6 @@ pub(crate) fn put_table<D: Digester>(
 {
     laws_of_growth();
     let address = keep_table(alloc, draft, table)?;
-    let made = readdressed(alloc, tables, name, address)?;
-    put_database(alloc, draft, made.as_slice())
+    put_address(&mut tables, name, address);
+    put_database(alloc, draft, tables.as_slice())
 }

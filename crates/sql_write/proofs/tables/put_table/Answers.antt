@@ -21,7 +21,7 @@ put_database-requires-after_bounds g c κs within =
     let at = c.in_ok-address.ensures.stands contents (record { stands = may.stands; limits = may.limits }) in (
       replaced c.args.name.now contents database,
       subst (λ (l : List TableEntry). AreListed address (chunks_of mid.chunks) l (replaced c.args.name.now contents database)) (sym c.as_slice.ensures.value)
-          (listed_put address (chunks_of old.chunks) (chunks_of mid.chunks) more laws.tables c.args.tables.items c.in_ok-made.made.items c.args.name.now database contents c.in_ok-address.address may.listed at c.in_ok-made.ensures),
+          (listed_put address (chunks_of old.chunks) (chunks_of mid.chunks) more laws.tables c.args.tables.items c.put_address.new.tables.items c.args.name.now database contents c.in_ok-address.address may.listed at c.put_address.ensures),
     )
 
 pub returns-clause-stands : goal.returns-clause-stands
@@ -34,4 +34,4 @@ returns-clause-stands g c = λ database contents may.
     let at = c.in_ok-address.ensures.stands contents (record { stands = may.stands; limits = may.limits }) in
     c.put_database.ensures.stands (replaced c.args.name.now contents database)
     (subst (λ (l : List TableEntry). AreListed address (chunks_of mid.chunks) l (replaced c.args.name.now contents database)) (sym c.as_slice.ensures.value)
-    (listed_put address (chunks_of old.chunks) (chunks_of mid.chunks) more laws.tables c.args.tables.items c.in_ok-made.made.items c.args.name.now database contents c.in_ok-address.address may.listed at c.in_ok-made.ensures))
+    (listed_put address (chunks_of old.chunks) (chunks_of mid.chunks) more laws.tables c.args.tables.items c.put_address.new.tables.items c.args.name.now database contents c.in_ok-address.address may.listed at c.put_address.ensures))
