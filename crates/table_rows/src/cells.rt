@@ -1,50 +1,13 @@
-//! A row's cells, taken apart into those of its key and the others, and put together again.
+//! A row's cells, put together from those of its key and the others.
 
-ghost use Rattle.std.specs.Prelude.{◌≡◌, ◌==◌, IfOk, position, slice_index_or};
+ghost use Rattle.std.specs.Prelude.{◌≡◌, ◌==◌, IfOk, position};
 ghost use Rattle.std.specs.Option.{option_copied};
 ghost use Rattle.std.specs.Vec.Iter.{into_iter_items};
-ghost use Rattle.tuple_codec.specs.Rows.{key_of};
-ghost use Rattle.schema_model.specs.PlainTables.{unkeyed_from};
 ghost use Rattle.table_rows.specs.Places.{cell_or_first, joined_from, keyed_cell, others_after};
 
-use crate::types::is_keyed;
 use std::alloc::{AllocError, Global};
 use std::vec::IntoIter;
 use tuple_codec::{Row, Sequence, Value, copy_value};
-
-/// The cells of the primary key, in its order.
-pub(crate) fn key_cells(alloc: Global, key: &[u8], row: &[Value]) -> Result<Row, AllocError>
-    ensures { IfOk result (λ cells. cells ≡ key_of key.now row.now) }
-{
-    let mut cells = Sequence::new(alloc);
-    for position in key {
-        cells.push(cell_at(alloc, row, usize::from(*position))?)?;
-    }
-    Ok(cells)
-}
-
-/// A copy of the cell at a position; NULL where there is none.
-fn cell_at(alloc: Global, row: &[Value], position: usize) -> Result<Value, AllocError>
-    ensures { IfOk result (λ cell. cell ≡ slice_index_or row.now position Value.Null) }
-{
-    match row.get(position) {
-        Some(cell) => copy_value(alloc, cell),
-        None => Ok(Value::Null),
-    }
-}
-
-/// The other cells, in the order of columns.
-pub(crate) fn body_cells(alloc: Global, key: &[u8], row: &[Value]) -> Result<Row, AllocError>
-    ensures { IfOk result (λ cells. cells ≡ unkeyed_from key.now 0 row.now) }
-{
-    let mut cells = Sequence::new(alloc);
-    for (position, cell) in row.iter().enumerate() {
-        if !is_keyed(key, position) {
-            cells.push(copy_value(alloc, cell)?)?;
-        }
-    }
-    Ok(cells)
-}
 
 /// The row of so many columns with these cells of its key, and these others.
 pub(crate) fn joined(

@@ -11,14 +11,14 @@ ghost use Rattle.schema_model.specs.PlainTables.{body_bytes, body_types, is_row,
 ghost use Rattle.schema_model.specs.Schemas.{is_schema};
 ghost use Rattle.table_rows.specs.Rows.{IsRowOf};
 
-use crate::cells::{body_cells, joined, key_cells};
-use crate::types::ItemTypes;
+use crate::cells::joined;
+use crate::types::{ItemTypes, is_keyed};
 use node_format::LeafItem;
 use schema_model::Schema;
 use std::alloc::{AllocError, Global};
 use tuple_codec::{
-    Blob, Row, SqlType, Value, decode_key, decode_row, encode_key, encode_row,
-    keys_are_one_spelling, rows_are_one_spelling,
+    Blob, Row, SqlType, Value, decode_key, decode_row, key_cell_size, keys_are_one_spelling,
+    push_key_cell, push_row_cell, row_cell_size, rows_are_one_spelling,
 };
 
 /// The item that keeps a row: the bytes of its primary key, and those of its other cells.
@@ -27,70 +27,74 @@ pub fn row_item(alloc: Global, schema: &Schema, row: &[Value]) -> Result<LeafIte
     requires row { is_row schema.now row.now ≡ true }
     ensures { IfOk result (λ item. leaf_of item ≡ row_item schema.now row.now) }
 {
-    let types = ItemTypes::new(alloc, schema)?;
-    written_row(alloc, schema, &types, row)
+    let key = written_key(alloc, schema, row)?;
+    let value = written_body(alloc, schema, row)?;
+    Ok(LeafItem { key, value })
 }
 
-/// The items that keep rows, in the rows' order. The types of their cells are found once for all of them.
+/// The items that keep rows, in the rows' order.
 pub fn row_items(alloc: Global, schema: &Schema, rows: &[Row]) -> Result<Vec<LeafItem>, AllocError>
     requires schema { is_schema schema.now ≡ true }
     requires rows { list_all (is_row schema.now) rows.now ≡ true }
     ensures { IfOk result (λ items. map leaf_of items.items ≡ map (row_item schema.now) rows.now) }
 {
-    let types = ItemTypes::new(alloc, schema)?;
     let mut items = Vec::with_capacity(alloc, rows.len())?;
     for row in rows {
-        items.push(written_row(alloc, schema, &types, row.as_slice())?)?;
+        items.push(row_item(alloc, schema, row.as_slice())?)?;
     }
     Ok(items)
 }
 
-/// The item that keeps a row, by types that were found before.
-fn written_row(
-    alloc: Global,
-    schema: &Schema,
-    types: &ItemTypes,
-    row: &[Value],
-) -> Result<LeafItem, AllocError>
+/// The bytes of a row's primary key, written from its cells where they lie.
+fn written_key(alloc: Global, schema: &Schema, row: &[Value]) -> Result<Blob, AllocError>
     requires schema { is_schema schema.now ≡ true }
-    requires key_types { types.now.key.items ≡ key_types schema.now }
-    requires body_types { types.now.body.items ≡ body_types schema.now }
-    requires row { is_row schema.now row.now ≡ true }
-    ensures { IfOk result (λ item. leaf_of item ≡ row_item schema.now row.now) }
-{
-    let key = written_key(alloc, schema, types.key.as_slice(), row)?;
-    let value = written_body(alloc, schema, types.body.as_slice(), row)?;
-    Ok(LeafItem { key, value })
-}
-
-fn written_key(
-    alloc: Global,
-    schema: &Schema,
-    types: &[SqlType],
-    row: &[Value],
-) -> Result<Blob, AllocError>
-    requires schema { is_schema schema.now ≡ true }
-    requires types { types.now ≡ key_types schema.now }
     requires row { is_row schema.now row.now ≡ true }
     ensures { IfOk result (λ bytes. bytes ≡ key_bytes (primary_key schema.now row.now)) }
 {
-    let cells = key_cells(alloc, schema.key.as_slice(), row)?;
-    encode_key(alloc, types, &cells)
+    let key = schema.key.as_slice();
+    let mut bytes = Vec::with_capacity(alloc, key_room(key, row))?;
+    for position in key {
+        push_key_cell(&mut bytes, &row[usize::from(*position)])?;
+    }
+    Ok(Blob::from_vec(bytes))
 }
 
-fn written_body(
-    alloc: Global,
-    schema: &Schema,
-    types: &[SqlType],
-    row: &[Value],
-) -> Result<Blob, AllocError>
+/// The bytes of a row's other cells, written where these lie.
+fn written_body(alloc: Global, schema: &Schema, row: &[Value]) -> Result<Blob, AllocError>
     requires schema { is_schema schema.now ≡ true }
-    requires types { types.now ≡ body_types schema.now }
     requires row { is_row schema.now row.now ≡ true }
     ensures { IfOk result (λ bytes. bytes ≡ body_bytes schema.now row.now) }
 {
-    let cells = body_cells(alloc, schema.key.as_slice(), row)?;
-    encode_row(alloc, types, &cells)
+    let key = schema.key.as_slice();
+    let mut bytes = Vec::with_capacity(alloc, body_room(key, row))?;
+    for (position, cell) in row.iter().enumerate() {
+        if !is_keyed(key, position) {
+            push_row_cell(&mut bytes, cell)?;
+        }
+    }
+    Ok(Blob::from_vec(bytes))
+}
+
+/// How many bytes to set aside for a row's key, so that it is written into memory that was asked for once.
+fn key_room(key: &[u8], row: &[Value]) -> usize {
+    let mut size = 0u64;
+    for position in key {
+        if let Some(cell) = row.get(usize::from(*position)) {
+            size = size.saturating_add(key_cell_size(cell));
+        }
+    }
+    size as usize
+}
+
+/// How many bytes to set aside for the other cells.
+fn body_room(key: &[u8], row: &[Value]) -> usize {
+    let mut size = 0u64;
+    for (position, cell) in row.iter().enumerate() {
+        if !is_keyed(key, position) {
+            size = size.saturating_add(row_cell_size(cell));
+        }
+    }
+    size as usize
 }
 
 /// The row that an item's key and value keep.

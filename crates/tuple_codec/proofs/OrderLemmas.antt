@@ -82,7 +82,7 @@ key_order_whole types a b t fa fb =
 
 -- ---- what fits can be written
 
-key_spelled : (v : Value) → is_spelled form.Key v ≡ true
+pub key_spelled : (v : Value) → is_spelled form.Key v ≡ true
 key_spelled cell.Null = refl
 key_spelled (cell.Int n) = refl
 key_spelled (cell.Bool b) = refl

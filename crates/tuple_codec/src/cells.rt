@@ -32,7 +32,7 @@ pub fn encode(alloc: Global, form: Form, row: &Row) -> Result<Blob, AllocError>
 }
 
 /// Writes a cell's bytes.
-fn push_cell(out: &mut Vec<u8>, form: Form, value: &Value) -> Result<(), AllocError>
+pub fn push_cell(out: &mut Vec<u8>, form: Form, value: &Value) -> Result<(), AllocError>
     requires { is_spelled form value.now ≡ true }
     ensures { OnOk result (out.new.items ≡ out.old.items ++ cell_bytes form value.now) }
 {

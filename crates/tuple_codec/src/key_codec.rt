@@ -1,15 +1,15 @@
 //! Keys as bytes, and the laws that these keep the order of keys and are one key's alone.
 
-ghost use Rattle.std.specs.Prelude.{◌≡◌, true, IfOk};
+ghost use Rattle.std.specs.Prelude.{◌≡◌, ◌++◌, true, IfOk, OnOk};
 ghost use Rattle.tuple_codec.specs.Rows.{fits_all};
 ghost use Rattle.tuple_codec.specs.Limits.{are_types};
-ghost use Rattle.tuple_codec.specs.KeyBytes.{key_bytes};
+ghost use Rattle.tuple_codec.specs.KeyBytes.{key_bytes, key_cell};
 ghost use Rattle.tuple_codec.specs.Spellings.{Decodes, IsOneSpelling, KeepsOrder, KeepsOrderBefore};
 
-use crate::cells::{decode, encode};
+use crate::cells::{decode, encode, push_cell};
 use crate::forms::Form;
 use crate::unread::Unread;
-use crate::values::{Blob, Row, SqlType};
+use crate::values::{Blob, Row, SqlType, Value};
 use std::alloc::{AllocError, Global};
 
 /// The bytes of a key, which are ordered as keys are.
@@ -19,6 +19,13 @@ pub fn encode_key(alloc: Global, types: &[SqlType], row: &Row) -> Result<Blob, A
     ensures { IfOk result (λ blob. blob ≡ key_bytes row.now) }
 {
     encode(alloc, Form::Key, row)
+}
+
+/// Writes a key's next cell: the bytes of a key are those of its cells in order.
+pub fn push_key_cell(out: &mut Vec<u8>, cell: &Value) -> Result<(), AllocError>
+    ensures { OnOk result (out.new.items ≡ out.old.items ++ key_cell cell.now) }
+{
+    push_cell(out, Form::Key, cell)
 }
 
 /// The key that has these bytes, or None where no row of these types has them.

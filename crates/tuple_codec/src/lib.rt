@@ -33,9 +33,11 @@ pub use bytes::Text;
 pub use copies::{copy_row, copy_value};
 pub use edits::{Edit, ItemChange};
 pub use fields::{bytes_at, long_at, push_long, push_short, short_at};
-pub use key_codec::{decode_key, encode_key, keys_are_one_spelling, keys_keep_order};
+pub use key_codec::{
+    decode_key, encode_key, keys_are_one_spelling, keys_keep_order, push_key_cell,
+};
 pub use records::BranchRecord;
-pub use row_codec::{decode_row, encode_row, rows_are_one_spelling};
+pub use row_codec::{decode_row, encode_row, push_row_cell, rows_are_one_spelling};
 pub use rows::{cell_at, key_cmp, key_of, same_cells, same_cells_are_one, same_value};
 pub use sequences::Sequence;
 pub use sizes::{key_cell_size, key_size, row_cell_size, row_size};

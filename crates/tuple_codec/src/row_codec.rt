@@ -1,15 +1,16 @@
 //! The cells of a row that aren't in its key as bytes, and the law that these are one row's alone.
 
-ghost use Rattle.std.specs.Prelude.{◌≡◌, true, IfOk};
+ghost use Rattle.std.specs.Prelude.{◌≡◌, ◌++◌, true, IfOk, OnOk};
+ghost use Rattle.tuple_codec.specs.Cells.{is_spelled};
 ghost use Rattle.tuple_codec.specs.Rows.{fits_all};
 ghost use Rattle.tuple_codec.specs.Limits.{are_types};
-ghost use Rattle.tuple_codec.specs.RowBytes.{row_bytes};
+ghost use Rattle.tuple_codec.specs.RowBytes.{row_bytes, row_cell};
 ghost use Rattle.tuple_codec.specs.Spellings.{Decodes, IsOneSpelling};
 
-use crate::cells::{decode, encode};
+use crate::cells::{decode, encode, push_cell};
 use crate::forms::Form;
 use crate::unread::Unread;
-use crate::values::{Blob, Row, SqlType};
+use crate::values::{Blob, Row, SqlType, Value};
 use std::alloc::{AllocError, Global};
 
 /// The bytes of a row's cells that aren't in its key.
@@ -19,6 +20,14 @@ pub fn encode_row(alloc: Global, types: &[SqlType], row: &Row) -> Result<Blob, A
     ensures { IfOk result (λ blob. blob ≡ row_bytes row.now) }
 {
     encode(alloc, Form::Row, row)
+}
+
+/// Writes a row's next cell: the bytes of a row are those of its cells in order.
+pub fn push_row_cell(out: &mut Vec<u8>, cell: &Value) -> Result<(), AllocError>
+    requires cell { is_spelled Form.Row cell.now ≡ true }
+    ensures { OnOk result (out.new.items ≡ out.old.items ++ row_cell cell.now) }
+{
+    push_cell(out, Form::Row, cell)
 }
 
 /// The row that has these bytes, or None where no row of these types has them.

@@ -1,18 +1,24 @@
-use Rattle.std.proofs.Common.{◌≡◌, List, true, sym, subst}
-use Rattle.tuple_codec.specs.Limits.{are_types}
-use Rattle.tuple_codec.specs.Rows.{Cells, fits_all, key_of}
-use Rattle.tuple_codec.specs.declared.values.SqlType.{SqlType}
-use Rattle.schema_model.specs.PlainTables.{key_types, primary_key}
-use Rattle.schema_model.proofs.FitLemmas.{key_types_fit, primary_key_fits}
+use Rattle.std.proofs.Common.{◌<◌, ℕ, List, length, get_or, sym, subst}
+use Rattle.table_rows.proofs.WritingLemmas.{cell_there, key_step}
 use Rattle.table_rows.proofs.items.written_key.Goals as goal
 
-pub encode_key-requires-clause-types : goal.encode_key-requires-clause-types
-encode_key-requires-clause-types c = subst (λ (l : List SqlType). are_types l ≡ true) (sym c.requires.types) (key_types_fit c.args.schema.now c.requires.schema)
-
-pub encode_key-requires-clause-fit : goal.encode_key-requires-clause-fit
-encode_key-requires-clause-fit c =
-    let schema = c.args.schema.now in
+pub bounds-row-from : goal.bounds-row-from
+bounds-row-from c =
     let row = c.args.row.now in
-    let cells : c.in_ok-cells.cells ≡ primary_key schema row = subst (λ k. c.in_ok-cells.cells ≡ key_of k row) c.as_slice.ensures c.in_ok-cells.ensures in
-    subst (λ (l : List SqlType). fits_all l c.in_ok-cells.cells ≡ true) (sym c.requires.types)
-    (subst (λ (l : Cells). fits_all (key_types schema) l ≡ true) (sym cells) (primary_key_fits schema row c.requires.schema c.requires.row))
+    let at = c.loop-position.position-index in
+    let below = subst (λ (l : List ℕ). at < length l) c.as_slice-key.ensures c.loop-position-test.true in
+    subst (λ (n : ℕ). n < length row) (sym c.from.ensures)
+    (subst (λ (l : List ℕ). get_or l at 0 < length row) (sym c.as_slice-key.ensures) (cell_there c.args.schema.now row at c.requires.schema c.requires.row below))
+
+pub loop-position-preserved : goal.loop-position-preserved
+loop-position-preserved c =
+    let row = c.args.row.now in
+    let key = c.as_slice-key.result.now in
+    let at = c.loop-position.position-index in
+    let below = subst (λ (l : List ℕ). at < length l) c.as_slice-key.ensures c.loop-position-test.true in
+    let there = subst (λ (l : List ℕ). get_or l at 0 < length row) (sym c.as_slice-key.ensures) (cell_there c.args.schema.now row at c.requires.schema c.requires.row below) in
+    let step = key_step key row at c.index-row-from.result c.loop-position.bytes.items _ c.loop-position-test.true there c.loop-position.invariant in
+    let cell = c.index-row-from.is in
+    let pushed = c.in_ok-push_key_cell.ensures in
+    let from = c.from.ensures in
+    cc

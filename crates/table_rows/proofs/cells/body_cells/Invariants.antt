@@ -1,6 +1,0 @@
-use Rattle.std.proofs.Common.{◌≡◌, ◌++◌, drop}
-use Rattle.schema_model.specs.PlainTables.{unkeyed_from}
-use Rattle.table_rows.proofs.cells.body_cells.Given as goal
-
-abbrev pub invariant-loop-position : goal.invariant-loop-position
-invariant-loop-position l = l.cells ++ unkeyed_from l.key l.position (drop l.position l.row) ≡ unkeyed_from l.key 0 l.row
