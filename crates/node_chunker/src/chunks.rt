@@ -1,4 +1,4 @@
-//! Chunks put into a draft.
+//! Chunks put into a draft, and keys kept of them.
 
 ghost use Rattle.std.specs.Prelude.{◌≡◌, ◌≤◌, [], ◌∷◌, true, length, IfOk, IfErr, OnOk};
 ghost use Rattle.chunk_store.specs.Drafts.{Grows, chunks_of};
@@ -7,7 +7,9 @@ ghost use Rattle.chunk_store.specs.Standing.{AreHeld};
 ghost use Rattle.chunk_store.specs.Clashes.{IsReason};
 
 use chunk_store::{Draft, PutFault};
-use tuple_codec::{Address, Digester};
+use std::alloc::AllocError;
+use std::mem;
+use tuple_codec::{Address, Blob, Digester};
 
 /// Puts a node's bytes into the draft; their address.
 pub(crate) fn put_chunk<D: Digester>(
@@ -22,4 +24,15 @@ pub(crate) fn put_chunk<D: Digester>(
     ensures cause { IfErr result (IsReason D.address (chunks_of draft.new.chunks)) }
 {
     draft.put(bytes)
+}
+
+/// A copy of a key, in room that an earlier one had: the room is left without memory, until the key's is given back to it.
+pub(crate) fn copied_into(room: &mut Vec<u8>, key: &[u8]) -> Result<Blob, AllocError>
+    ensures { IfOk result (λ copy. copy ≡ key.now) }
+{
+    let none = Vec::new(*room.allocator());
+    let mut copy = mem::replace(room, none);
+    copy.clear();
+    copy.extend_from_slice(key)?;
+    Ok(Blob::from_vec(copy))
 }

@@ -14,7 +14,6 @@ ghost use Rattle.node_chunker.specs.Towers.{is_empty};
 use crate::inners::OpenInner;
 use chunk_store::{Draft, PutFault};
 use node_format::RefItem;
-use std::alloc::Global;
 use tuple_codec::{Address, Digester};
 
 /// What closing a level came to.
@@ -29,6 +28,7 @@ pub(crate) enum Closed {
 /// Closes the open nodes from level 1 up, the leaf having left a name or none: the root's address.
 pub(crate) fn close_levels<D: Digester>(
     inner: Vec<OpenInner>,
+    room: Vec<u8>,
     draft: &mut Draft<D>,
     named: Option<RefItem>,
 ) -> Result<Address, PutFault>
@@ -38,14 +38,14 @@ pub(crate) fn close_levels<D: Digester>(
     ensures grows { Grows is_node draft.old draft.new }
     ensures cause { IfErr result (IsReason D.address (chunks_of draft.new.chunks)) }
 {
-    let alloc = *inner.allocator();
     let mut inner = inner;
+    let mut room = room;
     let mut carry = named;
     let mut at = 0;
     'levels: while at < inner.len() {
         let level = at as u8 + 1;
         let is_last = at + 1 == inner.len();
-        match close_level(alloc, &mut inner[at], draft, level, is_last, carry)? {
+        match close_level(&mut room, &mut inner[at], draft, level, is_last, carry)? {
             Closed::Root(root) => return Ok(root),
             Closed::Below(named) => carry = named,
         }
@@ -59,7 +59,7 @@ pub(crate) fn close_levels<D: Digester>(
 
 /// Closes the open node of one level, after the name that the level below has left.
 fn close_level<D: Digester>(
-    alloc: Global,
+    room: &mut Vec<u8>,
     node: &mut OpenInner,
     draft: &mut Draft<D>,
     level: u8,
@@ -72,10 +72,10 @@ fn close_level<D: Digester>(
     ensures grows { Grows is_node draft.old draft.new }
     ensures cause { IfErr result (IsReason D.address (chunks_of draft.new.chunks)) }
 {
-    node.take(level, carry)?;
+    node.take(level, room, carry)?;
     if let Some(root) = node.root(is_last) {
         return Ok(Closed::Root(root));
     }
-    let named = node.close(alloc, draft, level)?;
+    let named = node.close(room, draft, level)?;
     Ok(Closed::Below(named))
 }

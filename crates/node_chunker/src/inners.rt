@@ -12,12 +12,12 @@ ghost use Rattle.node_chunker.specs.Growth.{IsWritable};
 ghost use Rattle.node_chunker.specs.Steps.{IsClosed, IsNamed, IsPushed};
 ghost use Rattle.node_chunker.specs.Towers.{first_of, is_empty, is_single};
 
-use crate::chunks::put_chunk;
+use crate::chunks::{copied_into, put_chunk};
 use chunk_store::{Draft, PutFault};
 use node_format::{NodeBuilder, RefItem, ends_from, name_size};
 use std::alloc::{AllocError, Global};
 use std::marker::Model;
-use tuple_codec::{Address, Blob, Digester};
+use tuple_codec::{Address, Digester};
 
 /// The names in an inner node that is still open.
 #[derive(Debug, Drop)]
@@ -97,7 +97,7 @@ impl OpenInner {
     /// than so many steps ends after the name.
     pub(crate) fn push<D: Digester>(
         &mut self,
-        alloc: Global,
+        room: &mut Vec<u8>,
         draft: &mut Draft<D>,
         level: u8,
         item: &RefItem,
@@ -115,14 +115,14 @@ impl OpenInner {
         if !over {
             return Ok(None);
         }
-        let named = self.put(alloc, draft, level)?;
+        let named = self.put(room, draft, level)?;
         Ok(Some(named))
     }
 
     /// Puts the node into the draft if it has a name.
     pub(crate) fn close<D: Digester>(
         &mut self,
-        alloc: Global,
+        room: &mut Vec<u8>,
         draft: &mut Draft<D>,
         level: u8,
     ) -> Result<Option<RefItem>, PutFault>
@@ -135,18 +135,27 @@ impl OpenInner {
         if self.is_empty() {
             return Ok(None);
         }
-        let named = self.put(alloc, draft, level)?;
+        let named = self.put(room, draft, level)?;
         Ok(Some(named))
     }
 
-    /// Adds the name that the level below has left, if it has left one.
-    pub(crate) fn take(&mut self, level: u8, carry: Option<RefItem>) -> Result<(), AllocError>
+    /// Adds the name that the level below has left, if it has left one; its key is the room of the next one.
+    pub(crate) fn take(
+        &mut self,
+        level: u8,
+        room: &mut Vec<u8>,
+        carry: Option<RefItem>,
+    ) -> Result<(), AllocError>
         requires level { 0 < level }
         requires fits { is_empty (self.old ++ option_to_list (option_map ref_of carry)) ≡ false → IsWritable level (self.old ++ option_to_list (option_map ref_of carry)) }
         ensures { OnOk result (self.new ≡ self.old ++ option_to_list (option_map ref_of carry)) }
     {
         match carry {
-            Some(item) => self.add(level, &item),
+            Some(item) => {
+                self.add(level, &item)?;
+                *room = item.key.into_vec();
+                Ok(())
+            }
             None => Ok(()),
         }
     }
@@ -175,10 +184,10 @@ impl OpenInner {
         ends_from::<D>(level, size, count, steps, item.key.as_slice())
     }
 
-    /// Puts the node into the draft and empties it; its name.
+    /// Puts the node into the draft and empties it; its name, whose key lies in the room.
     fn put<D: Digester>(
         &mut self,
-        alloc: Global,
+        room: &mut Vec<u8>,
         draft: &mut Draft<D>,
         level: u8,
     ) -> Result<RefItem, PutFault>
@@ -191,7 +200,7 @@ impl OpenInner {
         self.node.set_level(level);
         let address = put_chunk(draft, self.node.bytes())?;
         let rows = self.rows;
-        let key = Blob::from_vec(Vec::from_slice(alloc, self.node.last_key())?);
+        let key = copied_into(room, self.node.last_key())?;
         self.node.clear();
         self.rows = 0;
         Ok(RefItem { key, address, rows })

@@ -12,12 +12,12 @@ ghost use Rattle.node_chunker.specs.Growth.{IsWritable};
 ghost use Rattle.node_chunker.specs.Steps.{IsClosed, IsNamed, IsPushed};
 ghost use Rattle.node_chunker.specs.Towers.{is_empty};
 
-use crate::chunks::put_chunk;
+use crate::chunks::{copied_into, put_chunk};
 use chunk_store::{Draft, PutFault};
 use node_format::{NodeBuilder, RefItem, ends_from, row_size};
 use std::alloc::{AllocError, Global};
 use std::marker::Model;
-use tuple_codec::{Blob, Digester};
+use tuple_codec::Digester;
 
 /// The rows of the leaf that is still open.
 #[derive(Debug, Drop)]
@@ -54,7 +54,7 @@ impl OpenLeaf {
     /// than so many steps ends after the row.
     pub(crate) fn push<D: Digester>(
         &mut self,
-        alloc: Global,
+        room: &mut Vec<u8>,
         draft: &mut Draft<D>,
         key: &[u8],
         value: &[u8],
@@ -71,14 +71,14 @@ impl OpenLeaf {
         if !over {
             return Ok(None);
         }
-        let named = self.put(alloc, draft)?;
+        let named = self.put(room, draft)?;
         Ok(Some(named))
     }
 
     /// Puts the leaf into the draft if it has a row.
     pub(crate) fn close<D: Digester>(
         &mut self,
-        alloc: Global,
+        room: &mut Vec<u8>,
         draft: &mut Draft<D>,
     ) -> Result<Option<RefItem>, PutFault>
         requires { IsWritable 0 self.old }
@@ -89,7 +89,7 @@ impl OpenLeaf {
         if self.is_empty() {
             return Ok(None);
         }
-        let named = self.put(alloc, draft)?;
+        let named = self.put(room, draft)?;
         Ok(Some(named))
     }
 
@@ -111,10 +111,10 @@ impl OpenLeaf {
         ends_from::<D>(0, size, count, steps, key)
     }
 
-    /// Puts the leaf into the draft and empties it; its name.
+    /// Puts the leaf into the draft and empties it; its name, whose key lies in the room.
     pub(crate) fn put<D: Digester>(
         &mut self,
-        alloc: Global,
+        room: &mut Vec<u8>,
         draft: &mut Draft<D>,
     ) -> Result<RefItem, PutFault>
         requires { IsWritable 0 self.old }
@@ -124,7 +124,7 @@ impl OpenLeaf {
     {
         let address = put_chunk(draft, self.node.bytes())?;
         let rows = u64::from(self.node.count());
-        let key = Blob::from_vec(Vec::from_slice(alloc, self.node.last_key())?);
+        let key = copied_into(room, self.node.last_key())?;
         self.node.clear();
         Ok(RefItem { key, address, rows })
     }

@@ -35,6 +35,8 @@ const LEVELS: usize = 8;
 pub struct Tower {
     leaf: OpenLeaf,
     inner: Vec<OpenInner>,
+    // for the key of a node that ends
+    room: Vec<u8>,
 }
 
 impl Model for Tower {
@@ -54,6 +56,7 @@ impl Tower {
         Ok(Tower {
             leaf: OpenLeaf::new(alloc)?,
             inner: Vec::with_capacity(alloc, LEVELS)?,
+            room: Vec::new(alloc),
         })
     }
 
@@ -89,10 +92,9 @@ impl Tower {
         ensures grows { Grows is_node draft.old draft.new }
         ensures cause { IfErr result (IsReason D.address (chunks_of draft.new.chunks)) }
     {
-        let alloc = *self.inner.allocator();
-        match self.leaf.push(alloc, draft, key, value, steps)? {
+        match self.leaf.push(&mut self.room, draft, key, value, steps)? {
             None => Ok(()),
-            Some(named) => push_name(&mut self.inner, draft, 0, named),
+            Some(named) => push_name(&mut self.inner, &mut self.room, draft, 0, named),
         }
     }
 
@@ -142,7 +144,7 @@ impl Tower {
     {
         let place = level as usize - 1;
         open_levels(&mut self.inner, place)?;
-        push_kept_name(&mut self.inner, draft, place, item, steps)
+        push_kept_name(&mut self.inner, &mut self.room, draft, place, item, steps)
     }
 
     /// Puts what is left into the draft: the root's address.
@@ -153,13 +155,17 @@ impl Tower {
         ensures grows { Grows is_node draft.old draft.new }
         ensures cause { IfErr result (IsReason D.address (chunks_of draft.new.chunks)) }
     {
-        let Tower { mut leaf, inner } = self;
+        let Tower {
+            mut leaf,
+            inner,
+            mut room,
+        } = self;
         if inner.is_empty() {
-            let named = leaf.put(*inner.allocator(), draft)?;
+            let named = leaf.put(&mut room, draft)?;
             return Ok(named.address);
         }
-        let carry = leaf.close(*inner.allocator(), draft)?;
-        close_levels(inner, draft, carry)
+        let carry = leaf.close(&mut room, draft)?;
+        close_levels(inner, room, draft, carry)
     }
 }
 
@@ -184,6 +190,7 @@ fn open_levels(inner: &mut Vec<OpenInner>, count: usize) -> Result<(), AllocErro
 /// Pushes a name at this place among the inner levels, where no node of fewer than so many steps ends after it.
 fn push_kept_name<D: Digester>(
     inner: &mut Vec<OpenInner>,
+    room: &mut Vec<u8>,
     draft: &mut Draft<D>,
     place: usize,
     named: &RefItem,
@@ -200,17 +207,18 @@ fn push_kept_name<D: Digester>(
         begin_level(inner, named)?;
         return Ok(());
     }
-    let alloc = *inner.allocator();
     let level = place as u8 + 1;
-    match inner[place].push(alloc, draft, level, named, steps)? {
+    match inner[place].push(room, draft, level, named, steps)? {
         None => Ok(()),
-        Some(above) => push_name(inner, draft, place + 1, above),
+        Some(above) => push_name(inner, room, draft, place + 1, above),
     }
 }
 
-/// Pushes the name of a node at this place among the inner levels: each node that ends names itself one level up.
+/// Pushes the name of a node at this place among the inner levels: each node that ends names itself one level up. The last name's key is the
+/// room of the next one.
 fn push_name<D: Digester>(
     inner: &mut Vec<OpenInner>,
+    room: &mut Vec<u8>,
     draft: &mut Draft<D>,
     place: usize,
     named: RefItem,
@@ -221,18 +229,21 @@ fn push_name<D: Digester>(
     ensures grows { Grows is_node draft.old draft.new }
     ensures cause { IfErr result (IsReason D.address (chunks_of draft.new.chunks)) }
 {
-    let alloc = *inner.allocator();
     let mut item = named;
     let mut at = place;
     'levels: while at < inner.len() {
         let level = at as u8 + 1;
-        match inner[at].push(alloc, draft, level, &item, 0)? {
-            None => return Ok(()),
+        match inner[at].push(room, draft, level, &item, 0)? {
+            None => {
+                *room = item.key.into_vec();
+                return Ok(());
+            }
             Some(named) => item = named,
         }
         at += 1;
     }
     begin_level(inner, &item)?;
+    *room = item.key.into_vec();
     Ok(())
 }
 

@@ -135,3 +135,11 @@ returns-clause-grows g c =
     drafts_grow.in_steps is_node c.args.draft.now c.put_edits.new.draft c.finish.new.draft
     (drafts_grow.in_steps is_node c.args.draft.now c.parts.draft c.put_edits.new.draft c.parts.invariant.grows c.in_ok-put_edits.ensures.grows)
     c.finish.ensures.grows
+
+pub returns-in_err-left-2-clause-grows : goal.returns-in_err-left-2-clause-grows
+returns-in_err-left-2-clause-grows g c =
+    drafts_grow.in_steps is_node c.args.draft.now c.parts.draft c.turn.new.draft c.parts.invariant.grows c.in_err-left-2.ensures.grows
+
+pub returns-in_err-put_edits-clause-grows : goal.returns-in_err-put_edits-clause-grows
+returns-in_err-put_edits-clause-grows g c =
+    drafts_grow.in_steps is_node c.args.draft.now c.parts.draft c.put_edits.new.draft c.parts.invariant.grows c.in_err-put_edits.ensures.grows

@@ -17,8 +17,8 @@ returns-clause-ok g c =
     let P : List ℕ → Type 0 = λ bytes. AreHeld a (chunks_of c.put_chunk.new.draft.chunks) (bytes ∷ []) in
     record {
       emptied = ap (λ (n : Node). n.items) c.clear.ensures;
-      named_is = name_is a 0 held c.from_vec-key.result c.in_ok-address.address.0 c.from-rows.result
-          (c.from_vec-key.ensures ∙ c.in_ok-from_slice.ensures.items ∙ c.last_key.ensures ∙ ap last_key c.self.view_is)
+      named_is = name_is a 0 held c.in_ok-key.key c.in_ok-address.address.0 c.from-rows.result
+          (c.in_ok-key.ensures ∙ c.last_key.ensures ∙ ap last_key c.self.view_is)
           (c.in_ok-address.ensures.address ∙ ap a bytes_are) rows_are;
       put = subst P bytes_are c.in_ok-address.ensures.put;
     }
