@@ -7,7 +7,7 @@ ghost use Rattle.chunk_region.specs.Pages.{AllBefore, IsLater, IsWritten, Keeps,
 
 use crate::page::{PAGE_BYTES, Page};
 use crate::pool::fill;
-use crate::shared::SharedPage;
+use crate::shared::{PageList, SharedPage};
 use crate::{Mark, PagePool, Sealed, SharedPages, Span};
 use std::alloc::AllocError;
 use std::marker::Model;
@@ -166,7 +166,7 @@ impl Region {
         ensures { IfOk result (λ copy. copy ≡ self.now.pages) }
     {
         let alloc = *self.pages.allocator();
-        let mut pages = Vec::with_capacity(alloc, self.used)?;
+        let mut pages = PageList::with_capacity(alloc, self.used)?;
         for at in 0..self.used {
             let page = &self.pages[at];
             pages.push(SharedPage::copy_of(alloc, page.as_slice())?)?;

@@ -4,23 +4,34 @@ ghost use Rattle.std.specs.Prelude.{◌≡◌, ◌+◌, ◌<◌, ◌++◌, ◌^�
 ghost use Rattle.chunk_region.specs.Pages.{IsWritten, Stands};
 
 use crate::Span;
+use smallvec::SmallVec;
 use std::alloc::{AllocError, Global};
+use std::default::MadeWith;
 use std::marker::Model;
 use std::sync::Arc;
 
 /// The bytes of a page, in memory of just their size, never to change again.
 #[derive(Debug, Drop)]
 pub(crate) struct SharedPage {
-    bytes: Arc<Vec<u8>>,
+    // none in the places of a list that no page has taken
+    bytes: Option<Arc<Vec<u8>>>,
 }
 
 impl Model for SharedPage {
-    ghost use Rattle.std.specs.Prelude.{ℕ, List};
+    ghost use Rattle.std.specs.Prelude.{ℕ, List, [], Vec};
+    ghost use Rattle.std.specs.Option.{option_map_or};
+    ghost use Rattle.std.specs.declared.alloc.Global.{Global};
     ghost use Rattle.std.specs.Arc.{arc_value};
 
     ghost Value = { List ℕ };
 
-    ghost view = { λ page. (arc_value page.bytes).items };
+    ghost view = { λ page. option_map_or (λ bytes. (arc_value {X = Vec ℕ Global} bytes).items) page.bytes [] };
+}
+
+impl MadeWith<Global> for SharedPage {
+    fn made_with(_: Global) -> SharedPage {
+        SharedPage { bytes: None }
+    }
 }
 
 impl SharedPage {
@@ -29,7 +40,7 @@ impl SharedPage {
     {
         let bytes = Vec::from_slice(alloc, bytes)?;
         Ok(SharedPage {
-            bytes: Arc::new(alloc, bytes)?,
+            bytes: Some(Arc::new(alloc, bytes)?),
         })
     }
 
@@ -37,22 +48,30 @@ impl SharedPage {
     fn share(&self) -> Result<SharedPage, AllocError>
         ensures { IfOk result (λ page. page ≡ self.now) }
     {
-        Ok(SharedPage {
-            bytes: Arc::try_clone(&self.bytes)?,
-        })
+        let bytes = match &self.bytes {
+            Some(bytes) => Some(Arc::try_clone(bytes)?),
+            None => None,
+        };
+        Ok(SharedPage { bytes })
     }
 
     fn as_slice(&self) -> &[u8]
         ensures { result.now ≡ self.now }
     {
-        self.bytes.as_slice()
+        match &self.bytes {
+            Some(bytes) => bytes.as_slice(),
+            None => &[],
+        }
     }
 }
+
+/// Pages, of which the first four take no memory for their list: most copies have one, and join a few others.
+pub(crate) type PageList = SmallVec<SharedPage, 4>;
 
 /// Bytes on pages that several holders share, to be read by spans. A contract sees the bytes of each page.
 #[derive(Debug, Drop)]
 pub struct SharedPages {
-    pub(crate) pages: Vec<SharedPage>,
+    pub(crate) pages: PageList,
 }
 
 impl Model for SharedPages {
@@ -97,7 +116,7 @@ impl SharedPages {
             return Err(AllocError);
         }
         pages.reserve(other.pages.len())?;
-        for page in &other.pages {
+        for page in other.pages.as_slice() {
             pages.push(page.share()?)?;
         }
         Ok(SharedPages { pages })
