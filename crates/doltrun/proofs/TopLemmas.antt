@@ -7,12 +7,13 @@ use Rattle.basic_laws.proofs.Truths.{if_true}
 use Rattle.script_text.specs.Input.{bad, lines_of, most_bytes, script, script_in}
 use Rattle.script_text.specs.declared.faults.BadScript.{BadScript}
 use Rattle.script_text.specs.declared.scripts.Script.{Script}
-use Rattle.doltrun.specs.Headline.{HasScript, WritesAnswer, fault_line}
+use Rattle.program_ends.specs.Lines.{fault_line}
+use Rattle.doltrun.specs.Headline.{HasScript, WritesAnswer}
 use Rattle.doltrun.specs.Stops.{Answer, Answers, AnswersAll, AnswersPart, Collides, Collision, FallsShort, Fault, Faults, IsToWrite, IsTold, IsWanted, Stop, Stops, StopsThere, WritesCollision, WritesFault, WritesStop}
 use Rattle.doltrun.specs.Words.{is_given}
 use Rattle.doltrun.specs.declared.words.ScriptRun.{ScriptRun}
-use Rattle.doltrun.specs.declared.status.Status.{Status}
-use Rattle.doltrun.specs.declared.status.Status.TheVariants as status
+use Rattle.program_ends.specs.declared.status.Status.{Status}
+use Rattle.program_ends.specs.declared.status.Status.TheVariants as status
 
 -- the bytes that were read, of those that a source had left: all of them, or more than a script may have
 pub record IsRead (told left : Option (List ℕ)) (bytes : List ℕ) : Type 0 where

@@ -1,11 +1,9 @@
 -- What the program reads and writes.
 use Rattle.std.specs.Prelude.{◌≡◌, ℕ, ◌+◌, Bool, List, ◌++◌, codes, Option, Some, None, Result, Ok}
-use Rattle.std.specs.Fmt.{decimal}
 use Rattle.std.specs.Io.KnownBytes.{Appends, IsAtEnd}
-use Rattle.chunk_store.specs.declared.faults.Clash.{Clash}
 use Rattle.script_text.specs.Collisions.{AllTellTruly}
 use Rattle.script_text.specs.Input.{script, most_bytes}
-use Rattle.script_text.specs.Output.{clash_text, newline, text}
+use Rattle.script_text.specs.Output.{text}
 use Rattle.script_text.specs.Shown.{IsSameShown, IsShown}
 use Rattle.script_text.specs.declared.faults.BadScript.{BadScript}
 use Rattle.script_text.specs.declared.outputs.RunText.{RunText}
@@ -21,14 +19,6 @@ use Rattle.doltrun.specs.declared.words.ScriptRun.{ScriptRun}
 
 abbrev pub usage_line : List ℕ
 usage_line = codes "usage: doltrun ordered|threads|replay [--epoch N] | load --seed N [--epoch N]\n"
-
--- the line that a broken rule of scripts is told by
-abbrev pub fault_line : BadScript → List ℕ
-fault_line bad = codes "script line " ++ decimal bad.line ++ codes " rule " ++ decimal bad.rule ++ newline
-
--- the line that two chunks of one address are told by
-abbrev pub collision_line : Clash → List ℕ
-collision_line clash = codes "collision" ++ clash_text clash ++ newline
 
 -- no more bytes than these are taken from a source: one above the longest script's
 abbrev pub most_taken : ℕ

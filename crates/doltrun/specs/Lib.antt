@@ -2,6 +2,5 @@ pub mod Answers
 pub mod Endings
 pub mod Headline
 pub mod Loads
-pub mod Statuses
 pub mod Stops
 pub mod Words

@@ -1,8 +1,7 @@
 //! From the bytes of a script to the text that answers it, or to the lines of what stopped it.
 
-ghost use Rattle.std.specs.Prelude.{◌≡◌, ◌≢◌, ◌≤ℤ◌, IfOk, None, pos, true, string_bytes};
+ghost use Rattle.std.specs.Prelude.{◌≡◌, ◌≢◌, ◌≤ℤ◌, IfOk, None, pos, true};
 ghost use Rattle.plain_sessions.specs.StateLimits.{is_date};
-ghost use Rattle.doltrun.specs.Headline.{collision_line, fault_line};
 ghost use Rattle.script_run.specs.Scripts.{IsSoundScript};
 ghost use Rattle.doltrun.specs.Stops.{Comes, ComesOf};
 ghost use Rattle.doltrun.specs.declared.words.MomentOrder.TheVariants.{Given, OfLines, OfThreads};
@@ -11,8 +10,7 @@ use crate::words::{MomentOrder, ScriptRun};
 use chunk_store::{Clash, PutFault};
 use script_run::{Replayed, replay_script, run_script};
 use script_text::{
-    BadScript, Script, ScriptFault, one_reading, one_stop, print_output, print_stop, push_clash,
-    read_script,
+    BadScript, Script, ScriptFault, one_reading, one_stop, print_output, print_stop, read_script,
 };
 use std::alloc::{AllocError, Global};
 use std::sync::Wait;
@@ -144,23 +142,4 @@ fn answer_in_threads<D: Digester, R: Threads + Wait + Sync, P: Pacer>(
     let run = run_threads::<R, D, P>(rt, alloc, pacer, script, epoch)?;
     one_reading();
     Ok(print_output(alloc, &run)?)
-}
-
-/// The line that tells the rule that a script breaks.
-pub fn fault_text(alloc: Global, bad: BadScript) -> Result<String, AllocError>
-    ensures { IfOk result (λ text. string_bytes text ≡ fault_line bad) }
-{
-    let line = bad.line;
-    let rule = bad.rule;
-    format!(in alloc; "script line {line} rule {rule}\n")
-}
-
-/// The line that tells two chunks of one address.
-pub fn collision_text(alloc: Global, clash: &Clash) -> Result<Vec<u8>, AllocError>
-    ensures { IfOk result (λ line. line.items ≡ collision_line clash.now) }
-{
-    let mut line = Vec::from_slice(alloc, b"collision")?;
-    push_clash(alloc, &mut line, clash)?;
-    line.extend_from_slice(b"\n")?;
-    Ok(line)
 }

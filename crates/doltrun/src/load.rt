@@ -9,11 +9,11 @@ ghost use Rattle.wire_io.specs.Moves.{AppendsFront};
 ghost use Rattle.load_run.specs.Loading.{load_text};
 ghost use Rattle.doltrun.specs.Loads.{LoadFallsShort, WritesLoad, WritesOpeningClash};
 
-use crate::status::Status;
 use crate::words::LoadRun;
 use crate::writing::{write_clash, write_last};
 use chunk_store::PutFault;
 use load_run::{Load, print_load, run_load};
+use program_ends::Status;
 use std::alloc::Global;
 use std::sync::Wait;
 use std::thread::Threads;

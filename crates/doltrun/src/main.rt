@@ -9,18 +9,15 @@
 
 mod answering;
 mod load;
-mod status;
 #[cfg(test)]
 mod tests;
 mod top;
 mod words;
 mod writing;
 
-pub use status::Status;
-use std::env;
-use std::io::{self, ErrorKind};
+pub use program_ends::Status;
+use program_ends::given_words;
 use std::process::ExitCode;
-use std::rt::Env;
 pub use top::{run, run_with};
 use wire_io::{NoPace, StdSink, StdSource};
 pub use words::{Invocation, LoadRun, Mode, MomentOrder, ScriptRun, Task};
@@ -40,13 +37,4 @@ fn main(rt: HostRuntime) -> ExitCode {
         &NoPace,
     );
     ExitCode::from(status.number())
-}
-
-/// The words behind the program's name. Where one isn't text there are none, which is no form either.
-fn given_words<R: Env + Alloc>(rt: &R) -> io::Result<Vec<String<R::A>, R::A>> {
-    match env::args(rt) {
-        Ok(words) => Ok(words.skip(1).collect(rt.alloc())?),
-        Err(error) if error.kind() == ErrorKind::InvalidData => Ok(Vec::new(rt.alloc())),
-        Err(error) => Err(error),
-    }
 }

@@ -6,8 +6,10 @@
 mod comparing;
 mod running;
 
+ghost use Rattle.std.specs.Prelude.{◌≡◌, ◌↔◌, Some, true};
+
 use comparing::first_difference;
-use running::{Order, output_of};
+use running::{Order, Outputs, outputs_of};
 use std::fs;
 use std::process::ExitCode;
 use std::rt::Files;
@@ -43,12 +45,26 @@ fn is_as_it_stands<R: Files + AllocGlobal + Print>(
 ) -> anyhow::Result<bool> {
     let script = fs::read(rt, format!(in rt.alloc(); "{name}.sql")?)?;
     let standing = fs::read_to_string(rt, format!(in rt.alloc(); "{name}.out")?)?;
-    let output = output_of(rt.alloc(), script.as_slice(), order)?;
-    let written = str::from_utf8(output.as_slice())?;
-    let Some(difference) = first_difference(standing.as_str(), written) else {
-        println!(rt; "{name}: as it stands in {name}.out")?;
-        return Ok(true);
-    };
-    println!(rt; "{name}: {difference}")?;
-    Ok(false)
+    let outputs = outputs_of(rt.alloc(), script.as_slice(), order)?;
+    let written = str::from_utf8(outputs.written.as_slice())?;
+    if let Some(difference) = first_difference(standing.as_str(), written) {
+        println!(rt; "{name}: {difference}")?;
+        return Ok(false);
+    }
+    if !is_plain(&outputs) {
+        println!(rt; "{name}: the plain machine has another text along its order")?;
+        return Ok(false);
+    }
+    println!(rt; "{name}: as it stands in {name}.out, and as the plain machine has it")?;
+    Ok(true)
+}
+
+/// Whether the run wrote what the plain machine writes along the run's order.
+fn is_plain(outputs: &Outputs) -> bool
+    ensures { (result ≡ true) ↔ (outputs.now.plain ≡ Some outputs.now.written) }
+{
+    match &outputs.plain {
+        Some(plain) => plain.as_slice() == outputs.written.as_slice(),
+        None => false,
+    }
 }

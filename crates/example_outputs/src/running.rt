@@ -1,9 +1,12 @@
-//! What a script writes.
+//! What a script writes, and what the plain machine does.
+
+ghost use Rattle.script_run.specs.Scripts.{IsSoundScript};
 
 use chunk_store::Sha512Cut;
+use plain_run::plain_output;
 use script_laws::law_of_read_scripts;
 use script_run::{Replayed, replay_script, run_script};
-use script_text::{print_output, print_stop, read_script};
+use script_text::{RunText, Script, print_output, print_stop, read_script};
 use std::alloc::Global;
 use tuple_codec::Blob;
 use wire_io::NoPace;
@@ -19,27 +22,49 @@ pub enum Order {
     Given,
 }
 
-/// The text that a script writes, run in this order.
-pub fn output_of(alloc: Global, script: &[u8], order: Order) -> anyhow::Result<Blob> {
+/// What a run of a script writes, and what the plain machine writes along the order of moments that the run took: nothing where it can't go along it, and where
+/// the run could not be followed to its end.
+#[derive(Drop)]
+pub struct Outputs {
+    pub written: Blob,
+    pub plain: Option<Blob>,
+}
+
+/// What a script writes, run in this order, beside the plain machine's text.
+pub fn outputs_of(alloc: Global, script: &[u8], order: Order) -> anyhow::Result<Outputs> {
     match order {
-        Order::OfLines => output_in_text_order(alloc, script),
-        Order::Given => output_in_given_order(alloc, script),
+        Order::OfLines => outputs_in_text_order(alloc, script),
+        Order::Given => outputs_in_given_order(alloc, script),
     }
 }
 
-fn output_in_text_order(alloc: Global, bytes: &[u8]) -> anyhow::Result<Blob> {
+fn outputs_in_text_order(alloc: Global, bytes: &[u8]) -> anyhow::Result<Outputs> {
     law_of_read_scripts();
     let script = read_script(alloc, bytes, false)?;
+    let again = read_script(alloc, bytes, false)?;
     let run = run_script::<Sha512Cut, NoPace>(alloc, &NoPace, script, EPOCH)?;
-    Ok(print_output(alloc, &run)?)
+    outputs_of_run(alloc, &again, &run)
 }
 
-fn output_in_given_order(alloc: Global, bytes: &[u8]) -> anyhow::Result<Blob> {
+fn outputs_in_given_order(alloc: Global, bytes: &[u8]) -> anyhow::Result<Outputs> {
     law_of_read_scripts();
     let script = read_script(alloc, bytes, true)?;
-    let text = match replay_script::<Sha512Cut, NoPace>(alloc, &NoPace, script, EPOCH)? {
-        Replayed::Run(run) => print_output(alloc, &run)?,
-        Replayed::Stop(stop) => print_stop(alloc, &stop)?,
-    };
-    Ok(text)
+    let again = read_script(alloc, bytes, true)?;
+    match replay_script::<Sha512Cut, NoPace>(alloc, &NoPace, script, EPOCH)? {
+        Replayed::Run(run) => outputs_of_run(alloc, &again, &run),
+        Replayed::Stop(stop) => Ok(Outputs {
+            written: print_stop(alloc, &stop)?,
+            plain: None,
+        }),
+    }
+}
+
+/// A run's text, and the plain machine's along that run's order.
+fn outputs_of_run(alloc: Global, script: &Script, run: &RunText) -> anyhow::Result<Outputs>
+    requires { IsSoundScript script.now }
+{
+    Ok(Outputs {
+        written: print_output(alloc, run)?,
+        plain: plain_output(alloc, script, run.order.as_slice(), EPOCH)?,
+    })
 }

@@ -1,12 +1,11 @@
 -- What the program writes of a script, by the status that it ends with.
-use Rattle.std.specs.Prelude.{◌≡◌, ◌≤◌, ℕ, pos, List, ◌++◌, codes, length, Option, None, Some, Result, Ok, Err}
-use Rattle.std.specs.Fmt.{decimal}
+use Rattle.std.specs.Prelude.{◌≡◌, ◌≤◌, ℕ, pos, List, codes, length, Option, None, Some, Result, Ok, Err}
 use Rattle.std.specs.Io.KnownBytes.{Consumes, IsAtEnd}
 use Rattle.chunk_store.specs.Digests.{cut_address}
 use Rattle.chunk_store.specs.declared.faults.Clash.{Clash}
 use Rattle.script_text.specs.Collisions.{IsCollision}
 use Rattle.script_text.specs.Input.{most_bytes, script}
-use Rattle.script_text.specs.Output.{clash_text, newline}
+use Rattle.program_ends.specs.Lines.{collision_line, fault_line}
 use Rattle.script_text.specs.declared.faults.BadScript.{BadScript}
 use Rattle.script_text.specs.declared.scripts.Moment.{Moment}
 use Rattle.script_text.specs.declared.scripts.Script.{Script}
@@ -14,21 +13,13 @@ use Rattle.run_laws.specs.Orders.{IsGivenOrder, IsTextOrder}
 use Rattle.plain_run.specs.Following.{IsPlainStop}
 use Rattle.plain_run.specs.Plain.{plain_text}
 use Rattle.plain_machine.specs.Words.{is_given}
-use Rattle.plain_machine.specs.declared.status.Status.{Status}
-use Rattle.plain_machine.specs.declared.status.Status.TheVariants as status
+use Rattle.program_ends.specs.declared.status.Status.{Status}
+use Rattle.program_ends.specs.declared.status.Status.TheVariants as status
 use Rattle.plain_machine.specs.declared.words.MomentOrder.{MomentOrder}
 use Rattle.plain_machine.specs.declared.words.MomentOrder.TheVariants.{Given, OfLines}
 
 abbrev pub usage_line : List ℕ
 usage_line = codes "usage: plain_machine ordered|replay\n"
-
--- the line that a broken rule of scripts is told by
-abbrev pub fault_line : BadScript → List ℕ
-fault_line bad = codes "script line " ++ decimal bad.line ++ codes " rule " ++ decimal bad.rule ++ newline
-
--- the line that two byte strings of one address are told by
-abbrev pub collision_line : Clash → List ℕ
-collision_line clash = codes "collision" ++ clash_text clash ++ newline
 
 -- the statements are run one after another, as the script has them; or the script gives the order
 abbrev pub IsInOrder : MomentOrder → Script → List Moment → Type 0

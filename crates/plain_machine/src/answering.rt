@@ -6,17 +6,17 @@ ghost use Rattle.script_text.specs.Collisions.{IsFault};
 ghost use Rattle.script_text.specs.Input.{script};
 ghost use Rattle.script_text.specs.declared.scripts.Script.{Script};
 ghost use Rattle.script_run.specs.Scripts.{IsSoundScript};
-ghost use Rattle.plain_machine.specs.Answers.{Answers, AnswersInput, collision_line, fault_line};
+ghost use Rattle.plain_machine.specs.Answers.{Answers, AnswersInput};
 ghost use Rattle.plain_machine.specs.Words.{is_given, order_asked};
 ghost use Rattle.plain_machine.specs.declared.words.MomentOrder.{MomentOrder};
 ghost use Rattle.plain_machine.specs.declared.words.MomentOrder.TheVariants.{Given, OfLines};
 
-use crate::status::Status;
 use crate::words::{MomentOrder, USAGE, order_asked};
-use chunk_store::{Clash, PutFault};
+use chunk_store::PutFault;
 use plain_run::{Followed, plain_output_in_given_order, plain_output_in_text_order};
+use program_ends::{Status, collision_text, fault_text};
 use script_laws::law_of_read_scripts;
-use script_text::{BadScript, Script, ScriptFault, push_clash, read_script};
+use script_text::{Script, ScriptFault, read_script};
 use std::alloc::{AllocError, Global};
 use tuple_codec::Blob;
 use wire_io::{ReadStop, Source, read_up_to};
@@ -127,32 +127,13 @@ fn answer_fault(alloc: Global, fault: PutFault) -> Result<Answer, AllocError>
         PutFault::Memory => Err(AllocError),
         PutFault::Collision(clash) => Ok(Answer {
             status: Status::Collision,
-            text: collision_text(alloc, &clash)?,
+            text: Blob::from_vec(collision_text(alloc, &clash)?),
         }),
     }
-}
-
-/// The line that tells the rule that a script breaks.
-fn fault_text(alloc: Global, bad: BadScript) -> Result<String, AllocError>
-    ensures { IfOk result (λ text. string_bytes text ≡ fault_line bad) }
-{
-    let line = bad.line;
-    let rule = bad.rule;
-    format!(in alloc; "script line {line} rule {rule}\n")
 }
 
 fn bytes_of(text: String) -> Blob
     ensures { result ≡ string_bytes text }
 {
     Blob::from_vec(text.into_bytes())
-}
-
-/// The line that tells two byte strings of one address.
-fn collision_text(alloc: Global, clash: &Clash) -> Result<Blob, AllocError>
-    ensures { IfOk result (λ line. line ≡ collision_line clash.now) }
-{
-    let mut line = Vec::from_slice(alloc, b"collision")?;
-    push_clash(alloc, &mut line, clash)?;
-    line.extend_from_slice(b"\n")?;
-    Ok(Blob::from_vec(line))
 }

@@ -7,18 +7,14 @@
 #![tactic(auto)]
 
 mod answering;
-mod status;
 mod words;
 
 ghost use Rattle.std.specs.Prelude.{◌≡◌, ◌≢◌};
 ghost use Rattle.std.specs.Io.KnownBytes.{Appends};
 
 use answering::{Answer, answer_words};
-use status::Status;
-use std::env;
-use std::io::{self, ErrorKind};
+use program_ends::{Status, given_words};
 use std::process::ExitCode;
-use std::rt::Env;
 use wire_io::{ReadStop, Sink, StdSink, StdSource, write_whole};
 
 fn main(rt: HostRuntime) -> ExitCode {
@@ -32,15 +28,6 @@ fn main(rt: HostRuntime) -> ExitCode {
         Err(ReadStop::Memory) => Status::Memory,
     };
     ExitCode::from(status.number())
-}
-
-/// The words behind the program's name. Where one isn't text there are none, which ask for nothing either.
-fn given_words<R: Env + Alloc>(rt: &R) -> io::Result<Vec<String<R::A>, R::A>> {
-    match env::args(rt) {
-        Ok(words) => Ok(words.skip(1).collect(rt.alloc())?),
-        Err(error) if error.kind() == ErrorKind::InvalidData => Ok(Vec::new(rt.alloc())),
-        Err(error) => Err(error),
-    }
 }
 
 /// Writes the answer's text whole and gives its status, or `Write` where the sink fails.

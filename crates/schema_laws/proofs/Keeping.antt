@@ -10,7 +10,7 @@ use Rattle.plain_sql.specs.Lists.{unless}
 use Rattle.plain_writes.specs.Writes.{Effect}
 use Rattle.plain_schemas.specs.Altered.{alter_effect}
 use Rattle.plain_schemas.specs.Effects.{changed_to, create_effect, drop_effect, is_child, is_there, without_table}
-use Rattle.plain_schemas.specs.Statements as statements
+use Rattle.plain_writes.specs.CheckTexts as texts
 use Rattle.plain_schemas.specs.Statements.{write_effect}
 use Rattle.sound_laws.proofs.Kept.{alters_kept}
 use Rattle.write_laws.specs.Laws.{IsKept}
@@ -51,7 +51,7 @@ pub all_keep : AllKeep
 unfolding write_effect
 all_keep database (write.Create create) kept fit = schemas_keep.creates database create kept fit
 all_keep database (write.Drop drop) kept fit = schemas_keep.drops database drop kept
-all_keep database (write.Insert insert) kept fit = writes_keep.inserts statements.checks database insert kept
-all_keep database (write.Update update) kept fit = writes_keep.updates statements.checks database update kept
-all_keep database (write.Delete delete) kept fit = writes_keep.deletes statements.checks database delete kept
-all_keep database (write.Alter alter) kept fit = schemas_keep.alters statements.checks database alter kept fit
+all_keep database (write.Insert insert) kept fit = writes_keep.inserts texts.checks database insert kept
+all_keep database (write.Update update) kept fit = writes_keep.updates texts.checks database update kept
+all_keep database (write.Delete delete) kept fit = writes_keep.deletes texts.checks database delete kept
+all_keep database (write.Alter alter) kept fit = schemas_keep.alters texts.checks database alter kept fit

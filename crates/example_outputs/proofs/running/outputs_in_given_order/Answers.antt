@@ -1,5 +1,5 @@
 use Rattle.std.proofs.Common.{refl, true}
-use Rattle.example_outputs.proofs.running.output_in_given_order.Goals as goal
+use Rattle.example_outputs.proofs.running.outputs_in_given_order.Goals as goal
 
 pub replay_script-requires-clause-sound : goal.replay_script-requires-clause-sound
 replay_script-requires-clause-sound c κs = c.law_of_read_scripts.ensures.sound c.args.bytes.now true c.in_ok-script.script c.in_ok-script.ensures

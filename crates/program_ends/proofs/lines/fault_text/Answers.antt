@@ -1,5 +1,5 @@
 use Rattle.std.proofs.Common.{rules, append_assoc}
-use Rattle.doltrun.proofs.answering.fault_text.Goals as goal
+use Rattle.program_ends.proofs.lines.fault_text.Goals as goal
 
 pub returns : goal.returns
 returns c = search (rules, append_assoc)

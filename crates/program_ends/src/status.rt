@@ -1,26 +1,26 @@
-//! How a run of the program ended.
+//! How a run of a program ended.
 
 ghost use Rattle.std.specs.Prelude.{◌≡◌};
-ghost use Rattle.plain_machine.specs.Statuses.{number_of};
+ghost use Rattle.program_ends.specs.Statuses.{number_of};
 
-/// How a run ended, by the numbers of `doltrun`.
+/// How a run ended.
 #[derive(Clone, Copy, Debug, PartialEq, Eq)]
 pub enum Status {
-    /// The plain machine's text was written.
+    /// The run's text was written.
     Done,
-    /// The words ask for no order; the usage line was written.
+    /// The words ask for no run; the usage line was written.
     Usage,
     /// A line of the script breaks a rule; the line and the rule were written.
     Script,
-    /// The standard input failed. Nothing was written.
+    /// The source failed. Nothing was written.
     Read,
-    /// The standard output failed. It has a part of what was to be written.
+    /// The sink failed. It holds a part of what was to be written.
     Write,
-    /// There was no memory. Nothing was written.
+    /// There was no memory for the words, the input, the run's room or the text. Nothing was written.
     Memory,
-    /// The given order can't be followed; the lines that tell the item were written.
+    /// The given order can't be followed; the item and what was answered before it by no rule were written.
     Order,
-    /// Two byte strings have one address; it and both of them were written.
+    /// The two chunks that a database is opened with have one address; it and both byte strings were written.
     Collision,
 }
 

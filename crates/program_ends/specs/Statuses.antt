@@ -1,7 +1,7 @@
 -- The statuses of the process.
 use Rattle.std.specs.Prelude.{ℕ}
-use Rattle.plain_machine.specs.declared.status.Status.{Status}
-use Rattle.plain_machine.specs.declared.status.Status.TheVariants.{Collision, Done, Memory, Order, Read, Script, Usage, Write}
+use Rattle.program_ends.specs.declared.status.Status.{Status}
+use Rattle.program_ends.specs.declared.status.Status.TheVariants.{Done, Usage, Script, Read, Write, Memory, Order, Collision}
 
 abbrev pub number_of : Status → ℕ
 number_of Done = 0
