@@ -17,6 +17,9 @@ use crate::tokens::{Token, TokenKind};
 use std::alloc::{AllocError, Global};
 use tuple_codec::Sequence;
 
+/// The tokens for which there is room at first. Most statements have no more, and none has more than it has bytes.
+const FIRST_TOKENS: usize = 64;
+
 /// What each whole literal above 2^63 reads as.
 const TOO_LARGE: u64 = (1 << 63) + 1;
 
@@ -53,7 +56,7 @@ fn read_to_end(alloc: Global, text: &[u8]) -> Result<Vec<Token>, ReadFault>
     requires { length text.now < 2 ^ 32 }
     ensures { ReadsAll (tokens text.now) result }
 {
-    let mut reading = Reading::with_room(alloc, text.len())?;
+    let mut reading = Reading::with_room(alloc, text.len().min(FIRST_TOKENS))?;
     let mut at = 0u32;
     for byte in text {
         reading.step_by(at, *byte)?;
@@ -82,7 +85,7 @@ fn too_large() -> ReadFault
 }
 
 impl Reading {
-    /// Nothing read yet, with room for so many tokens: a text has at most as many as it has bytes.
+    /// Nothing read yet, with room for so many tokens.
     fn with_room(alloc: Global, tokens: usize) -> Result<Reading, AllocError>
         ensures { IfOk result (λ reading. reading ≡ nothing_read) }
     {
