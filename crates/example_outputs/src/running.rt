@@ -1,5 +1,6 @@
 //! What a script writes, and what the plain machine does.
 
+ghost use Rattle.script_text.specs.Shown.{IsPrintable};
 ghost use Rattle.script_run.specs.Scripts.{IsSoundScript};
 
 use chunk_store::Sha512Cut;
@@ -61,7 +62,8 @@ fn outputs_in_given_order(alloc: Global, bytes: &[u8]) -> anyhow::Result<Outputs
 
 /// A run's text, and the plain machine's along that run's order.
 fn outputs_of_run(alloc: Global, script: &Script, run: &RunText) -> anyhow::Result<Outputs>
-    requires { IsSoundScript script.now }
+    requires sound { IsSoundScript script.now }
+    requires printable { IsPrintable run.now }
 {
     Ok(Outputs {
         written: print_output(alloc, run)?,
