@@ -4,7 +4,7 @@ use Rattle.std.proofs.Math.Seq.{drop-cons}
 use Rattle.std.specs.List.{AllByRecursion, list_all, list_any}
 use Rattle.std.proofs.lemmas.Bool.{and_from, and_parts, and_parts as both}
 use Rattle.std.specs.Prelude.{◌&&◌, filter, if◌then◌else◌}
-use Rattle.std.proofs.lemmas.List.{append-nil, drop_all}
+use Rattle.std.proofs.lemmas.List.{append-nil, drop_all, take_all}
 
 pub none_below : {A : Type 0} (xs : List A) → length xs < 1 → xs ≡ []
 none_below [] few = refl
@@ -92,3 +92,7 @@ filter_few test (x ∷ xs) = by (test x) (filter_few test xs) where
 
 pub all_mapped : {A B : Type 0} (f : A → B) (done : List B) (xs : List A) (i : ℕ) → length xs ≤ i → done ++ map f (drop i xs) ≡ map f xs → done ≡ map f xs
 all_mapped f done xs i last e = sym (append-nil done) ∙ ap (λ rest. done ++ map f rest) (sym (drop_all i xs last)) ∙ e
+
+-- what a loop that changes each element in its place comes to at its end
+pub all_written : {A : Type 0} (f : A → A) (ys xs : List A) (i : ℕ) → length xs ≤ i → ys ≡ map f (take i xs) ++ drop i xs → ys ≡ map f xs
+all_written f ys xs i last e = e ∙ ap (λ rest. map f (take i xs) ++ rest) (drop_all i xs last) ∙ append-nil (map f (take i xs)) ∙ ap (map f) (take_all i xs last)

@@ -1,5 +1,5 @@
 -- Orderings, and one after another.
-use Rattle.std.proofs.Common.{◌≡◌, true, refl, is_lt, sym, true≢false, false}
+use Rattle.std.proofs.Common.{◌≡◌, true, refl, is_lt, sym, true≢false, false, ◌&&◌}
 use Rattle.std.specs.declared.cmp.Ordering.{Ordering}
 use Rattle.std.specs.declared.cmp.Ordering.TheVariants.{Less, Equal, Greater}
 use Rattle.std.specs.Ordering.{is_eq, ordering_reverse, ordering_then}
@@ -33,3 +33,8 @@ pub then_equal : (o : Ordering) → ordering_then o Equal ≡ o
 then_equal Less = refl
 then_equal Equal = refl
 then_equal Greater = refl
+
+pub then_is_eq : (o p : Ordering) → is_eq (ordering_then o p) ≡ (is_eq o && is_eq p)
+then_is_eq Less p = refl
+then_is_eq Equal p = refl
+then_is_eq Greater p = refl

@@ -61,3 +61,9 @@ and_none false = refl
 
 pub if_true : {X : Type 0} (b : Bool) (x y : X) → b ≡ true → (if b then x else y) ≡ x
 if_true b x y h = rw h refl
+
+pub or_turned : (p q r : Bool) → (p || (q || r)) ≡ ((q || p) || r)
+or_turned true true r = refl
+or_turned true false r = refl
+or_turned false true r = refl
+or_turned false false r = refl

@@ -10,7 +10,7 @@ use Rattle.std.specs.declared.cmp.Ordering.TheVariants.{Less, Equal, Greater}
 use Rattle.std.proofs.lemmas.Bool.{and_parts, and_from, or_cases as either, or_left, or_right}
 use Rattle.std.proofs.lemmas.List.Folds.{list_any-append}
 use Rattle.std.proofs.Math.Nat.{one-le-pow, pow-le-pow_right, pow-suc}
-use Rattle.basic_laws.proofs.Truths.{alike_truths}
+use Rattle.basic_laws.proofs.Truths.{alike_truths, or_turned}
 use Rattle.basic_laws.proofs.Bytes.{bytes_itself as itself, same_bytes as same_address}
 use Rattle.basic_laws.proofs.Numbers.{at_least}
 use Rattle.schema_model.specs.PlainTables.{rises}
@@ -89,12 +89,6 @@ or_false : (p q : Bool) → (p || q) ≡ ((p || false) || q)
 or_false true q = refl
 or_false false q = refl
 
-one_more : (p q r : Bool) → (p || (q || r)) ≡ ((q || p) || r)
-one_more true true r = refl
-one_more true false r = refl
-one_more false true r = refl
-one_more false false r = refl
-
 pub waits_none : (commits : Commits) (ranks : List Rank) → AreRanks commits ranks → Waits commits [] ranks ranks
 waits_none commits ranks h = record { ranks = h; has = λ k. refl; light = omega arith }
 
@@ -125,7 +119,7 @@ waits_more commits ks k old mid new first second =
     record {
       ranks = second.ranks;
       has = λ x. second.has x ∙ ap (λ b. (bytes_eq x k || false) || b) (first.has x)
-          ∙ one_more (bytes_eq x k || false) (has_address ks x) (has_address (addresses_of old) x)
+          ∙ or_turned (bytes_eq x k || false) (has_address ks x) (has_address (addresses_of old) x)
           ∙ ap (λ b. b || has_address (addresses_of old) x) (sym (list_any-append (bytes_eq x) ks (k ∷ [])));
       light = omega (arith, e, one, two);
     }

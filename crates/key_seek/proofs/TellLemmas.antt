@@ -12,14 +12,14 @@ use Rattle.tuple_codec.specs.declared.values.Value.{Value}
 use Rattle.tuple_codec.specs.declared.values.Value.TheVariants as cell
 use Rattle.tuple_codec.proofs.Orders.{value_cmp_total}
 use Rattle.sql_values.specs.declared.kinds.Kind.{Kind}
-use Rattle.sql_values.specs.Logic.{Truth3, and3}
+use Rattle.sql_values.specs.Logic.{and3}
 use Rattle.sql_values.specs.Worths.{Worth, of_truth, worth_of}
 use Rattle.expr_eval.specs.declared.bound.BoundNode.{BoundNode}
 use Rattle.expr_eval.specs.declared.bound.BoundNode.TheVariants as n
 use Rattle.expr_eval.specs.Valuing.{Worthy, between, compared, comparison, holds, two, worth}
 use Rattle.expr_eval.proofs.WorthNodes.{worth_between, worth_column, worth_compare}
 use Rattle.plain_sql.specs.Passing.{is_so}
-use Rattle.plain_sql.proofs.MissedLemmas.{times_one}
+use Rattle.plain_sql.proofs.MissedLemmas.{times_one, and_right, and_left}
 use Rattle.key_seek.specs.Parts.{IsColumn, IsLiteral, Tells, is_exact, turned}
 
 -- ---- which cells stand in one column
@@ -168,30 +168,16 @@ tells_right t place wanted operator value a b is column literal = (
 
 -- ---- an end of a BETWEEN
 
-first_off : (s t : Truth3) → is_so (of_truth s) ≡ false → is_so (of_truth (and3 s t)) ≡ false
-first_off (Some true) t h = absurd (cc)
-first_off (Some false) t h = refl
-first_off None (Some true) h = refl
-first_off None (Some false) h = refl
-first_off None None h = refl
-
-second_off : (s t : Truth3) → is_so (of_truth t) ≡ false → is_so (of_truth (and3 s t)) ≡ false
-second_off (Some true) t h = h
-second_off (Some false) t h = refl
-second_off None (Some true) h = absurd (cc)
-second_off None (Some false) h = refl
-second_off None None h = refl
-
 low_so : (x l w : Worth) (high : Worthy) → is_so (of_truth (compared op.AtLeast x l)) ≡ false → between (Some x) (Some l) high ≡ Some w → is_so w ≡ false
 low_so x l w None h e = absurd (cc)
-low_so x l w (Some u) h e = subst (λ y. is_so y ≡ false) (same e) (first_off (compared op.AtLeast x l) (compared op.AtMost x u) h)
+low_so x l w (Some u) h e = subst (λ y. is_so y ≡ false) (same e) (and_left (compared op.AtLeast x l) (compared op.AtMost x u) h)
   where
     same : Some (of_truth (and3 (compared op.AtLeast x l) (compared op.AtMost x u))) ≡ Some w → of_truth (and3 (compared op.AtLeast x l) (compared op.AtMost x u)) ≡ w
     same e = cc
 
 high_so : (x u w : Worth) (low : Worthy) → is_so (of_truth (compared op.AtMost x u)) ≡ false → between (Some x) low (Some u) ≡ Some w → is_so w ≡ false
 high_so x u w None h e = absurd (cc)
-high_so x u w (Some l) h e = subst (λ y. is_so y ≡ false) (same e) (second_off (compared op.AtLeast x l) (compared op.AtMost x u) h)
+high_so x u w (Some l) h e = subst (λ y. is_so y ≡ false) (same e) (and_right (compared op.AtLeast x l) (compared op.AtMost x u) h)
   where
     same : Some (of_truth (and3 (compared op.AtLeast x l) (compared op.AtMost x u))) ≡ Some w → of_truth (and3 (compared op.AtLeast x l) (compared op.AtMost x u)) ≡ w
     same e = cc

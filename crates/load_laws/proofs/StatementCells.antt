@@ -3,7 +3,7 @@ use Rattle.std.proofs.Common.{◌≡◌, ◌∙◌, ◌<◌, ℕ, pos, ◌^◌, 
 use Rattle.std.specs.Ordering.{int_cmp, nat_cmp, is_eq, is_lt, ordering_then}
 use Rattle.std.specs.declared.cmp.Ordering.{Ordering}
 use Rattle.std.specs.declared.cmp.Ordering.TheVariants.{Less, Equal, Greater}
-use Rattle.basic_laws.proofs.Orderings.{then_equal}
+use Rattle.basic_laws.proofs.Orderings.{then_equal, then_is_eq}
 use Rattle.basic_laws.proofs.Truths.{two}
 use Rattle.tuple_codec.specs.Rows.{Cells, same_cells}
 use Rattle.tuple_codec.specs.declared.values.Value.TheVariants as cell
@@ -55,11 +55,6 @@ pub is_eq_numbers : (a b : ℕ) → is_eq (int_cmp (pos a) (pos b)) ≡ (a == b)
 is_eq_numbers a b = ap is_eq (cmp_numbers a b) ∙ is_eq_nat a b
 
 -- ---- rows
-
-then_is_eq : (o p : Ordering) → is_eq (ordering_then o p) ≡ (is_eq o && is_eq p)
-then_is_eq Less p = refl
-then_is_eq Equal p = refl
-then_is_eq Greater p = refl
 
 pub rows_cmp : (a b : Pair) → keyed_cmp load_schema (row a) (row b) ≡ nat_cmp a.key b.key
 rows_cmp a b = then_equal (int_cmp (pos a.key) (pos b.key)) ∙ cmp_numbers a.key b.key

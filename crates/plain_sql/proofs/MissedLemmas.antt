@@ -37,14 +37,14 @@ so_truth (Letters text) = refl
 so_truth (Octets bytes) = refl
 so_truth (Scaled m scale) = refl
 
-and_left : (s t : Truth3) → is_so (of_truth s) ≡ false → is_so (of_truth (and3 s t)) ≡ false
+pub and_left : (s t : Truth3) → is_so (of_truth s) ≡ false → is_so (of_truth (and3 s t)) ≡ false
 and_left (Some true) t h = absurd (cc)
 and_left (Some false) t h = refl
 and_left None (Some true) h = refl
 and_left None (Some false) h = refl
 and_left None None h = refl
 
-and_right : (s t : Truth3) → is_so (of_truth t) ≡ false → is_so (of_truth (and3 s t)) ≡ false
+pub and_right : (s t : Truth3) → is_so (of_truth t) ≡ false → is_so (of_truth (and3 s t)) ≡ false
 and_right (Some true) t h = h
 and_right (Some false) t h = refl
 and_right None (Some true) h = absurd (cc)

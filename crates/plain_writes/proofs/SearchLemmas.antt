@@ -9,7 +9,7 @@ use Rattle.std.proofs.lemmas.Cmp.{on_total}
 use Rattle.std.proofs.lemmas.List.{drop_all}
 use Rattle.std.proofs.lemmas.List.Sorted.{ranks_by}
 use Rattle.basic_laws.proofs.Lists.{next_at}
-use Rattle.basic_laws.proofs.Truths.{and_none, left_so, not_false, not_true, or_late, or_none, two}
+use Rattle.basic_laws.proofs.Truths.{and_none, left_so, not_false, not_true, or_none, two, or_turned}
 use Rattle.tuple_codec.specs.Rows.{Cells, key_cmp, key_of, same_cells}
 use Rattle.tuple_codec.proofs.Orders.{key_cmp_total}
 use Rattle.schema_model.specs.declared.schemas.Schema.{Schema}
@@ -37,10 +37,6 @@ any_take p (x ∷ xs) zero h =
     ∙ ap (λ b. b || list_any p xs) (sym (h 0 x (omega arith) (omega arith)))
 any_take p (x ∷ xs) (suc n) h = ap (λ b. p x || b) (any_take p xs n (λ k d above short. h (suc k) d (omega (arith, above)) (omega (arith, short))))
 
-shifted : (a b c : Bool) → (a || (b || c)) ≡ ((b || a) || c)
-shifted a true c = or_late a refl
-shifted a false c = refl
-
 -- ---- lists in order
 
 module _ {A : Type 0} (compare : A → A → Ordering) (total : IsTotalOrder compare) where
@@ -49,7 +45,7 @@ module _ {A : Type 0} (compare : A → A → Ordering) (total : IsTotalOrder com
   fold_any p (x ∷ xs) held =
       fold_any p xs (placed compare held x)
       ∙ ap (λ b. list_any p xs || b) (placed_any compare p x held)
-      ∙ shifted (list_any p xs) (p x) (list_any p held)
+      ∙ or_turned (list_any p xs) (p x) (list_any p held)
 
   -- the list in order has the same items
   pub in_order_any : (p : A → Bool) (xs : List A) → list_any p (in_order compare xs) ≡ list_any p xs

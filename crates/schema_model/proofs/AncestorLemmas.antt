@@ -12,11 +12,11 @@ use Rattle.std.proofs.lemmas.Cmp.{back_total, nat_cmp_total, nat_list_cmp_total,
 use Rattle.std.proofs.lemmas.List.Folds.{list_any-append}
 use Rattle.basic_laws.proofs.Numbers.{at_least}
 use Rattle.basic_laws.proofs.Bytes.{bytes_itself as itself, same_bytes as same_address}
-use Rattle.basic_laws.proofs.Orderings.{less_is as less, own_reverse}
+use Rattle.basic_laws.proofs.Orderings.{less_is as less, own_reverse, then_is_eq}
 use Rattle.basic_laws.proofs.Truths.{or_swap as swap, or_again as twice}
 use Rattle.schema_model.specs.PlainTables.{rises}
 use Rattle.schema_model.specs.PlainCommits.{AncestorsFollow, AreGrown, Commits, IsAncestor, IsAncestorBy, IsBaseOrNone, PlainCommit, ancestors, ancestors_within, base, commit_cmp, first_in, greatest, has_address, height_in, height_of, in_commit_order, is_ancestor, is_known, parents_in, parents_of, put_commit}
-use Rattle.schema_model.proofs.SamenessLemmas.{text_decides, then_equal}
+use Rattle.schema_model.proofs.SamenessLemmas.{text_decides}
 
 -- ---- addresses in lists
 
@@ -44,7 +44,7 @@ order commits = then_total (back_total (on_total (height_of commits) nat_cmp_tot
 
 pub alike : (commits : Commits) (a b : List ℕ) → commit_cmp commits a b ≡ Equal → a ≡ b
 alike commits a b h =
-    let both = and_parts _ _ (sym (then_equal (nat_cmp (height_of commits b) (height_of commits a)) (slice_cmp nat_cmp a b)) ∙ ap is_eq h) in
+    let both = and_parts _ _ (sym (then_is_eq (nat_cmp (height_of commits b) (height_of commits a)) (slice_cmp nat_cmp a b)) ∙ ap is_eq h) in
     (text_decides a b).0 both.1
 
 pub turned : (commits : Commits) (a b : List ℕ) (o : Ordering) → commit_cmp commits a b ≡ o → commit_cmp commits b a ≡ ordering_reverse o

@@ -1,9 +1,8 @@
 -- Branches and members as the lines, heads and places that stand for them.
-use Rattle.std.proofs.Common.{◌≡◌, refl, ◌∙◌, ap, ℕ, Bool, true, false, cond, ◌≤◌, ◌&&◌, List, [], ◌∷◌, ◌++◌, map, take, drop, length, find, Some, Option, option_map, codes}
+use Rattle.std.proofs.Common.{◌≡◌, refl, ap, ℕ, Bool, true, false, cond, ◌&&◌, List, [], ◌∷◌, ◌++◌, map, find, Some, Option, option_map, codes}
 use Rattle.std.specs.Prelude.{bytes_eq}
 use Rattle.std.specs.Ordering.{nat_cmp, is_lt}
 use Rattle.std.specs.Cmp.Lexicographic.{slice_cmp}
-use Rattle.std.proofs.lemmas.List.{append-nil, drop_all, take_all}
 use Rattle.tuple_codec.specs.declared.records.BranchRecord.{BranchRecord}
 use Rattle.script_text.specs.declared.outputs.BranchLine.{BranchLine}
 use Rattle.table_root.specs.Heads.{heads_rise}
@@ -45,8 +44,3 @@ numbers_are (n ∷ statements) = ap (λ l. n ∷ l) (numbers_are statements)
 pub changed_rise : (name : List ℕ) (change : RecordChange) (lines : List BranchLine) → lines_rise (changed_lines name change lines) ≡ lines_rise lines
 changed_rise name change.Nothing lines = refl
 changed_rise name (change.Record rec) lines = still_rise name rec lines
-
--- ---- what loops come to at their ends
-
-pub all_written : {A : Type 0} (f : A → A) (ys xs : List A) (i : ℕ) → length xs ≤ i → ys ≡ map f (take i xs) ++ drop i xs → ys ≡ map f xs
-all_written f ys xs i last e = e ∙ ap (λ rest. map f (take i xs) ++ rest) (drop_all i xs last) ∙ append-nil (map f (take i xs)) ∙ ap (map f) (take_all i xs last)

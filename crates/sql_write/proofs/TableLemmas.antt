@@ -1,6 +1,5 @@
 -- Databases as the lists of the names and addresses of their tables.
 use Rattle.std.proofs.Common.{◌≡◌, refl, sym, ap, ◌∙◌, subst, ℕ, ◌<◌, ◌≤◌, ◌^◌, true, false, cond, ◌&&◌, ◌||◌, nat_le, nat_cmp, is_lt, List, [], ◌∷◌, ◌++◌, map, take, drop, length, bytes_eq, Option, Some, None, unwrap_or, suc, arith}
-use Rattle.std.proofs.lemmas.List.{append-nil, drop_all, take_all}
 use Rattle.std.specs.Cmp.Lexicographic.{bytes_decides, slice_cmp}
 use Rattle.std.specs.List.{AllByRecursion, find, list_all}
 use Rattle.std.specs.Option.{option_map}
@@ -106,10 +105,6 @@ absent address name (named ∷ database) e = two (bytes_eq named.name name)
     ap (λ b. option_map (λ (n : plain.NamedTable). n.table) (cond b (Some named) (find (is_called name) database))) t ∙ more)
 
 -- ---- one table replaced
-
--- what a loop that changes each item in its place comes to at its end
-pub all_written : {A : Type 0} (f : A → A) (ys xs : List A) (i : ℕ) → length xs ≤ i → ys ≡ map f (take i xs) ++ drop i xs → ys ≡ map f xs
-all_written f ys xs i last e = e ∙ ap (λ rest. map f (take i xs) ++ rest) (drop_all i xs last) ∙ append-nil (map f (take i xs)) ∙ ap (map f) (take_all i xs last)
 
 one_readdressed : (address : List ℕ → List ℕ) (name : List ℕ) (contents : PlainTable) (named : plain.NamedTable)
     → readdress name (record { 0 = table_address address contents }) (record { name = named.name; table = record { 0 = table_address address named.table } })

@@ -1,7 +1,8 @@
 use Rattle.std.proofs.Common.{arith, ◌∙◌, ap, sym, slice_set}
 use Rattle.std.proofs.lemmas.List.Edits.{map_over_more}
+use Rattle.basic_laws.proofs.Lists.{all_written}
 use Rattle.shared_db.specs.Members.{lines_of, with_rec}
-use Rattle.shared_db.proofs.LineLemmas.{all_written, changed_are}
+use Rattle.shared_db.proofs.LineLemmas.{changed_are}
 use Rattle.shared_db.proofs.branches.set_record.Goals as goal
 
 pub loop-branch-preserved : goal.loop-branch-preserved
