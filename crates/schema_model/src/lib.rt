@@ -25,4 +25,4 @@ pub use rules::is_schema;
 pub use sameness::is_same_schema;
 pub use schemas::{CheckDef, Column, ForeignKey, IndexDef, Schema};
 pub use sizes::schema_size;
-pub use writing::write_schema;
+pub use writing::{push_schema, write_schema};

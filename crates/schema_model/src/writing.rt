@@ -1,6 +1,6 @@
-//! Schemas written into one buffer made to its measure.
+//! Schemas written, alone into one buffer made to its measure, or behind other bytes.
 
-ghost use Rattle.std.specs.Prelude.{◌≡◌, true, IfOk};
+ghost use Rattle.std.specs.Prelude.{◌≡◌, ◌++◌, true, IfOk, OnOk};
 ghost use Rattle.schema_model.specs.SchemaBytes.{schema_bytes};
 ghost use Rattle.schema_model.specs.Schemas.{is_schema};
 ghost use Rattle.schema_model.specs.Limits.{is_within_limits};
@@ -18,10 +18,19 @@ pub fn write_schema(alloc: Global, schema: &Schema) -> Result<Blob, AllocError>
     ensures { IfOk result (λ bytes. bytes ≡ schema_bytes schema.now) }
 {
     let mut out = Vec::with_capacity(alloc, schema_size(schema) as usize)?;
-    push_list(&mut out, schema.columns.as_slice())?;
-    push_short(&mut out, schema.key.as_slice())?;
-    push_list(&mut out, schema.indexes.as_slice())?;
-    push_list(&mut out, schema.checks.as_slice())?;
-    push_list(&mut out, schema.foreign.as_slice())?;
+    push_schema(&mut out, schema)?;
     Ok(Blob::from_vec(out))
+}
+
+/// Writes the schema's bytes, as many as `schema_size` tells, behind what stands there.
+pub fn push_schema(out: &mut Vec<u8>, schema: &Schema) -> Result<(), AllocError>
+    requires schema { is_schema schema.now ≡ true }
+    requires limits { is_within_limits schema.now ≡ true }
+    ensures { OnOk result (out.new.items ≡ out.old.items ++ schema_bytes schema.now) }
+{
+    push_list(out, schema.columns.as_slice())?;
+    push_short(out, schema.key.as_slice())?;
+    push_list(out, schema.indexes.as_slice())?;
+    push_list(out, schema.checks.as_slice())?;
+    push_list(out, schema.foreign.as_slice())
 }

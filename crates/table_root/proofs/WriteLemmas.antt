@@ -82,13 +82,16 @@ table_size t h limits =
 in_order : (size schema roots : List ℕ) → (3 ∷ (size ++ schema)) ++ roots ≡ 3 ∷ (size ++ (schema ++ roots))
 in_order size schema roots = simp append_assoc
 
-pub table_join : (t : StoredTable) (schema a b d all : List ℕ) → schema ≡ schema_bytes t.schema → a ≡ [] → b ≡ a ++ 3 ∷ (to_be_bytes w32 (length schema) ++ schema)
-    → d ≡ b ++ (t.rows.0 ++ (flat_map (λ (index : Address). index.0) t.indexes ++ (t.conflicts.0 ++ t.violations.0))) → all ≡ d → all ≡ written_table t
-table_join t schema a b d all schema_is at_first with_schema with_roots same =
+pub table_join : (t : StoredTable) (size : ℕ) (a b d e all : List ℕ) → size ≡ length (schema_bytes t.schema) → a ≡ [] → b ≡ a ++ 3 ∷ to_be_bytes w32 size
+    → d ≡ b ++ schema_bytes t.schema
+    → e ≡ d ++ (t.rows.0 ++ (flat_map (λ (index : Address). index.0) t.indexes ++ (t.conflicts.0 ++ t.violations.0))) → all ≡ e → all ≡ written_table t
+table_join t size a b d e all size_is at_first with_size with_schema with_roots same =
     let roots = t.rows.0 ++ (flat_map (λ (index : Address). index.0) t.indexes ++ (t.conflicts.0 ++ t.violations.0)) in
-    let one : b ≡ 3 ∷ (to_be_bytes w32 (length schema) ++ schema) = with_schema ∙ ap (λ (l : List ℕ). l ++ 3 ∷ (to_be_bytes w32 (length schema) ++ schema)) at_first in
-    same ∙ with_roots ∙ ap (λ (l : List ℕ). l ++ roots) one ∙ in_order (to_be_bytes w32 (length schema)) schema roots
-    ∙ ap (λ (l : List ℕ). 3 ∷ (to_be_bytes w32 (length l) ++ (l ++ roots))) schema_is ∙ sym (table_is t)
+    let schema = schema_bytes t.schema in
+    let head = to_be_bytes w32 (length schema) in
+    let one : b ≡ 3 ∷ head = with_size ∙ ap (λ (l : List ℕ). l ++ 3 ∷ to_be_bytes w32 size) at_first ∙ ap (λ (n : ℕ). 3 ∷ to_be_bytes w32 n) size_is in
+    let two : d ≡ 3 ∷ (head ++ schema) = with_schema ∙ ap (λ (l : List ℕ). l ++ schema) one in
+    same ∙ with_roots ∙ ap (λ (l : List ℕ). l ++ roots) two ∙ in_order head schema roots ∙ sym (table_is t)
 
 -- ---- databases
 

@@ -16,7 +16,7 @@ use crate::fields::{address_at, after_kind, four_at, push_address};
 use crate::parts::{items_at, push_items};
 use crate::records::{RecordedRoots, StoredTable};
 use chunk_store::{Draft, PutFault, law_of_growth};
-use schema_model::{Schema, law_of_schemas, read_schema, write_schema};
+use schema_model::{Schema, law_of_schemas, push_schema, read_schema, schema_size};
 use std::alloc::{AllocError, Global};
 use tuple_codec::{Address, Blob, Digester, Unread, bytes_at};
 
@@ -47,28 +47,24 @@ fn table_bytes(alloc: Global, table: &StoredTable) -> Result<Blob, AllocError>
     ensures table { OnOk result (IsStoredTable table.now) }
     ensures size { IfOk result (λ bytes. length bytes ≤ 65536) }
 {
-    let written = write_schema(alloc, &table.schema)?;
-    let schema = written.as_slice();
+    let size = schema_size(&table.schema) as u32;
     let roots = table.indexes.as_slice().len().saturating_add(3);
-    let room = schema
-        .len()
+    let room = (size as usize)
         .saturating_add(5)
         .saturating_add(roots.saturating_mul(20));
     let mut out = Vec::with_capacity(alloc, room)?;
-    push_schema(&mut out, schema)?;
+    push_size(&mut out, size)?;
+    push_schema(&mut out, &table.schema)?;
     push_roots(&mut out, table)?;
     Ok(Blob::from_vec(out))
 }
 
-/// Writes the kind of the chunk, and a schema's bytes behind their length.
-fn push_schema(out: &mut Vec<u8>, schema: &[u8]) -> Result<(), AllocError>
-    requires { length schema.now < 2 ^ 32 }
-    ensures { OnOk result (out.new.items ≡ out.old.items ++ 3 ∷ (to_be_bytes w32 (length schema.now) ++ schema.now)) }
+/// Writes the kind of the chunk, and how many bytes the schema has behind it.
+fn push_size(out: &mut Vec<u8>, size: u32) -> Result<(), AllocError>
+    ensures { OnOk result (out.new.items ≡ out.old.items ++ 3 ∷ to_be_bytes w32 size) }
 {
-    let size = schema.len() as u32;
     out.push(3)?;
-    out.extend_from_slice(&size.to_be_bytes())?;
-    out.extend_from_slice(schema)
+    out.extend_from_slice(&size.to_be_bytes())
 }
 
 /// Writes the table's roots.

@@ -1,15 +1,18 @@
-use Rattle.std.proofs.Common.{◌≤◌, List, ℕ, length, refl, subst, sym, ◌∙◌}
+use Rattle.std.proofs.Common.{◌≤◌, List, ℕ, arith, length, refl, subst, sym}
 use Rattle.schema_model.specs.SchemaBytes.{schema_bytes}
-use Rattle.table_root.proofs.WriteLemmas.{limits_fit, table_join, table_size}
+use Rattle.table_root.proofs.WriteLemmas.{limits_fit, limits_size, table_join, table_size}
 use Rattle.table_root.proofs.tables.table_bytes.Goals as goal
 
-pub push_schema-requires : goal.push_schema-requires
-push_schema-requires c = limits_fit c.args.table.now.schema c.as_slice-schema.result.now c.requires.limits (c.as_slice-schema.ensures ∙ c.in_ok-written.ensures)
+pub schema_size-size-requires : goal.schema_size-size-requires
+schema_size-size-requires c = omega (arith, limits_size c.args.table.now.schema c.requires.limits)
+
+pub overflow_cast-size : goal.overflow_cast-size
+overflow_cast-size c = omega (arith, limits_size c.args.table.now.schema c.requires.limits, c.schema_size-size.ensures)
 
 pub returns-clause-bytes : goal.returns-clause-bytes
 returns-clause-bytes c =
-    table_join c.args.table.now c.as_slice-schema.result.now c.in_ok-out.out.items c.push_schema.new.out.items c.push_roots.new.out.items c.from_vec.result
-    (c.as_slice-schema.ensures ∙ c.in_ok-written.ensures) c.in_ok-out.ensures.items c.in_ok-push_schema.ensures c.in_ok-push_roots.ensures.bytes c.from_vec.ensures
+    table_join c.args.table.now c.schema_size-size.result c.in_ok-out.out.items c.push_size.new.out.items c.push_schema.new.out.items c.push_roots.new.out.items c.from_vec.result
+    c.schema_size-size.ensures c.in_ok-out.ensures.items c.in_ok-push_size.ensures c.in_ok-push_schema.ensures c.in_ok-push_roots.ensures.bytes c.from_vec.ensures
 
 pub returns-clause-table : goal.returns-clause-table
 returns-clause-table c = record {

@@ -1,7 +1,7 @@
 use Rattle.std.proofs.Common.{length}
 use Rattle.schema_model.proofs.SchemaLemmas.{parts_of}
 use Rattle.schema_model.proofs.WrittenLemmas.{all_foreign_written, checks_written, columns_written, indexes_written}
-use Rattle.schema_model.proofs.writing.write_schema.Goals as goal
+use Rattle.schema_model.proofs.writing.push_schema.Goals as goal
 
 pub push_list-requires-clause-allowed : goal.push_list-requires-clause-allowed
 push_list-requires-clause-allowed c = rw c.as_slice.ensures (columns_written c.args.schema.now.columns (parts_of c.args.schema.now c.requires.schema).columns)
