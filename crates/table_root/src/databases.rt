@@ -10,11 +10,12 @@ ghost use Rattle.table_root.specs.Databases.{HasDatabase, IsDatabaseFound, IsSto
 ghost use Rattle.table_root.specs.Reading.{database_of};
 
 use crate::fields::{after_kind, two_at};
-use crate::parts::{items_at, push_items};
+use crate::parts::{DatabaseBytes, items_at, push_tables};
 use crate::records::TableEntry;
 use chunk_store::{Draft, PutFault, law_of_growth};
+use smallvec::SmallVec;
 use std::alloc::{AllocError, Global};
-use tuple_codec::{Address, Blob, Digester, Unread};
+use tuple_codec::{Address, Digester, Unread};
 
 /// Puts the database's written form into the draft: the address is the database's.
 pub fn write_database<D: Digester>(
@@ -35,22 +36,32 @@ pub fn write_database<D: Digester>(
 }
 
 /// The database's written form.
-fn database_bytes(alloc: Global, tables: &[TableEntry]) -> Result<Blob, AllocError>
+fn database_bytes(alloc: Global, tables: &[TableEntry]) -> Result<DatabaseBytes, AllocError>
     requires few { length tables.now ≤ 256 }
     requires names { list_all has_short_name tables.now ≡ true }
     requires rise { names_rise tables.now ≡ true }
-    ensures bytes { IfOk result (λ bytes. bytes ≡ written_database tables.now) }
+    ensures bytes { IfOk result (λ bytes. bytes.items ≡ written_database tables.now) }
     ensures database { OnOk result (IsStoredDatabase tables.now) }
-    ensures size { IfOk result (λ bytes. length bytes ≤ 65536) }
+    ensures size { IfOk result (λ bytes. length bytes.items ≤ 65536) }
 {
-    let mut out = Vec::with_capacity(alloc, tables.len().saturating_mul(85).saturating_add(3))?;
+    let mut out = SmallVec::with_capacity(alloc, room_for(tables))?;
     push_count(&mut out, tables)?;
-    push_items(&mut out, tables)?;
-    Ok(Blob::from_vec(out))
+    push_tables(&mut out, tables)?;
+    Ok(out)
+}
+
+/// How many bytes the database's written form has.
+fn room_for(tables: &[TableEntry]) -> usize {
+    let mut room = 3_usize;
+    for named in tables {
+        let name = named.name.as_slice();
+        room = room.saturating_add(name.len()).saturating_add(21);
+    }
+    room
 }
 
 /// Writes the kind of the chunk, and how many tables there are.
-fn push_count(out: &mut Vec<u8>, tables: &[TableEntry]) -> Result<(), AllocError>
+fn push_count(out: &mut DatabaseBytes, tables: &[TableEntry]) -> Result<(), AllocError>
     requires { length tables.now ≤ 256 }
     ensures { OnOk result (out.new.items ≡ out.old.items ++ 4 ∷ to_be_bytes w16 (length tables.now)) }
 {

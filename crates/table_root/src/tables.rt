@@ -13,7 +13,7 @@ ghost use Rattle.table_root.specs.Reading.{schema_text, table_of};
 ghost use Rattle.table_root.specs.Tables.{HasRoots, HasTable, IsStoredTable, IsTableFound, recorded_roots, written_table};
 
 use crate::fields::{address_at, after_kind, four_at, push_address};
-use crate::parts::{items_at, push_items};
+use crate::parts::{items_at, push_addresses};
 use crate::records::{RecordedRoots, StoredTable};
 use chunk_store::{Draft, PutFault, law_of_growth};
 use schema_model::{Schema, law_of_schemas, push_schema, read_schema, schema_size};
@@ -73,7 +73,7 @@ fn push_roots(out: &mut Vec<u8>, table: &StoredTable) -> Result<(), AllocError>
     ensures roots { OnOk result (HasRoots table.now) }
 {
     push_address(out, &table.rows)?;
-    push_items(out, table.indexes.as_slice())?;
+    push_addresses(out, table.indexes.as_slice())?;
     push_address(out, &table.conflicts)?;
     push_address(out, &table.violations)
 }
