@@ -54,7 +54,7 @@ pub(crate) fn items_at<P: Part>(
 ) -> Result<(Sequence<P>, &[u8]), Unread>
     ensures { Gives (λ x. (x.0, x.1.now)) result (items_at P.front count bytes.now) }
 {
-    let mut items = Vec::new(alloc);
+    let mut items = Vec::with_capacity(alloc, count)?;
     let mut rest = bytes;
     for _ in 0..count {
         let (item, after) = P::read(alloc, rest)?;

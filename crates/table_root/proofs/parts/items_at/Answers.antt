@@ -6,7 +6,7 @@ use Rattle.table_root.proofs.parts.items_at.Goals as goal
 
 pub returns-in_err-item : goal.returns-in_err-item
 returns-in_err-item g c =
-    let p = err_from_is_err_and c.from_residual.result c.from_residual.ensures.1 in
+    let p = err_from_is_err_and c.from_residual-in_err-item.result c.from_residual-in_err-item.ensures.1 in
     rw (p.1, p.2)
     (fails g.P.Part.front c.args.count c.loop.counter c.args.bytes.now c.loop.rest.now c.loop.items.items
     (λ (x : g.row.P.Denot × Bor (List ℕ)). (x.0, x.1.now)) (λ (x : List g.row.P.Denot × Bor (List ℕ)). (x.0, x.1.now)) c.in_err-item.field-0.0 c.loop.invariant c.loop-test.true c.in_err-item.ensures)
