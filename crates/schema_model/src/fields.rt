@@ -5,6 +5,7 @@ ghost use Rattle.tuple_codec.specs.Fronts.{Gives};
 ghost use Rattle.schema_model.specs.SchemaBytes.{two_bytes};
 ghost use Rattle.schema_model.specs.Reading.{bool_of, byte_at, flags_of, two_at};
 
+use crate::forms::FormBytes;
 use std::alloc::AllocError;
 use tuple_codec::Unread;
 
@@ -42,7 +43,7 @@ pub(crate) fn flags_at(bytes: &[u8]) -> Result<((bool, bool), &[u8]), Unread>
 }
 
 /// Writes a number in two bytes.
-pub(crate) fn push_two(out: &mut Vec<u8>, number: u16) -> Result<(), AllocError>
+pub(crate) fn push_two(out: &mut FormBytes, number: u16) -> Result<(), AllocError>
     ensures { OnOk result (out.new.items ≡ out.old.items ++ two_bytes number) }
 {
     out.extend_from_slice(&[(number / 256) as u8, (number % 256) as u8])

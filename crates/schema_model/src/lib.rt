@@ -6,6 +6,7 @@
 #![tactic(auto)]
 
 mod fields;
+mod forms;
 mod laws;
 pub mod limits;
 mod lists;
@@ -19,6 +20,7 @@ mod sizes;
 mod types;
 mod writing;
 
+pub use forms::{FormBytes, push_short};
 pub use laws::{law_of_ancestors, law_of_items, law_of_sameness, law_of_schemas, law_of_sizes};
 pub use reading::read_schema;
 pub use rules::is_schema;

@@ -6,6 +6,7 @@ ghost use Rattle.tuple_codec.specs.Fronts.{Gives};
 ghost use Rattle.schema_model.specs.SchemaBytes.{listed};
 ghost use Rattle.schema_model.specs.Reading.{items_at, list_at};
 
+use crate::forms::FormBytes;
 use crate::parts::Part;
 use std::alloc::{AllocError, Global};
 use tuple_codec::{Sequence, Unread};
@@ -39,7 +40,7 @@ pub(crate) fn items_at<P: Part>(
 }
 
 /// Writes a count in one byte, and the parts.
-pub(crate) fn push_list<P: Part>(out: &mut Vec<u8>, items: &[P]) -> Result<(), AllocError>
+pub(crate) fn push_list<P: Part>(out: &mut FormBytes, items: &[P]) -> Result<(), AllocError>
     requires few { length items.now < 256 }
     requires allowed { list_all P.allowed items.now ≡ true }
     ensures { OnOk result (out.new.items ≡ out.old.items ++ listed P.written items.now) }
@@ -49,7 +50,7 @@ pub(crate) fn push_list<P: Part>(out: &mut Vec<u8>, items: &[P]) -> Result<(), A
 }
 
 /// Writes parts one after another.
-pub(crate) fn push_items<P: Part>(out: &mut Vec<u8>, items: &[P]) -> Result<(), AllocError>
+pub(crate) fn push_items<P: Part>(out: &mut FormBytes, items: &[P]) -> Result<(), AllocError>
     requires { list_all P.allowed items.now ≡ true }
     ensures { OnOk result (out.new.items ≡ out.old.items ++ flat_map P.written items.now) }
 {

@@ -9,11 +9,12 @@ ghost use Rattle.schema_model.specs.Reading.{check_at, column_at, foreign_at, in
 ghost use Rattle.schema_model.specs.Written.{is_written_check, is_written_column, is_written_foreign, is_written_index, is_written_name};
 
 use crate::fields::{bool_at, flags_at};
+use crate::forms::{FormBytes, push_long, push_short};
 use crate::lists::{items_at, items_size, push_items};
 use crate::schemas::{CheckDef, Column, ForeignKey, IndexDef};
 use crate::types::{default_at, default_size, push_default, push_type, type_at, type_size};
 use std::alloc::{AllocError, Global};
-use tuple_codec::{Sequence, Text, Unread, long_at, push_long, push_short, short_at};
+use tuple_codec::{Sequence, Text, Unread, long_at, short_at};
 
 /// A part of a schema that stands in a list.
 pub(crate) trait Part: Drop {
@@ -29,7 +30,7 @@ pub(crate) trait Part: Drop {
     fn read(alloc: Global, bytes: &[u8]) -> Result<(Self, &[u8]), Unread>
         ensures { Gives (λ x. (x.0, x.1.now)) result (front bytes.now) };
 
-    fn push(&self, out: &mut Vec<u8>) -> Result<(), AllocError>
+    fn push(&self, out: &mut FormBytes) -> Result<(), AllocError>
         requires { allowed self.now ≡ true }
         ensures { OnOk result (out.new.items ≡ out.old.items ++ written self.now) };
 
@@ -50,7 +51,7 @@ impl Part for Text {
         Ok((Text::from_slice(alloc, name)?, rest))
     }
 
-    fn push(&self, out: &mut Vec<u8>) -> Result<(), AllocError> {
+    fn push(&self, out: &mut FormBytes) -> Result<(), AllocError> {
         push_short(out, self.as_slice())
     }
 
@@ -81,7 +82,7 @@ impl Part for Column {
         Ok((column, rest))
     }
 
-    fn push(&self, out: &mut Vec<u8>) -> Result<(), AllocError> {
+    fn push(&self, out: &mut FormBytes) -> Result<(), AllocError> {
         self.name.push(out)?;
         push_type(out, &self.kind)?;
         out.push(u8::from(self.not_null) + 2 * u8::from(self.default.is_some()))?;
@@ -114,7 +115,7 @@ impl Part for IndexDef {
         Ok((index, rest))
     }
 
-    fn push(&self, out: &mut Vec<u8>) -> Result<(), AllocError> {
+    fn push(&self, out: &mut FormBytes) -> Result<(), AllocError> {
         self.name.push(out)?;
         out.push(u8::from(self.unique))?;
         push_short(out, self.columns.as_slice())
@@ -140,7 +141,7 @@ impl Part for CheckDef {
         Ok((CheckDef { name, text }, rest))
     }
 
-    fn push(&self, out: &mut Vec<u8>) -> Result<(), AllocError> {
+    fn push(&self, out: &mut FormBytes) -> Result<(), AllocError> {
         self.name.push(out)?;
         push_long(out, self.text.as_slice())
     }
@@ -173,7 +174,7 @@ impl Part for ForeignKey {
         Ok((foreign, rest))
     }
 
-    fn push(&self, out: &mut Vec<u8>) -> Result<(), AllocError> {
+    fn push(&self, out: &mut FormBytes) -> Result<(), AllocError> {
         self.name.push(out)?;
         push_short(out, self.columns.as_slice())?;
         self.parent.push(out)?;

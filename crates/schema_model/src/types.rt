@@ -10,6 +10,7 @@ ghost use Rattle.schema_model.specs.Schemas.{default_fits};
 ghost use Rattle.schema_model.specs.Reading.{cell_size, coded_at, decimal_at, default_at, most_at, only, payload_size, text_size, type_at, value_at, value_of};
 
 use crate::fields::{push_two, two_at};
+use crate::forms::FormBytes;
 use std::alloc::{AllocError, Global};
 use tuple_codec::{Row, SqlType, Unread, Value, bytes_at, copy_value, decode_row, encode_row};
 
@@ -159,7 +160,7 @@ fn only(row: Row) -> Result<Value, Unread>
     }
 }
 
-pub(crate) fn push_type(out: &mut Vec<u8>, kind: &SqlType) -> Result<(), AllocError>
+pub(crate) fn push_type(out: &mut FormBytes, kind: &SqlType) -> Result<(), AllocError>
     ensures { OnOk result (out.new.items ≡ out.old.items ++ type_bytes kind.now) }
 {
     match kind {
@@ -181,7 +182,7 @@ pub(crate) fn push_type(out: &mut Vec<u8>, kind: &SqlType) -> Result<(), AllocEr
 
 /// Writes a default, if there is one.
 pub(crate) fn push_default(
-    out: &mut Vec<u8>,
+    out: &mut FormBytes,
     kind: SqlType,
     default: &Option<Value>,
 ) -> Result<(), AllocError>
@@ -196,7 +197,7 @@ pub(crate) fn push_default(
 }
 
 /// Writes a value as a row's only cell.
-fn push_value(out: &mut Vec<u8>, kind: SqlType, value: &Value) -> Result<(), AllocError>
+fn push_value(out: &mut FormBytes, kind: SqlType, value: &Value) -> Result<(), AllocError>
     requires kind { is_type kind ≡ true }
     requires fit { fits kind value.now ≡ true }
     ensures { OnOk result (out.new.items ≡ out.old.items ++ row_cell value.now) }

@@ -5,11 +5,13 @@ ghost use Rattle.schema_model.specs.SchemaBytes.{schema_bytes};
 ghost use Rattle.schema_model.specs.Schemas.{is_schema};
 ghost use Rattle.schema_model.specs.Limits.{is_within_limits};
 
+use crate::forms::{FormBytes, push_short};
 use crate::lists::push_list;
 use crate::schemas::Schema;
 use crate::sizes::schema_size;
+use smallvec::SmallVec;
 use std::alloc::{AllocError, Global};
-use tuple_codec::{Blob, push_short};
+use tuple_codec::Blob;
 
 /// The schema's bytes.
 pub fn write_schema(alloc: Global, schema: &Schema) -> Result<Blob, AllocError>
@@ -17,13 +19,13 @@ pub fn write_schema(alloc: Global, schema: &Schema) -> Result<Blob, AllocError>
     requires limits { is_within_limits schema.now ≡ true }
     ensures { IfOk result (λ bytes. bytes ≡ schema_bytes schema.now) }
 {
-    let mut out = Vec::with_capacity(alloc, schema_size(schema) as usize)?;
+    let mut out = SmallVec::with_capacity(alloc, schema_size(schema) as usize)?;
     push_schema(&mut out, schema)?;
-    Ok(Blob::from_vec(out))
+    Ok(Blob::from_vec(out.into_vec()?))
 }
 
 /// Writes the schema's bytes, as many as `schema_size` tells, behind what stands there.
-pub fn push_schema(out: &mut Vec<u8>, schema: &Schema) -> Result<(), AllocError>
+pub fn push_schema(out: &mut FormBytes, schema: &Schema) -> Result<(), AllocError>
     requires schema { is_schema schema.now ≡ true }
     requires limits { is_within_limits schema.now ≡ true }
     ensures { OnOk result (out.new.items ≡ out.old.items ++ schema_bytes schema.now) }

@@ -10,8 +10,10 @@ ghost use Rattle.table_root.specs.Reading.{branch_of, merging_of};
 
 use crate::fields::{address_at, after_kind, push_address};
 use chunk_store::{Draft, PutFault, law_of_growth};
+use schema_model::FormBytes;
+use smallvec::SmallVec;
 use std::alloc::{AllocError, Global};
-use tuple_codec::{Address, Blob, BranchRecord, Digester, Unread};
+use tuple_codec::{Address, BranchRecord, Digester, Unread};
 
 /// Puts the record's written form into the draft: the address is the record's.
 pub fn write_branch<D: Digester>(
@@ -29,22 +31,22 @@ pub fn write_branch<D: Digester>(
 }
 
 /// The record's written form.
-fn branch_bytes(alloc: Global, branch: &BranchRecord) -> Result<Blob, AllocError>
-    ensures bytes { IfOk result (λ bytes. bytes ≡ branch_bytes branch.now) }
+fn branch_bytes(alloc: Global, branch: &BranchRecord) -> Result<FormBytes, AllocError>
+    ensures bytes { IfOk result (λ bytes. bytes.items ≡ branch_bytes branch.now) }
     ensures branch { OnOk result (IsBranch branch.now) }
-    ensures size { IfOk result (λ bytes. length bytes ≤ 65536) }
+    ensures size { IfOk result (λ bytes. length bytes.items ≤ 65536) }
 {
-    let mut out = Vec::new(alloc);
+    let mut out = SmallVec::new(alloc);
     out.push(6)?;
     push_address(&mut out, &branch.head)?;
     push_address(&mut out, &branch.working)?;
     push_address(&mut out, &branch.staged)?;
     push_merging(&mut out, &branch.merging)?;
-    Ok(Blob::from_vec(out))
+    Ok(out)
 }
 
 /// Writes the commit of a merge in progress, if there is one.
-fn push_merging(out: &mut Vec<u8>, merging: &Option<Address>) -> Result<(), AllocError>
+fn push_merging(out: &mut FormBytes, merging: &Option<Address>) -> Result<(), AllocError>
     ensures bytes { OnOk result (out.new.items ≡ out.old.items ++ merging_bytes merging.now) }
     ensures whole { OnOk result (is_address_or_none merging.now ≡ true) }
 {

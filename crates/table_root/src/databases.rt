@@ -10,9 +10,10 @@ ghost use Rattle.table_root.specs.Databases.{HasDatabase, IsDatabaseFound, IsSto
 ghost use Rattle.table_root.specs.Reading.{database_of};
 
 use crate::fields::{after_kind, two_at};
-use crate::parts::{DatabaseBytes, items_at, push_tables};
+use crate::parts::{items_at, push_tables};
 use crate::records::TableEntry;
 use chunk_store::{Draft, PutFault, law_of_growth};
+use schema_model::FormBytes;
 use smallvec::SmallVec;
 use std::alloc::{AllocError, Global};
 use tuple_codec::{Address, Digester, Unread};
@@ -36,7 +37,7 @@ pub fn write_database<D: Digester>(
 }
 
 /// The database's written form.
-fn database_bytes(alloc: Global, tables: &[TableEntry]) -> Result<DatabaseBytes, AllocError>
+fn database_bytes(alloc: Global, tables: &[TableEntry]) -> Result<FormBytes, AllocError>
     requires few { length tables.now ≤ 256 }
     requires names { list_all has_short_name tables.now ≡ true }
     requires rise { names_rise tables.now ≡ true }
@@ -61,7 +62,7 @@ fn room_for(tables: &[TableEntry]) -> usize {
 }
 
 /// Writes the kind of the chunk, and how many tables there are.
-fn push_count(out: &mut DatabaseBytes, tables: &[TableEntry]) -> Result<(), AllocError>
+fn push_count(out: &mut FormBytes, tables: &[TableEntry]) -> Result<(), AllocError>
     requires { length tables.now ≤ 256 }
     ensures { OnOk result (out.new.items ≡ out.old.items ++ 4 ∷ to_be_bytes w16 (length tables.now)) }
 {

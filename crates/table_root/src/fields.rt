@@ -5,6 +5,7 @@ ghost use Rattle.tuple_codec.specs.Fronts.{Gives};
 ghost use Rattle.table_root.specs.Reading.{address_at, after_kind, four_at, two_at};
 ghost use Rattle.table_root.specs.Tables.{is_address};
 
+use schema_model::FormBytes;
 use std::alloc::AllocError;
 use tuple_codec::{Address, Unread};
 
@@ -58,7 +59,7 @@ pub(crate) fn four_at(bytes: &[u8]) -> Result<(u32, &[u8]), Unread>
 }
 
 /// Writes an address, which has 20 bytes.
-pub(crate) fn push_address(out: &mut Vec<u8>, address: &Address) -> Result<(), AllocError>
+pub(crate) fn push_address(out: &mut FormBytes, address: &Address) -> Result<(), AllocError>
     ensures bytes { OnOk result (out.new.items ≡ out.old.items ++ address.now.0) }
     ensures whole { is_address address.now ≡ true }
 {

@@ -9,7 +9,7 @@ ghost use Rattle.table_root.specs.Tables.{is_address};
 
 use crate::fields::{address_at, push_address};
 use crate::records::TableEntry;
-use smallvec::SmallVec;
+use schema_model::{FormBytes, push_short};
 use std::alloc::{AllocError, Global};
 use tuple_codec::{Address, Sequence, Text, Unread, short_at};
 
@@ -65,7 +65,7 @@ pub(crate) fn items_at<P: Part>(
 }
 
 /// Writes addresses one after another.
-pub(crate) fn push_addresses(out: &mut Vec<u8>, addresses: &[Address]) -> Result<(), AllocError>
+pub(crate) fn push_addresses(out: &mut FormBytes, addresses: &[Address]) -> Result<(), AllocError>
     ensures bytes { OnOk result (out.new.items ≡ out.old.items ++ flat_map (λ address. address.0) addresses.now) }
     ensures whole { OnOk result (list_all is_address addresses.now ≡ true) }
 {
@@ -75,11 +75,8 @@ pub(crate) fn push_addresses(out: &mut Vec<u8>, addresses: &[Address]) -> Result
     Ok(())
 }
 
-/// A database's bytes while they are written: those of a few tables need no memory of their own.
-pub(crate) type DatabaseBytes = SmallVec<u8, 256>;
-
 /// Writes tables one after another, each by its name and address.
-pub(crate) fn push_tables(out: &mut DatabaseBytes, tables: &[TableEntry]) -> Result<(), AllocError>
+pub(crate) fn push_tables(out: &mut FormBytes, tables: &[TableEntry]) -> Result<(), AllocError>
     requires { list_all fits_name tables.now ≡ true }
     ensures bytes { OnOk result (out.new.items ≡ out.old.items ++ flat_map named_bytes tables.now) }
     ensures whole { OnOk result (list_all has_address tables.now ≡ true) }
@@ -90,14 +87,11 @@ pub(crate) fn push_tables(out: &mut DatabaseBytes, tables: &[TableEntry]) -> Res
     Ok(())
 }
 
-fn push_table(out: &mut DatabaseBytes, named: &TableEntry) -> Result<(), AllocError>
+fn push_table(out: &mut FormBytes, named: &TableEntry) -> Result<(), AllocError>
     requires { fits_name named.now ≡ true }
     ensures bytes { OnOk result (out.new.items ≡ out.old.items ++ named_bytes named.now) }
     ensures whole { OnOk result (has_address named.now ≡ true) }
 {
-    let name = named.name.as_slice();
-    let table = named.table;
-    out.push(name.len() as u8)?;
-    out.extend_from_slice(name)?;
-    out.extend_from_slice(&table.0)
+    push_short(out, named.name.as_slice())?;
+    push_address(out, &named.table)
 }

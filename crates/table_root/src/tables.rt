@@ -16,9 +16,10 @@ use crate::fields::{address_at, after_kind, four_at, push_address};
 use crate::parts::{items_at, push_addresses};
 use crate::records::{RecordedRoots, StoredTable};
 use chunk_store::{Draft, PutFault, law_of_growth};
-use schema_model::{Schema, law_of_schemas, push_schema, read_schema, schema_size};
+use schema_model::{FormBytes, Schema, law_of_schemas, push_schema, read_schema, schema_size};
+use smallvec::SmallVec;
 use std::alloc::{AllocError, Global};
-use tuple_codec::{Address, Blob, Digester, Unread, bytes_at};
+use tuple_codec::{Address, Digester, Unread, bytes_at};
 
 /// Puts the table's written form into the draft: the address is the table's.
 pub fn write_table<D: Digester>(
@@ -39,28 +40,28 @@ pub fn write_table<D: Digester>(
 }
 
 /// The table's written form.
-fn table_bytes(alloc: Global, table: &StoredTable) -> Result<Blob, AllocError>
+fn table_bytes(alloc: Global, table: &StoredTable) -> Result<FormBytes, AllocError>
     requires schema { is_schema table.now.schema ≡ true }
     requires limits { is_within_limits table.now.schema ≡ true }
     requires count { length table.now.indexes ≡ length table.now.schema.indexes }
-    ensures bytes { IfOk result (λ bytes. bytes ≡ written_table table.now) }
+    ensures bytes { IfOk result (λ bytes. bytes.items ≡ written_table table.now) }
     ensures table { OnOk result (IsStoredTable table.now) }
-    ensures size { IfOk result (λ bytes. length bytes ≤ 65536) }
+    ensures size { IfOk result (λ bytes. length bytes.items ≤ 65536) }
 {
     let size = schema_size(&table.schema) as u32;
     let roots = table.indexes.as_slice().len().saturating_add(3);
     let room = (size as usize)
         .saturating_add(5)
         .saturating_add(roots.saturating_mul(20));
-    let mut out = Vec::with_capacity(alloc, room)?;
+    let mut out = SmallVec::with_capacity(alloc, room)?;
     push_size(&mut out, size)?;
     push_schema(&mut out, &table.schema)?;
     push_roots(&mut out, table)?;
-    Ok(Blob::from_vec(out))
+    Ok(out)
 }
 
 /// Writes the kind of the chunk, and how many bytes the schema has behind it.
-fn push_size(out: &mut Vec<u8>, size: u32) -> Result<(), AllocError>
+fn push_size(out: &mut FormBytes, size: u32) -> Result<(), AllocError>
     ensures { OnOk result (out.new.items ≡ out.old.items ++ 3 ∷ to_be_bytes w32 size) }
 {
     out.push(3)?;
@@ -68,7 +69,7 @@ fn push_size(out: &mut Vec<u8>, size: u32) -> Result<(), AllocError>
 }
 
 /// Writes the table's roots.
-fn push_roots(out: &mut Vec<u8>, table: &StoredTable) -> Result<(), AllocError>
+fn push_roots(out: &mut FormBytes, table: &StoredTable) -> Result<(), AllocError>
     ensures bytes { OnOk result (out.new.items ≡ out.old.items ++ (table.now.rows.0 ++ (flat_map (λ index. index.0) table.now.indexes ++ (table.now.conflicts.0 ++ table.now.violations.0)))) }
     ensures roots { OnOk result (HasRoots table.now) }
 {

@@ -11,8 +11,8 @@ overflow_cast-size c = omega (arith, limits_size c.args.table.now.schema c.requi
 
 pub returns-clause-bytes : goal.returns-clause-bytes
 returns-clause-bytes c =
-    table_join c.args.table.now c.schema_size-size.result c.in_ok-out.out.items c.push_size.new.out.items c.push_schema.new.out.items c.push_roots.new.out.items c.from_vec.result
-    c.schema_size-size.ensures c.in_ok-out.ensures.items c.in_ok-push_size.ensures c.in_ok-push_schema.ensures c.in_ok-push_roots.ensures.bytes c.from_vec.ensures
+    table_join c.args.table.now c.schema_size-size.result c.in_ok-out.out.items c.push_size.new.out.items c.push_schema.new.out.items c.push_roots.new.out.items c.push_roots.new.out.items
+    c.schema_size-size.ensures c.in_ok-out.ensures.items c.in_ok-push_size.ensures c.in_ok-push_schema.ensures c.in_ok-push_roots.ensures.bytes refl
 
 pub returns-clause-table : goal.returns-clause-table
 returns-clause-table c = record {
