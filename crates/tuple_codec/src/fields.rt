@@ -1,7 +1,7 @@
 //! Fields at the front of bytes, each with the bytes after it, and how they are written.
 
 ghost use Rattle.std.specs.Prelude.{◌≡◌, ◌<◌, ◌++◌, length, OnOk};
-ghost use Rattle.tuple_codec.specs.Fields.{bytes_at, short, short_at};
+ghost use Rattle.tuple_codec.specs.Fields.{bytes_at, short_at};
 ghost use Rattle.tuple_codec.specs.Fronts.{Gives, length_prefixed_at};
 ghost use Rattle.tuple_codec.specs.RowBytes.{length_prefixed};
 
@@ -37,15 +37,6 @@ pub fn long_at(bytes: &[u8]) -> Result<(&[u8], &[u8]), Unread>
         [high, low, rest @ ..] => bytes_at(usize::from(u16::from_be_bytes([*high, *low])), rest),
         _ => Err(Unread::Malformed),
     }
-}
-
-/// Writes a length in one byte, and the bytes.
-pub fn push_short(out: &mut Vec<u8>, bytes: &[u8]) -> Result<(), AllocError>
-    requires { length bytes.now < 256 }
-    ensures { OnOk result (out.new.items ≡ out.old.items ++ short bytes.now) }
-{
-    out.push(bytes.len() as u8)?;
-    out.extend_from_slice(bytes)
 }
 
 /// Writes a length in two bytes, the higher one first, and the bytes.

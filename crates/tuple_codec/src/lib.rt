@@ -32,7 +32,7 @@ pub use boxed::Boxed;
 pub use bytes::Text;
 pub use copies::{copy_row, copy_value};
 pub use edits::{Edit, ItemChange};
-pub use fields::{bytes_at, long_at, push_long, push_short, short_at};
+pub use fields::{bytes_at, long_at, push_long, short_at};
 pub use key_codec::{
     decode_key, encode_key, keys_are_one_spelling, keys_keep_order, push_key_cell,
 };
