@@ -21,13 +21,16 @@ ghost use Rattle.prolly_edit.specs.Stages.{Awaits, IsBeforeNode, IsGoing, IsRead
 
 use crate::merging::{edit_rows, is_past, put_edits};
 use crate::paths::{Name, Path};
-use crate::reading::{bytes_at, step_at};
+use crate::reading::{copy_node, step_at};
 use chunk_store::{Draft, PutFault};
 use node_chunker::Tower;
 use node_format::{KnownNode, RefItem};
 use prolly_tree::known_at;
 use std::alloc::{AllocError, Global};
 use tuple_codec::{Address, Digester, Edit};
+
+/// The room for the names and leaves that an edit reads, one after another: few leaves have more bytes.
+const ROOM: usize = 8192;
 
 /// Edits a tree: the address of the root of the tree of the edited rows. Edits come by rising key; one puts its value
 /// at its key, in place of the one there if there is one, or removes the key.
@@ -50,39 +53,42 @@ pub fn apply<D: Digester>(
     let mut tower = Tower::new(alloc)?;
     let mut path = Path::new(alloc);
     let level = known_at(draft, root).level();
-    let mut left = read(alloc, draft, &mut tower, &mut path, edits, level, root)?;
-    let mut room = Vec::new(alloc);
-    'parts: while let Some((level, name)) = path.next(room)? {
-        left = turn(alloc, draft, &mut tower, &mut path, left, level, &name)?;
-        room = name.item.key.into_vec();
+    let mut room = Vec::with_capacity(alloc, ROOM)?;
+    let mut left = read(draft, &mut tower, &mut path, &mut room, edits, level, root)?;
+    'parts: while let Some((level, name)) = path.next(&mut room)? {
+        left = turn(draft, &mut tower, &mut path, &mut room, left, level, name)?;
     }
     put_edits(&mut tower, draft, left)?;
     tower.finish(draft)
 }
 
-/// Pushes the rows below a node that comes before all others, or reads it; the edits that are left.
+/// Pushes the rows below a node that comes before all others, or reads it; the edits that are left. The key of the
+/// node's name is the room of the next one.
 fn turn<'a, D: Digester>(
-    alloc: Global,
     draft: &mut Draft<D>,
     tower: &mut Tower,
     path: &mut Path<D>,
+    room: &mut Vec<u8>,
     edits: &'a [Edit],
     level: u8,
-    name: &Name,
+    name: Name,
 ) -> Result<&'a [Edit], PutFault>
-    requires going { (start : Chunks) × (whole : List Item) × IsGoing D.address start (chunks_of draft.old.chunks) tower.old ((level, item_of name.now) ∷ path.old) edits.now whole }
-    requires known { Outlasts D.address (suc level) name.now.steps (item_of name.now).key }
-    ensures ok { (start : Chunks) (whole : List Item) → IsGoing D.address start (chunks_of draft.old.chunks) tower.old ((level, item_of name.now) ∷ path.old) edits.now whole
-        → IfOk result (λ left. IsTurn D.address start (chunks_of draft.new.chunks) tower.new ((level, item_of name.now) ∷ path.old) path.new left.now whole) }
+    requires going { (start : Chunks) × (whole : List Item) × IsGoing D.address start (chunks_of draft.old.chunks) tower.old ((level, item_of name) ∷ path.old) edits.now whole }
+    requires known { Outlasts D.address (suc level) name.steps (item_of name).key }
+    ensures ok { (start : Chunks) (whole : List Item) → IsGoing D.address start (chunks_of draft.old.chunks) tower.old ((level, item_of name) ∷ path.old) edits.now whole
+        → IfOk result (λ left. IsTurn D.address start (chunks_of draft.new.chunks) tower.new ((level, item_of name) ∷ path.old) path.new left.now whole) }
     ensures grows { Grows is_node draft.old draft.new }
     ensures cause { IfErr result (IsReason D.address (chunks_of draft.new.chunks)) }
 {
-    let item = &name.item;
-    if stays(tower, path, edits, level, item) {
-        tower.push_kept_ref(draft, level + 1, item, name.steps)?;
+    let Name { item, steps } = name;
+    if stays(tower, path, edits, level, &item) {
+        tower.push_kept_ref(draft, level + 1, &item, steps)?;
+        *room = item.key.into_vec();
         return Ok(edits);
     }
-    read(alloc, draft, tower, path, edits, level, &item.address)
+    let address = item.address;
+    *room = item.key.into_vec();
+    read(draft, tower, path, room, edits, level, &address)
 }
 
 /// Whether a node's subtree is pushed whole: no edit comes before its end, it ended by the boundary rule since something
@@ -101,12 +107,12 @@ fn stays<D: Digester>(
 }
 
 /// Reads the node of this level at an address, which comes before all others: its rows are pushed, or the nodes that it
-/// names come first; the edits that are left.
+/// names come first; the edits that are left. A leaf is copied into the room.
 fn read<'a, D: Digester>(
-    alloc: Global,
     draft: &mut Draft<D>,
     tower: &mut Tower,
     path: &mut Path<D>,
+    room: &mut Vec<u8>,
     edits: &'a [Edit],
     level: u8,
     address: &Address,
@@ -118,10 +124,10 @@ fn read<'a, D: Digester>(
     ensures cause { IfErr result (IsReason D.address (chunks_of draft.new.chunks)) }
 {
     if level > 0 {
-        read_names(alloc, draft, path, address)?;
+        read_names(*room.allocator(), draft, path, address)?;
         Ok(edits)
     } else {
-        read_rows(alloc, draft, tower, edits, address)
+        read_rows(draft, tower, room, edits, address)
     }
 }
 
@@ -142,9 +148,9 @@ fn read_names<D: Digester>(
 
 /// Pushes the rows of a leaf with the edits up to its last key; the edits that are left.
 fn read_rows<'a, D: Digester>(
-    alloc: Global,
     draft: &mut Draft<D>,
     tower: &mut Tower,
+    room: &mut Vec<u8>,
     edits: &'a [Edit],
     address: &Address,
 ) -> Result<&'a [Edit], PutFault>
@@ -156,7 +162,7 @@ fn read_rows<'a, D: Digester>(
     ensures grows { Grows is_node draft.old draft.new }
     ensures cause { IfErr result (IsReason D.address (chunks_of draft.new.chunks)) }
 {
-    let bytes = bytes_at(alloc, draft, address)?;
-    let leaf = KnownNode::of(&bytes);
+    copy_node(draft, address, room)?;
+    let leaf = KnownNode::of(room.as_slice());
     edit_rows(tower, draft, edits, &leaf)
 }

@@ -13,6 +13,7 @@ use smallvec::SmallVec;
 use std::alloc::{AllocError, Global};
 use std::default::MadeWith;
 use std::marker::{Model, PhantomData};
+use std::mem;
 use tuple_codec::{Blob, Digester};
 
 /// The name of a node, and how many steps it outlasts where it stands, as its old place tells.
@@ -91,7 +92,7 @@ impl<D: Digester> Step<D> {
     }
 
     /// Takes the first name; its key goes into the room.
-    fn next(&mut self, room: Vec<u8>) -> Result<Name, AllocError>
+    fn next(&mut self, room: &mut Vec<u8>) -> Result<Name, AllocError>
         requires { 0 < length self.old.items }
         ensures level { self.new.level ≡ self.old.level }
         ensures items { IfOk result (λ name. self.old.items ≡ item_of name ∷ self.new.items) }
@@ -100,7 +101,7 @@ impl<D: Digester> Step<D> {
         let (_, names) = self.bytes.split_at(self.start);
         let (key, address, rows) = first_name(names);
         let end = self.start + 30 + key.len();
-        let key = Blob::from_vec(copied(room, key)?);
+        let key = copied_into(room, key)?;
         let item = RefItem { key, address, rows };
         let steps = steps_of_next(self.left, end as u32, u32::from(self.taken) + 1);
         self.taken += 1;
@@ -110,14 +111,15 @@ impl<D: Digester> Step<D> {
     }
 }
 
-/// Bytes copied into room that is there.
-fn copied(room: Vec<u8>, bytes: &[u8]) -> Result<Vec<u8>, AllocError>
-    ensures { IfOk result (λ copy. copy.items ≡ bytes.now) }
+/// A copy of a key in room that is there: the room is left without memory, until the key's is given back to it.
+fn copied_into(room: &mut Vec<u8>, key: &[u8]) -> Result<Blob, AllocError>
+    ensures { IfOk result (λ copy. copy ≡ key.now) }
 {
-    let mut room = room;
-    room.clear();
-    room.extend_from_slice(bytes)?;
-    Ok(room)
+    let none = Vec::new(*room.allocator());
+    let mut copy = mem::replace(room, none);
+    copy.clear();
+    copy.extend_from_slice(key)?;
+    Ok(Blob::from_vec(copy))
 }
 
 /// How many steps an item outlasts, by which a node has so many bytes and items: none are known of the last.
@@ -169,7 +171,7 @@ impl<D: Digester> Path<D> {
     }
 
     /// Takes the first node: its level, and the item that names it, whose key goes into the room.
-    pub(crate) fn next(&mut self, room: Vec<u8>) -> Result<Option<(u8, Name)>, AllocError>
+    pub(crate) fn next(&mut self, room: &mut Vec<u8>) -> Result<Option<(u8, Name)>, AllocError>
         ensures front { IfOk result (λ next. MatchOption next (self.old ≡ []) (λ part. self.old ≡ (part.0, item_of part.1) ∷ self.new)) }
         ensures known { IfOk result (λ next. IfSome next (λ part. Outlasts D.address (suc part.0) part.1.steps (item_of part.1).key)) }
     {

@@ -1,6 +1,6 @@
 //! Nodes copied out of a draft, so that it can change while they are gone through.
 
-ghost use Rattle.std.specs.Prelude.{◌≡◌, ◌<◌, ◌+◌, ◌-◌, take, ℕ, List, IfOk, length, slice_get, Some};
+ghost use Rattle.std.specs.Prelude.{◌≡◌, ◌<◌, ◌+◌, ◌-◌, take, ℕ, List, IfOk, OnOk, length, slice_get, Some};
 ghost use Rattle.tuple_codec.specs.Nodes.{Item, Node, items_bytes, node_bytes};
 ghost use Rattle.node_format.specs.Outlasting.{Outlasts};
 ghost use Rattle.prolly_edit.specs.Keeping.{StaysOpen};
@@ -13,17 +13,20 @@ use node_format::{KnownNode, steps_of};
 use std::alloc::{AllocError, Global};
 use tuple_codec::{Address, Digester};
 
-/// The bytes of the node at an address.
-pub(crate) fn bytes_at<D: Digester>(
-    alloc: Global,
+/// Copies the bytes of the node at an address into room for them, in place of what stands there.
+pub(crate) fn copy_node<D: Digester>(
     draft: &Draft<D>,
     address: &Address,
-) -> Result<Vec<u8>, AllocError>
+    room: &mut Vec<u8>,
+) -> Result<(), AllocError>
     requires { (node : Node) × IsStored (chunks_of draft.now.chunks) address.now.0 node }
-    ensures { (node : Node) → IsStored (chunks_of draft.now.chunks) address.now.0 node → IfOk result (λ bytes. bytes.items ≡ node_bytes node) }
+    ensures { (node : Node) → IsStored (chunks_of draft.now.chunks) address.now.0 node → OnOk result (room.new.items ≡ node_bytes node) }
 {
     match draft.get(address) {
-        Some(bytes) => Vec::from_slice(alloc, bytes),
+        Some(bytes) => {
+            room.clear();
+            room.extend_from_slice(bytes)
+        }
         None => unreachable!(),
     }
 }
@@ -38,7 +41,8 @@ pub(crate) fn step_at<D: Digester>(
     ensures { (node : Node) → IsStored (chunks_of draft.now.chunks) address.now.0 node → 0 < node.level
         → IfOk result (λ step. step ≡ record { level = node.level - 1; items = node.items }) }
 {
-    let bytes = bytes_at(alloc, draft, address)?;
+    let mut bytes = Vec::new(alloc);
+    copy_node(draft, address, &mut bytes)?;
     Ok(Step::new(bytes))
 }
 

@@ -14,13 +14,13 @@ use Rattle.prolly_edit.proofs.applying.turn.Goals as goal
 
 pub stays-requires-after_bounds : goal.stays-requires-after_bounds
 stays-requires-after_bounds g c κs within =
-    (omega arith, part_low g.D.Digester.address c.requires.going.0 (chunks_of c.args.draft.now.chunks) c.args.tower.now c.args.level (ref_of c.args.name.now.item) c.args.path.now c.args.edits.now c.requires.going.1 c.requires.going.2)
+    (omega arith, part_low g.D.Digester.address c.requires.going.0 (chunks_of c.args.draft.now.chunks) c.args.tower.now c.args.level (ref_of c.args.name.item) c.args.path.now c.args.edits.now c.requires.going.1 c.requires.going.2)
 
 pub push_kept_ref-requires-clause-can : goal.push_kept_ref-requires-clause-can
 push_kept_ref-requires-clause-can g c κs within =
     let a = g.D.Digester.address in
     let now = chunks_of c.args.draft.now.chunks in
-    let item = ref_of c.args.name.now.item in
+    let item = ref_of c.args.name.item in
     let level = c.args.level in
     let e : suc level ≡ level + 1 = omega arith in
     let stay = three_true (is_past item.key c.args.edits.now) _ (is_clear (suc level) c.args.tower.now) (sym c.stays.ensures ∙ c.if-stays.true) in
@@ -33,7 +33,7 @@ read-requires-after_bounds g c κs within = (
   (
     c.requires.going.0,
     c.requires.going.1,
-    before g.D.Digester.address c.requires.going.0 (chunks_of c.args.draft.now.chunks) c.args.tower.now c.args.level (ref_of c.args.name.now.item) c.args.path.now c.args.edits.now c.requires.going.1 c.requires.going.2,
+    before g.D.Digester.address c.requires.going.0 (chunks_of c.args.draft.now.chunks) c.args.tower.now c.args.level (ref_of c.args.name.item) c.args.path.now c.args.edits.now c.requires.going.1 c.requires.going.2,
   ),
 )
 
@@ -43,7 +43,7 @@ returns-then-stays-clause-ok g c start whole going =
     let old = chunks_of c.args.draft.now.chunks in
     let new = chunks_of c.push_kept_ref.new.draft.chunks in
     let tower = c.push_kept_ref.new.self in
-    let item = ref_of c.args.name.now.item in
+    let item = ref_of c.args.name.item in
     let level = c.args.level in
     let e : suc level ≡ level + 1 = omega arith in
     let stay = three_true (is_past item.key c.args.edits.now) _ (is_clear (suc level) c.args.tower.now) (sym c.stays.ensures ∙ c.if-stays.true) in
@@ -58,7 +58,7 @@ returns-clause-ok g c start whole going =
     let new = chunks_of c.read.new.draft.chunks in
     let tower = c.read.new.tower in
     let path = c.args.path.now in
-    let item = ref_of c.args.name.now.item in
+    let item = ref_of c.args.name.item in
     let level = c.args.level in
     IfOk-weaker c.read.result (λ left. IsRead a start new tower level item.body path c.read.new.path left.now whole)
     (λ left. IsTurn a start new tower ((level, item) ∷ path) c.read.new.path left.now whole)
@@ -68,4 +68,4 @@ returns-clause-ok g c start whole going =
 pub push_kept_ref-requires-clause-known : goal.push_kept_ref-requires-clause-known
 push_kept_ref-requires-clause-known g c κs within =
     let e : suc c.args.level ≡ c.args.level + 1 = omega arith in
-    subst (λ n. Outlasts g.D.Digester.address n c.args.name.now.steps c.args.name.now.item.key) e c.requires.known
+    subst (λ n. Outlasts g.D.Digester.address n c.args.name.steps c.args.name.item.key) e c.requires.known

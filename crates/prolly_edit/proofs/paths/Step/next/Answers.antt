@@ -44,10 +44,10 @@ returns-clause-items g c =
     let end = s.start + 30 + length c.first_name-rows.result.0.now in
     let others = (others_left a s.level s.taken s.left s.start s.bytes.items first.0 first.1 first.3 end (s.taken + 1) (s.left - 1)
     (ap (λ (i : Item). s.start + 30 + length i.key) (sym name)) refl (omega (arith, first.3.many))).same in
-    let copy = c.from_vec-key.ensures ∙ c.in_ok-copied.ensures in
+    let copy = c.in_ok-key.ensures in
     sym (ap (λ (n : Node). n.items) c.self.view_is) ∙ first.2 ∙ ap (λ (i : Item). i ∷ first.1) name
     ∙ ap (λ (k : List ℕ). record { key = k; body = c.first_name-rows.result.1.0; rows = c.first_name-rows.result.2 } ∷ first.1) (sym copy)
-    ∙ ap (λ (l : List Item). record { key = c.from_vec-key.result; body = c.first_name-rows.result.1.0; rows = c.first_name-rows.result.2 } ∷ l) (sym others)
+    ∙ ap (λ (l : List Item). record { key = c.in_ok-key.key; body = c.first_name-rows.result.1.0; rows = c.first_name-rows.result.2 } ∷ l) (sym others)
 
 pub returns-clause-known : goal.returns-clause-known
 returns-clause-known g c =
@@ -56,7 +56,7 @@ returns-clause-known g c =
     let first = split_left a s.level s.taken s.left s.start s.bytes.items _ c.self.invariant (subst (λ (n : Node). 0 < length n.items) (sym c.self.view_is) c.requires) in
     let there = first_there a s.level s.taken s.left s.start s.bytes.items first.0 first.1 first.3 in
     let name = c.first_name-rows.ensures first.0 (items_bytes (suc s.level) first.1) first.3.each.0 (c.split_at.ensures.back ∙ ap (drop s.start) c.deref.ensures.value ∙ there) in
-    let key = ap (λ (i : Item). i.key) name ∙ sym (c.from_vec-key.ensures ∙ c.in_ok-copied.ensures) in
-    c.steps_of_next-steps.ensures a (suc c.args.self.now.level) c.from_vec-key.result
-    (next_ends a s.level s.taken s.left s.start s.bytes.items first.0 first.1 first.3 c.args.self.now.level _ _ c.from_vec-key.result
+    let key = ap (λ (i : Item). i.key) name ∙ sym c.in_ok-key.ensures in
+    c.steps_of_next-steps.ensures a (suc c.args.self.now.level) c.in_ok-key.key
+    (next_ends a s.level s.taken s.left s.start s.bytes.items first.0 first.1 first.3 c.args.self.now.level _ _ c.in_ok-key.key
     (ap (λ (n : Node). n.level) c.self.view_is) (ap (λ (i : Item). s.start + 30 + length i.key) name) (omega arith) key)
