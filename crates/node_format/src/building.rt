@@ -10,7 +10,7 @@ use std::marker::Model;
 use tuple_codec::Address;
 
 /// For how many bytes a new node has room.
-const ROOM: usize = 4096;
+const ROOM: usize = 8192;
 
 /// A node that built, in its bytes.
 #[derive(Debug, Drop)]
