@@ -1,15 +1,20 @@
 -- Addresses that were seen to have recorded nothing: what they stand for, later, and with one more; and what some tables have recorded.
-use Rattle.std.proofs.Common.{◌≡◌, refl, sym, ap, ◌∙◌, subst, ℕ, true, false, Bool, ◌||◌, List, [], ◌∷◌, ◌++◌, bytes_eq, Option, Some, None, is_some, true≢false}
+use Rattle.std.proofs.Common.{◌≡◌, refl, sym, ap, ◌∙◌, subst, ℕ, true, false, Bool, ◌||◌, List, [], ◌∷◌, ◌++◌, bytes_eq, drop, slice_index_or, Option, Some, None, is_some, true≢false}
 use Rattle.basic_laws.proofs.Bytes.{same_bytes}
 use Rattle.tuple_codec.specs.declared.addresses.Address.{Address}
 use Rattle.schema_model.specs.PlainTables as plain
 use Rattle.schema_model.specs.PlainTables.{PlainDatabase, PlainTable}
 use Rattle.chunk_store.specs.Chunks.{Chunks, Extends}
-use Rattle.table_root.specs.Standing.{DatabasesStand, IsDatabaseAt, IsTableAt, TablesStand}
+use Rattle.schema_model.specs.WrittenForms.{table_address}
+use Rattle.schema_model.proofs.SizeLemmas.{few_tables}
+use Rattle.table_root.specs.Databases.{AreListed, IsDatabaseFound, IsFirstListed}
+use Rattle.table_root.specs.Kept.{IsKeptAt}
+use Rattle.table_root.specs.Standing.{DatabasesStand, IsDatabaseAt, IsTableAt, TablesStand, named_tables}
+use Rattle.table_root.specs.declared.records.TableEntry.{TableEntry}
 use Rattle.plain_sessions.specs.CommitRule.{is_in_conflict, is_in_violation, is_unsettled}
 use Rattle.plain_sessions.specs.Records.{BranchState}
 use Rattle.root_merge.specs.States.{bytes_of}
-use Rattle.root_merge.specs.Settling.{AreSettledRoots, IsSettledDatabase, IsSettledTable, either, has, is_any, nothing_left, database_left, state_left, table_left}
+use Rattle.root_merge.specs.Settling.{AreListedThere, AreSettledRoots, IsSettledDatabase, IsSettledTable, either, has, is_any, nothing_left, database_left, state_left, table_left}
 use Rattle.root_merge.specs.declared.settling.Left.{Left}
 use Rattle.root_merge.specs.declared.settling.Settled.{Settled}
 
@@ -66,6 +71,46 @@ pub first_left : (database others : PlainDatabase) (named : plain.NamedTable) (o
     → result ≡ database_left database
 first_left database others named one more result both first later is =
     is ∙ (λ i. either (first i) (later i)) ∙ sym (ap database_left both)
+
+-- what is listed where a database stands
+pub kept_there : (address : List ℕ → List ℕ) (chunks : Chunks) → DatabasesStand → (k : List ℕ) (contents : PlainDatabase) → IsKeptAt address chunks k contents → (bytes : List ℕ)
+    → ((tables : List TableEntry) → IsDatabaseFound chunks k tables → AreListed bytes tables) → AreListedThere address chunks contents bytes
+kept_there address chunks laws k contents kept bytes listed = record {
+  stand = kept.stands.tables;
+  listed = listed (named_tables address contents) (laws.found address chunks k contents kept.stands (few_tables contents kept.within));
+}
+
+-- the first of a database's tables, and the others
+pub record FirstThere (address : List ℕ → List ℕ) (chunks : Chunks) (database : PlainDatabase) (table : Address) (rest : List ℕ) : Type 0 where
+  pub named : plain.NamedTable
+  pub others : PlainDatabase
+  pub both : database ≡ named ∷ others
+  pub at : IsTableAt address chunks table.0 named.table
+  pub there : AreListedThere address chunks others rest
+
+pub first_there : (address : List ℕ → List ℕ) (chunks : Chunks) (database : PlainDatabase) (bytes : List ℕ) → AreListedThere address chunks database bytes
+    → (table : Address) (rest : List ℕ) → IsFirstListed table rest (named_tables address database) → FirstThere address chunks database table rest
+first_there address chunks [] bytes there table rest first = absurd (nothing first.both) where
+  nothing : [] ≡ record { name = first.name; table = table } ∷ first.others → ⊥
+  nothing e = cc
+first_there address chunks (named ∷ others) bytes there table rest first =
+    let none : TableEntry = record { name = []; table = table } in
+    let stand = there.stand in
+    let k : table_address address named.table ≡ table.0 = ap (λ (l : List TableEntry). (slice_index_or l 0 none).table.0) first.both in
+    let more : named_tables address others ≡ first.others = ap (drop 1) first.both in
+    record {
+      named = named;
+      others = others;
+      both = refl;
+      at = subst (λ (k : List ℕ). IsTableAt address chunks k named.table) k stand.0;
+      there = record { stand = stand.1; listed = subst (λ (l : List TableEntry). AreListed rest l) (sym more) first.listed };
+    }
+
+pub none_there : (address : List ℕ → List ℕ) (database : PlainDatabase) → named_tables address database ≡ [] → [] ≡ database
+none_there address [] e = refl
+none_there address (named ∷ others) e = absurd (nothing e) where
+  nothing : named_tables address (named ∷ others) ≡ [] → ⊥
+  nothing e = cc
 
 -- no merge is in progress, so what is left tells
 pub left_open : (place : Option Address) (state : BranchState) (left : Left) (found : Bool) → bytes_of place ≡ state.merging → is_some place ≡ false → left ≡ state_left state → found ≡ is_any left

@@ -1,5 +1,5 @@
 -- Records that stand for states: later, and the same exactly where the states are; and what their tables have recorded.
-use Rattle.std.proofs.Common.{◌≡◌, refl, sym, ap, ◌∙◌, subst, ℕ, true, false, Bool, ◌&&◌, ◌||◌, not, ◌==◌, List, [], ◌∷◌, length, bytes_eq, Option, Some, None}
+use Rattle.std.proofs.Common.{◌≡◌, refl, sym, ap, ◌∙◌, subst, ℕ, true, false, Bool, ◌&&◌, ◌||◌, not, ◌==◌, List, length, bytes_eq, Option, Some, None}
 use Rattle.std.specs.Cmp.Lexicographic.{bytes_decides}
 use Rattle.std.proofs.lemmas.Bool.{and_parts, and_from}
 use Rattle.std.proofs.lemmas.List.{length-map}
@@ -10,8 +10,7 @@ use Rattle.tuple_codec.proofs.FieldLemmas.{address_is}
 use Rattle.schema_model.specs.PlainTables.{PlainDatabase, PlainTable, conflict_item, conflict_items, violation_item, violation_items}
 use Rattle.schema_model.specs.Sameness.{SamenessIsEquality, is_same_database, is_same_option}
 use Rattle.chunk_store.specs.Chunks.{Chunks, Extends}
-use Rattle.table_root.specs.Standing.{AreThere, DatabasesStand, named_tables}
-use Rattle.table_root.specs.declared.records.TableEntry.{TableEntry}
+use Rattle.table_root.specs.Standing.{DatabasesStand}
 use Rattle.table_root.specs.Kept.{IsKeptAt}
 use Rattle.plain_sessions.specs.CommitRule.{is_none}
 use Rattle.plain_sessions.specs.Records.{BranchState, is_same_state}
@@ -90,12 +89,6 @@ some_conflicts contents found is = is ∙ ap (λ (n : ℕ). not (n == 0)) (lengt
 
 pub some_violations : (contents : PlainTable) (found : Bool) → found ≡ not (length (violation_items contents) == 0) → found ≡ not (is_none contents.violations)
 some_violations contents found is = is ∙ ap (λ (n : ℕ). not (n == 0)) (length-map contents.violations (violation_item contents.schema))
-
-pub there_none : (address : List ℕ → List ℕ) (chunks : Chunks) (database : PlainDatabase) (all : List TableEntry) → all ≡ [] → AreThere address chunks database all → database ≡ []
-there_none address chunks [] all is there = refl
-there_none address chunks (named ∷ more) all is there = absurd (nothing (sym is ∙ there.listed)) where
-  nothing : [] ≡ named_tables address (named ∷ more) → ⊥
-  nothing e = cc
 
 pub either_first : (a b found : Bool) → found ≡ a → found ≡ true → true ≡ (a || b)
 either_first a b found told holds = sym (ap (λ (x : Bool). x || b) (sym told ∙ holds))

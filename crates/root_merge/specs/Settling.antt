@@ -1,9 +1,11 @@
 -- What tables have recorded, and addresses of tables and databases that have recorded nothing.
 use Rattle.std.specs.Prelude.{◌≡◌, ℕ, Bool, true, false, ◌||◌, not, List, bytes_eq}
-use Rattle.std.specs.List.{list_any}
 use Rattle.schema_model.specs.PlainTables.{PlainDatabase, PlainTable}
 use Rattle.chunk_store.specs.Chunks.{Chunks}
-use Rattle.table_root.specs.Standing.{IsDatabaseAt, IsTableAt}
+use Rattle.std.specs.List.{AllByRecursion, list_any}
+use Rattle.schema_model.specs.WrittenForms.{table_address}
+use Rattle.table_root.specs.Databases.{AreListed}
+use Rattle.table_root.specs.Standing.{IsDatabaseAt, IsTableAt, named_tables}
 use Rattle.plain_sessions.specs.CommitRule.{has_conflicts, has_violations, is_in_conflict, is_in_violation, is_none}
 use Rattle.plain_sessions.specs.Records.{BranchState}
 use Rattle.root_merge.specs.declared.settling.Left.{Left}
@@ -26,6 +28,11 @@ is_any left = left.conflicts || left.violations
 
 abbrev pub either : Left → Left → Left
 either one other = record { conflicts = one.conflicts || other.conflicts; violations = one.violations || other.violations }
+
+-- these bytes list the tables of the database, which stand
+pub record AreListedThere (address : List ℕ → List ℕ) (chunks : Chunks) (database : PlainDatabase) (bytes : List ℕ) : Type 0 where
+  pub stand : AllByRecursion (λ named. IsTableAt address chunks (table_address address named.table) named.table) database
+  pub listed : AreListed bytes (named_tables address database)
 
 -- the address stands for a table that has recorded nothing
 pub record IsSettledTable (address : List ℕ → List ℕ) (chunks : Chunks) (k : List ℕ) : Type 0 where

@@ -61,7 +61,7 @@ fn record_all<D: Digester>(
     laws_of_growth();
     laws_of_states();
     let list = violations(alloc, draft, database)?;
-    let left = left_in_database(alloc, draft, database, settled)?;
+    let left = left_in_database(draft, database, settled)?;
     if has_none(list.as_slice(), left) {
         return Ok(*database);
     }
@@ -188,7 +188,6 @@ fn both<D: Digester>(
 
 /// Whether one of the three has a merge in progress, conflicts or violations.
 fn any_unsettled<D: Digester>(
-    alloc: Global,
     draft: &Draft<D>,
     start: &BranchRecord,
     present: &BranchRecord,
@@ -201,15 +200,15 @@ fn any_unsettled<D: Digester>(
         → IfOk result (λ found. found ≡ are_unsettled s p o) }
     ensures settled { AreSettledRoots D.address (chunks_of draft.now.chunks) settled.new }
 {
-    let at_present = is_unsettled(alloc, draft, present, settled)?;
+    let at_present = is_unsettled(draft, present, settled)?;
     if at_present {
         return Ok(true);
     }
-    let at_start = is_unsettled(alloc, draft, start, settled)?;
+    let at_start = is_unsettled(draft, start, settled)?;
     if at_start {
         return Ok(true);
     }
-    is_unsettled(alloc, draft, own, settled)
+    is_unsettled(draft, own, settled)
 }
 
 /// What settled states come to.
@@ -253,7 +252,7 @@ fn merge_states<D: Digester>(
     ensures cause { IfErr result (IsReason D.address (chunks_of draft.new.chunks)) }
 {
     laws_of_growth();
-    let unsettled = any_unsettled(alloc, draft, start, present, own, settled)?;
+    let unsettled = any_unsettled(draft, start, present, own, settled)?;
     if unsettled {
         return Ok(Candidate::Refused(1213));
     }
@@ -299,7 +298,6 @@ fn refusal(conflict: bool, violation: bool, allow: bool, force: bool) -> Option<
 
 /// Refuses conflicts that aren't allowed, and violations that aren't forced.
 fn judged<D: Digester>(
-    alloc: Global,
     draft: &Draft<D>,
     decided: BranchRecord,
     allow: bool,
@@ -312,7 +310,7 @@ fn judged<D: Digester>(
         → IfOk result (λ made. IsCandidate D.address (chunks_of draft.now.chunks) made (judged (set autocommit allow force) state)) }
     ensures settled { AreSettledRoots D.address (chunks_of draft.now.chunks) settled.new }
 {
-    let left = left_in_record(alloc, draft, &decided, settled)?;
+    let left = left_in_record(draft, &decided, settled)?;
     match refusal(left.conflicts, left.violations, allow, force) {
         Some(number) => Ok(Candidate::Refused(number)),
         None => Ok(Candidate::Record(decided)),
@@ -334,7 +332,7 @@ pub fn unmoved_candidate<D: Digester>(
 {
     laws_of_states();
     let mut settled = Settled::new(alloc);
-    judged(alloc, draft, *own, allow, force, &mut settled)
+    judged(draft, *own, allow, force, &mut settled)
 }
 
 /// What a branch's record becomes where a transaction ends: `start` is the record on which it began, `present` the branch's as it is now, and `own`
@@ -364,7 +362,7 @@ pub fn candidate<D: Digester>(
     match proposal {
         Candidate::Refused(number) => Ok(Candidate::Refused(number)),
         Candidate::Record(decided) => {
-            let made = judged(alloc, draft, decided, allow, force, &mut settled)?;
+            let made = judged(draft, decided, allow, force, &mut settled)?;
             Ok(made)
         }
     }

@@ -6,20 +6,19 @@ ghost use Rattle.schema_model.specs.PlainTables.{PlainDatabase, PlainTable};
 ghost use Rattle.chunk_store.specs.Chunks.{Chunks};
 ghost use Rattle.chunk_store.specs.Drafts.{chunks_of};
 ghost use Rattle.chunk_store.specs.Standing.{IsTree};
-ghost use Rattle.table_root.specs.Standing.{AreThere, IsTableAt};
+ghost use Rattle.table_root.specs.Standing.{IsTableAt};
 ghost use Rattle.table_root.specs.Kept.{HasKeptAt, IsKeptAt};
 ghost use Rattle.plain_sessions.specs.CommitRule.{is_unsettled};
 ghost use Rattle.plain_sessions.specs.Records.{BranchState};
-ghost use Rattle.root_merge.specs.Settling.{AreSettledRoots, IsSettledDatabase, IsSettledTable, database_left, either, has, is_any, state_left, table_left};
+ghost use Rattle.root_merge.specs.Settling.{AreListedThere, AreSettledRoots, IsSettledDatabase, IsSettledTable, database_left, either, has, is_any, state_left, table_left};
 ghost use Rattle.root_merge.specs.States.{BranchStateStands, HasBranchState};
 
 use crate::laws::laws_of_growth;
-use crate::reading::read_tables;
 use chunk_store::Draft;
 use prolly_tree::count;
 use smallvec::SmallVec;
 use std::alloc::{AllocError, Global};
-use table_root::{TableEntry, recorded_roots};
+use table_root::{first_listed, listed_tables, recorded_roots};
 use tuple_codec::{Address, BranchRecord, Digester};
 
 /// Whether tables have recorded conflicts, and whether violations.
@@ -174,32 +173,33 @@ fn either(one: Left, other: Left) -> Left
     }
 }
 
-/// What some of these tables have recorded. There are few tables, so the calls don't go deep.
+/// What the tables that these bytes list have recorded. There are few tables, so the calls don't go deep.
 fn left_in_tables<D: Digester>(
     draft: &Draft<D>,
-    tables: &[TableEntry],
+    tables: &[u8],
     settled: &mut Settled,
 ) -> Result<Left, AllocError>
-    requires there { (database : PlainDatabase) × AreThere D.address (chunks_of draft.now.chunks) database tables.now }
+    requires there { (database : PlainDatabase) × AreListedThere D.address (chunks_of draft.now.chunks) database tables.now }
     requires settled { AreSettledRoots D.address (chunks_of draft.now.chunks) settled.old }
-    ensures is { (database : PlainDatabase) → AreThere D.address (chunks_of draft.now.chunks) database tables.now
+    ensures is { (database : PlainDatabase) → AreListedThere D.address (chunks_of draft.now.chunks) database tables.now
         → IfOk result (λ left. left ≡ database_left database) }
     ensures settled { AreSettledRoots D.address (chunks_of draft.now.chunks) settled.new }
 {
-    let [first, rest @ ..] = tables else {
-        return Ok(Left {
+    match first_listed(tables) {
+        None => Ok(Left {
             conflicts: false,
             violations: false,
-        });
-    };
-    let one = left_in_table(draft, &first.table, settled)?;
-    let more = left_in_tables(draft, rest, settled)?;
-    Ok(either(one, more))
+        }),
+        Some((table, others)) => {
+            let one = left_in_table(draft, &table, settled)?;
+            let more = left_in_tables(draft, others, settled)?;
+            Ok(either(one, more))
+        }
+    }
 }
 
 /// What the tables of the database at an address have recorded. A database that was seen isn't read again.
 pub(crate) fn left_in_database<D: Digester>(
-    alloc: Global,
     draft: &Draft<D>,
     database: &Address,
     settled: &mut Settled,
@@ -217,8 +217,8 @@ pub(crate) fn left_in_database<D: Digester>(
             violations: false,
         });
     }
-    let tables = read_tables(alloc, draft, database)?;
-    let left = left_in_tables(draft, tables.as_slice(), settled)?;
+    let tables = listed_tables(draft, database);
+    let left = left_in_tables(draft, tables, settled)?;
     if is_any(left) {
         return Ok(left);
     }
@@ -228,7 +228,6 @@ pub(crate) fn left_in_database<D: Digester>(
 
 /// What a branch's databases have recorded.
 pub(crate) fn left_in_record<D: Digester>(
-    alloc: Global,
     draft: &Draft<D>,
     branch: &BranchRecord,
     settled: &mut Settled,
@@ -239,14 +238,13 @@ pub(crate) fn left_in_record<D: Digester>(
         → IfOk result (λ left. left ≡ state_left state) }
     ensures settled { AreSettledRoots D.address (chunks_of draft.now.chunks) settled.new }
 {
-    let working = left_in_database(alloc, draft, &branch.working, settled)?;
-    let staged = left_in_database(alloc, draft, &branch.staged, settled)?;
+    let working = left_in_database(draft, &branch.working, settled)?;
+    let staged = left_in_database(draft, &branch.staged, settled)?;
     Ok(either(working, staged))
 }
 
 /// Whether a branch has a merge in progress, conflicts or violations.
 pub(crate) fn is_unsettled<D: Digester>(
-    alloc: Global,
     draft: &Draft<D>,
     branch: &BranchRecord,
     settled: &mut Settled,
@@ -260,6 +258,6 @@ pub(crate) fn is_unsettled<D: Digester>(
     if branch.merging.is_some() {
         return Ok(true);
     }
-    let left = left_in_record(alloc, draft, branch, settled)?;
+    let left = left_in_record(draft, branch, settled)?;
     Ok(is_any(left))
 }

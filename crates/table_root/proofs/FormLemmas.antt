@@ -1,10 +1,11 @@
 -- What is written is read again, so each form has one spelling.
-use Rattle.std.proofs.Common.{◌≡◌, ℕ, suc, ◌^◌, ◌<◌, Bool, true, List, [], ◌∷◌, ◌++◌, length, map, Option, Some, None, refl, sym, ap, subst, ◌∙◌, append_assoc, append-nil}
+use Rattle.std.proofs.Common.{◌≡◌, ℕ, suc, ◌^◌, ◌<◌, ◌≤◌, Bool, true, List, [], ◌∷◌, ◌++◌, drop, length, map, slice_index_or, take, Option, Some, None, refl, sym, ap, subst, ◌∙◌, append_assoc, append-nil, arith}
 use Rattle.std.specs.Prelude.{◌&&◌}
 use Rattle.std.specs.List.{flat_map, list_all}
 use Rattle.std.specs.Option.{option_map}
 use Rattle.std.specs.Int.{w16, w32, to_be_bytes}
 use Rattle.std.proofs.lemmas.Bool.{and_parts, eqb-true}
+use Rattle.std.proofs.lemmas.List.{drop_at, length-append, take_at}
 use Rattle.std.proofs.lemmas.List.Folds.{flat_map-map}
 use Rattle.std.proofs.lemmas.Nat.{from_be_bytes-to_be_bytes_2, from_be_bytes-to_be_bytes_4}
 use Rattle.basic_laws.proofs.Options.{mapped as map_some, some_is}
@@ -20,7 +21,7 @@ use Rattle.schema_model.specs.WrittenForms.{WrittenEntry, branch_bytes, merging_
 use Rattle.schema_model.specs.declared.schemas.Schema.{Schema}
 use Rattle.schema_model.proofs.PartLemmas.{IsReader, Takes, Takes-then, bind_some, bytes_takes, items_again, short_again, short_reader, takes}
 use Rattle.table_root.specs.Branches.{IsBranch, is_address_or_none}
-use Rattle.table_root.specs.Databases.{IsStoredDatabase, entry_of, fits_name, has_address, named_bytes, written_database}
+use Rattle.table_root.specs.Databases.{AreListed, IsFirstListed, IsStoredDatabase, entry_of, fits_name, has_address, named_bytes, written_database}
 use Rattle.table_root.specs.Reading.{address_at, as_address, as_four, as_two, branch_of, database_of, four_at, merging_of, named_at, schema_text, table_of, two_at}
 use Rattle.table_root.specs.Tables.{IsStoredTable, is_address, written_table}
 use Rattle.table_root.specs.declared.records.StoredTable.{StoredTable}
@@ -149,6 +150,62 @@ database_again tables h =
     ∙ ap (λ (l : List ℕ). items_at named_at (length tables) l >>= tables_in) (sym (append-nil text))
     ∙ ap (λ (o : Option (List TableEntry × List ℕ)). o >>= tables_in)
     (items_again named_bytes is_named named_at named_reader tables [] (both_all fits_name has_address tables h.names h.addresses))
+
+-- ---- the tables of a database, one after another
+
+-- a database's bytes have a kind and a count before them
+pub tables_listed : (tables : List TableEntry) → IsStoredDatabase tables → (bytes : List ℕ) → bytes ≡ written_database tables → (3 ≤ length bytes) × AreListed (drop 3 bytes) tables
+tables_listed tables h bytes e =
+    let form = e ∙ database_is tables in
+    let long = ap length form in (
+      omega arith,
+      record { are = ap (drop 3) form; names = h.names; addresses = h.addresses },
+    )
+
+pub none_listed : (bytes : List ℕ) (tables : List TableEntry) → length bytes ≡ 0 → AreListed bytes tables → tables ≡ []
+none_listed bytes [] e h = refl
+none_listed bytes (named ∷ tables) e h = absurd (apart (sym e ∙ ap length h.are)) where
+  apart : 0 ≡ length (flat_map named_bytes (named ∷ tables)) → ⊥
+  apart e = omega arith
+
+-- bytes that begin with a name's length, cut behind the name and behind the address
+pub record IsCut (size : ℕ) (rest : List ℕ) (tables : List TableEntry) : Type 0 where
+  pub name : size ≤ length rest
+  pub address : 20 ≤ length (drop size rest)
+  pub first : IsFirstListed (record { 0 = take 20 (drop size rest) }) (drop 20 (drop size rest)) tables
+
+cut_first : (size : ℕ) (rest : List ℕ) (first : TableEntry) (others : List TableEntry) → AreListed (size ∷ rest) (first ∷ others) → IsCut size rest (first ∷ others)
+cut_first size rest first others h =
+    let text = flat_map named_bytes others in
+    let behind = first.table.0 ++ text in
+    let names = and_parts (fits_name first) (list_all fits_name others) h.names in
+    let addresses = and_parts (has_address first) (list_all has_address others) h.addresses in
+    let count : length first.table.0 ≡ 20 = eqb-true _ _ addresses.0 in
+    let whole : size ∷ rest ≡ length first.name ∷ (first.name ++ behind) = h.are ∙ append_assoc (short first.name) first.table.0 text in
+    let size_is : size ≡ length first.name = ap (λ (l : List ℕ). slice_index_or l 0 0) whole in
+    let rest_is : rest ≡ first.name ++ behind = ap (drop 1) whole in
+    let behind_is : drop size rest ≡ behind = ap (drop size) rest_is ∙ drop_at first.name behind size (sym size_is) in
+    let table_is : take 20 (drop size rest) ≡ first.table.0 = ap (take 20) behind_is ∙ take_at first.table.0 text 20 count in
+    let text_is : drop 20 (drop size rest) ≡ text = ap (drop 20) behind_is ∙ drop_at first.table.0 text 20 count in
+    let long = ap length rest_is ∙ length-append first.name behind in
+    let behind_long = ap length behind_is ∙ length-append first.table.0 text in
+    record {
+      name = omega arith;
+      address = omega arith;
+      first = record {
+        name = first.name;
+        others = others;
+        both = ap (λ (l : List ℕ). record { name = first.name; table = record { 0 = l } } ∷ others) (sym table_is);
+        listed = record { are = text_is; names = names.1; addresses = addresses.1 };
+      };
+    }
+
+pub cut : (bytes : List ℕ) (size : ℕ) (rest : List ℕ) → bytes ≡ size ∷ rest → (tables : List TableEntry) → AreListed bytes tables → IsCut size rest tables
+cut bytes size rest e [] h = absurd (apart (sym e ∙ h.are)) where
+  apart : size ∷ rest ≡ [] → ⊥
+  apart e = cc
+cut bytes size rest e (first ∷ others) h =
+    cut_first size rest first others (record { are = sym e ∙ h.are; names = h.names; addresses = h.addresses })
 
 -- ---- branch records
 

@@ -1,6 +1,6 @@
 -- Databases as bytes, and which database is found at an address.
-use Rattle.std.specs.Prelude.{◌≡◌, ◌<◌, ◌++◌, ◌^◌, ℕ, Bool, true, nat_lt, List, length, map, Some}
-use Rattle.std.specs.List.{list_all}
+use Rattle.std.specs.Prelude.{◌≡◌, ◌<◌, ◌++◌, ◌∷◌, ◌^◌, ℕ, Bool, true, nat_lt, List, length, map, Some}
+use Rattle.std.specs.List.{flat_map, list_all}
 use Rattle.std.specs.Ordering.{nat_cmp}
 use Rattle.std.specs.Cmp.Lexicographic.{slice_cmp}
 use Rattle.tuple_codec.specs.Fields.{short}
@@ -8,6 +8,7 @@ use Rattle.schema_model.specs.Limits.{is_short_name}
 use Rattle.schema_model.specs.PlainTables.{rises}
 use Rattle.schema_model.specs.WrittenForms.{WrittenEntry, database_form}
 use Rattle.chunk_store.specs.Chunks.{Chunks}
+use Rattle.tuple_codec.specs.declared.addresses.Address.{Address}
 use Rattle.table_root.specs.Tables.{is_address}
 use Rattle.table_root.specs.declared.records.TableEntry.{TableEntry}
 
@@ -51,3 +52,16 @@ pub record IsDatabaseFound (chunks : Chunks) (k : List ℕ) (tables : List Table
 -- some database's are
 abbrev pub HasDatabase : Chunks → List ℕ → Type 0
 HasDatabase chunks k = (tables : List TableEntry) × IsDatabaseFound chunks k tables
+
+-- the bytes are those of these tables, one after another
+pub record AreListed (bytes : List ℕ) (tables : List TableEntry) : Type 0 where
+  pub are : bytes ≡ flat_map named_bytes tables
+  pub names : list_all fits_name tables ≡ true
+  pub addresses : list_all has_address tables ≡ true
+
+-- the address is that of the first of these tables, and the bytes are those of the others
+pub record IsFirstListed (table : Address) (rest : List ℕ) (tables : List TableEntry) : Type 0 where
+  pub name : List ℕ
+  pub others : List TableEntry
+  pub both : tables ≡ record { name = name; table = table } ∷ others
+  pub listed : AreListed rest others

@@ -1,12 +1,12 @@
 //! Databases written into drafts, and read back.
 
-ghost use Rattle.std.specs.Prelude.{◌≡◌, ◌≤◌, ◌++◌, [], ◌∷◌, true, length, OnOk, OnErr, IfOk, IfErr};
+ghost use Rattle.std.specs.Prelude.{◌≡◌, ◌<◌, ◌≤◌, ◌++◌, [], ◌∷◌, true, List, length, MatchOption, OnOk, OnErr, IfOk, IfErr, IfSome};
 ghost use Rattle.std.specs.Int.{w16, to_be_bytes};
 ghost use Rattle.std.specs.List.{list_all};
 ghost use Rattle.tuple_codec.specs.Fronts.{Gives};
 ghost use Rattle.chunk_store.specs.Drafts.{Grows, Puts, chunks_of};
 ghost use Rattle.chunk_store.specs.Kinds.{is_database};
-ghost use Rattle.table_root.specs.Databases.{HasDatabase, IsDatabaseFound, IsStoredDatabase, has_short_name, names_rise, written_database};
+ghost use Rattle.table_root.specs.Databases.{AreListed, HasDatabase, IsDatabaseFound, IsFirstListed, IsStoredDatabase, has_short_name, names_rise, written_database};
 ghost use Rattle.table_root.specs.Reading.{database_of};
 
 use crate::fields::{after_kind, two_at};
@@ -99,4 +99,33 @@ fn database_of(alloc: Global, bytes: &[u8]) -> Result<Vec<TableEntry>, Unread>
     let (count, rest) = two_at(rest)?;
     let (tables, _) = items_at(alloc, usize::from(count), rest)?;
     Ok(tables.into_vec())
+}
+
+/// The bytes of the tables in the database whose written form is found at the address, one after another. They are read in place, by
+/// [`first_listed`].
+pub fn listed_tables<'a, D: Digester>(draft: &'a Draft<D>, address: &Address) -> &'a [u8]
+    requires { HasDatabase (chunks_of draft.now.chunks) address.now.0 }
+    ensures { (tables : List TableEntry) → IsDatabaseFound (chunks_of draft.now.chunks) address.now.0 tables → AreListed result.now tables }
+{
+    let Some(bytes) = draft.get(address) else {
+        unreachable!()
+    };
+    let (_, tables) = bytes.split_at(3);
+    tables
+}
+
+/// The address of the first of these tables, and the bytes of the others; None where there is none.
+pub fn first_listed(tables: &[u8]) -> Option<(Address, &[u8])>
+    requires { (entries : List TableEntry) × AreListed tables.now entries }
+    ensures is { (entries : List TableEntry) → AreListed tables.now entries → MatchOption result (entries ≡ []) (λ first. IsFirstListed first.0 first.1.now entries) }
+    ensures shorter { IfSome result (λ first. length first.1.now < length tables.now) }
+{
+    match tables.split_first() {
+        None => None,
+        Some((size, rest)) => {
+            let (_, behind) = rest.split_at(usize::from(*size));
+            let (table, others) = behind.split_at(20);
+            Some((Address::from_slice(table), others))
+        }
+    }
 }

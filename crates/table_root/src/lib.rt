@@ -15,7 +15,7 @@ mod records;
 mod tables;
 
 pub use branches::{read_branch, write_branch};
-pub use databases::{read_database, write_database};
+pub use databases::{first_listed, listed_tables, read_database, write_database};
 pub use heads::{BranchHead, Heads, Look};
 pub use laws::{law_of_databases, law_of_tables, law_of_written_forms};
 pub use names::BranchName;

@@ -2,11 +2,10 @@ use Rattle.std.proofs.Common.{◌≡◌, sym, ap}
 use Rattle.std.proofs.lemmas.Result.{IfOk-weaker}
 use Rattle.basic_laws.proofs.Lists.{none_below}
 use Rattle.chunk_store.specs.Drafts.{chunks_of}
-use Rattle.constraint_scan.proofs.StandLemmas.{parts_of}
+use Rattle.constraint_scan.proofs.StandLemmas.{parts_of, there_none}
 use Rattle.plain_sessions.specs.Branching.{is_open}
 use Rattle.branch_procs.proofs.OpenLemmas.{any_first, any_later}
 use Rattle.branch_procs.proofs.opening.+any_is_open.Goals as goal
-use Rattle.root_merge.proofs.StateLemmas.{there_none}
 
 pub is_open_table-requires-after_bounds : goal.is_open_table-requires-after_bounds
 is_open_table-requires-after_bounds g t c κs within =
