@@ -7,7 +7,6 @@ use Rattle.tuple_codec.specs.KeyBytes.{key_bytes}
 use Rattle.tuple_codec.specs.Nodes.{Item}
 use Rattle.tuple_codec.specs.Rows.{Cells}
 use Rattle.tuple_codec.specs.declared.edits.Edit.{Edit}
-use Rattle.node_format.specs.declared.items.LeafItem.{LeafItem}
 use Rattle.schema_model.specs.Limits.{is_row_within_limits}
 use Rattle.schema_model.specs.PlainTables.{PlainDatabase, PlainTable, body_bytes, is_row, primary_key, rises}
 use Rattle.schema_model.specs.declared.schemas.Schema.{Schema}
@@ -29,10 +28,6 @@ rows_said schema insert =
 -- the edit that puts a row
 abbrev pub edit_of : Schema → Cells → Edit
 edit_of schema row = record { key = key_bytes (primary_key schema row); value = Some (body_bytes schema row) }
-
--- the edit that puts an item
-abbrev pub put_of : LeafItem → Edit
-put_of item = record { key = item.key; value = Some item.value }
 
 abbrev pub edit_order : Edit → Edit → Ordering
 edit_order a b = order a.key b.key

@@ -90,7 +90,7 @@ fn meet(alloc: Global, schema: &Schema, row: &Row, other: &Row) -> Result<Meetin
 }
 
 /// More edits, which put all these rows.
-fn put_all(
+pub(crate) fn put_all(
     alloc: Global,
     schema: &Schema,
     edits: &mut Vec<Edit>,

@@ -9,29 +9,14 @@ ghost use Rattle.schema_model.specs.Schemas.{is_schema};
 ghost use Rattle.chunk_store.specs.Drafts.{chunks_of};
 ghost use Rattle.chunk_store.specs.Standing.{IsTree};
 ghost use Rattle.prolly_tree.specs.Lists.{StandsForRows};
-ghost use Rattle.sql_write.specs.Inserting.{edit_of, edit_order, put_of, repeats_key};
+ghost use Rattle.sql_write.specs.Inserting.{edit_of, edit_order, repeats_key};
 
+use crate::differences::put_all;
 use chunk_store::Draft;
-use node_format::LeafItem;
 use prolly_tree::has_any;
 use schema_model::Schema;
 use std::alloc::{AllocError, Global};
-use table_rows::row_items;
 use tuple_codec::{Address, Digester, Edit, Row};
-
-/// The edits that put items, in their order.
-fn puts(alloc: Global, items: Vec<LeafItem>) -> Result<Vec<Edit>, AllocError>
-    ensures { IfOk result (λ edits. edits.items ≡ map put_of items.items) }
-{
-    let mut edits = Vec::with_capacity(alloc, items.len())?;
-    for item in items {
-        edits.push(Edit {
-            key: item.key,
-            value: Some(item.value),
-        })?;
-    }
-    Ok(edits)
-}
 
 /// The edits that put rows, in the rows' order.
 pub(crate) fn edits_of(
@@ -43,8 +28,9 @@ pub(crate) fn edits_of(
     requires rows { list_all (is_row schema.now) rows.now ≡ true }
     ensures { IfOk result (λ edits. edits.items ≡ map (edit_of schema.now) rows.now) }
 {
-    let items = row_items(alloc, schema, rows)?;
-    puts(alloc, items)
+    let mut edits = Vec::with_capacity(alloc, rows.len())?;
+    put_all(alloc, schema, &mut edits, rows)?;
+    Ok(edits)
 }
 
 /// Whether a key would stand twice where edits in order are put among the rows of a tree.
