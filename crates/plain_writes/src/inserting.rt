@@ -76,7 +76,8 @@ fn entry_at(
     }
 }
 
-fn tuple_said(
+/// What a tuple says of the columns at these places, up to the first refusal.
+pub fn tuple_said(
     alloc: Global,
     schema: &Schema,
     places: &[usize],
@@ -216,7 +217,7 @@ fn new_cells(
 }
 
 /// A row with its cells, unless it is longer than it may be.
-fn new_row(alloc: Global, schema: &Schema, places: &[usize], said: &[Given]) -> Result<Row, Refused>
+pub fn new_row(alloc: Global, schema: &Schema, places: &[usize], said: &[Given]) -> Result<Row, Refused>
     requires { list_all (λ column. is_type column.kind) schema.now.columns ≡ true }
     ensures { Gives result (new_row schema.now places.now (map given_seen said.now)) }
 {

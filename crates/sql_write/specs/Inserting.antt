@@ -12,18 +12,31 @@ use Rattle.schema_model.specs.PlainTables.{PlainDatabase, PlainTable, body_bytes
 use Rattle.schema_model.specs.declared.schemas.Schema.{Schema}
 use Rattle.chunk_store.specs.Chunks.{Chunks}
 use Rattle.sql_ast.specs.declared.statements.Insert.{Insert}
+use Rattle.sql_ast.specs.declared.statements.InsertCell.{InsertCell}
 use Rattle.expr_eval.specs.Binding.{Outcome, and_then}
 use Rattle.plain_sql.specs.Lists.{each}
 use Rattle.plain_writes.specs.Writes.{new_row, places_named, tuple_said}
 use Rattle.sql_write.specs.Finding.{IsFound}
 use Rattle.sql_write.specs.declared.finding.Found.{Found}
+use Rattle.sql_write.specs.declared.inserting.NewRows.{NewRows}
+use Rattle.sql_write.specs.declared.inserting.NewRows.TheVariants as new
+
+-- the rows that code has, one or a list
+abbrev pub rows_in : NewRows → List Cells
+rows_in (new.One row) = row
+rows_in (new.Listed rows) = rows
+
+-- the row that a tuple brings
+abbrev pub row_said : Schema → List ℕ → List InsertCell → Outcome Cells
+row_said schema places tuple = and_then (tuple_said schema places tuple) (new_row schema places)
+
+-- the rows that tuples bring
+abbrev pub listed_rows : Schema → List ℕ → List (List InsertCell) → Outcome (List Cells)
+listed_rows schema places tuples = and_then (each (tuple_said schema places) tuples) (λ said. each (new_row schema places) said)
 
 -- the rows that an INSERT brings, or its first refusal
 abbrev pub rows_said : Schema → Insert → Outcome (List Cells)
-rows_said schema insert =
-    and_then (places_named schema insert.columns) (λ places.
-    and_then (each (tuple_said schema places) insert.tuples) (λ said.
-    each (new_row schema places) said))
+rows_said schema insert = and_then (places_named schema insert.columns) (λ places. listed_rows schema places insert.tuples)
 
 -- the edit that puts a row
 abbrev pub edit_of : Schema → Cells → Edit

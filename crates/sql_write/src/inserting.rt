@@ -10,12 +10,12 @@ ghost use Rattle.chunk_store.specs.Drafts.{Grows, chunks_of};
 ghost use Rattle.chunk_store.specs.Kinds.{is_data};
 ghost use Rattle.chunk_store.specs.Standing.{IsTree};
 ghost use Rattle.prolly_tree.specs.Lists.{StandsForRows};
-ghost use Rattle.plain_sql.specs.Gives.{Gives};
+ghost use Rattle.plain_sql.specs.Gives.{Gives, GivesBy};
 ghost use Rattle.plain_writes.specs.Writes.{insert_effect, inserted, result_of};
 ghost use Rattle.plain_writes.specs.CheckTexts.{checks};
 ghost use Rattle.table_root.specs.Kept.{HasKeptAt, IsKeptAt};
 ghost use Rattle.sql_write.specs.Finding.{IsFound};
-ghost use Rattle.sql_write.specs.Inserting.{MayInsert, is_good, rows_said};
+ghost use Rattle.sql_write.specs.Inserting.{MayInsert, is_good, listed_rows, row_said, rows_in, rows_said};
 ghost use Rattle.sql_write.specs.Making.{Makes};
 
 use crate::edits::{edits_of, repeats_key};
@@ -26,23 +26,83 @@ use crate::writing::Written;
 use chunk_store::Draft;
 use index_keep::sort_edits;
 use plain_sql::Refused;
-use plain_writes::{new_rows, places_named, tuples_said};
+use plain_writes::{new_row, new_rows, places_named, tuple_said, tuples_said};
 use prolly_tree::count;
 use schema_model::Schema;
-use sql_ast::Insert;
+use sql_ast::{Insert, Tuple};
 use std::alloc::{AllocError, Global};
 use table_rows::law_of_row_items;
 use tuple_codec::{Address, Digester, Edit, Row, Sequence};
 
-/// The rows that an INSERT brings, or its first refusal before any row of the table is looked at.
-fn rows_said(alloc: Global, schema: &Schema, insert: &Insert) -> Result<Sequence<Row>, Refused>
+/// The rows that an INSERT brings. One alone takes no list.
+#[derive(Drop)]
+enum NewRows {
+    One([Row; 1]),
+    Listed(Sequence<Row>),
+}
+
+impl NewRows {
+    fn as_slice(&self) -> &[Row]
+        ensures { result.now ≡ rows_in self.now }
+    {
+        match self {
+            NewRows::One(row) => row,
+            NewRows::Listed(rows) => rows.as_slice(),
+        }
+    }
+}
+
+/// The row that a tuple brings.
+fn row_said(
+    alloc: Global,
+    schema: &Schema,
+    places: &[usize],
+    tuple: &Tuple,
+) -> Result<Row, Refused>
     requires { is_schema schema.now ≡ true }
-    ensures said { Gives result (rows_said schema.now insert.now) }
-    ensures good { IfOk result (λ rows. list_all (is_good schema.now) rows ≡ true) }
+    ensures { Gives result (row_said schema.now places.now tuple.now) }
+{
+    let said = tuple_said(alloc, schema, places, tuple)?;
+    new_row(alloc, schema, places, said.as_slice())
+}
+
+/// The rows that tuples bring, none of which is looked at before each has been said.
+fn listed_rows(
+    alloc: Global,
+    schema: &Schema,
+    places: &[usize],
+    tuples: &[Tuple],
+) -> Result<Sequence<Row>, Refused>
+    requires { is_schema schema.now ≡ true }
+    ensures { Gives result (listed_rows schema.now places.now tuples.now) }
+{
+    let said = tuples_said(alloc, schema, places, tuples)?;
+    new_rows(alloc, schema, places, said.as_slice())
+}
+
+fn rows_of_tuples(
+    alloc: Global,
+    schema: &Schema,
+    places: &[usize],
+    tuples: &[Tuple],
+) -> Result<NewRows, Refused>
+    requires { is_schema schema.now ≡ true }
+    ensures { GivesBy rows_in result (listed_rows schema.now places.now tuples.now) }
+{
+    match tuples {
+        [tuple] => Ok(NewRows::One([row_said(alloc, schema, places, tuple)?])),
+        tuples => Ok(NewRows::Listed(listed_rows(alloc, schema, places, tuples)?)),
+    }
+}
+
+/// The rows that an INSERT brings, or its first refusal before any row of the table is looked at.
+fn rows_said(alloc: Global, schema: &Schema, insert: &Insert) -> Result<NewRows, Refused>
+    requires { is_schema schema.now ≡ true }
+    ensures said { GivesBy rows_in result (rows_said schema.now insert.now) }
+    ensures good { IfOk result (λ rows. list_all (is_good schema.now) (rows_in rows) ≡ true) }
 {
     let places = places_named(alloc, schema, &insert.columns)?;
-    let said = tuples_said(alloc, schema, places.as_slice(), insert.tuples.as_slice())?;
-    new_rows(alloc, schema, places.as_slice(), said.as_slice())
+    rows_of_tuples(alloc, schema, places.as_slice(), insert.tuples.as_slice())
 }
 
 /// How many rows there are where so many more come. No memory holds 2^63 of them.

@@ -10,7 +10,7 @@ use Rattle.plain_writes.specs.CheckTexts.{checks}
 use Rattle.plain_writes.specs.Writes.{Effect, result_of}
 use Rattle.write_laws.proofs.RowLemmas.{all_left}
 use Rattle.sql_write.specs.Finding.{IsFound}
-use Rattle.sql_write.specs.Inserting.{edit_of, is_good, rows_said}
+use Rattle.sql_write.specs.Inserting.{edit_of, is_good, rows_in, rows_said}
 use Rattle.sql_write.specs.Making.{Makes}
 use Rattle.sql_write.proofs.PlaceLemmas.{inserted_is, schema_same}
 use Rattle.sql_write.proofs.inserting.insert_into.Goals as goal
@@ -19,7 +19,7 @@ pub edits_of-requires-clause-rows : goal.edits_of-requires-clause-rows
 edits_of-requires-clause-rows g c =
     let schema = c.args.found.table.schema in
     ap (λ (l : List Cells). list_all (is_row schema) l) c.as_slice.ensures
-    ∙ all_left (is_row schema) (is_row_within_limits schema) c.in_ok-rows.rows c.in_ok-rows.ensures.good
+    ∙ all_left (is_row schema) (is_row_within_limits schema) (rows_in c.in_ok-rows.rows) c.in_ok-rows.ensures.good
 
 pub insert_edits-requires-after_bounds : goal.insert_edits-requires-after_bounds
 insert_edits-requires-after_bounds g c κs within =
@@ -28,7 +28,7 @@ insert_edits-requires-after_bounds g c κs within =
     let before = c.requires.0 in
     let contents = c.requires.1 in
     let is = c.requires.2 in
-    let rows = c.in_ok-rows.rows in
+    let rows = rows_in c.in_ok-rows.rows in
     let same = schema_same address chunks c.args.found.table contents is.stands in (
       before,
       contents,
@@ -44,7 +44,7 @@ pub returns-clause-done : goal.returns-clause-done
 returns-clause-done g c = λ before contents is.
     let address = g.D.Digester.address in
     let chunks = chunks_of c.args.draft.now.chunks in
-    let rows = c.in_ok-rows.rows in
+    let rows = rows_in c.in_ok-rows.rows in
     let insert = c.args.insert.now in
     let same = schema_same address chunks c.args.found.table contents is.stands in
     let new = chunks_of c.insert_edits.new.draft.chunks in
