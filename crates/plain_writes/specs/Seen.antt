@@ -1,5 +1,9 @@
 -- What contracts see of the code's own types.
-use Rattle.std.specs.Prelude.{map}
+use Rattle.std.specs.Prelude.{ℕ, List, map, Some}
+use Rattle.tuple_codec.specs.declared.values.Value.TheVariants as cell
+use Rattle.sql_values.specs.declared.kinds.Kind.TheVariants as kind
+use Rattle.expr_eval.specs.declared.bound.BoundExpr.{BoundExpr}
+use Rattle.expr_eval.specs.declared.bound.BoundNode.TheVariants as node
 use Rattle.schema_model.specs.PlainTables as plain
 use Rattle.schema_model.specs.PlainTables.{Conflict, PlainTable, Violation}
 use Rattle.plain_sql.specs.Plans.{meaning}
@@ -18,8 +22,13 @@ use Rattle.plain_writes.specs.Writes.{Assign, Effect, Said, Nothing, Worth}
 abbrev pub setting_seen : BoundAssignment → Assign
 setting_seen s = record { place = s.place; column = s.column; kind = s.value.kind; meaning = meaning s.value }
 
+-- a string as an expression with its kind
+abbrev pub bound_string : List ℕ → BoundExpr
+bound_string text = record { kind = kind.Text; node = node.Constant kind.Text (cell.Text text) }
+
 abbrev pub given_seen : Given → Said
 given_seen told.Standard = Nothing
+given_seen (told.Text text) = Worth kind.Text (λ row. Some (cell.Text text.now))
 given_seen (told.Value bound) = Worth bound.kind (meaning bound)
 
 abbrev pub broken_seen : Broken → Violation

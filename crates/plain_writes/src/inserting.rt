@@ -1,11 +1,12 @@
 //! The rows that an INSERT brings.
 
-ghost use Rattle.std.specs.Prelude.{◌≡◌, ◌==◌, IfOk, Some, map, true};
+ghost use Rattle.std.specs.Prelude.{◌≡◌, ◌==◌, [], IfOk, IfSome, Ok, Some, map, true};
 ghost use Rattle.std.specs.List.{enumerate_from, list_all, position, range_with_len};
 ghost use Rattle.tuple_codec.specs.Limits.{is_type};
+ghost use Rattle.expr_eval.specs.Binding.{and_then, bound};
 ghost use Rattle.plain_sql.specs.Gives.{Gives, GivesBy};
 ghost use Rattle.plain_sql.specs.Lists.{each};
-ghost use Rattle.plain_writes.specs.Seen.{given_seen};
+ghost use Rattle.plain_writes.specs.Seen.{bound_string, given_seen};
 ghost use Rattle.plain_writes.specs.Writes.{cell_said, entry_at, entry_said, named_place, new_cell, new_row, places_named, said_by, said_if, tuple_said};
 
 use crate::assigning::{assigned, standard};
@@ -15,20 +16,43 @@ use expr_eval::BoundExpr;
 use plain_sql::{Refused, ask, bound};
 use schema_model::{Column, Schema};
 use smallvec::SmallVec;
-use sql_ast::{InsertCell, Tuple};
-use sql_values::may_assign;
+use sql_ast::{Expr, InsertCell, Literal, Tuple};
+use sql_values::{Kind, may_assign};
 use std::alloc::{AllocError, Global};
 use tuple_codec::{Row, Sequence, Text, Value};
 
 /// What a tuple says of a column.
 #[derive(Drop)]
-pub enum Given {
+pub enum Given<'a> {
     /// Nothing, or DEFAULT.
     Standard,
+    /// A string, where it stands in the statement.
+    Text(&'a Text),
     Value(BoundExpr),
 }
 
-fn said_if(column: &Column, value: BoundExpr) -> Result<Given, Refused>
+/// The string that an expression is, if it is one.
+fn string_in(expr: &Expr) -> Option<&Text>
+    ensures { IfSome result (λ text. bound [] expr.now ≡ Ok (bound_string text.now)) }
+{
+    match expr {
+        Expr::Literal(Literal::Text(text)) => Some(text),
+        _ => None,
+    }
+}
+
+#[tactic(auto, unfolding(plain_sql::specs::Plans::meaning))]
+fn string_said<'a>(column: &Column, text: &'a Text) -> Result<Given<'a>, Refused>
+    ensures { GivesBy given_seen result (said_if column.now (bound_string text.now)) }
+{
+    if may_assign(&Kind::Text, &column.kind) {
+        Ok(Given::Text(text))
+    } else {
+        Err(Refused::By(9001))
+    }
+}
+
+fn said_if<'a>(column: &Column, value: BoundExpr) -> Result<Given<'a>, Refused>
     ensures { GivesBy given_seen result (said_if column.now value) }
 {
     if may_assign(&value.kind, &column.kind) {
@@ -38,21 +62,30 @@ fn said_if(column: &Column, value: BoundExpr) -> Result<Given, Refused>
     }
 }
 
-fn said_by(alloc: Global, column: &Column, entry: &InsertCell) -> Result<Given, Refused>
+fn expr_said<'a>(alloc: Global, column: &Column, expr: &'a Expr) -> Result<Given<'a>, Refused>
+    ensures { GivesBy given_seen result (and_then (bound [] expr.now) (said_if column.now)) }
+{
+    match string_in(expr) {
+        Some(text) => string_said(column, text),
+        None => said_if(column, bound(alloc, &[], expr)?),
+    }
+}
+
+fn said_by<'a>(alloc: Global, column: &Column, entry: &'a InsertCell) -> Result<Given<'a>, Refused>
     ensures { GivesBy given_seen result (said_by column.now entry.now) }
 {
     match entry {
         InsertCell::Default => Ok(Given::Standard),
-        InsertCell::Value(expr) => said_if(column, bound(alloc, &[], expr)?),
+        InsertCell::Value(expr) => expr_said(alloc, column, expr),
     }
 }
 
-fn entry_said(
+fn entry_said<'a>(
     alloc: Global,
     schema: &Schema,
-    entry: &InsertCell,
+    entry: &'a InsertCell,
     place: usize,
-) -> Result<Given, Refused>
+) -> Result<Given<'a>, Refused>
     ensures { GivesBy given_seen result (entry_said schema.now entry.now place) }
 {
     match schema.columns.as_slice().get(place) {
@@ -61,13 +94,13 @@ fn entry_said(
     }
 }
 
-fn entry_at(
+fn entry_at<'a>(
     alloc: Global,
     schema: &Schema,
     places: &[usize],
     at: usize,
-    entry: &InsertCell,
-) -> Result<Given, Refused>
+    entry: &'a InsertCell,
+) -> Result<Given<'a>, Refused>
     ensures { GivesBy given_seen result (entry_at schema.now places.now (at, entry.now)) }
 {
     match places.get(at) {
@@ -77,12 +110,12 @@ fn entry_at(
 }
 
 /// What a tuple says of the columns at these places, up to the first refusal.
-pub fn tuple_said(
+pub fn tuple_said<'a>(
     alloc: Global,
     schema: &Schema,
     places: &[usize],
-    tuple: &Tuple,
-) -> Result<Sequence<Given>, Refused>
+    tuple: &'a Tuple,
+) -> Result<Sequence<Given<'a>>, Refused>
     ensures { GivesBy (map given_seen) result (tuple_said schema.now places.now tuple.now) }
 {
     let entries = tuple.as_slice();
@@ -97,12 +130,12 @@ pub fn tuple_said(
 }
 
 /// What each tuple says, up to the first refusal.
-pub fn tuples_said(
+pub fn tuples_said<'a>(
     alloc: Global,
     schema: &Schema,
     places: &[usize],
-    tuples: &[Tuple],
-) -> Result<Sequence<Sequence<Given>>, Refused>
+    tuples: &'a [Tuple],
+) -> Result<Sequence<Sequence<Given<'a>>>, Refused>
     ensures { GivesBy (map (map given_seen)) result (each (tuple_said schema.now places.now) tuples.now) }
 {
     let mut all = Sequence::new(alloc);
@@ -158,12 +191,17 @@ pub fn places_named(
     }
 }
 
-fn cell_given(alloc: Global, column: &Column, given: &Given) -> Result<Value, Refused>
+#[tactic(auto, unfolding(plain_sql::specs::Answers::given))]
+fn cell_given(alloc: Global, column: &Column, given: &Given<'_>) -> Result<Value, Refused>
     requires { is_type column.now.kind ≡ true }
     ensures { Gives result (cell_said column.now (Some (given_seen given.now))) }
 {
     match given {
         Given::Standard => standard(alloc, column),
+        Given::Text(text) => {
+            let copy = Text::from_slice(alloc, text.as_slice())?;
+            assigned(&Kind::Text, column, Value::Text(copy))
+        }
         Given::Value(bound) => {
             let value = ask(alloc, bound, &Sequence::new(alloc))?;
             assigned(&bound.kind, column, value)
@@ -182,7 +220,7 @@ fn value_of(places: &[usize], place: usize) -> Option<usize>
 fn new_cell(
     alloc: Global,
     places: &[usize],
-    said: &[Given],
+    said: &[Given<'_>],
     place: usize,
     column: &Column,
 ) -> Result<Value, Refused>
@@ -203,7 +241,7 @@ fn new_cells(
     alloc: Global,
     schema: &Schema,
     places: &[usize],
-    said: &[Given],
+    said: &[Given<'_>],
 ) -> Result<Row, Refused>
     requires { list_all (λ column. is_type column.kind) schema.now.columns ≡ true }
     ensures { Gives result (each (new_cell places.now (map given_seen said.now)) (enumerate_from 0 schema.now.columns)) }
@@ -217,7 +255,12 @@ fn new_cells(
 }
 
 /// A row with its cells, unless it is longer than it may be.
-pub fn new_row(alloc: Global, schema: &Schema, places: &[usize], said: &[Given]) -> Result<Row, Refused>
+pub fn new_row(
+    alloc: Global,
+    schema: &Schema,
+    places: &[usize],
+    said: &[Given<'_>],
+) -> Result<Row, Refused>
     requires { list_all (λ column. is_type column.kind) schema.now.columns ≡ true }
     ensures { Gives result (new_row schema.now places.now (map given_seen said.now)) }
 {
@@ -233,7 +276,7 @@ pub fn new_rows(
     alloc: Global,
     schema: &Schema,
     places: &[usize],
-    said: &[Sequence<Given>],
+    said: &[Sequence<Given<'_>>],
 ) -> Result<Sequence<Row>, Refused>
     requires { list_all (λ column. is_type column.kind) schema.now.columns ≡ true }
     ensures { Gives result (each (new_row schema.now places.now) (map (map given_seen) said.now)) }
