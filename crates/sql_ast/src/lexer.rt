@@ -1,7 +1,7 @@
 //! A text read byte by byte into tokens, up to its first bad one.
 
 ghost use Rattle.std.specs.Prelude.{◌≡◌, ◌^◌, ◌<◌, length, IfOk, OnOk};
-ghost use Rattle.sql_ast.specs.Lexing.{Goes, ReadsAll};
+ghost use Rattle.sql_ast.specs.Lexing.{Goes, LexingGives};
 ghost use Rattle.sql_ast.specs.Slices.{AreSlices};
 ghost use Rattle.sql_ast.specs.Tokens.{begun, closed, closed_sign, closed_word, end_decimal, end_point, end_whole, ended, gone_on, noted, nothing_read, opened, step, taken, tokens, with_digit, with_point};
 ghost use Rattle.sql_ast.specs.declared.faults.ReadFault.TheVariants.{Refused};
@@ -13,12 +13,9 @@ use crate::held::Held;
 use crate::marks::{after_sign_of, after_word, first_place_of, most_whole_after, place_after};
 use crate::places::{Last, LexerState};
 use crate::signs::Sign;
+use crate::token_lists::TokenList;
 use crate::tokens::{Token, TokenKind};
 use std::alloc::{AllocError, Global};
-use tuple_codec::Sequence;
-
-/// The tokens for which there is room at first. Most statements have no more, and none has more than it has bytes.
-const FIRST_TOKENS: usize = 64;
 
 /// What each whole literal above 2^63 reads as.
 const TOO_LARGE: u64 = (1 << 63) + 1;
@@ -37,14 +34,14 @@ pub struct Reading {
     pub value: u64,
     pub digits: u8,
     pub last: Last,
-    pub done: Sequence<Token>,
+    pub done: TokenList,
 }
 
 /// The tokens of a text, or why its first bad token is refused.
-pub fn lex(alloc: Global, text: &[u8]) -> Result<Vec<Token>, ReadFault>
+pub fn lex(alloc: Global, text: &[u8]) -> Result<TokenList, ReadFault>
     requires { length text.now < 2 ^ 32 }
-    ensures read { ReadsAll (tokens text.now) result }
-    ensures slices { IfOk result (λ found. AreSlices text.now 0 found.items (length text.now)) }
+    ensures read { LexingGives (tokens text.now) result }
+    ensures slices { IfOk result (λ found. AreSlices text.now 0 found (length text.now)) }
 {
     match read_to_end(alloc, text) {
         Ok(found) => Ok(found),
@@ -52,18 +49,18 @@ pub fn lex(alloc: Global, text: &[u8]) -> Result<Vec<Token>, ReadFault>
     }
 }
 
-fn read_to_end(alloc: Global, text: &[u8]) -> Result<Vec<Token>, ReadFault>
+fn read_to_end(alloc: Global, text: &[u8]) -> Result<TokenList, ReadFault>
     requires { length text.now < 2 ^ 32 }
-    ensures { ReadsAll (tokens text.now) result }
+    ensures { LexingGives (tokens text.now) result }
 {
-    let mut reading = Reading::with_room(alloc, text.len().min(FIRST_TOKENS))?;
+    let mut reading = Reading::new(alloc);
     let mut at = 0u32;
     for byte in text {
         reading.step_by(at, *byte)?;
         at += 1;
     }
     reading.end_at(at)?;
-    Ok(reading.done.into_vec())
+    Ok(reading.done)
 }
 
 fn bad_at(start: u32) -> ReadFault
@@ -85,19 +82,19 @@ fn too_large() -> ReadFault
 }
 
 impl Reading {
-    /// Nothing read yet, with room for so many tokens.
-    fn with_room(alloc: Global, tokens: usize) -> Result<Reading, AllocError>
-        ensures { IfOk result (λ reading. reading ≡ nothing_read) }
+    /// Nothing read yet.
+    fn new(alloc: Global) -> Reading
+        ensures { result ≡ nothing_read }
     {
-        Ok(Reading {
+        Reading {
             place: LexerState::Between,
             start: 0,
             held: Held::new(alloc),
             value: 0,
             digits: 0,
             last: Last::Other,
-            done: Sequence::from_vec(Vec::with_capacity(alloc, tokens)?),
-        })
+            done: TokenList::new(alloc),
+        }
     }
 
     fn count_digit(&mut self, byte: u8)

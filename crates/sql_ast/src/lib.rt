@@ -18,6 +18,7 @@ mod signing;
 mod signs;
 mod statements;
 mod tables;
+mod token_lists;
 mod tokens;
 mod words;
 
@@ -40,5 +41,6 @@ pub use statements::{
 pub use tables::{
     Attribute, ColumnElement, CreateTable, DropTable, Element, ForeignKeyElement, TypeName,
 };
+pub use token_lists::TokenList;
 pub use tokens::{Token, TokenKind};
 pub use words::Keyword;
