@@ -1,6 +1,8 @@
 //! What the grammar reads: tokens with their values.
 
 use sql_ast::{Keyword, Sign};
+use std::alloc::Global;
+use std::default::MadeWith;
 use tuple_codec::{Blob, Text};
 
 /// A token with its value.
@@ -19,4 +21,11 @@ pub enum Piece {
     /// A number below 10^18, and how many of its digits stand behind the point.
     Decimal(u64, u8),
     Sign(Sign),
+}
+
+/// What stands in a place of a list that no piece has taken.
+impl MadeWith<Global> for Piece {
+    fn made_with(_: Global) -> Piece {
+        Piece::Whole(0)
+    }
 }

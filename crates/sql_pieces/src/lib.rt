@@ -11,4 +11,4 @@ mod slices;
 mod strings;
 mod words;
 
-pub use reading::{canonical_pieces_of, pieces_of};
+pub use reading::{Pieces, canonical_pieces_of, pieces_of};

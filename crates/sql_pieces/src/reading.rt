@@ -9,15 +9,19 @@ use crate::numbers::{decimal, number};
 use crate::slices::{behind, slice_of};
 use crate::strings::string;
 use crate::words::{canonical_word, quoted, word};
+use smallvec::SmallVec;
 use sql_ast::{Sign, Token, TokenKind, sign_of};
 use sql_grammar::Piece;
 use std::alloc::{AllocError, Global};
 
+/// Tokens with their values. Those of a short statement take no list.
+pub type Pieces = SmallVec<Piece, 12>;
+
 /// The tokens of a text with their values.
-pub fn pieces_of(alloc: Global, text: &[u8], tokens: &[Token]) -> Result<Vec<Piece>, AllocError>
+pub fn pieces_of(alloc: Global, text: &[u8], tokens: &[Token]) -> Result<Pieces, AllocError>
     ensures { IfOk result (λ pieces. pieces.items ≡ spec.pieces_of text.now tokens.now) }
 {
-    let mut pieces = Vec::with_capacity(alloc, tokens.len())?;
+    let mut pieces = SmallVec::with_capacity(alloc, tokens.len())?;
     for token in tokens {
         pieces.push(read_piece(alloc, text, token)?)?;
     }
@@ -29,10 +33,10 @@ pub fn canonical_pieces_of(
     alloc: Global,
     text: &[u8],
     tokens: &[Token],
-) -> Result<Vec<Piece>, AllocError>
+) -> Result<Pieces, AllocError>
     ensures { IfOk result (λ pieces. pieces.items ≡ spec.canonical_pieces_of text.now tokens.now) }
 {
-    let mut pieces = Vec::with_capacity(alloc, tokens.len())?;
+    let mut pieces = SmallVec::with_capacity(alloc, tokens.len())?;
     for token in tokens {
         pieces.push(read_canonical_piece(alloc, text, token)?)?;
     }
