@@ -17,3 +17,4 @@ pub mod SchemaLemmas
 pub mod MakingLemmas
 pub mod AlteringLemmas
 pub mod PutLemmas
+pub mod RowsLemmas

@@ -1,5 +1,5 @@
 -- The rows of an INSERT as edits.
-use Rattle.std.specs.Prelude.{◌≡◌, ℕ, Bool, true, not, ◌&&◌, ◌||◌, List, map, Some, is_some}
+use Rattle.std.specs.Prelude.{◌≡◌, ℕ, Bool, true, not, ◌&&◌, ◌||◌, List, length, map, Some, is_some}
 use Rattle.std.specs.List.{list_all, list_any}
 use Rattle.std.specs.declared.cmp.Ordering.{Ordering}
 use Rattle.tuple_codec.specs.Edits.{order, value_at}
@@ -14,6 +14,7 @@ use Rattle.chunk_store.specs.Chunks.{Chunks}
 use Rattle.sql_ast.specs.declared.statements.Insert.{Insert}
 use Rattle.sql_ast.specs.declared.statements.InsertCell.{InsertCell}
 use Rattle.expr_eval.specs.Binding.{Outcome, and_then}
+use Rattle.index_keep.specs.Entries.{AreSorted}
 use Rattle.plain_sql.specs.Lists.{each}
 use Rattle.plain_writes.specs.Writes.{new_row, places_named, tuple_said}
 use Rattle.sql_write.specs.Finding.{IsFound}
@@ -62,3 +63,15 @@ pub record MayInsert (address : List ℕ → List ℕ) (chunks : Chunks) (k name
   pub found_is : IsFound address chunks k name database contents found
   pub good : list_all (is_good contents.schema) rows ≡ true
   pub edits_are : edits ≡ map (edit_of contents.schema) rows
+
+-- the same of edits in the order of their keys, so many
+pub record MayInsertSorted (address : List ℕ → List ℕ) (chunks : Chunks) (k name : List ℕ) (found : Found) (sorted : List Edit) (written : ℕ) (database : PlainDatabase) (contents : PlainTable) (rows : List Cells) : Type 0 where
+  pub edits : List Edit
+  pub may : MayInsert address chunks k name found edits database contents rows
+  pub are_sorted : AreSorted edits sorted
+  pub count : written ≡ length edits
+
+-- rows that may come into a table that was found
+pub record MayPut (address : List ℕ → List ℕ) (chunks : Chunks) (k name : List ℕ) (found : Found) (database : PlainDatabase) (contents : PlainTable) (rows : List Cells) : Type 0 where
+  pub found_is : IsFound address chunks k name database contents found
+  pub good : list_all (is_good contents.schema) rows ≡ true

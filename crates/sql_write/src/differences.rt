@@ -31,7 +31,7 @@ enum Meeting {
     Removed(Edit),
 }
 
-fn put(item: LeafItem) -> Edit
+pub(crate) fn put(item: LeafItem) -> Edit
     ensures { result ≡ as_edit (added (leaf_of item)) }
 {
     Edit {

@@ -11,12 +11,22 @@ ghost use Rattle.chunk_store.specs.Standing.{IsTree};
 ghost use Rattle.prolly_tree.specs.Lists.{StandsForRows};
 ghost use Rattle.sql_write.specs.Inserting.{edit_of, edit_order, repeats_key};
 
-use crate::differences::put_all;
+use crate::differences::{put, put_all};
 use chunk_store::Draft;
 use prolly_tree::has_any;
 use schema_model::Schema;
 use std::alloc::{AllocError, Global};
+use table_rows::row_item;
 use tuple_codec::{Address, Digester, Edit, Row};
+
+/// The edit that puts a row.
+pub(crate) fn edit_of(alloc: Global, schema: &Schema, row: &Row) -> Result<Edit, AllocError>
+    requires schema { is_schema schema.now ≡ true }
+    requires row { is_row schema.now row.now ≡ true }
+    ensures { IfOk result (λ edit. edit ≡ edit_of schema.now row.now) }
+{
+    Ok(put(row_item(alloc, schema, row.as_slice())?))
+}
 
 /// The edits that put rows, in the rows' order.
 pub(crate) fn edits_of(

@@ -15,10 +15,10 @@ ghost use Rattle.plain_writes.specs.Writes.{insert_effect, inserted, result_of};
 ghost use Rattle.plain_writes.specs.CheckTexts.{checks};
 ghost use Rattle.table_root.specs.Kept.{HasKeptAt, IsKeptAt};
 ghost use Rattle.sql_write.specs.Finding.{IsFound};
-ghost use Rattle.sql_write.specs.Inserting.{MayInsert, is_good, listed_rows, row_said, rows_in, rows_said};
+ghost use Rattle.sql_write.specs.Inserting.{MayInsert, MayInsertSorted, MayPut, is_good, listed_rows, row_said, rows_in, rows_said};
 ghost use Rattle.sql_write.specs.Making.{Makes};
 
-use crate::edits::{edits_of, repeats_key};
+use crate::edits::{edit_of, edits_of, repeats_key};
 use crate::faults::SqlFault;
 use crate::finding::{Found, find};
 use crate::putting::fill_table;
@@ -53,12 +53,7 @@ impl NewRows {
 }
 
 /// The row that a tuple brings.
-fn row_said(
-    alloc: Global,
-    schema: &Schema,
-    places: &[usize],
-    tuple: &Tuple,
-) -> Result<Row, Refused>
+fn row_said(alloc: Global, schema: &Schema, places: &[usize], tuple: &Tuple) -> Result<Row, Refused>
     requires { is_schema schema.now ≡ true }
     ensures { Gives result (row_said schema.now places.now tuple.now) }
 {
@@ -127,7 +122,40 @@ fn rows_after<D: Digester>(
     }
 }
 
-/// Puts the rows that edits put, none of which may have a key that stands already, or twice among them.
+/// Puts the rows that so many edits put, which come in the order of their keys. No row may have a key that stands already, or twice among them.
+fn insert_sorted<D: Digester>(
+    alloc: Global,
+    draft: &mut Draft<D>,
+    database: &Address,
+    found: Found,
+    name: &[u8],
+    edits: &[Edit],
+    written: u64,
+) -> Result<Written, SqlFault>
+    requires { (before : PlainDatabase) × (contents : PlainTable) × (rows : List Cells) × MayInsertSorted D.address (chunks_of draft.old.chunks) database.now.0 name.now found edits.now written before contents rows }
+    ensures done { (before : PlainDatabase) (contents : PlainTable) (rows : List Cells) → MayInsertSorted D.address (chunks_of draft.old.chunks) database.now.0 name.now found edits.now written before contents rows
+        → Makes D.address (chunks_of draft.new.chunks) result (result_of checks before name.now contents (contents.rows ++ rows) (length rows)) }
+    ensures grows { Grows is_data draft.old draft.new }
+{
+    law_of_row_items();
+    if repeats_key(draft, &found.table.rows, edits) {
+        return Err(SqlFault::Refused(1062));
+    }
+    let rows = rows_after(draft, &found.table.rows, written)?;
+    fill_table(
+        alloc,
+        draft,
+        database,
+        found.tables,
+        name,
+        found.table,
+        edits,
+        rows,
+        written,
+    )
+}
+
+/// Puts the rows that edits put, in whatever order these come.
 fn insert_edits<D: Digester>(
     alloc: Global,
     draft: &mut Draft<D>,
@@ -141,24 +169,43 @@ fn insert_edits<D: Digester>(
         → Makes D.address (chunks_of draft.new.chunks) result (result_of checks before name.now contents (contents.rows ++ rows) (length rows)) }
     ensures grows { Grows is_data draft.old draft.new }
 {
-    law_of_row_items();
     let written = edits.len() as u64;
     sort_edits(&mut edits)?;
-    if repeats_key(draft, &found.table.rows, edits.as_slice()) {
-        return Err(SqlFault::Refused(1062));
-    }
-    let rows = rows_after(draft, &found.table.rows, written)?;
-    fill_table(
+    insert_sorted(
         alloc,
         draft,
         database,
-        found.tables,
+        found,
         name,
-        found.table,
         edits.as_slice(),
-        rows,
         written,
     )
+}
+
+/// Puts these rows. One alone is put by one edit, which takes no list.
+fn insert_rows<D: Digester>(
+    alloc: Global,
+    draft: &mut Draft<D>,
+    database: &Address,
+    found: Found,
+    name: &[u8],
+    rows: &[Row],
+) -> Result<Written, SqlFault>
+    requires { (before : PlainDatabase) × (contents : PlainTable) × MayPut D.address (chunks_of draft.old.chunks) database.now.0 name.now found before contents rows.now }
+    ensures done { (before : PlainDatabase) (contents : PlainTable) → MayPut D.address (chunks_of draft.old.chunks) database.now.0 name.now found before contents rows.now
+        → Makes D.address (chunks_of draft.new.chunks) result (result_of checks before name.now contents (contents.rows ++ rows.now) (length rows.now)) }
+    ensures grows { Grows is_data draft.old draft.new }
+{
+    match rows {
+        [row] => {
+            let edit = edit_of(alloc, &found.table.schema, row)?;
+            insert_sorted(alloc, draft, database, found, name, &[edit], 1)
+        }
+        rows => {
+            let edits = edits_of(alloc, &found.table.schema, rows)?;
+            insert_edits(alloc, draft, database, found, name, edits)
+        }
+    }
 }
 
 /// Inserts into the table that was found.
@@ -175,14 +222,13 @@ fn insert_into<D: Digester>(
     ensures grows { Grows is_data draft.old draft.new }
 {
     let rows = rows_said(alloc, &found.table.schema, insert)?;
-    let edits = edits_of(alloc, &found.table.schema, rows.as_slice())?;
-    insert_edits(
+    insert_rows(
         alloc,
         draft,
         database,
         found,
         insert.table.as_slice(),
-        edits,
+        rows.as_slice(),
     )
 }
 
