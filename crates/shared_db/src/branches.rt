@@ -11,7 +11,7 @@ ghost use Rattle.shared_db.specs.Shared.{changed_lines, record_at};
 use crate::changes::RecordChange;
 use script_text::BranchLine;
 use std::alloc::{AllocError, Global};
-use table_root::{BranchHead, BranchName, Heads};
+use table_root::{BranchHead, BranchName, HeadList, Heads};
 use tuple_codec::{BranchRecord, Sequence, Text};
 
 /// A branch and its record.
@@ -78,14 +78,14 @@ pub fn heads_of(alloc: Global, branches: &[NamedBranch]) -> Result<Heads, AllocE
     requires { lines_rise (lines_of branches.now) ≡ true }
     ensures { IfOk result (λ heads. heads ≡ map head_in (lines_of branches.now)) }
 {
-    let mut heads = Vec::with_capacity(alloc, branches.len())?;
+    let mut heads = HeadList::with_capacity(alloc, branches.len())?;
     for branch in branches {
         heads.push(BranchHead {
             branch: branch.name,
             head: branch.rec.head,
         })?;
     }
-    Ok(Heads::from_vec(heads))
+    Ok(Heads::from_list(heads))
 }
 
 /// The branches' names and records.

@@ -3,8 +3,11 @@
 ghost use Rattle.std.specs.Prelude.{◌≡◌, true};
 ghost use Rattle.table_root.specs.Heads.{heads_rise};
 
-use crate::names::BranchName;
+use crate::names::{BranchName, shortest_name};
 use chunk_store::Store;
+use smallvec::SmallVec;
+use std::alloc::Global;
+use std::default::MadeWith;
 use std::marker::Model;
 use tuple_codec::{Address, BranchRecord};
 
@@ -15,10 +18,23 @@ pub struct BranchHead {
     pub head: Address,
 }
 
+/// A head for the places of a list that aren't taken yet.
+impl MadeWith<Global> for BranchHead {
+    fn made_with(_: Global) -> BranchHead {
+        BranchHead {
+            branch: shortest_name(),
+            head: Address([0; 20]),
+        }
+    }
+}
+
+/// Heads, of which the first two take no memory: most databases have few branches, and each statement looks at their heads.
+pub type HeadList = SmallVec<BranchHead, 2>;
+
 /// The heads of branches, by rising name.
 #[derive(Debug, Drop)]
 pub struct Heads {
-    heads: Vec<BranchHead>,
+    heads: HeadList,
 }
 
 impl Model for Heads {
@@ -36,6 +52,16 @@ impl Model for Heads {
 impl Heads {
     /// These heads, without a copy.
     pub fn from_vec(heads: Vec<BranchHead>) -> Heads
+        requires { heads_rise heads.items ≡ true }
+        ensures { result ≡ heads.items }
+    {
+        Heads {
+            heads: SmallVec::from_vec(heads),
+        }
+    }
+
+    /// The heads of a list, without a copy of what it took memory for.
+    pub fn from_list(heads: HeadList) -> Heads
         requires { heads_rise heads.items ≡ true }
         ensures { result ≡ heads.items }
     {

@@ -16,7 +16,7 @@ mod tables;
 
 pub use branches::{read_branch, write_branch};
 pub use databases::{first_listed, listed_tables, read_database, write_database};
-pub use heads::{BranchHead, Heads, Look};
+pub use heads::{BranchHead, HeadList, Heads, Look};
 pub use laws::{law_of_databases, law_of_tables, law_of_written_forms};
 pub use names::BranchName;
 pub use records::{RecordedRoots, StoredTable, TableEntry};

@@ -69,6 +69,11 @@ fn held_name(bytes: &[u8]) -> BranchName
     }
 }
 
+/// A name, for places that hold one before they are used.
+pub(crate) fn shortest_name() -> BranchName {
+    held_name(b"a")
+}
+
 /// Whether these bytes have a name's form.
 fn is_branch_name(bytes: &[u8]) -> bool
     ensures { result ≡ is_branch_name bytes.now }
