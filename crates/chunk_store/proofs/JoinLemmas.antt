@@ -1,6 +1,6 @@
 -- Segments that are dropped, joined and appended.
-use Rattle.std.proofs.Common.{◌≡◌, ◌⊎◌, inl, inr, ℕ, zero, suc, ◌+◌, ◌*◌, ◌<◌, nat_lt, Bool, true, false, ◌&&◌, cond, List, [], ◌∷◌, ◌++◌, length, map, get_or, take, drop, Option, Some, None, is_some, sym, refl, ap, ◌∙◌, subst, slice_get, arith}
-use Rattle.std.proofs.lemmas.List.{length-append, map-append, take-map}
+use Rattle.std.proofs.Common.{◌≡◌, ◌⊎◌, inl, inr, ℕ, zero, suc, ◌+◌, ◌*◌, ◌<◌, nat_lt, Bool, true, false, ◌&&◌, cond, List, [], ◌∷◌, ◌++◌, length, get_or, take, drop, Option, Some, None, is_some, sym, refl, ap, ◌∙◌, subst, slice_get, arith}
+use Rattle.std.proofs.lemmas.List.{length-append}
 use Rattle.std.proofs.lemmas.Bool.{and_parts as and_both}
 use Rattle.basic_laws.proofs.Lists.{drop_at_get as drop_next, take_at_get as take_next}
 use Rattle.chunk_store.specs.Building.{gather}
@@ -191,12 +191,12 @@ sealed_is segments own single =
 
 -- ---- places of segments
 
-pub segment_at : {X : Type 0} (items : List X) (view : X → List Chunk) (segments : List (List Chunk)) (n : ℕ) (x : X) (s : List Chunk) → map view items ≡ segments
-    → n < length items → x ≡ get_or items n x → s ≡ view x → slice_get segments n ≡ Some s
-segment_at [] view segments n x s is within at seen = absurd (omega arith)
-segment_at (y ∷ items) view segments zero x s is within at seen = ap (λ (l : List (List Chunk)). slice_get l 0) (sym is) ∙ ap Some (sym (seen ∙ ap view at))
-segment_at (y ∷ items) view segments (suc n) x s is within at seen =
-    ap (λ (l : List (List Chunk)). slice_get l (suc n)) (sym is) ∙ segment_at items view (map view items) n x s refl (omega arith) at seen
+pub segment_at : (items segments : List (List Chunk)) (n : ℕ) (s : List Chunk) → items ≡ segments → n < length items → s ≡ get_or items n s
+    → slice_get segments n ≡ Some s
+segment_at [] segments n s is within at = absurd (omega arith)
+segment_at (y ∷ items) segments zero s is within at = ap (λ (l : List (List Chunk)). slice_get l 0) (sym is) ∙ ap Some (sym at)
+segment_at (y ∷ items) segments (suc n) s is within at =
+    ap (λ (l : List (List Chunk)). slice_get l (suc n)) (sym is) ∙ segment_at items items n s refl (omega arith) at
 
 pub segment_next : (segments : List (List Chunk)) (before at : ℕ) (s : List Chunk) → before + 1 ≡ at → slice_get segments before ≡ Some s
     → drop before segments ≡ s ∷ drop at segments
@@ -248,11 +248,11 @@ take_segment segments before at s next is = ap (λ n. take n segments) (sym next
 
 -- ---- the last segments as one
 
--- the segments up to a place and a new one, seen as lists
-pub replaced : {X : Type 0} (items new : List X) (x : X) (view : X → List Chunk) (segments : List (List Chunk)) (n : ℕ) → new ≡ take n items ++ x ∷ []
-    → map view items ≡ segments → map view new ≡ take n segments ++ view x ∷ []
-replaced items new x view segments n is seen =
-    ap (map view) is ∙ map-append view (take n items) (x ∷ []) ∙ ap (λ (l : List (List Chunk)). l ++ view x ∷ []) (sym (take-map view n items) ∙ ap (take n) seen)
+-- the segments up to a place and a new one
+pub replaced : (items new segments : List (List Chunk)) (x s : List Chunk) (n : ℕ) → new ≡ take n items ++ x ∷ [] → items ≡ segments → x ≡ s
+    → new ≡ take n segments ++ s ∷ []
+replaced items new segments x s n is seen same =
+    is ∙ ap (λ (l : List (List Chunk)). take n l ++ x ∷ []) seen ∙ ap (λ (l : List Chunk). take n segments ++ l ∷ []) same
 
 single_rest : (s : List Chunk) (segments : List (List Chunk)) → IsSingle (s ++ joined segments) → IsSingle (joined segments)
 single_rest s segments single = single_fewer (joined segments) (s ++ joined segments) (λ k bytes listed. listed_right s (joined segments) k bytes listed) single

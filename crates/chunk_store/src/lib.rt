@@ -8,6 +8,7 @@ mod crossing;
 mod digests;
 mod drafts;
 mod faults;
+mod held;
 mod index;
 mod keys;
 mod laws;

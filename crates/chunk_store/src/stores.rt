@@ -1,14 +1,15 @@
 //! A store: segments, shared with those who look at it.
 
-ghost use Rattle.std.specs.Prelude.{ℕ, ◌≡◌, ◌+◌, ◌*◌, ◌<◌, nat_lt, if◌then◌else◌, ◌≤◌, [], ◌∷◌, ◌++◌, length, min, take, drop, vec_len, option_map, IfOk, IfErr, OnOk, OnErr, IsErrOf};
+ghost use Rattle.std.specs.Prelude.{ℕ, ◌≡◌, ◌+◌, ◌*◌, ◌<◌, nat_lt, if◌then◌else◌, ◌≤◌, [], ◌∷◌, ◌++◌, length, min, take, drop, option_map, IfOk, IfErr, OnOk, OnErr, IsErrOf};
 ghost use Rattle.std.specs.Arc.{arc_value};
-ghost use Rattle.std.specs.Vec.{vec_capacity};
+ghost use Rattle.smallvec.specs.SmallVec.{small_vec_len};
 ghost use Rattle.chunk_store.specs.Chunks.{Agree, IsSingle, Lists, chunk_bytes};
 ghost use Rattle.chunk_store.specs.Clashes.{Differ, IsCause};
 ghost use Rattle.chunk_store.specs.Building.{gather};
 ghost use Rattle.chunk_store.specs.Stores.{AreSome, IsMatched, IsUnion, all_chunks, drop_held, joined, joins, with_segment};
 
 use crate::faults::{PutFault, is_there};
+use crate::held::{HeldSegment, SegmentList};
 use crate::segments::Segment;
 use std::alloc::{AllocError, Global};
 use std::marker::Model;
@@ -19,7 +20,7 @@ use tuple_codec::Address;
 /// segments for which room is kept.
 #[derive(Debug, Drop)]
 pub struct Store {
-    segments: Vec<Arc<Segment>>,
+    segments: SegmentList,
 }
 
 /// Which chunks of a segment are the store's: those behind its first `own` ones are those of the segments from `from` on.
@@ -30,17 +31,15 @@ struct Matched {
 }
 
 impl Model for Store {
-    ghost use Rattle.std.specs.Prelude.{◌-◌, map, vec_len};
-    ghost use Rattle.std.specs.Vec.{vec_capacity};
-    ghost use Rattle.std.specs.Arc.{arc_value};
+    ghost use Rattle.std.specs.Prelude.{◌-◌, length};
     ghost use Rattle.chunk_store.specs.Chunks.{IsSingle};
     ghost use Rattle.chunk_store.specs.Stores.{AreSome, Stored, joined};
 
     ghost Value = { Stored };
 
-    ghost view = { λ s. record { segments = map arc_value s.segments.items; room = vec_capacity s.segments - vec_len s.segments } };
+    ghost view = { λ s. record { segments = s.segments.items; room = s.segments.capacity - length s.segments.items } };
 
-    ghost invariant = { λ s. IsSingle (joined (map arc_value s.segments.items)) × AreSome (map arc_value s.segments.items) };
+    ghost invariant = { λ s. IsSingle (joined s.segments.items) × AreSome s.segments.items };
 }
 
 impl Store {
@@ -49,7 +48,7 @@ impl Store {
         ensures { result.segments ≡ [] }
     {
         Store {
-            segments: Vec::new(alloc),
+            segments: SegmentList::new(alloc),
         }
     }
 
@@ -79,9 +78,9 @@ impl Store {
     pub fn share(&self) -> Result<Store, AllocError>
         ensures { IfOk result (λ store. store.segments ≡ self.now.segments) }
     {
-        let mut segments = Vec::with_capacity(self.allocator(), self.segments.len())?;
-        for segment in &self.segments {
-            segments.push(Arc::try_clone(segment)?)?;
+        let mut segments = SegmentList::with_capacity(self.allocator(), self.segments.len())?;
+        for segment in self.segments.as_slice() {
+            segments.push(segment.share()?)?;
         }
         Ok(Store { segments })
     }
@@ -91,10 +90,11 @@ impl Store {
         ensures held { option_map (λ bytes. bytes.now) result ≡ chunk_bytes (all_chunks self.now) address.now.0 }
         ensures single { IsSingle (all_chunks self.now) }
     {
-        let mut at = self.segments.len();
+        let segments = self.segments.as_slice();
+        let mut at = segments.len();
         'segments: while at > 0 {
             at -= 1;
-            let segment = &self.segments[at];
+            let segment = &segments[at];
             if let Some(bytes) = segment.get(address) {
                 return Some(bytes);
             }
@@ -129,7 +129,7 @@ impl Store {
         if segment.len() == 0 {
             return Ok(());
         }
-        replace_from(&mut self.segments, from, segment)?;
+        replace_from(&mut self.segments, from, HeldSegment::new(segment))?;
         Ok(())
     }
 
@@ -145,7 +145,7 @@ impl Store {
         if from < self.segments.len() {
             if let Ok(whole) = self.joined_last(from) {
                 self.segments.truncate(from);
-                self.segments.push_reserved(whole);
+                self.segments.push_reserved(HeldSegment::new(whole));
             }
         }
     }
@@ -247,7 +247,7 @@ impl Store {
         let mut whole = own;
         for at in from..self.segments.len() {
             let segment = &self.segments[at];
-            whole = whole.joined(segment)?;
+            whole = segment.joined_to(whole)?;
         }
         Ok(whole)
     }
@@ -283,15 +283,15 @@ fn earlier(is_joined: bool, at: usize, from: usize) -> usize
 
 /// Puts a segment in place of those from one on, or changes nothing.
 fn replace_from(
-    segments: &mut Vec<Arc<Segment>>,
+    segments: &mut SegmentList,
     kept: usize,
-    segment: Arc<Segment>,
+    segment: HeldSegment,
 ) -> Result<(), AllocError>
     requires { kept ≤ length segments.old.items }
     ensures ok { OnOk result (segments.new.items ≡ take kept segments.old.items ++ segment ∷ []) }
     ensures err { OnErr result (segments.new.items ≡ segments.old.items) }
-    ensures full { OnErr result (vec_capacity segments.old ≤ vec_len segments.old) }
-    ensures capacity { vec_capacity segments.old ≤ vec_capacity segments.new }
+    ensures full { OnErr result (segments.old.capacity ≤ small_vec_len segments.old) }
+    ensures capacity { segments.old.capacity ≤ segments.new.capacity }
 {
     segments.reserve(1)?;
     segments.truncate(kept);

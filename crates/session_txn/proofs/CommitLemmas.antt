@@ -6,7 +6,7 @@ use Rattle.std.proofs.lemmas.Bool.Decides.{nat_tests}
 use Rattle.std.proofs.lemmas.Option.{same_Some}
 use Rattle.tuple_codec.specs.declared.records.BranchRecord.{BranchRecord}
 use Rattle.chunk_store.specs.Chunks.{Agree, AreNamed, Chunk, Chunks, Extends, IsSingle, Listed, Lists, chunk_bytes}
-use Rattle.chunk_store.specs.Clashes.{IsReason}
+use Rattle.chunk_store.specs.Clashes.{IsCause, IsReason}
 use Rattle.chunk_store.specs.Drafts.{AreOfKind, Drafting, DraftParts, Grows, IsSound, chunks_of}
 use Rattle.chunk_store.specs.Kinds.{is_commit, is_data}
 use Rattle.chunk_store.specs.Laws.{ChunksFollow, DraftsFollow}
@@ -200,6 +200,18 @@ work_by session look store (Ok work) shared single chunks segments agree = recor
   segments = segments ∙ shared;
   agree = subst (λ (kept : List (List Chunk)). Agree (chunk_bytes (joined kept)) (chunk_bytes session.draft.chunks.own)) shared agree;
   single = single;
+}
+
+-- where the look's store doesn't take the session's chunks, two strings have one address
+pub work_fault : {D : Type 0} (address : List ℕ → List ℕ) (session : Session D) (look : Look) (store : Stored) (result : Result Drafting PutFault) → ChunksFollow
+    → AreNamed address (all_chunks look.store) → AreNamed address session.draft.chunks.own → store.segments ≡ look.store.segments
+    → IfErr result (IsCause (chunk_bytes (all_chunks store)) (chunk_bytes session.draft.chunks.own)) → IfErr result (IsFault address)
+work_fault address session look store (Ok work) chunks held own shared cause = tt
+work_fault address session look store (Err Memory) chunks held own shared cause = tt
+work_fault address session look store (Err (Collision clash)) chunks held own shared cause = record {
+  first = chunks.is_named address (joined store.segments) clash.address.0 clash.first (subst (λ (kept : List (List Chunk)). AreNamed address (joined kept)) (sym shared) held) cause.is_held;
+  second = chunks.is_named address session.draft.chunks.own clash.address.0 clash.second own cause.is_brought;
+  differ = cause.differ;
 }
 
 transaction_in : (address : List ℕ → List ℕ) (draft : DraftParts) (start : Option Look) (own : BranchRecord) (found : Option Transaction) (look : Look) (t : Transaction) → start ≡ Some look

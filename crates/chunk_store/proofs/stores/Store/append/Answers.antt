@@ -1,4 +1,4 @@
-use Rattle.std.proofs.Common.{◌≡◌, ℕ, ◌∷◌, [], ◌++◌, List, length, map, take, subst, sym, ap, ◌∙◌}
+use Rattle.std.proofs.Common.{◌≡◌, ℕ, ◌∷◌, [], ◌++◌, List, length, take, subst, sym, ap, ◌∙◌}
 use Rattle.std.specs.Arc.{arc_value}
 use Rattle.chunk_store.specs.Chunks.{Agree, Chunk, IsSingle, chunk_bytes}
 use Rattle.chunk_store.specs.Stores.{AreSome, IsUnion, Stored, all_chunks, drop_held, joined, with_segment}
@@ -11,15 +11,15 @@ returns-clause-segments c =
     let segments = c.args.self.now.segments in
     let P : List Chunk → Type 0 = λ l. length l ≡ 0 → ⊥ in
     let some : length segment ≡ 0 → ⊥ = λ none. c.if-len-eq0.false (c.len.ensures.count ∙ ap length c.deref-2.ensures ∙ none) in
-    replaced c.self.inside.segments.items c.replace_from.new.segments.items c.args.segment arc_value segments c.in_ok-from.from c.in_ok-replace_from.ensures.ok
-    (ap (λ (s : Stored). s.segments) c.self.view_is)
+    replaced c.self.inside.segments.items c.replace_from.new.segments.items segments c.new.result segment c.in_ok-from.from c.in_ok-replace_from.ensures.ok
+    (ap (λ (s : Stored). s.segments) c.self.view_is) c.new.ensures
     ∙ ap (λ (l : List (List Chunk)). l ++ segment ∷ []) (c.in_ok-from.ensures.kept ∙ ap (λ (l : List Chunk). drop_held l segments) c.deref.ensures)
     ∙ sym (with_some segment segments some)
 
 pub invariant_of-self-2 : goal.invariant_of-self-2
 invariant_of-self-2 c =
     let segment = arc_value c.args.segment in
-    let before = map arc_value c.self.inside.segments.items in
+    let before = c.self.inside.segments.items in
     let seen : before ≡ c.args.self.now.segments = ap (λ (s : Stored). s.segments) c.self.view_is in
     let P : List (List Chunk) → Type 0 = λ l. IsSingle (joined l) × AreSome l in
     let Q : List (List Chunk) → Type 0 = λ l. Agree (chunk_bytes (joined l)) (chunk_bytes segment) in

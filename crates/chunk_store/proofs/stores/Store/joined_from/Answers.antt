@@ -1,6 +1,5 @@
-use Rattle.std.proofs.Common.{◌≡◌, ◌<◌, ◌≤◌, ◌+◌, ◌-◌, ◌*◌, ℕ, nat_lt, Bool, true, false, cond, min, length, drop, subst, ap, arith}
-use Rattle.std.specs.Arc.{arc_value}
-use Rattle.std.proofs.lemmas.List.{length-map}
+use Rattle.std.proofs.Common.{◌≡◌, ◌<◌, ◌≤◌, ◌+◌, ◌-◌, ◌*◌, ℕ, nat_lt, Bool, true, false, cond, min, List, length, get_or, drop, subst, ap, ◌∙◌, arith}
+use Rattle.chunk_store.specs.Chunks.{Chunk}
 use Rattle.chunk_store.specs.Stores.{Stored, joined}
 use Rattle.chunk_store.proofs.JoinLemmas.{joins_next, segment_at, segment_next, size_next}
 use Rattle.chunk_store.proofs.stores.Store.joined_from.Goals as goal
@@ -18,16 +17,15 @@ segments-preserved c =
     let before = at - 1 in
     let segments = c.args.self.now.segments in
     let items = c.self.inside.segments.items in
-    let s = c.deref.result.now in
+    let s = c.index-deref-at.result in
     let seen = ap (λ (st : Stored). length st.segments) c.self.view_is in
     let test = c.segments-test.true in
     let most = c.segments.invariant.most in
-    let size = c.len-size.ensures.count in
-    let count = length-map items arc_value in
+    let size = c.len-size.ensures in
     let within : before < length items = omega arith in
     let plus : before + 1 ≡ at = omega arith in
-    let here = segment_at items arc_value segments before c.index-segment.result.now s (ap (λ (st : Stored). st.segments) c.self.view_is)
-    within c.index-segment.ensures c.deref.ensures in
+    let here = segment_at items segments before s (ap (λ (st : Stored). st.segments) c.self.view_is) within
+    (c.index-deref-at.is ∙ ap (λ (l : List (List Chunk)). get_or l before s) c.deref.ensures) in
     let next = segment_next segments before at s plus here in
     let more = size_next segments before at s next in
     let whole = c.args.more + length (joined (drop at segments)) in

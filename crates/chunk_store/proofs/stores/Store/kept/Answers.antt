@@ -1,6 +1,5 @@
-use Rattle.std.proofs.Common.{◌≡◌, ◌<◌, ◌+◌, ◌-◌, length, take, sym, ap, ◌∙◌, arith}
-use Rattle.std.specs.Arc.{arc_value}
-use Rattle.std.proofs.lemmas.List.{length-map}
+use Rattle.std.proofs.Common.{◌≡◌, ◌<◌, ◌+◌, ◌-◌, List, length, get_or, take, sym, ap, ◌∙◌, arith}
+use Rattle.chunk_store.specs.Chunks.{Chunk}
 use Rattle.chunk_store.specs.Stores.{Stored, drop_held}
 use Rattle.chunk_store.proofs.JoinLemmas.{drop_last_held, drop_last_kept, segment_at, take_segment}
 use Rattle.chunk_store.proofs.MatchLemmas.{held_matched}
@@ -12,16 +11,15 @@ returns-then-not-is_within-clause-kept c =
     let before = at - 1 in
     let segments = c.args.self.now.segments in
     let items = c.self.inside.segments.items in
-    let s = c.deref.result.now in
+    let s = c.index-deref-kept.result in
     let other = c.args.other.now in
     let seen = ap (λ (st : Stored). length st.segments) c.self.view_is in
     let test = c.segments-test.true in
     let most = c.segments.invariant.most in
-    let count = length-map items arc_value in
     let within : before < length items = omega arith in
     let plus : before + 1 ≡ at = omega arith in
-    let here = segment_at items arc_value segments before c.index-segment.result.now s (ap (λ (st : Stored). st.segments) c.self.view_is)
-    within c.index-segment.ensures c.deref.ensures in
+    let here = segment_at items segments before s (ap (λ (st : Stored). st.segments) c.self.view_is) within
+    (c.index-deref-kept.is ∙ ap (λ (l : List (List Chunk)). get_or l before s) c.deref.ensures) in
     let taken = take_segment segments before at s plus here in
     taken ∙ sym (drop_last_kept other (take before segments) s (sym c.is_within.ensures ∙ c.if-not-is_within.true)) ∙ ap (drop_held other) (sym taken)
     ∙ c.segments.invariant.held
@@ -32,16 +30,15 @@ segments-preserved c =
     let before = at - 1 in
     let segments = c.args.self.now.segments in
     let items = c.self.inside.segments.items in
-    let s = c.deref.result.now in
+    let s = c.index-deref-kept.result in
     let other = c.args.other.now in
     let seen = ap (λ (st : Stored). length st.segments) c.self.view_is in
     let test = c.segments-test.true in
     let most = c.segments.invariant.most in
-    let count = length-map items arc_value in
     let within : before < length items = omega arith in
     let plus : before + 1 ≡ at = omega arith in
-    let here = segment_at items arc_value segments before c.index-segment.result.now s (ap (λ (st : Stored). st.segments) c.self.view_is)
-    within c.index-segment.ensures c.deref.ensures in
+    let here = segment_at items segments before s (ap (λ (st : Stored). st.segments) c.self.view_is) within
+    (c.index-deref-kept.is ∙ ap (λ (l : List (List Chunk)). get_or l before s) c.deref.ensures) in
     let taken = take_segment segments before at s plus here in
     record {
       held = sym (ap (drop_held other) taken ∙ drop_last_held other (take before segments) s (sym c.is_within.ensures ∙ c.if-not-is_within.false)) ∙ c.segments.invariant.held;

@@ -1,6 +1,5 @@
-use Rattle.std.proofs.Common.{◌≡◌, ◌<◌, ◌+◌, ◌-◌, length, ap, arith}
-use Rattle.std.specs.Arc.{arc_value}
-use Rattle.std.proofs.lemmas.List.{length-map}
+use Rattle.std.proofs.Common.{◌≡◌, ◌<◌, ◌+◌, ◌-◌, List, length, get_or, ap, ◌∙◌, arith}
+use Rattle.chunk_store.specs.Chunks.{Chunk}
 use Rattle.chunk_store.specs.Stores.{Stored}
 use Rattle.chunk_store.proofs.JoinLemmas.{segment_at}
 use Rattle.chunk_store.proofs.MatchLemmas.{matched_next}
@@ -12,13 +11,12 @@ segments-preserved c =
     let before = at - 1 in
     let segments = c.args.self.now.segments in
     let items = c.self.inside.segments.items in
-    let s = c.deref.result.now in
+    let s = c.index-deref-from.result in
     let seen = ap (λ (st : Stored). length st.segments) c.self.view_is in
     let test = c.segments-test.true in
     let most = c.segments.invariant.from_within in
-    let count = length-map items arc_value in
     let within : before < length items = omega arith in
     let plus : before + 1 ≡ at = omega arith in
-    let here = segment_at items arc_value segments before c.index-segment.result.now s (ap (λ (st : Stored). st.segments) c.self.view_is)
-    within c.index-segment.ensures c.deref.ensures in
+    let here = segment_at items segments before s (ap (λ (st : Stored). st.segments) c.self.view_is) within
+    (c.index-deref-from.is ∙ ap (λ (l : List (List Chunk)). get_or l before s) c.deref.ensures) in
     matched_next c.args.other.now segments before at c.segments.own c.in-Some.start s plus here c.in-Some.ensures.same c.in-Some.ensures.before c.segments.invariant

@@ -1,6 +1,4 @@
-use Rattle.std.proofs.Common.{◌≡◌, ◌<◌, List, [], ◌∷◌, ◌++◌, length, map, take, drop, ap, sym, subst, ◌∙◌, arith}
-use Rattle.std.specs.Arc.{arc_value}
-use Rattle.std.proofs.lemmas.List.{length-map}
+use Rattle.std.proofs.Common.{◌≡◌, ◌<◌, List, [], ◌∷◌, ◌++◌, length, take, drop, ap, sym, subst, ◌∙◌, arith}
 use Rattle.chunk_store.specs.Building.{gather}
 use Rattle.chunk_store.specs.Chunks.{Chunk, IsSingle, Lists}
 use Rattle.chunk_store.specs.Stores.{AreSome, Stored, joined}
@@ -9,28 +7,26 @@ use Rattle.chunk_store.proofs.JoinLemmas.{replaced, tidied_keeps, tidied_only, t
 use Rattle.chunk_store.proofs.stores.Store.tidy.Goals as goal
 
 -- the segments behind the last push, as lists
-is_tidied : (c : goal.After-push_reserved) → map arc_value c.push_reserved.new.self.items
+is_tidied : (c : goal.After-push_reserved) → c.push_reserved.new.self.items
     ≡ take c.joined_from-from.result c.args.self.now.segments ++ gather [] (joined (drop c.joined_from-from.result c.args.self.now.segments)) ∷ []
 is_tidied c =
     let from = c.joined_from-from.result in
     let segments = c.args.self.now.segments in
-    replaced c.self.inside.segments.items c.push_reserved.new.self.items c.in-Ok.whole arc_value segments from
-    (c.push_reserved.ensures.items ∙ ap (λ l. l ++ c.in-Ok.whole ∷ []) c.truncate.ensures.items)
-    (ap (λ (s : Stored). s.segments) c.self.view_is)
-    ∙ ap (λ (l : List Chunk). take from segments ++ l ∷ []) c.in-Ok.ensures
+    replaced c.self.inside.segments.items c.push_reserved.new.self.items segments c.new.result (gather [] (joined (drop from segments))) from
+    (c.push_reserved.ensures.items ∙ ap (λ l. l ++ c.new.result ∷ []) c.truncate.ensures.items)
+    (ap (λ (s : Stored). s.segments) c.self.view_is) (c.new.ensures ∙ c.in-Ok.ensures)
 
 pub invariant_of-self : goal.invariant_of-self
 invariant_of-self c =
     let from = c.joined_from-from.result in
     let segments = c.args.self.now.segments in
     let items = c.self.inside.segments.items in
-    let seen : map arc_value items ≡ segments = ap (λ (s : Stored). s.segments) c.self.view_is in
+    let seen : items ≡ segments = ap (λ (s : Stored). s.segments) c.self.view_is in
     let P : List (List Chunk) → Type 0 = λ l. IsSingle (joined l) × AreSome l in
     let invariant = subst P seen c.self.invariant in
-    let count = ap length (sym seen) ∙ length-map items arc_value in
+    let count = ap length (sym seen) in
     let test = c.if-from-len.true in
-    let len = c.len.ensures in
-    let kept = c.self.inside.segments.ok.0 in
+    let len = c.len.ensures.value in
     let within : from < length segments = omega arith in
     subst P (sym (is_tidied c)) (
       single_fewer (joined (take from segments ++ gather [] (joined (drop from segments)) ∷ [])) (joined segments) (tidied_only from segments) invariant.0,
