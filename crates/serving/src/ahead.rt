@@ -14,7 +14,7 @@ use chunk_store::{PutFault, Segment, Store};
 use shared_db::SharedDb;
 use std::alloc::{AllocError, Global};
 use std::sync::Arc;
-use table_root::{BranchHead, BranchName, Heads, Look};
+use table_root::{BranchHead, BranchName, HeadList, Heads, Look};
 use tuple_codec::{Address, BranchRecord};
 
 /// The look at a branch that has this record once the chunks sealed for it are in.
@@ -71,11 +71,11 @@ fn heads_with(
     ensures { IfOk result (λ new. new ≡ map (with_head branch.now head) heads.now) }
 {
     let heads = heads.as_slice();
-    let mut new = Vec::with_capacity(alloc, heads.len())?;
+    let mut new = HeadList::with_capacity(alloc, heads.len())?;
     for seen in heads {
         new.push(with_head(*seen, branch, head))?;
     }
-    Ok(Heads::from_vec(new))
+    Ok(Heads::from_list(new))
 }
 
 /// The head, with another commit where its branch has this name.

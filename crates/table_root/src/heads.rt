@@ -50,17 +50,7 @@ impl Model for Heads {
 }
 
 impl Heads {
-    /// These heads, without a copy.
-    pub fn from_vec(heads: Vec<BranchHead>) -> Heads
-        requires { heads_rise heads.items ≡ true }
-        ensures { result ≡ heads.items }
-    {
-        Heads {
-            heads: SmallVec::from_vec(heads),
-        }
-    }
-
-    /// The heads of a list, without a copy of what it took memory for.
+    /// These heads, without a copy of what the list took memory for.
     pub fn from_list(heads: HeadList) -> Heads
         requires { heads_rise heads.items ≡ true }
         ensures { result ≡ heads.items }

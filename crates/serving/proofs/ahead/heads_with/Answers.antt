@@ -5,8 +5,8 @@ use Rattle.serving.specs.Ahead.{with_head}
 use Rattle.serving.proofs.AheadLemmas.{heads_still_rise}
 use Rattle.serving.proofs.ahead.heads_with.Goals as goal
 
-pub from_vec-requires : goal.from_vec-requires
-from_vec-requires c =
+pub from_list-requires : goal.from_list-requires
+from_list-requires c =
     let heads = c.as_slice-heads.result.now in
     let all = all_mapped (with_head c.args.branch.now c.args.head) c.loop-seen.new.items heads c.loop-seen.seen-index (omega arith) c.loop-seen.invariant in
     ap heads_rise all ∙ heads_still_rise c.args.branch.now c.args.head heads ∙ ap heads_rise c.as_slice-heads.ensures.heads ∙ c.as_slice-heads.ensures.rise
