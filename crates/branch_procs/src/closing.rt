@@ -15,7 +15,6 @@ ghost use Rattle.branch_procs.specs.Closing.{IsVerdict};
 ghost use Rattle.branch_procs.specs.Listing.{AreFewTables};
 ghost use Rattle.branch_procs.specs.Staging.{StandsOn, are_same, is_same, refusal_of};
 
-use crate::laws::laws_of_growth;
 use crate::listing::read_tables;
 use crate::opening::any_is_open;
 use crate::roots::head_root;
@@ -24,6 +23,7 @@ use chunk_store::{Draft, PutFault};
 use schema_model::law_of_sameness;
 use session_state::Session;
 use sql_procedures::{CommitRequest, Staging};
+use sql_write::laws_of_growth;
 use std::alloc::{AllocError, Global};
 use table_root::TableEntry;
 use tuple_codec::{Address, BranchRecord, Digester};

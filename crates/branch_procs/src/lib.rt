@@ -3,7 +3,6 @@
 
 mod closing;
 mod committing;
-mod laws;
 mod listing;
 mod local;
 mod making;

@@ -14,13 +14,13 @@ ghost use Rattle.plain_sessions.specs.Records.{BranchState, commit_on, root_of};
 ghost use Rattle.branch_procs.specs.Committing.{CanCommit, parents_on};
 
 use crate::closing::first_staged;
-use crate::laws::laws_of_growth;
 use crate::listing::put_database;
 use crate::roots::head_root;
 use crate::staging::with_staged;
 use chunk_store::{Draft, PutFault, law_of_chunks};
 use commit_graph::{CommitRecord, height, law_of_standing_commits};
 use sql_procedures::Staging;
+use sql_write::laws_of_growth;
 use std::alloc::{AllocError, Global};
 use tuple_codec::{Address, BranchRecord, Digester, Sequence, Text};
 

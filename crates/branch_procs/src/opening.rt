@@ -8,9 +8,9 @@ ghost use Rattle.chunk_store.specs.Standing.{IsTree};
 ghost use Rattle.table_root.specs.Standing.{AreThere, IsTableAt};
 ghost use Rattle.plain_sessions.specs.Branching.{is_open, is_open_table};
 
-use crate::laws::laws_of_growth;
 use chunk_store::Draft;
 use prolly_tree::count;
+use sql_write::laws_of_growth;
 use std::alloc::{AllocError, Global};
 use table_root::{TableEntry, read_table};
 use tuple_codec::{Address, Digester};

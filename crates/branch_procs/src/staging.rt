@@ -14,14 +14,14 @@ ghost use Rattle.sql_procedures.specs.declared.requests.Tables.TheVariants as ta
 ghost use Rattle.sql_procedures.specs.declared.requests.Reset.TheVariants as reset;
 ghost use Rattle.branch_procs.specs.Staging.{AreBoth, CanStage, StandsOn, absence, first_absence, refusal_of, reset_absence};
 
-use crate::laws::laws_of_growth;
-use crate::listing::{put_database, read_tables, table_in};
+use crate::listing::{put_database, read_tables};
 use crate::opening::{any_is_open, is_open_table};
 use crate::taking::take_all;
 use chunk_store::{Draft, PutFault};
 use root_merge::Candidate;
 use schema_model::limits::MOST_TABLES;
 use sql_procedures::{Reset, Tables};
+use sql_write::{laws_of_growth, table_in};
 use std::alloc::{AllocError, Global};
 use table_root::TableEntry;
 use tuple_codec::{Address, BranchRecord, Digester, Text};

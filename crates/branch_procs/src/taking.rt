@@ -3,7 +3,7 @@
 ghost use Rattle.std.specs.Prelude.{◌≡◌, IfOk, map};
 ghost use Rattle.branch_procs.specs.Taking.{taking, taking_all};
 
-use crate::listing::{placed, table_in, without};
+use sql_write::{placed, table_in, without};
 use std::alloc::{AllocError, Global};
 use table_root::TableEntry;
 use tuple_codec::Text;

@@ -1,10 +1,11 @@
 -- A commit that was written is read again, and how many bytes it has at most.
-use Rattle.std.proofs.Common.{◌≡◌, ℕ, ℤ, suc, ◌*◌, ◌^◌, ◌<◌, ◌≤◌, Bool, true, false, cond, ltb, List, [], ◌∷◌, ◌++◌, length, map, take, drop, Option, Some, None, refl, sym, ap, ◌∙◌, append_assoc, append-nil, arith}
+use Rattle.std.proofs.Common.{◌≡◌, ℕ, ℤ, ◌*◌, ◌^◌, ◌<◌, ◌≤◌, Bool, true, false, cond, ltb, List, [], ◌∷◌, ◌++◌, length, map, take, drop, Option, Some, None, refl, sym, ap, ◌∙◌, append_assoc, append-nil, arith}
 use Rattle.std.specs.List.{flat_map, list_all}
 use Rattle.std.specs.Option.{option_map}
 use Rattle.std.specs.Int.{w64, cast_signed, cast_unsigned, from_be_bytes, to_be_bytes}
 use Rattle.std.proofs.lemmas.Bool.{and_parts, eqb-true}
-use Rattle.std.proofs.lemmas.List.{length-append}
+use Rattle.std.proofs.lemmas.List.{length-append, length-map}
+use Rattle.std.proofs.lemmas.List.Folds.{list_all-map}
 use Rattle.std.proofs.lemmas.Nat.{from_be_bytes-to_be_bytes_8}
 use Rattle.basic_laws.proofs.Options.{some_is}
 use Rattle.tuple_codec.specs.Fields.{bytes_at}
@@ -13,22 +14,23 @@ use Rattle.tuple_codec.specs.Fronts.{length_prefixed_at}
 use Rattle.tuple_codec.specs.declared.forms.Form.TheVariants as form
 use Rattle.tuple_codec.proofs.NumberLemmas.{bits_fit, number_back}
 use Rattle.tuple_codec.proofs.TextLemmas.{counted_again}
-use Rattle.schema_model.specs.Reading.{◌>>=◌}
+use Rattle.schema_model.specs.Reading.{◌>>=◌, address_at, items_at, list_at}
 use Rattle.schema_model.specs.WrittenForms.{CommitParts, commit_bytes}
-use Rattle.schema_model.proofs.PartLemmas.{IsReader, bytes_takes, items_again, nothing, takes}
+use Rattle.schema_model.proofs.PartLemmas.{address_again, addresses_again, nothing}
 use Rattle.commit_graph.specs.Commits.{HasOneSpelling, IsCommit, is_address, parts_of}
 use Rattle.commit_graph.specs.declared.commits.CommitRecord.{CommitRecord}
 use Rattle.tuple_codec.specs.declared.addresses.Address.{Address}
 use Rattle.tuple_codec.proofs.FieldLemmas.{bytes_again}
-use Rattle.commit_graph.specs.Reading.{address_at, after_parents as parents_passed, commit_of, height_in, number_at, parents_at, root_in}
+use Rattle.commit_graph.specs.Reading.{after_parents as parents_passed, commit_of, height_in, number_at, root_in}
 
 -- ---- addresses
 
-address_reader : IsReader (λ bytes. bytes) is_address address_at
-address_reader = record {
-  takes = λ bytes x fit e. takes bytes x.0 x.1 fit (bytes_takes 20 bytes x e).0;
-  again = λ address rest h. bytes_again 20 address rest (eqb-true _ _ h);
-}
+abbrev address_of : List ℕ → Address
+address_of bytes = record { 0 = bytes }
+
+plain_again : (parents : List (List ℕ)) → map (λ (address : Address). address.0) (map address_of parents) ≡ parents
+plain_again [] = refl
+plain_again (parent ∷ parents) = ap (λ (l : List (List ℕ)). parent ∷ l) (plain_again parents)
 
 addresses_length : (parents : List (List ℕ)) → list_all is_address parents ≡ true → length (flat_map (λ parent. parent) parents) ≡ 20 * length parents
 addresses_length [] h = refl
@@ -39,8 +41,10 @@ addresses_length (parent ∷ parents) h =
     length-append parent (flat_map (λ parent. parent) parents) ∙ omega (arith, one, more)
 
 parents_again : (parents : List (List ℕ)) (rest : List ℕ) → list_all is_address parents ≡ true
-    → parents_at (length parents ∷ (flat_map (λ parent. parent) parents ++ rest)) ≡ Some (parents, rest)
-parents_again parents rest h = items_again (λ parent. parent) is_address address_at address_reader parents rest h
+    → list_at address_at (length parents ∷ (flat_map (λ parent. parent) parents ++ rest)) ≡ Some (map address_of parents, rest)
+parents_again parents rest h =
+    ap (λ (l : List (List ℕ)). items_at address_at (length parents) (flat_map (λ parent. parent) l ++ rest)) (sym (plain_again parents))
+    ∙ addresses_again (length parents) (map address_of parents) rest (length-map parents address_of) (list_all-map (λ (address : Address). is_address address.0) address_of parents ∙ h)
 
 mapped : {A B : Type 0} (f : A → B) (b : Bool) (y : A) → option_map f (cond b None (Some y)) ≡ cond b None (Some (f y))
 mapped f true y = refl
@@ -77,11 +81,11 @@ after_date root parents height date = length_prefixed_at date.1 >>= after_commit
 abbrev after_height : List ℕ → List (List ℕ) → ℕ × List ℕ → Option CommitParts
 after_height root parents height = number_at height.1 >>= after_date root parents height.0
 
-abbrev after_parents : List ℕ → List (List ℕ) × List ℕ → Option CommitParts
-after_parents root parents = number_at parents.1 >>= after_height root parents.0
+abbrev after_parents : List ℕ → List Address × List ℕ → Option CommitParts
+after_parents root parents = number_at parents.1 >>= after_height root (map (λ parent. parent.0) parents.0)
 
-abbrev after_root : List ℕ × List ℕ → Option CommitParts
-after_root root = parents_at root.1 >>= after_parents root.0
+abbrev after_root : Address × List ℕ → Option CommitParts
+after_root root = list_at address_at root.1 >>= after_parents root.0.0
 
 pub commit_again : (c : CommitParts) → IsCommit c → commit_of (commit_bytes c) ≡ Some c
 unfolding commit_of
@@ -92,8 +96,9 @@ commit_again c h =
     let third = to_be_bytes w64 date ++ fourth in
     let second = to_be_bytes w64 c.height ++ third in
     let first = length c.parents ∷ (flat_map (λ parent. parent) c.parents ++ second) in
-    ap (λ (o : Option (List ℕ × List ℕ)). o >>= after_root) (bytes_again 20 c.root first (eqb-true _ _ h.addresses.root))
-    ∙ ap (λ (o : Option (List (List ℕ) × List ℕ)). o >>= after_parents c.root) (parents_again c.parents second h.addresses.parents)
+    ap (λ (o : Option (Address × List ℕ)). o >>= after_root) (address_again (address_of c.root) first h.addresses.root)
+    ∙ ap (λ (o : Option (List Address × List ℕ)). o >>= after_parents c.root) (parents_again c.parents second h.addresses.parents)
+    ∙ ap (λ (parents : List (List ℕ)). number_at second >>= after_height c.root parents) (plain_again c.parents)
     ∙ ap (λ (o : Option (ℕ × List ℕ)). o >>= after_height c.root c.parents) (number_again c.height third h.limits.height)
     ∙ ap (λ (o : Option (ℕ × List ℕ)). o >>= after_date c.root c.parents c.height) (number_again date fourth (bits_fit form.Row c.date h.limits.date_fits))
     ∙ ap (λ (o : Option (List ℕ × List ℕ)). o >>= after_committer c.root c.parents c.height date) (counted_again c.committer fifth)
@@ -159,10 +164,6 @@ in_order root parents height date committer message n = simp append_assoc
 pub numbers_join : (a b c : List ℕ) (m n : ℕ) → b ≡ a ++ to_be_bytes w64 m → c ≡ b ++ to_be_bytes w64 n → c ≡ a ++ (to_be_bytes w64 m ++ to_be_bytes w64 n)
 numbers_join a b c m n e f = f ∙ ap (λ (l : List ℕ). l ++ to_be_bytes w64 n) e ∙ append_assoc a (to_be_bytes w64 m) (to_be_bytes w64 n)
 
-count_is : (addresses : List Address) → length (map (λ (address : Address). address.0) addresses) ≡ length addresses
-count_is [] = refl
-count_is (address ∷ addresses) = ap (λ (n : ℕ). suc n) (count_is addresses)
-
 -- the parts written one after another are the commit's bytes
 pub commit_join : (commit : CommitRecord) (a b d e f all : List ℕ) (bits : ℕ) → bits ≡ cast_unsigned w64 commit.date → a ≡ [] → b ≡ a ++ 5 ∷ []
     → d ≡ b ++ (commit.root.0 ++ length commit.parents ∷ flat_map (λ parent. parent) (map (λ (parent : Address). parent.0) commit.parents))
@@ -177,4 +178,4 @@ commit_join commit a b d e f all bits date_is at_first with_kind with_links with
     let two = with_links ∙ ap (λ (l : List ℕ). l ++ (commit.root.0 ++ length commit.parents ∷ flat)) one in
     let three = with_numbers ∙ ap (λ (n : ℕ). d ++ (height ++ to_be_bytes w64 n)) date_is ∙ ap (λ (l : List ℕ). l ++ (height ++ date)) two in
     same ∙ with_texts ∙ ap (λ (l : List ℕ). l ++ texts) three ∙ in_order commit.root.0 flat height date (length_prefixed commit.committer) (length_prefixed commit.message) (length commit.parents)
-    ∙ ap (λ (n : ℕ). 5 ∷ (commit.root.0 ++ (n ∷ (flat ++ (height ++ (date ++ texts)))))) (sym (count_is commit.parents))
+    ∙ ap (λ (n : ℕ). 5 ∷ (commit.root.0 ++ (n ∷ (flat ++ (height ++ (date ++ texts)))))) (sym (length-map commit.parents (λ (parent : Address). parent.0)))

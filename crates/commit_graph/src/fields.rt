@@ -1,22 +1,12 @@
-//! Fields at the front of bytes, each with the bytes after it, and how fields are written.
+//! Numbers at the front of bytes, each with the bytes after it, and how they are written.
 
 ghost use Rattle.std.specs.Prelude.{◌≡◌, ◌++◌, OnOk};
 ghost use Rattle.std.specs.Int.{w64, to_be_bytes};
 ghost use Rattle.tuple_codec.specs.Fronts.{Gives};
-ghost use Rattle.commit_graph.specs.Reading.{address_at, number_at};
+ghost use Rattle.commit_graph.specs.Reading.{number_at};
 
 use std::alloc::AllocError;
-use tuple_codec::{Address, Unread};
-
-pub(crate) fn address_at(bytes: &[u8]) -> Result<(Address, &[u8]), Unread>
-    ensures { Gives (λ x. (x.0.0, x.1.now)) result (address_at bytes.now) }
-{
-    if bytes.len() < 20 {
-        return Err(Unread::Malformed);
-    }
-    let (front, rest) = bytes.split_at(20);
-    Ok((Address::from_slice(front), rest))
-}
+use tuple_codec::Unread;
 
 /// A number in eight bytes.
 pub(crate) fn number_at(bytes: &[u8]) -> Result<(u64, &[u8]), Unread>

@@ -8,7 +8,7 @@ ghost use Rattle.chunk_store.specs.Chunks.{chunk_bytes as found_at};
 ghost use Rattle.chunk_store.specs.Drafts.{chunks_of};
 ghost use Rattle.chunk_store.specs.Stores.{all_chunks};
 ghost use Rattle.commit_graph.specs.Commits.{HasCommit, IsCommitFound, is_commit_found};
-ghost use Rattle.commit_graph.specs.Reading.{address_at, after_kind, after_parents, height_in, number_at, root_in};
+ghost use Rattle.commit_graph.specs.Reading.{after_kind, after_parents, height_in, number_at, root_in};
 
 use chunk_store::{Draft, Store};
 use tuple_codec::{Address, Digester};
@@ -53,8 +53,8 @@ fn root_in(bytes: &[u8]) -> Option<Address>
     ensures { option_map (λ root. root.0) result ≡ root_in bytes.now }
 {
     let rest = behind_kind(bytes)?;
-    let (root, _) = address_in(rest)?;
-    Some(root)
+    let (root, _) = front_of(20, rest)?;
+    Some(Address::from_slice(root))
 }
 
 #[tactic(auto, unfolding(crate::specs::Reading::height_in))]
@@ -88,16 +88,6 @@ fn behind_parents(bytes: &[u8]) -> Option<&[u8]>
         }
         [] => None,
     }
-}
-
-fn address_in(bytes: &[u8]) -> Option<(Address, &[u8])>
-    ensures { option_map (λ x. (x.0.0, x.1.now)) result ≡ address_at bytes.now }
-{
-    if bytes.len() < 20 {
-        return None;
-    }
-    let (front, rest) = bytes.split_at(20);
-    Some((Address::from_slice(front), rest))
 }
 
 /// So many bytes, and those after them.

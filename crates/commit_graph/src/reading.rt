@@ -1,17 +1,17 @@
 //! Commits read from drafts.
 
-ghost use Rattle.std.specs.Prelude.{◌≡◌, map, IfOk};
+ghost use Rattle.std.specs.Prelude.{◌≡◌, IfOk};
 ghost use Rattle.tuple_codec.specs.Fronts.{Gives};
-ghost use Rattle.schema_model.specs.Reading.{items_at};
 ghost use Rattle.chunk_store.specs.Drafts.{chunks_of};
 ghost use Rattle.commit_graph.specs.Commits.{HasCommit, IsCommitFound, parts_of};
-ghost use Rattle.commit_graph.specs.Reading.{address_at, after_kind, commit_of, parents_at};
+ghost use Rattle.commit_graph.specs.Reading.{after_kind, commit_of};
 
 use crate::commits::CommitRecord;
-use crate::fields::{address_at, number_at};
+use crate::fields::number_at;
 use chunk_store::Draft;
+use schema_model::{address_at, list_at};
 use std::alloc::{AllocError, Global};
-use tuple_codec::{Address, Digester, Sequence, Text, Unread, long_at};
+use tuple_codec::{Address, Digester, Text, Unread, long_at};
 
 /// The commit whose written form is found at the address.
 pub fn read_commit<D: Digester>(
@@ -39,7 +39,7 @@ fn commit_of(alloc: Global, bytes: &[u8]) -> Result<CommitRecord, Unread>
 {
     let rest = after_kind(bytes)?;
     let (root, rest) = address_at(rest)?;
-    let (parents, rest) = parents_at(alloc, rest)?;
+    let (parents, rest) = list_at(alloc, rest)?;
     let (height, rest) = number_at(rest)?;
     let (date, rest) = number_at(rest)?;
     let (committer, rest) = long_at(rest)?;
@@ -62,32 +62,4 @@ fn after_kind(bytes: &[u8]) -> Result<&[u8], Unread>
         [5, rest @ ..] => Ok(rest),
         _ => Err(Unread::Malformed),
     }
-}
-
-/// A count in one byte, and that many addresses.
-fn parents_at(alloc: Global, bytes: &[u8]) -> Result<(Sequence<Address>, &[u8]), Unread>
-    ensures { Gives (λ x. (map (λ parent. parent.0) x.0, x.1.now)) result (parents_at bytes.now) }
-{
-    match bytes {
-        [count, rest @ ..] => addresses_at(alloc, usize::from(*count), rest),
-        [] => Err(Unread::Malformed),
-    }
-}
-
-/// So many addresses.
-fn addresses_at(
-    alloc: Global,
-    count: usize,
-    bytes: &[u8],
-) -> Result<(Sequence<Address>, &[u8]), Unread>
-    ensures { Gives (λ x. (map (λ parent. parent.0) x.0, x.1.now)) result (items_at address_at count bytes.now) }
-{
-    let mut addresses = Vec::new(alloc);
-    let mut rest = bytes;
-    for _ in 0..count {
-        let (address, after) = address_at(rest)?;
-        addresses.push(address)?;
-        rest = after;
-    }
-    Ok((Sequence::from_vec(addresses), rest))
 }

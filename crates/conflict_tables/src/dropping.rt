@@ -44,8 +44,9 @@ fn push_removal(
     Ok(())
 }
 
-/// The edits that remove these keys from the tree at an address, of those that stand there.
-fn removals<D: Digester>(
+/// The edits that remove these keys from the tree at an address, of those that stand there: they rise as its keys do. It reads all leaves of the tree,
+/// and compares each key with all that are given.
+pub fn removals<D: Digester>(
     alloc: Global,
     draft: &Draft<D>,
     root: &Address,
@@ -90,7 +91,8 @@ pub fn drop_conflicts<D: Digester>(
     })
 }
 
-fn copy_roots(alloc: Global, roots: &[Address]) -> Result<Sequence<Address>, AllocError>
+/// The roots of a table's indexes once more, for another table that has the same.
+pub fn copy_roots(alloc: Global, roots: &[Address]) -> Result<Sequence<Address>, AllocError>
     ensures { IfOk result (λ copy. copy ≡ roots.now) }
 {
     Ok(Sequence::from_vec(Vec::from_slice(alloc, roots)?))

@@ -8,6 +8,6 @@ mod dropping;
 mod entries;
 mod reading;
 
-pub use dropping::drop_conflicts;
+pub use dropping::{copy_roots, drop_conflicts, removals};
 pub use entries::ConflictEntry;
 pub use reading::{conflicts, theirs_edits};

@@ -1,5 +1,6 @@
 -- What binding answers behind a part: what is bound goes on, and a refusal goes through.
-use Rattle.std.proofs.Common.{◌≡◌, ◌∙◌, sym, ap, subst, ℕ, ◌<◌, List, Option, Result, Ok, Err, length, map, get_or, fold}
+use Rattle.std.proofs.Common.{◌≡◌, ◌∙◌, sym, refl, ap, subst, ℕ, ◌<◌, List, Option, Result, Ok, Err, length, map, get_or, fold}
+use Rattle.std.proofs.lemmas.List.Folds.{fold_stays}
 use Rattle.sql_ast.specs.declared.expressions.Expr.{Expr}
 use Rattle.sql_ast.specs.declared.expressions.Expr.TheVariants.{Name, Qualified}
 use Rattle.expr_eval.specs.declared.bound.BoundExpr.{BoundExpr}
@@ -31,11 +32,21 @@ qualified scope expr source name given_source given place r is source_is given_i
     ∙ ap (λ (y : Option ℕ). bound_column scope y) (ap (λ (s : List ℕ). place_qualified s name scope) (sym source_is)
     ∙ ap (λ (n : List ℕ). place_qualified given_source n scope) (sym given_is) ∙ sym place_is)) h
 
--- an arm whose first part is bound
-pub goes : {C : Type 0} (h : Outcome BoundExpr → List C → Outcome BoundExpr) (scope : List ScopeColumn) (whole : Outcome BoundExpr) (a got : Expr) (xs given : List C) (x : BoundExpr)
-    → whole ≡ h (bound scope a) xs → got ≡ a → given ≡ xs → bound scope got ≡ Ok x → whole ≡ h (Ok x) given
-goes h scope whole a got xs given x is got_is given_is x_is =
-    is ∙ ap (λ o. h o xs) (ap (λ (y : Expr). bound scope y) (sym got_is) ∙ x_is) ∙ ap (λ ys. h (Ok x) ys) (sym given_is)
+-- an arm that hands its parts on
+pub parts_are : {C : Type 0} (h : Outcome BoundExpr → List C → Outcome BoundExpr) (scope : List ScopeColumn) (whole : Outcome BoundExpr) (a got : Expr) (xs given : List C)
+    → whole ≡ h (bound scope a) xs → got ≡ a → given ≡ xs → whole ≡ h (bound scope got) given
+parts_are h scope whole a got xs given is got_is given_is =
+    is ∙ ap (λ (y : Expr). h (bound scope y) xs) (sym got_is) ∙ ap (λ ys. h (bound scope got) ys) (sym given_is)
+
+pub handed : {C : Type 0} (h : Outcome BoundExpr → List C → Outcome BoundExpr) (scope : List ScopeColumn) (whole : Outcome BoundExpr) (a got : Expr) (xs given : List C) (r : Result BoundExpr BindFault)
+    → whole ≡ h (bound scope a) xs → got ≡ a → given ≡ xs → Gives r (h (bound scope got) given) → Gives r whole
+handed h scope whole a got xs given r is got_is given_is answers = gives_along r _ _ (parts_are h scope whole a got xs given is got_is given_is) answers
+
+-- a chain goes on from its first operand, once that is bound
+pub from_first : {A S X : Type 0} (f : Outcome S → A → Outcome S) (o : Outcome X) (g : X → S) (xs : List A)
+    → ((n : ℕ) (y : A) → f (Err n) y ≡ Err n) → and_then o (λ x. fold f (Ok (g x)) xs) ≡ fold f (and_then o (λ x. Ok (g x))) xs
+from_first f (Ok x) g xs stays = refl
+from_first f (Err n) g xs stays = sym (fold_stays f (Err n) (stays n) xs)
 
 -- a refusal from the middle of a chain
 pub refused : {A C S : Type 0} (f : Outcome S → A → Outcome S) (g : C → A) (a : Outcome S) (xs : List C) (i : ℕ) (x : C) (b : Outcome S) (e : BindFault)

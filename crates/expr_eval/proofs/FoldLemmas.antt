@@ -1,6 +1,5 @@
 -- A loop over a slice of parts, against the fold over what they are.
-use Rattle.std.proofs.Common.{◌≡◌, ◌∙◌, sym, ap, ℕ, ◌+◌, ◌<◌, ◌≤◌, List, length, map, take, get_or, fold}
-use Rattle.std.proofs.lemmas.List.{take_all}
+use Rattle.std.proofs.Common.{◌≡◌, ◌∙◌, sym, ap, ℕ, ◌+◌, ◌<◌, List, length, map, take, get_or, fold}
 use Rattle.std.proofs.lemmas.List.Folds.{fold-map, fold_stuck}
 use Rattle.std.proofs.lemmas.List.Sums.{fold_more}
 
@@ -19,8 +18,3 @@ stopped f g a xs i x b z stays below is before now =
     fold-map f g a xs
     ∙ sym (fold_stuck (λ y w. f y (g w)) z (λ w. stays (g w)) a xs i x below
     (ap (λ w. f (so_far f g a xs i) (g w)) (sym is) ∙ ap (λ y. f y (g x)) before ∙ now))
-
-pub all_of_them : {A B C : Type 0} (f : B → A → B) (g : C → A) (a : B) (xs : List C) (i : ℕ) (b : B)
-    → length xs ≤ i → so_far f g a xs i ≡ b → fold f a (map g xs) ≡ b
-all_of_them f g a xs i b past before =
-    fold-map f g a xs ∙ ap (λ ys. fold (λ y x. f y (g x)) a ys) (sym (take_all i xs past)) ∙ before

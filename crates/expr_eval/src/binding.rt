@@ -1,11 +1,15 @@
 //! Names turned into places in a scope, and the kinds of operations, or the first refusal.
 
-ghost use Rattle.std.specs.Prelude.{◌≡◌, map, fold, Ok, IfOk};
+ghost use Rattle.std.specs.Prelude.{◌≡◌, map, Ok, IfOk};
+ghost use Rattle.sql_values.specs.Kinds.{product_kind};
 ghost use Rattle.expr_eval.specs.declared.bound.BoundNode.{out-BoundNode};
 ghost use Rattle.expr_eval.specs.Binding.{
   Gives,
+  and_node,
   and_then,
   bound,
+  bound_between,
+  bound_chain,
   bound_column,
   bound_compare,
   bound_condition,
@@ -15,18 +19,22 @@ ghost use Rattle.expr_eval.specs.Binding.{
   bound_literal,
   bound_negate,
   bound_not,
+  bound_sum,
   chain_kind,
   column_at,
   decimal_node,
   decimal_typed,
   extended,
+  factors_node,
   high_end,
-  lengthened,
+  logic_kind,
   longer_sum,
   low_end,
   minus_of,
   opened_chain,
   opened_sum,
+  or_node,
+  terms_node,
   two,
   whole_node,
 };
@@ -65,71 +73,30 @@ pub fn bind(alloc: Global, expr: &Expr, scope: &[ScopeColumn]) -> Result<BoundEx
     ensures { Gives result (bound scope.now expr.now) }
 {
     match expr {
-        Expr::Or(first, rest) => {
-            let first = bind(alloc, first.get(), scope)?;
-            let chain = chain(alloc, Meeting::Logic, first, rest.as_slice(), scope)?;
-            Ok(BoundExpr {
-                kind: chain.kind,
-                node: BoundNode::Or(chain.first, chain.rest),
-            })
-        }
-        Expr::And(first, rest) => {
-            let first = bind(alloc, first.get(), scope)?;
-            let chain = chain(alloc, Meeting::Logic, first, rest.as_slice(), scope)?;
-            Ok(BoundExpr {
-                kind: chain.kind,
-                node: BoundNode::And(chain.first, chain.rest),
-            })
-        }
+        Expr::Or(first, rest) => disjunction(alloc, first.get(), rest.as_slice(), scope),
+        Expr::And(first, rest) => conjunction(alloc, first.get(), rest.as_slice(), scope),
         Expr::Not(a) => bound_not(alloc, bind(alloc, a.get(), scope)?),
-        Expr::Compare(a, comparison, b) => {
-            let a = bind(alloc, a.get(), scope)?;
-            compared(alloc, a, *comparison, b.get(), scope)
-        }
+        Expr::Compare(a, comparison, b) => compared(alloc, a.get(), *comparison, b.get(), scope),
         Expr::IsNull(a) => bound_is_null(alloc, bind(alloc, a.get(), scope)?),
         Expr::IsNotNull(a) => bound_is_not_null(alloc, bind(alloc, a.get(), scope)?),
-        Expr::In(value, elements) => {
-            let value = bind(alloc, value.get(), scope)?;
-            listed(alloc, value, elements.as_slice(), scope)
-        }
+        Expr::In(value, elements) => listed(alloc, value.get(), elements.as_slice(), scope),
         Expr::NotIn(value, elements) => {
-            let value = bind(alloc, value.get(), scope)?;
-            bound_not(alloc, listed(alloc, value, elements.as_slice(), scope)?)
+            let listed = listed(alloc, value.get(), elements.as_slice(), scope)?;
+            bound_not(alloc, listed)
         }
-        Expr::Between(value, low, high) => {
-            let value = bind(alloc, value.get(), scope)?;
-            let ends = above(alloc, value, low.get(), scope)?;
-            within(alloc, ends, high.get(), scope)
+        Expr::Between(a, low, high) => between(alloc, a.get(), low.get(), high.get(), scope),
+        Expr::NotBetween(a, low, high) => {
+            let between = between(alloc, a.get(), low.get(), high.get(), scope)?;
+            bound_not(alloc, between)
         }
-        Expr::NotBetween(value, low, high) => {
-            let value = bind(alloc, value.get(), scope)?;
-            let ends = above(alloc, value, low.get(), scope)?;
-            bound_not(alloc, within(alloc, ends, high.get(), scope)?)
-        }
-        Expr::Terms(first, rest) => {
-            let first = bind(alloc, first.get(), scope)?;
-            let sum = sum(alloc, first, rest.as_slice(), scope)?;
-            Ok(BoundExpr {
-                kind: sum.kind,
-                node: BoundNode::Terms(sum.first, sum.rest),
-            })
-        }
-        Expr::Factors(first, rest) => {
-            let first = bind(alloc, first.get(), scope)?;
-            let chain = chain(alloc, Meeting::Product, first, rest.as_slice(), scope)?;
-            Ok(BoundExpr {
-                kind: chain.kind,
-                node: BoundNode::Factors(chain.first, chain.rest),
-            })
-        }
+        Expr::Terms(first, rest) => total(alloc, first.get(), rest.as_slice(), scope),
+        Expr::Factors(first, rest) => product(alloc, first.get(), rest.as_slice(), scope),
         Expr::Negate(a) => bound_negate(alloc, bind(alloc, a.get(), scope)?),
         Expr::Literal(literal) => bound_literal(alloc, literal),
         Expr::Name(name) => bound_column(scope, place_named(scope, name.as_slice())),
         Expr::Qualified(source, name) => {
-            bound_column(
-                scope,
-                place_qualified(scope, source.as_slice(), name.as_slice()),
-            )
+            let place = place_qualified(scope, source.as_slice(), name.as_slice());
+            bound_column(scope, place)
         }
         Expr::CountAll
         | Expr::Count(_)
@@ -157,51 +124,83 @@ pub fn bind_condition(
     }
 }
 
-/// A chain of operands, the first of which is bound.
+/// The operands of OR, as one node.
 #[cycle(bind)]
-fn chain(
+fn disjunction(
     alloc: Global,
-    meeting: Meeting,
-    first: BoundExpr,
+    first: &Expr,
     rest: &[Expr],
     scope: &[ScopeColumn],
-) -> Result<Chain, BindFault>
-    ensures { Gives result (fold (two (extended (chain_kind meeting))) (Ok (opened_chain first)) (map (bound scope.now) rest.now)) }
+) -> Result<BoundExpr, BindFault>
+    ensures { Gives result (and_then (and_then (bound scope.now first.now) (bound_chain logic_kind (map (bound scope.now) rest.now))) or_node) }
 {
-    let mut chain = opened_chain(alloc, first)?;
-    for operand in rest {
-        let operand = bind(alloc, operand, scope)?;
-        chain = extended(meeting, chain, operand)?;
-    }
-    Ok(chain)
+    let chain = chain(alloc, Meeting::Logic, first, rest, scope)?;
+    Ok(BoundExpr {
+        kind: chain.kind,
+        node: BoundNode::Or(chain.first, chain.rest),
+    })
 }
 
-/// A sum, whose first operand is bound.
+/// The operands of AND, as one node.
 #[cycle(bind)]
-fn sum(
+fn conjunction(
     alloc: Global,
-    first: BoundExpr,
+    first: &Expr,
+    rest: &[Expr],
+    scope: &[ScopeColumn],
+) -> Result<BoundExpr, BindFault>
+    ensures { Gives result (and_then (and_then (bound scope.now first.now) (bound_chain logic_kind (map (bound scope.now) rest.now))) and_node) }
+{
+    let chain = chain(alloc, Meeting::Logic, first, rest, scope)?;
+    Ok(BoundExpr {
+        kind: chain.kind,
+        node: BoundNode::And(chain.first, chain.rest),
+    })
+}
+
+/// A product's factors, as one node.
+#[cycle(bind)]
+fn product(
+    alloc: Global,
+    first: &Expr,
+    rest: &[Expr],
+    scope: &[ScopeColumn],
+) -> Result<BoundExpr, BindFault>
+    ensures { Gives result (and_then (and_then (bound scope.now first.now) (bound_chain product_kind (map (bound scope.now) rest.now))) factors_node) }
+{
+    let chain = chain(alloc, Meeting::Product, first, rest, scope)?;
+    Ok(BoundExpr {
+        kind: chain.kind,
+        node: BoundNode::Factors(chain.first, chain.rest),
+    })
+}
+
+/// A sum's terms, as one node.
+#[cycle(bind)]
+fn total(
+    alloc: Global,
+    first: &Expr,
     rest: &[(Term, Expr)],
     scope: &[ScopeColumn],
-) -> Result<Sum, BindFault>
-    ensures { Gives result (fold lengthened (Ok (opened_sum first)) (map (λ x. (x.0, bound scope.now x.1)) rest.now)) }
+) -> Result<BoundExpr, BindFault>
+    ensures { Gives result (and_then (and_then (bound scope.now first.now) (bound_sum (map (λ x. (x.0, bound scope.now x.1)) rest.now))) terms_node) }
 {
-    let mut sum = opened_sum(alloc, first)?;
-    for (term, operand) in rest {
-        let operand = bind(alloc, operand, scope)?;
-        sum = lengthened(sum, *term, operand)?;
-    }
-    Ok(sum)
+    let sum = sum(alloc, first, rest, scope)?;
+    Ok(BoundExpr {
+        kind: sum.kind,
+        node: BoundNode::Terms(sum.first, sum.rest),
+    })
 }
 
+/// A value and the elements that IN compares it with.
 #[cycle(bind)]
 fn listed(
     alloc: Global,
-    value: BoundExpr,
+    value: &Expr,
     elements: &[Expr],
     scope: &[ScopeColumn],
 ) -> Result<BoundExpr, BindFault>
-    ensures { Gives result (bound_in (map (bound scope.now) elements.now) value) }
+    ensures { Gives result (and_then (bound scope.now value.now) (bound_in (map (bound scope.now) elements.now))) }
 {
     let chain = chain(alloc, Meeting::Comparison, value, elements, scope)?;
     Ok(BoundExpr {
@@ -210,18 +209,73 @@ fn listed(
     })
 }
 
+/// A chain's operands, from the left.
+#[cycle(bind)]
+fn chain(
+    alloc: Global,
+    meeting: Meeting,
+    first: &Expr,
+    rest: &[Expr],
+    scope: &[ScopeColumn],
+) -> Result<Chain, BindFault>
+    ensures { Gives result (and_then (bound scope.now first.now) (bound_chain (chain_kind meeting) (map (bound scope.now) rest.now))) }
+{
+    let mut chain = opened_chain(alloc, bind(alloc, first, scope)?)?;
+    for operand in rest {
+        let operand = bind(alloc, operand, scope)?;
+        chain = extended(meeting, chain, operand)?;
+    }
+    Ok(chain)
+}
+
+/// A sum's terms, from the left.
+#[cycle(bind)]
+fn sum(
+    alloc: Global,
+    first: &Expr,
+    rest: &[(Term, Expr)],
+    scope: &[ScopeColumn],
+) -> Result<Sum, BindFault>
+    ensures { Gives result (and_then (bound scope.now first.now) (bound_sum (map (λ x. (x.0, bound scope.now x.1)) rest.now))) }
+{
+    let mut sum = opened_sum(alloc, bind(alloc, first, scope)?)?;
+    for (term, operand) in rest {
+        let operand = bind(alloc, operand, scope)?;
+        sum = lengthened(sum, *term, operand)?;
+    }
+    Ok(sum)
+}
+
+/// Two operands, the left one first.
 #[cycle(bind)]
 fn compared(
     alloc: Global,
-    a: BoundExpr,
+    a: &Expr,
     comparison: Comparison,
     b: &Expr,
     scope: &[ScopeColumn],
 ) -> Result<BoundExpr, BindFault>
-    ensures { Gives result (and_then (bound scope.now b.now) (bound_compare comparison a)) }
+    ensures { Gives result (two (bound_compare comparison) (bound scope.now a.now) (bound scope.now b.now)) }
 {
+    let a = bind(alloc, a, scope)?;
     let b = bind(alloc, b, scope)?;
     bound_compare(alloc, comparison, a, b)
+}
+
+/// A value and its ends, the low one before the high one.
+#[cycle(bind)]
+fn between(
+    alloc: Global,
+    value: &Expr,
+    low: &Expr,
+    high: &Expr,
+    scope: &[ScopeColumn],
+) -> Result<BoundExpr, BindFault>
+    ensures { Gives result (and_then (bound scope.now value.now) (bound_between (bound scope.now low.now) (bound scope.now high.now))) }
+{
+    let value = bind(alloc, value, scope)?;
+    let ends = above(alloc, value, low, scope)?;
+    within(alloc, ends, high, scope)
 }
 
 /// A value with its low end.

@@ -4,7 +4,7 @@ ghost use Rattle.std.specs.Prelude.{◌≡◌, map, false, not, Some, Option};
 ghost use Rattle.std.specs.Option.{option_map};
 ghost use Rattle.sql_values.specs.Views.{seen};
 ghost use Rattle.sql_values.specs.Worths.{of_truth};
-ghost use Rattle.expr_eval.specs.Valuing.{Evaluates, added, among, chained, compared, comparison, conjunction, disjunction, holds, joined, negation, total, within, worth, value};
+ghost use Rattle.expr_eval.specs.Valuing.{Evaluates, added, among, chained, compared, comparison, conjunction, disjunction, holds, joined, negation, one, total, within, worth, value};
 
 use crate::bound::{BoundExpr, BoundNode};
 use crate::faults::EvalFault;
@@ -38,71 +38,28 @@ fn worth<'a>(node: &'a BoundNode, row: &'a [Value]) -> Option<Worth<'a>>
     ensures { option_map seen result ≡ worth row.now node.now }
 {
     match node {
-        BoundNode::Or(first, rest) => match worth(first.get(), row) {
-            Some(first) => chained(Operation::Or, &first, rest.as_slice(), row),
-            None => None,
-        },
-        BoundNode::And(first, rest) => match worth(first.get(), row) {
-            Some(first) => chained(Operation::And, &first, rest.as_slice(), row),
-            None => None,
-        },
-        BoundNode::Not(a) => {
-            let Some(a) = worth(a.get(), row) else {
-                return None;
-            };
-            Some(negation(&a))
-        }
+        BoundNode::Or(first, rest) => chained(Operation::Or, first.get(), rest.as_slice(), row),
+        BoundNode::And(first, rest) => chained(Operation::And, first.get(), rest.as_slice(), row),
+        BoundNode::Not(a) => Some(negation(worth(a.get(), row).as_ref()?)),
         BoundNode::Compare(a, comparison, b) => {
-            let Some(a) = worth(a.get(), row) else {
-                return None;
-            };
-            let Some(b) = worth(b.get(), row) else {
-                return None;
-            };
-            Some(Worth::of_truth(compared(*comparison, &a, &b)))
+            let a = worth(a.get(), row);
+            let b = worth(b.get(), row);
+            Some(Worth::of_truth(compared(*comparison, a.as_ref()?, b.as_ref()?)))
         }
-        BoundNode::IsNull(a) => {
-            let Some(a) = worth(a.get(), row) else {
-                return None;
-            };
-            Some(Worth::Bool(a.is_null()))
-        }
-        BoundNode::IsNotNull(a) => {
-            let Some(a) = worth(a.get(), row) else {
-                return None;
-            };
-            Some(Worth::Bool(!a.is_null()))
-        }
-        BoundNode::In(value, elements) => match worth(value.get(), row) {
-            Some(value) => among(&value, elements.as_slice(), row),
-            None => None,
-        },
+        BoundNode::IsNull(a) => Some(Worth::Bool(worth(a.get(), row).as_ref()?.is_null())),
+        BoundNode::IsNotNull(a) => Some(Worth::Bool(!worth(a.get(), row).as_ref()?.is_null())),
+        BoundNode::In(value, elements) => among(value.get(), elements.as_slice(), row),
         BoundNode::Between(a, low, high) => {
-            let Some(a) = worth(a.get(), row) else {
-                return None;
-            };
-            let Some(low) = worth(low.get(), row) else {
-                return None;
-            };
-            let Some(high) = worth(high.get(), row) else {
-                return None;
-            };
-            Some(within(&a, &low, &high))
+            let a = worth(a.get(), row);
+            let low = worth(low.get(), row);
+            let high = worth(high.get(), row);
+            Some(within(a.as_ref()?, low.as_ref()?, high.as_ref()?))
         }
-        BoundNode::Terms(first, rest) => match worth(first.get(), row) {
-            Some(first) => total(&first, rest.as_slice(), row),
-            None => None,
-        },
-        BoundNode::Factors(first, rest) => match worth(first.get(), row) {
-            Some(first) => chained(Operation::Times, &first, rest.as_slice(), row),
-            None => None,
-        },
-        BoundNode::Negate(a) => {
-            let Some(a) = worth(a.get(), row) else {
-                return None;
-            };
-            negate(&a)
+        BoundNode::Terms(first, rest) => total(first.get(), rest.as_slice(), row),
+        BoundNode::Factors(first, rest) => {
+            chained(Operation::Times, first.get(), rest.as_slice(), row)
         }
+        BoundNode::Negate(a) => negate(worth(a.get(), row).as_ref()?),
         BoundNode::Constant(kind, value) => Some(Worth::of(kind, value)),
         BoundNode::MinusOnly | BoundNode::OutOfRange => None,
         BoundNode::Column(kind, place) => match row.get(*place) {
@@ -112,78 +69,52 @@ fn worth<'a>(node: &'a BoundNode, row: &'a [Value]) -> Option<Worth<'a>>
     }
 }
 
-/// A chain's worth, from that of its first operand.
+/// A chain's worth, from the left.
 #[cycle(worth)]
 fn chained<'a>(
     operation: Operation,
-    first: &Worth<'a>,
+    first: &'a BoundNode,
     rest: &'a [BoundNode],
     row: &'a [Value],
 ) -> Option<Worth<'a>>
-    ensures { option_map seen result ≡ chained (joined operation) (Some (seen first.now)) (map (worth row.now) rest.now) }
+    ensures { option_map seen result ≡ chained (joined operation) (worth row.now first.now) (map (worth row.now) rest.now) }
 {
-    let mut so_far = copied(first);
+    let mut so_far = worth(first, row);
     for operand in rest {
-        let Some(operand) = worth(operand, row) else {
-            return None;
-        };
-        let Some(next) = operation.on(&so_far, &operand) else {
-            return None;
-        };
-        so_far = next;
+        so_far = operation.on(so_far.as_ref()?, worth(operand, row).as_ref()?);
     }
-    Some(so_far)
+    so_far
 }
 
-/// A sum's worth, from that of its first operand.
+/// A sum's worth, from the left.
 #[cycle(worth)]
 fn total<'a>(
-    first: &Worth<'a>,
+    first: &'a BoundNode,
     rest: &'a [(Term, BoundNode)],
     row: &'a [Value],
 ) -> Option<Worth<'a>>
-    ensures { option_map seen result ≡ total (Some (seen first.now)) (map (λ x. (x.0, worth row.now x.1)) rest.now) }
+    ensures { option_map seen result ≡ total (worth row.now first.now) (map (λ x. (x.0, worth row.now x.1)) rest.now) }
 {
-    let mut so_far = copied(first);
+    let mut so_far = worth(first, row);
     for (term, operand) in rest {
-        let Some(operand) = worth(operand, row) else {
-            return None;
-        };
-        let Some(next) = added(*term, &so_far, &operand) else {
-            return None;
-        };
-        so_far = next;
+        so_far = added(*term, so_far.as_ref()?, worth(operand, row).as_ref()?);
     }
-    Some(so_far)
+    so_far
 }
 
 /// Whether a value equals an element.
 #[cycle(worth)]
-fn among<'a>(value: &Worth<'a>, elements: &'a [BoundNode], row: &'a [Value]) -> Option<Worth<'a>>
-    ensures { option_map seen result ≡ among (map (worth row.now) elements.now) (seen value.now) }
+fn among<'a>(value: &'a BoundNode, elements: &'a [BoundNode], row: &'a [Value]) -> Option<Worth<'a>>
+    ensures { option_map seen result ≡ one (among (map (worth row.now) elements.now)) (worth row.now value.now) }
 {
+    let value = worth(value, row);
+    let value = value.as_ref()?;
     let mut found = Some(false);
     for element in elements {
-        let Some(element) = worth(element, row) else {
-            return None;
-        };
-        found = or(found, compared(Comparison::Equal, value, &element));
+        let element = worth(element, row);
+        found = or(found, compared(Comparison::Equal, value, element.as_ref()?));
     }
     Some(Worth::of_truth(found))
-}
-
-/// The same worth once more.
-fn copied<'a>(worth: &Worth<'a>) -> Worth<'a>
-    ensures { seen result ≡ seen worth.now }
-{
-    match worth {
-        Worth::Null => Worth::Null,
-        Worth::Int(number) => Worth::Int(*number),
-        Worth::Bool(bit) => Worth::Bool(*bit),
-        Worth::Text(text) => Worth::Text(*text),
-        Worth::Bytes(bytes) => Worth::Bytes(*bytes),
-        Worth::Decimal(number, scale) => Worth::Decimal(*number, *scale),
-    }
 }
 
 /// What joins a chain's operands.

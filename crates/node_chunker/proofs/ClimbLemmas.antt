@@ -4,7 +4,7 @@ use Rattle.std.specs.Prelude.{◌==◌}
 use Rattle.std.proofs.lemmas.List.{append_assoc, length-append, map-append, take-append-drop, take_all, take_more}
 use Rattle.std.proofs.Math.ListN.{set, drop_of_length-le}
 use Rattle.std.proofs.Math.Seq.{drop-cons}
-use Rattle.tuple_codec.specs.Nodes.{Item, IsItem}
+use Rattle.tuple_codec.specs.Nodes.{Item}
 use Rattle.tuple_codec.specs.Trees.{AreRows, IsRow, bytes_of, closes, name}
 use Rattle.node_format.specs.declared.items.LeafItem.{LeafItem}
 use Rattle.node_format.specs.Views.{leaf_of}
@@ -32,6 +32,9 @@ drop_set [] i v within = absurd (omega arith)
 drop_set (x ∷ xs) zero v within = refl
 drop_set (x ∷ xs) (suc i) v within = drop_set xs i v (omega arith)
 
+pub drop_here : {X : Type 0} (xs : List X) (i : ℕ) (v : X) → i < length xs → v ≡ get_or xs i v → drop i xs ≡ v ∷ drop (suc i) xs
+drop_here xs i v within is = drop-cons xs i v within ∙ ap (λ x. x ∷ drop (suc i) xs) (sym is)
+
 take_set : {X : Type 0} (xs : List X) (i : ℕ) (v : X) → i < length xs → take (suc i) (set xs i v) ≡ take i xs ++ v ∷ []
 take_set [] i v within = absurd (omega arith)
 take_set (x ∷ xs) zero v within = refl
@@ -48,15 +51,11 @@ module _ (a : List ℕ → List ℕ) (made : List (List Item)) (written : List (
       let low = low_level (suc at) item.rows climbing.fits.grown.1 (omega (arith, rows_join (spread (drop at nodes)) (item ∷ []))) in
       omega arith
 
-  here : (nodes : List (List Item)) (at : ℕ) (item : Item) (held : List Item) → at < length nodes → held ≡ get_or nodes at held
-      → drop at nodes ≡ held ∷ drop (suc at) nodes
-  here nodes at item held within is = drop-cons nodes at held within ∙ ap (λ h. h ∷ drop (suc at) nodes) (sym is)
-
   fits_here : (chunks : Chunks) (nodes : List (List Item)) (at : ℕ) (item : Item) (held : List Item) → IsClimbing a chunks made written nodes at item
       → at < length nodes → held ≡ get_or nodes at held → FitsLevel a (suc at) (held ∷ drop (suc at) nodes) item
   fits_here chunks nodes at item held climbing within is =
       let P : List (List Item) → Type 0 = λ l. FitsLevel a (suc at) l item in
-      subst P (here nodes at item held within is) climbing.fits
+      subst P (drop_here nodes at held within is) climbing.fits
 
   pub climb_ready : (chunks : Chunks) (nodes : List (List Item)) (at : ℕ) (item : Item) (held : List Item) → IsClimbing a chunks made written nodes at item
       → at < length nodes → held ≡ get_or nodes at held → IsWritable (at + 1) (held ++ item ∷ [])
@@ -74,7 +73,7 @@ module _ (a : List ℕ → List ℕ) (made : List (List Item)) (written : List (
       let e : at + 1 ≡ suc at = omega arith in
       let above = drop (suc at) nodes in
       let over : closes a (suc at) (held ++ item ∷ []) ≡ false = ap (λ n. closes a n (held ++ item ∷ [])) (sym e) ∙ stays.0 in
-      let opened = here nodes at item held within is in
+      let opened = drop_here nodes at held within is in
       let pushed : pushes a (suc at) (drop at nodes) item ≡ now ∷ above =
       ap (λ l. pushes a (suc at) l item) opened
       ∙ ap (λ b. cond b ([] ∷ pushes a (suc (suc at)) above (name a (suc at) (held ++ item ∷ []))) ((held ++ item ∷ []) ∷ above)) over
@@ -102,7 +101,7 @@ module _ (a : List ℕ → List ℕ) (made : List (List Item)) (written : List (
           let over : closes a (suc at) node ≡ true = ap (λ n. closes a n node) (sym e) ∙ closed.0 in
           let Q : ℕ → Type 0 = λ n. IsNamed a new n node now next in
           let mine = subst Q e closed.1 in
-          let opened = here nodes at item held within is in
+          let opened = drop_here nodes at held within is in
           let after_now : after ≡ set nodes at [] = after_is ∙ ap (set nodes at) mine.emptied in
           let dropped : drop (suc at) after ≡ above = ap (drop (suc at)) after_now ∙ drop_set nodes at [] within in
           let taken : take (suc at) after ≡ take at nodes ++ [] ∷ [] = ap (take (suc at)) after_now ∙ take_set nodes at [] within in
@@ -132,13 +131,6 @@ module _ (a : List ℕ → List ℕ) (made : List (List Item)) (written : List (
           })
 
   -- past the last level the name begins one
-  pub climb_item : (chunks : Chunks) (nodes : List (List Item)) (at : ℕ) (item : Item) → IsClimbing a chunks made written nodes at item → IsItem 1 item
-  climb_item chunks nodes at item climbing =
-      let few = climbing.fits.few in
-      let entry = climbing.fits.grown.0 in
-      let key = entry.0 in
-      (omega arith, entry.1, entry.2, omega (arith, rows_join (spread (drop at nodes)) (item ∷ [])))
-
   pub climb_ends : (old : Chunks) (nodes after : List (List Item)) (at : ℕ) (item : Item) (node : List Item) → IsClimbing a old made written nodes at item
       → length nodes ≤ at → node ≡ item ∷ [] → after ≡ nodes ++ node ∷ []
       → (after ≡ made) × AreHeld a old written

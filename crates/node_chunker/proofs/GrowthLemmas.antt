@@ -1,8 +1,7 @@
 -- Open nodes stay small, in order and counted as items are pushed, and what is written of them is a node.
-use Rattle.std.proofs.Common.{◌≡◌, ◌≤◌, ◌<◌, ◌+◌, ◌*◌, ◌^◌, ℕ, zero, suc, true, false, cond, List, [], ◌∷◌, ◌++◌, length, Option, None, Some, inl, inr, sym, refl, ap, subst, ◌∙◌, arith}
+use Rattle.std.proofs.Common.{◌≡◌, ◌≤◌, ◌<◌, ◌+◌, ◌^◌, ℕ, zero, suc, true, false, cond, List, [], ◌∷◌, ◌++◌, length, Option, None, Some, inl, inr, sym, refl, ap, subst, ◌∙◌, arith}
 use Rattle.std.specs.List.{AllByRecursion}
 use Rattle.std.specs.Ordering.{nat_cmp, is_lt}
-use Rattle.std.specs.Int.{w64, to_be_bytes}
 use Rattle.std.specs.Cmp.Lexicographic.{slice_cmp}
 use Rattle.std.specs.declared.cmp.Ordering.{Ordering}
 use Rattle.std.specs.declared.cmp.Ordering.TheVariants.{Less, Equal, Greater}
@@ -11,14 +10,15 @@ use Rattle.std.proofs.lemmas.Cmp.{nat_list_cmp_total}
 use Rattle.std.proofs.lemmas.List.{append-nil, append_assoc, length-append}
 use Rattle.std.proofs.lemmas.Grind.{pow_more}
 use Rattle.std.proofs.Math.Nat.{pow-le-pow_right}
-use Rattle.tuple_codec.specs.Nodes.{Item, IsItem, Rise, RiseAfter, is_after, sized, item_bytes, items_bytes, header_bytes}
+use Rattle.tuple_codec.specs.Nodes.{Item, IsItem, Rise, RiseAfter, is_after, items_bytes, header_bytes}
 use Rattle.tuple_codec.specs.Trees.{AreRows, IsRow, bytes_of, closes, last_key, name, rows_in}
 use Rattle.node_format.proofs.BuildLemmas.{last_is}
-use Rattle.node_format.proofs.FieldLemmas.{wide16, wide64}
+use Rattle.node_format.proofs.FieldLemmas.{wide16}
 use Rattle.node_format.proofs.EndLemmas as rule
 use Rattle.tree_laws.proofs.Cuts.{closes_none, closes_one, some_before}
-use Rattle.tree_laws.proofs.StandingNodes.{items_cons as items_first, items_one as items_more, sized_length}
+use Rattle.tree_laws.proofs.StandingNodes.{HasFit, fit_last_key, item_size, items_count, items_cons as items_first, items_one as items_more}
 use Rattle.tree_laws.proofs.StandingLists.{name_key}
+use Rattle.tree_laws.proofs.StandingReads.{all_map}
 use Rattle.node_chunker.specs.Towers.{is_empty, pushes, ended_chunks}
 use Rattle.chunk_store.specs.Chunks.{Chunks, Extends}
 use Rattle.node_chunker.specs.Growth.{IsEntry, IsGrown, AreOpen, IsTopped, above_of, spread, last_after, IsWritable, FitsLevel, IsTower}
@@ -49,25 +49,13 @@ pub entry_rows : (level : ℕ) (item : Item) → IsEntry level item → 0 < item
 entry_rows zero item entry = omega (arith, entry.one)
 entry_rows (suc level) item entry = entry.2
 
-entry_size : (level : ℕ) (item : Item) → IsEntry level item → (4 ≤ length (item_bytes level item)) × (length (item_bytes level item) ≤ 32766)
-entry_size zero item entry =
-    let whole = length-append (sized item.key) (sized item.body) in
-    let key = sized_length item.key in
-    let body = sized_length item.body in
-    let few = entry.size in
-    (omega arith, omega arith)
-entry_size (suc level) item entry =
-    let whole = length-append (sized item.key ++ item.body) (to_be_bytes w64 item.rows) in
-    let front = length-append (sized item.key) item.body in
-    let key = sized_length item.key in
-    let rows = wide64.len item.rows in
-    let few = entry.0 in
-    let body = entry.1 in
-    (omega arith, omega arith)
+-- so it fits in the words of how trees are cut, whose sizes are known
+fits : (level : ℕ) (item : Item) → IsEntry level item → HasFit level item
+fits zero item entry = entry
+fits (suc level) item entry = entry
 
-four_each : (level : ℕ) (items : List Item) → AllByRecursion (IsEntry level) items → 4 * length items ≤ length (items_bytes level items)
-four_each level [] each = omega arith
-four_each level (x ∷ items) each = omega (arith, items_first level x items, (entry_size level x each.0).0, four_each level items each.1)
+pub all_fit : (level : ℕ) (items : List Item) → AllByRecursion (IsEntry level) items → AllByRecursion (HasFit level) items
+all_fit level items each = all_map (fits level) items each
 
 large_ends : (a : List ℕ → List ℕ) (level : ℕ) (items : List Item) → 2 ≤ length items → 16384 ≤ 4 + length (items_bytes level items) → closes a level items ≡ true
 unfolding closes
@@ -77,7 +65,7 @@ large_ends a level items many large = rule.full a level (4 + length (items_bytes
 pub open_small : (a : List ℕ → List ℕ) (level : ℕ) (held : List Item) → AllByRecursion (IsEntry level) held → closes a level held ≡ false
     → 4 + length (items_bytes level held) ≤ 32770
 open_small a level [] each over = omega arith
-open_small a level (x ∷ []) each over = omega (arith, items_first level x [], (entry_size level x each.0).1)
+open_small a level (x ∷ []) each over = omega (arith, items_first level x [], (item_size level x (fits level x each.0)).1)
 open_small a level (x ∷ y ∷ held) each over =
     elim (cases_lt (4 + length (items_bytes level (x ∷ y ∷ held))) 16384) [
       | inl small ↦ omega arith
@@ -131,7 +119,7 @@ items_are (suc level) (x ∷ items) each few =
 pub writable : (level : ℕ) (items : List Item) → AllByRecursion (IsEntry level) items → 4 + length (items_bytes level items) ≤ 65536 → Rise items
     → rows_in items < 2 ^ 63 → level < 256 → (0 < level → 0 < length items) → IsWritable level items
 writable level items each small rise few low some =
-    let many = four_each level items each in
+    let many = items_count level items (all_fit level items each) in
     record {
       node = record {
         header = record { level_fits = low; count_fits = omega arith; has_item = some };
@@ -139,14 +127,9 @@ writable level items each small rise few low some =
         keys = rise;
       };
       small = omega (arith, length-append (header_bytes level (length items)) (items_bytes level items), wide16.len (length items));
-      last = last_short items each;
+      last = fit_last_key level items (all_fit level items each);
       few = few;
     }
-  where
-    last_short : (list : List Item) → AllByRecursion (IsEntry level) list → length (last_key list) ≤ 4096
-    last_short [] all = omega arith
-    last_short (x ∷ []) all = entry_key level x all.0
-    last_short (x ∷ y ∷ list) all = last_short (y ∷ list) all.1
 
 pub entries : (level : ℕ) (items : List Item) → AllByRecursion (IsGrown level) items → AllByRecursion (IsEntry level) items
 entries level [] each = tt
@@ -164,7 +147,7 @@ pub more_writable : (a : List ℕ → List ℕ) (level : ℕ) (held : List Item)
     → closes a level held ≡ false → Rise (held ++ x ∷ []) → rows_in (held ++ x ∷ []) < 2 ^ 63 → level < 256 → IsWritable level (held ++ x ∷ [])
 more_writable a level held x each entry over rise few low =
     writable level (held ++ x ∷ []) (all_join (IsEntry level) held (x ∷ []) each (entry, tt))
-    (omega (arith, items_more level held x, open_small a level held each over, (entry_size level x entry).1)) rise few low
+    (omega (arith, items_more level held x, open_small a level held each over, (item_size level x (fits level x entry)).1)) rise few low
     (λ above. omega (arith, length-append held (x ∷ [])))
 
 -- ---- a push

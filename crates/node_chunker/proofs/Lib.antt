@@ -1,7 +1,10 @@
 pub mod TowerLemmas
 pub mod GrowthLemmas
 pub mod NodeLemmas
+pub mod LevelLemmas
+pub mod LeafLemmas
 pub mod ClosingLemmas
 pub mod ClimbLemmas
 pub mod RefLemmas
+pub mod LiftLemmas
 pub mod SubtreeLemmas

@@ -1,6 +1,6 @@
 -- Open nodes as the code keeps them: their items, and their sizes.
-use Rattle.std.proofs.Common.{◌≡◌, ◌≤◌, ◌<◌, ◌+◌, ℕ, zero, suc, List, [], ◌∷◌, ◌++◌, length, map, take, drop, get_or, sym, refl, ap, subst, ◌∙◌, arith}
-use Rattle.std.proofs.lemmas.List.{length-append, map-append, length-map, take-append-drop, take_more}
+use Rattle.std.proofs.Common.{◌≡◌, ◌≤◌, ◌<◌, ◌+◌, ℕ, zero, suc, List, [], ◌∷◌, ◌++◌, length, sym, refl, ap, subst, ◌∙◌, arith}
+use Rattle.std.proofs.lemmas.List.{length-append}
 use Rattle.std.specs.List.{AllByRecursion}
 use Rattle.std.specs.Prelude.{true}
 use Rattle.std.proofs.lemmas.Bool.{both_ways}
@@ -8,13 +8,9 @@ use Rattle.node_chunker.specs.Towers.{first_of, is_single}
 use Rattle.tuple_codec.specs.Nodes.{Item, IsItem, ends, item_bytes, items_bytes, header_bytes}
 use Rattle.tuple_codec.specs.Trees.{bytes_of, closes, last_key, name, rows_in}
 use Rattle.node_format.proofs.FieldLemmas.{wide16}
-use Rattle.node_format.specs.declared.items.LeafItem.{LeafItem}
-use Rattle.node_format.specs.declared.items.RefItem.{RefItem}
-use Rattle.node_format.specs.Views.{leaf_of, ref_of}
 use Rattle.chunk_store.specs.Kinds.{is_node}
 use Rattle.node_chunker.specs.Growth.{IsWritable}
 use Rattle.node_format.proofs.BuildLemmas.{last_is}
-use Rattle.node_chunker.proofs.GrowthLemmas.{rows_join}
 use Rattle.node_chunker.proofs.TowerLemmas.{all_split}
 use Rattle.tree_laws.proofs.StandingNodes.{items_one as items_more}
 
@@ -74,10 +70,6 @@ name_is a level held key body rows key_is body_is rows_is =
     ap by_key key_is ∙ ap by_body body_is ∙ ap by_rows rows_is
 
 -- ---- above the leaves, all levels have the same items
-
-pub item_same : (level : ℕ) (x : Item) → 0 < level → item_bytes level x ≡ item_bytes 1 x
-item_same zero x above = absurd (omega arith)
-item_same (suc level) x above = refl
 
 pub items_same : (level : ℕ) (items : List Item) → 0 < level → items_bytes level items ≡ items_bytes 1 items
 items_same zero items above = absurd (omega arith)

@@ -1,14 +1,15 @@
 -- A subtree pushed whole over levels that are empty: it counts as the rows below it.
-use Rattle.std.proofs.Common.{◌≡◌, ◌<◌, ℕ, zero, suc, false, cond, List, [], ◌∷◌, ◌++◌, length, map, sym, refl, ap, subst, ◌∙◌, arith}
+use Rattle.std.proofs.Common.{◌≡◌, ◌<◌, ◌+◌, ℕ, zero, suc, false, cond, List, [], ◌∷◌, ◌++◌, length, map, take, drop, replicate, sym, refl, ap, subst, ◌∙◌, arith}
 use Rattle.tuple_codec.specs.Nodes.{Item}
-use Rattle.tuple_codec.specs.Trees.{blank, bytes_of, cut, names, top}
+use Rattle.tuple_codec.specs.Trees.{blank, bytes_of, cut, inner_chunks, names, top}
 use Rattle.tree_laws.specs.Found.{left, lift, Ended}
 use Rattle.tree_laws.proofs.Cuts.{closes_one, cut_apart, names_apart}
-use Rattle.std.proofs.lemmas.List.{map-append}
+use Rattle.std.proofs.lemmas.List.{append-nil, map-append}
 use Rattle.chunk_store.specs.Chunks.{Chunks}
 use Rattle.chunk_store.specs.Standing.{AreHeld, IsThere}
 use Rattle.node_chunker.specs.Subtrees.{lift_chunks}
 use Rattle.node_chunker.specs.Towers.{is_empty, is_single, first_of, after, chunks_after, pushes, ended_chunks}
+use Rattle.node_chunker.specs.Growth.{spread}
 use Rattle.node_chunker.proofs.TowerLemmas.{all_join, all_split, never_empty, skip_left, after_push, held_push}
 
 -- so many empty nodes below
@@ -23,6 +24,30 @@ up (suc rise) level = up rise (suc level)
 pub some_under : (rise : ℕ) (nodes : List (List Item)) → is_empty nodes ≡ false → is_empty (under rise nodes) ≡ false
 some_under zero nodes some = some
 some_under (suc rise) nodes some = refl
+
+pub up_is : (rise level : ℕ) → up rise level ≡ level + rise
+up_is zero level = omega arith
+up_is (suc rise) level = omega (arith, up_is rise (suc level))
+
+pub spread_under : (rise : ℕ) (nodes : List (List Item)) → spread (under rise nodes) ≡ spread nodes
+spread_under zero nodes = refl
+spread_under (suc rise) nodes = append-nil (spread (under rise nodes)) ∙ spread_under rise nodes
+
+pub under_length : (rise : ℕ) (nodes : List (List Item)) → length (under rise nodes) ≡ rise + length nodes
+under_length zero nodes = omega arith
+under_length (suc rise) nodes = omega (arith, under_length rise nodes)
+
+pub under_none : (rise : ℕ) → replicate rise [] ≡ under rise []
+under_none zero = refl
+under_none (suc rise) = ap (λ l. [] ∷ l) (under_none rise)
+
+pub drop_under : (rise : ℕ) (nodes : List (List Item)) → drop rise (under rise nodes) ≡ nodes
+drop_under zero nodes = refl
+drop_under (suc rise) nodes = drop_under rise nodes
+
+pub take_under : (rise : ℕ) (nodes over : List (List Item)) → take rise (under rise nodes) ++ over ≡ under rise over
+take_under zero nodes over = refl
+take_under (suc rise) nodes over = ap (λ l. [] ∷ l) (take_under rise nodes over)
 
 module _ (a : List ℕ → List ℕ) where
   -- over levels that are empty, with one above that is not or has none
@@ -46,7 +71,7 @@ module _ (a : List ℕ → List ℕ) where
       (some_under rise over (never_empty a (up rise (suc level)) nodes x)))
 
   -- a list that ended has two items or more
-  pub ended_many : (level : ℕ) (items more : List Item) → 0 < length items → left a level [] items ≡ [] → is_single (items ++ more) ≡ false
+  ended_many : (level : ℕ) (items more : List Item) → 0 < length items → left a level [] items ≡ [] → is_single (items ++ more) ≡ false
   ended_many level [] more some over = absurd (omega arith)
   ended_many level (x ∷ []) more some over = absurd (cc (ap (λ b. cond b [] (x ∷ [])) (closes_one a level x), over))
   ended_many level (x ∷ y ∷ items) more some over = refl
@@ -70,7 +95,7 @@ module _ (a : List ℕ → List ℕ) where
   top_blank level (x ∷ []) some many = absurd (cc many)
   top_blank level (x ∷ y ∷ items) some many = refl
 
-  pub joined_some : (items more : List Item) → 0 < length items → 0 < length (items ++ more)
+  joined_some : (items more : List Item) → 0 < length items → 0 < length (items ++ more)
   joined_some [] more some = absurd (omega arith)
   joined_some (x ∷ items) more some = omega arith
 
@@ -90,6 +115,21 @@ module _ (a : List ℕ → List ℕ) where
       ∙ after_first rise turns (suc level) x (names a level (cut a level below)) (names a level (cut a level more)) ended.1 lifted
       ∙ sym (skip_left (is_empty (under rise ((x ∷ []) ∷ []))) (is_single more) (first_of more)
       (after a turns (suc level) (under rise ((x ∷ []) ∷ [])) (names a level (cut a level more))) (some_under rise ((x ∷ []) ∷ []) refl))
+
+  -- the nodes of a level, where the first of two lists ended
+  pub level_held : (c : Chunks) (level : ℕ) (below more : List Item) (above : List Item → List (List ℕ)) → left a level [] below ≡ []
+      → AreHeld a c (map (bytes_of level) (cut a level below)) → AreHeld a c (map (bytes_of level) (cut a level more))
+      → AreHeld a c (above (names a level (cut a level below) ++ names a level (cut a level more)))
+      → AreHeld a c (map (bytes_of level) (cut a level (below ++ more)) ++ above (names a level (cut a level (below ++ more))))
+  level_held c level below more above over here later rest =
+      let P : List (List ℕ) → Type 0 = AreHeld a c in
+      let first = map (bytes_of level) (cut a level below) in
+      let second = map (bytes_of level) (cut a level more) in
+      let cuts : map (bytes_of level) (cut a level (below ++ more)) ≡ first ++ second =
+      ap (map (bytes_of level)) (cut_apart a level [] below more over) ∙ map-append (bytes_of level) (cut a level below) (cut a level more) in
+      subst P (sym (ap (λ l. l ++ above (names a level (cut a level (below ++ more)))) cuts ∙ ap (λ l. (first ++ second) ++ above l) (names_apart a level below more over)))
+      (all_join (IsThere a c) (first ++ second) (above (names a level (cut a level below) ++ names a level (cut a level more)))
+      (all_join (IsThere a c) first second here later) rest)
 
   -- the nodes below it are held, and so are those that come
   pub held_ref : (c : Chunks) (rise turns level : ℕ) (nodes : List (List Item)) (x : Item) (below more : List Item) → is_empty nodes ≡ false
@@ -111,14 +151,44 @@ module _ (a : List ℕ → List ℕ) where
       let theirs = all_split (IsThere a c) later (chunks_after a turns (suc level) (under rise over) names_more)
       (subst P (skip_left (is_empty (under rise over)) (is_single more) [] (later ++ chunks_after a turns (suc level) (under rise over) names_more)
       (some_under rise over (never_empty a (up rise (suc level)) nodes x))) rest) in
-      let e = cut_apart a level [] below more ended.0 in
-      let cuts : map (bytes_of level) (cut a level (below ++ more)) ≡ lower ++ later =
-      ap (map (bytes_of level)) e ∙ map-append (bytes_of level) (cut a level below) (cut a level more) in
       subst P (sym (skip_left (is_empty (under rise nodes)) (is_single (below ++ more)) []
       (map (bytes_of level) (cut a level (below ++ more)) ++ chunks_after a turns (suc level) (under rise nodes) (names a level (cut a level (below ++ more))))
-      (some_under rise nodes some)
-      ∙ ap (λ l. l ++ chunks_after a turns (suc level) (under rise nodes) (names a level (cut a level (below ++ more)))) cuts
-      ∙ ap (λ l. lower ++ later ++ chunks_after a turns (suc level) (under rise nodes) l) (names_apart a level below more ended.0)))
-      (all_join (IsThere a c) (lower ++ later) (chunks_after a turns (suc level) (under rise nodes) (names_below ++ names_more))
-      (all_join (IsThere a c) lower later mine.0 theirs.0)
+      (some_under rise nodes some)))
+      (level_held c level below more (chunks_after a turns (suc level) (under rise nodes)) ended.0 mine.0 theirs.0
       (held_ref c rise turns (suc level) nodes x names_below names_more some ended.1 lifted mine.1 ends theirs.1))
+
+  -- and so where nothing was pushed before
+  no_chunks : (level : ℕ) (items : List Item) → inner_chunks a zero level items ≡ []
+  no_chunks level [] = refl
+  no_chunks level (x ∷ []) = refl
+  no_chunks level (x ∷ y ∷ items) = refl
+
+  many_chunks : (turns level : ℕ) (items : List Item) → 0 < length items → is_single items ≡ false
+      → inner_chunks a (suc turns) level items
+      ≡ map (bytes_of level) (cut a level items) ++ inner_chunks a turns (suc level) (names a level (cut a level items))
+  many_chunks turns level [] some many = absurd (omega arith)
+  many_chunks turns level (x ∷ []) some many = absurd (cc many)
+  many_chunks turns level (x ∷ y ∷ items) some many = refl
+
+  pub held_first : (c : Chunks) (rise turns level : ℕ) (x : Item) (below more : List Item) → Ended a rise level below → lift a rise level below ≡ x ∷ []
+      → AreHeld a c (lift_chunks a rise level below) → AreHeld a c (chunks_after a turns level (under rise ((x ∷ []) ∷ [])) more)
+      → AreHeld a c (inner_chunks a turns level (below ++ more))
+  held_first c zero turns level x below more ended lifted held rest =
+      let P : List Item → Type 0 = λ l. AreHeld a c (inner_chunks a turns level (l ++ more)) in
+      subst P (sym lifted) (held_push a c turns level [] x more tt rest)
+  held_first c (suc rise) zero level x below more ended lifted held rest =
+      let P : List (List ℕ) → Type 0 = AreHeld a c in
+      subst P (sym (no_chunks level (below ++ more))) tt
+  held_first c (suc rise) (suc turns) level x below more ended lifted held rest =
+      let over : List (List Item) = (x ∷ []) ∷ [] in
+      let nodes = cut a level below in
+      let later = map (bytes_of level) (cut a level more) in
+      let names_more = names a level (cut a level more) in
+      let P : List (List ℕ) → Type 0 = AreHeld a c in
+      let mine = all_split (IsThere a c) (map (bytes_of level) nodes) (lift_chunks a rise (suc level) (names a level nodes)) held in
+      let theirs = all_split (IsThere a c) later (chunks_after a turns (suc level) (under rise over) names_more)
+      (subst P (skip_left (is_empty (under rise over)) (is_single more) [] (later ++ chunks_after a turns (suc level) (under rise over) names_more) (some_under rise over refl)) rest) in
+      subst P (sym (many_chunks turns level (below ++ more) (joined_some below more (some_lifted (suc rise) level x below lifted))
+      (ended_many level below more (some_lifted (suc rise) level x below lifted) ended.0)))
+      (level_held c level below more (inner_chunks a turns (suc level)) ended.0 mine.0 theirs.0
+      (held_first c rise turns (suc level) x (names a level nodes) names_more ended.1 lifted mine.1 theirs.1))

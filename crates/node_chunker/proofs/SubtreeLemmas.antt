@@ -1,52 +1,26 @@
 -- A tower onto which a subtree was pushed whole has taken the rows below it.
-use Rattle.std.proofs.Common.{◌≡◌, ◌≤◌, ◌<◌, ◌+◌, ◌-◌, ℕ, zero, suc, true, false, cond, List, [], ◌∷◌, ◌++◌, length, map, take, drop, replicate, Option, None, Some, ◌⊎◌, inl, inr, sym, refl, ap, subst, ◌∙◌, arith}
+use Rattle.std.proofs.Common.{◌≡◌, ◌≤◌, ◌<◌, ◌+◌, ◌-◌, ℕ, zero, suc, true, false, List, [], ◌∷◌, ◌++◌, length, map, take, drop, replicate, Option, None, Some, ◌⊎◌, inl, inr, sym, refl, ap, subst, ◌∙◌, arith}
 use Rattle.std.specs.Prelude.{◌&&◌}
 use Rattle.std.specs.List.{AllByRecursion, list_all}
 use Rattle.std.proofs.lemmas.Bool.{and_parts}
-use Rattle.std.proofs.lemmas.List.{append-nil, append_assoc, length-append, map-append, nil_from_length}
-use Rattle.tuple_codec.specs.Nodes.{Item, Rise, RiseAfter, is_after}
-use Rattle.tuple_codec.specs.Trees.{AreRows, IsRow, bytes_of, closes, cut, cut_from, inner_chunks, last_key, name, names, rows_in, top}
-use Rattle.tree_laws.specs.Found.{left, lift, Ended}
-use Rattle.tree_laws.proofs.Cuts.{closes_none, cut_apart, names_apart}
+use Rattle.std.proofs.lemmas.List.{append-nil, append_assoc, length-append, nil_from_length}
+use Rattle.tuple_codec.specs.Nodes.{Item, Rise, is_after}
+use Rattle.tuple_codec.specs.Trees.{AreRows, IsRow, bytes_of, cut, inner_chunks, names, rows_in, top}
+use Rattle.tree_laws.proofs.Cuts.{closes_none, names_apart}
 use Rattle.tree_laws.proofs.Growing.{held_later}
-use Rattle.tree_laws.proofs.StandingLists.{name_key}
 use Rattle.chunk_store.specs.Chunks.{Chunks, Extends}
 use Rattle.chunk_store.specs.Standing.{AreHeld, IsThere}
-use Rattle.node_chunker.specs.Towers.{is_empty, is_single, after, chunks_after, row_top, row_chunks, chunks_after_rows, pushes, ended_chunks, Continues, KeepsNodes}
+use Rattle.node_chunker.specs.Towers.{is_empty, after, chunks_after, row_top, row_chunks, chunks_after_rows, pushes, ended_chunks, Continues, KeepsNodes}
 use Rattle.node_chunker.specs.Growth.{IsGrown, AreOpen, IsTopped, spread, last_after, FitsLevel, IsTower}
 use Rattle.node_chunker.specs.Steps.{IsPushedAt}
 use Rattle.node_chunker.specs.Subtrees.{IsSubtree, is_clear, lift_chunks}
-use Rattle.node_chunker.proofs.TowerLemmas.{all_join, all_split, extends_both, held_push, never_empty, skip_left}
-use Rattle.node_format.proofs.BuildLemmas.{last_is}
-use Rattle.node_chunker.proofs.GrowthLemmas.{name_rows, rows_join, name_grown, after_less, rise_split, rise_join, last_join, one_lower, found_named, AreNamed, open_push, rises_push, last_push, counted_push, topped_push}
-use Rattle.node_chunker.proofs.ClosingLemmas.{lower}
-use Rattle.node_chunker.proofs.RefLemmas.{under, up, some_under, some_lifted, joined_some, ended_many, after_ref, after_first, held_ref}
+use Rattle.node_chunker.proofs.TowerLemmas.{all_split, extends_both, never_empty}
+use Rattle.node_chunker.proofs.GrowthLemmas.{rows_join, rise_split, rise_join, last_join, one_lower, found_named, open_push, rises_push, last_push, counted_push, topped_push}
+use Rattle.node_chunker.proofs.LevelLemmas.{lower}
+use Rattle.node_chunker.proofs.LiftLemmas.{rows_grown, rows_count, rise_last, lift_rows, lift_last, lift_grown}
+use Rattle.node_chunker.proofs.RefLemmas.{under, up, some_under, up_is, spread_under, under_length, under_none, drop_under, take_under, some_lifted, after_ref, after_first, level_held, held_ref, held_first}
 
--- ---- empty levels
-
-up_is : (rise level : ℕ) → up rise level ≡ level + rise
-up_is zero level = omega arith
-up_is (suc rise) level = omega (arith, up_is rise (suc level))
-
-spread_under : (rise : ℕ) (nodes : List (List Item)) → spread (under rise nodes) ≡ spread nodes
-spread_under zero nodes = refl
-spread_under (suc rise) nodes = append-nil (spread (under rise nodes)) ∙ spread_under rise nodes
-
-under_length : (rise : ℕ) (nodes : List (List Item)) → length (under rise nodes) ≡ rise + length nodes
-under_length zero nodes = omega arith
-under_length (suc rise) nodes = omega (arith, under_length rise nodes)
-
-under_none : (rise : ℕ) → replicate rise [] ≡ under rise []
-under_none zero = refl
-under_none (suc rise) = ap (λ l. [] ∷ l) (under_none rise)
-
-drop_under : (rise : ℕ) (nodes : List (List Item)) → drop rise (under rise nodes) ≡ nodes
-drop_under zero nodes = refl
-drop_under (suc rise) nodes = drop_under rise nodes
-
-take_under : (rise : ℕ) (nodes over : List (List Item)) → take rise (under rise nodes) ++ over ≡ under rise over
-take_under zero nodes over = refl
-take_under (suc rise) nodes over = ap (λ l. [] ∷ l) (take_under rise nodes over)
+-- ---- levels that are opened
 
 -- one more level is opened
 pub one_level : {X : Type 0} (items : List (List X)) (count : ℕ) → length items < count
@@ -68,136 +42,7 @@ clear_levels level leaf inner some =
     let e : level ≡ suc (level - 1) = omega arith in
     ap (λ n. list_all is_empty (take n (leaf ∷ inner))) e
 
--- ---- what items are lifted to
-
-rows_grown : (rows : List Item) → AllByRecursion IsRow rows → AllByRecursion (IsGrown 0) rows
-rows_grown [] each = tt
-rows_grown (row ∷ rows) each = let one = each.0.one in ((each.0, omega arith), rows_grown rows each.1)
-
-rows_count : (rows : List Item) → AllByRecursion IsRow rows → rows_in rows ≡ length rows
-rows_count [] each = refl
-rows_count (row ∷ rows) each = omega (arith, each.0.one, rows_count rows each.1)
-
-last_known : (before : Option (List ℕ)) (first : Item) (items : List Item) → last_after before (first ∷ items) ≡ Some (last_key (first ∷ items))
-last_known before first [] = refl
-last_known before first (next ∷ items) = last_known (Some first.key) next items
-
--- the last of rising keys is after what is before the first
-rise_last : (before : Option (List ℕ)) (items : List Item) (k : List ℕ) → 0 < length items → RiseAfter before items → last_after before items ≡ Some k
-    → is_after before k ≡ true
-rise_last before [] k some rise last = absurd (omega arith)
-rise_last before (x ∷ []) k some rise last =
-    let e : x.key ≡ k = cc last in
-    subst (λ key. is_after before key ≡ true) e rise.0
-rise_last before (x ∷ y ∷ items) k some rise last = after_less before x.key k rise.0 (rise_last (Some x.key) (y ∷ items) k (omega arith) rise.1 last)
-
 module _ (a : List ℕ → List ℕ) where
-  cut_rows : (level : ℕ) (held items : List Item) → rows_in (names a level (cut_from a level held items)) ≡ rows_in (held ++ items)
-  cut_rows level [] [] = refl
-  cut_rows level (first ∷ held) [] = omega (arith, name_rows a level (first ∷ held), rows_join held [])
-  cut_rows level held (item ∷ items) =
-      elim (closes a level (held ++ item ∷ [])) as (λ b.
-      rows_in (names a level (cond b ((held ++ item ∷ []) ∷ cut_from a level [] items) (cut_from a level (held ++ item ∷ []) items))) ≡ rows_in (held ++ item ∷ items)) [
-        | true ↦ omega (arith, name_rows a level (held ++ item ∷ []), cut_rows level [] items, rows_join held (item ∷ []), rows_join held (item ∷ items))
-        | false ↦ omega (arith, cut_rows level (held ++ item ∷ []) items, rows_join (held ++ item ∷ []) items, rows_join held (item ∷ []), rows_join held (item ∷ items))
-      ]
-
-  lift_rows : (rise level : ℕ) (items : List Item) → rows_in (lift a rise level items) ≡ rows_in items
-  lift_rows zero level items = refl
-  lift_rows (suc rise) level items = lift_rows rise (suc level) (names a level (cut a level items)) ∙ cut_rows level [] items
-
-  cut_last : (level : ℕ) (before : Option (List ℕ)) (held items : List Item)
-      → last_after before (names a level (cut_from a level held items)) ≡ last_after before (held ++ items)
-  cut_last level before [] [] = refl
-  cut_last level before (first ∷ held) [] =
-      ap (λ k. Some k) (name_key a level (first ∷ held)) ∙ sym (last_known before first held) ∙ ap (λ l. last_after before (first ∷ l)) (sym (append-nil held))
-  cut_last level before held (item ∷ items) =
-      elim (closes a level (held ++ item ∷ [])) as (λ b.
-      last_after before (names a level (cond b ((held ++ item ∷ []) ∷ cut_from a level [] items) (cut_from a level (held ++ item ∷ []) items))) ≡ last_after before (held ++ item ∷ items)) [
-        | true ↦ cut_last level (Some (name a level (held ++ item ∷ [])).key) [] items
-            ∙ ap (λ k. last_after (Some k) items) (name_key a level (held ++ item ∷ []) ∙ last_is held item)
-            ∙ sym (last_join before held (item ∷ items))
-        | false ↦ cut_last level before (held ++ item ∷ []) items ∙ ap (last_after before) (append_assoc held (item ∷ []) items)
-      ]
-
-  lift_last : (rise level : ℕ) (before : Option (List ℕ)) (items : List Item) → last_after before (lift a rise level items) ≡ last_after before items
-  lift_last zero level before items = refl
-  lift_last (suc rise) level before items = lift_last rise (suc level) before (names a level (cut a level items)) ∙ cut_last level before [] items
-
-  cut_grown : (level : ℕ) (held items : List Item) → AllByRecursion (IsGrown level) held → AllByRecursion (IsGrown level) items → left a level held items ≡ []
-      → AreNamed a (map (bytes_of level) (cut_from a level held items)) → AllByRecursion (IsGrown (suc level)) (names a level (cut_from a level held items))
-  cut_grown level [] [] before each over named = tt
-  cut_grown level (first ∷ held) [] before each over named = absurd (cc over)
-  cut_grown level held (item ∷ items) before each over named =
-      let node = held ++ item ∷ [] in
-      elim (closes a level node) as (λ b. closes a level node ≡ b → cond b (left a level [] items) (left a level node items) ≡ []
-      → AreNamed a (map (bytes_of level) (cond b (node ∷ cut_from a level [] items) (cut_from a level node items)))
-      → AllByRecursion (IsGrown (suc level)) (names a level (cond b (node ∷ cut_from a level [] items) (cut_from a level node items)))) [
-        | true ↦ λ e o n. (name_grown a level held item before each.0 e n.0, cut_grown level [] items tt each.1 o n.1)
-        | false ↦ λ e o n. cut_grown level node items (all_join (IsGrown level) held (item ∷ []) before (each.0, tt)) each.1 o n
-      ] refl over named
-
-  lift_grown : (c : Chunks) (rise level : ℕ) (items : List Item) → AllByRecursion (IsGrown level) items → Ended a rise level items
-      → AreHeld a c (lift_chunks a rise level items) → AllByRecursion (IsGrown (up rise level)) (lift a rise level items)
-  lift_grown c zero level items each ended held = each
-  lift_grown c (suc rise) level items each ended held =
-      let nodes = cut a level items in
-      let here = all_split (IsThere a c) (map (bytes_of level) nodes) (lift_chunks a rise (suc level) (names a level nodes)) held in
-      lift_grown c rise (suc level) (names a level nodes)
-      (cut_grown level [] items tt each ended.0 (found_named a c (map (bytes_of level) nodes) here.0)) ended.1 here.1
-
-  -- ---- where nothing was pushed before
-
-  no_chunks : (level : ℕ) (items : List Item) → inner_chunks a zero level items ≡ []
-  no_chunks level [] = refl
-  no_chunks level (x ∷ []) = refl
-  no_chunks level (x ∷ y ∷ items) = refl
-
-  many_chunks : (turns level : ℕ) (items : List Item) → 0 < length items → is_single items ≡ false
-      → inner_chunks a (suc turns) level items
-      ≡ map (bytes_of level) (cut a level items) ++ inner_chunks a turns (suc level) (names a level (cut a level items))
-  many_chunks turns level [] some many = absurd (omega arith)
-  many_chunks turns level (x ∷ []) some many = absurd (cc many)
-  many_chunks turns level (x ∷ y ∷ items) some many = refl
-
-  -- the nodes of a level, where the first of two lists ended
-  level_held : (c : Chunks) (level : ℕ) (below more : List Item) (above : List Item → List (List ℕ)) → left a level [] below ≡ []
-      → AreHeld a c (map (bytes_of level) (cut a level below)) → AreHeld a c (map (bytes_of level) (cut a level more))
-      → AreHeld a c (above (names a level (cut a level below) ++ names a level (cut a level more)))
-      → AreHeld a c (map (bytes_of level) (cut a level (below ++ more)) ++ above (names a level (cut a level (below ++ more))))
-  level_held c level below more above over here later rest =
-      let P : List (List ℕ) → Type 0 = AreHeld a c in
-      let first = map (bytes_of level) (cut a level below) in
-      let second = map (bytes_of level) (cut a level more) in
-      let cuts : map (bytes_of level) (cut a level (below ++ more)) ≡ first ++ second =
-      ap (map (bytes_of level)) (cut_apart a level [] below more over) ∙ map-append (bytes_of level) (cut a level below) (cut a level more) in
-      subst P (sym (ap (λ l. l ++ above (names a level (cut a level (below ++ more)))) cuts ∙ ap (λ l. (first ++ second) ++ above l) (names_apart a level below more over)))
-      (all_join (IsThere a c) (first ++ second) (above (names a level (cut a level below) ++ names a level (cut a level more)))
-      (all_join (IsThere a c) first second here later) rest)
-
-  held_first : (c : Chunks) (rise turns level : ℕ) (x : Item) (below more : List Item) → Ended a rise level below → lift a rise level below ≡ x ∷ []
-      → AreHeld a c (lift_chunks a rise level below) → AreHeld a c (chunks_after a turns level (under rise ((x ∷ []) ∷ [])) more)
-      → AreHeld a c (inner_chunks a turns level (below ++ more))
-  held_first c zero turns level x below more ended lifted held rest =
-      let P : List Item → Type 0 = λ l. AreHeld a c (inner_chunks a turns level (l ++ more)) in
-      subst P (sym lifted) (held_push a c turns level [] x more tt rest)
-  held_first c (suc rise) zero level x below more ended lifted held rest =
-      let P : List (List ℕ) → Type 0 = AreHeld a c in
-      subst P (sym (no_chunks level (below ++ more))) tt
-  held_first c (suc rise) (suc turns) level x below more ended lifted held rest =
-      let over : List (List Item) = (x ∷ []) ∷ [] in
-      let nodes = cut a level below in
-      let later = map (bytes_of level) (cut a level more) in
-      let names_more = names a level (cut a level more) in
-      let P : List (List ℕ) → Type 0 = AreHeld a c in
-      let mine = all_split (IsThere a c) (map (bytes_of level) nodes) (lift_chunks a rise (suc level) (names a level nodes)) held in
-      let theirs = all_split (IsThere a c) later (chunks_after a turns (suc level) (under rise over) names_more)
-      (subst P (skip_left (is_empty (under rise over)) (is_single more) [] (later ++ chunks_after a turns (suc level) (under rise over) names_more) (some_under rise over refl)) rest) in
-      subst P (sym (many_chunks turns level (below ++ more) (joined_some a below more (some_lifted a (suc rise) level x below lifted))
-      (ended_many a level below more (some_lifted a (suc rise) level x below lifted) ended.0)))
-      (level_held c level below more (inner_chunks a turns (suc level)) ended.0 mine.0 theirs.0
-      (held_first c rise turns (suc level) x (names a level nodes) names_more ended.1 lifted mine.1 theirs.1))
-
   -- ---- the tower
 
   -- levels from one on, over empty ones, to which these rows were pushed
@@ -218,7 +63,7 @@ module _ (a : List ℕ → List ℕ) where
 
   topped_from : (rise : ℕ) (nodes : List (List Item)) → IsTopped (under rise nodes) → IsTopped nodes
   topped_from zero nodes topped = topped
-  topped_from (suc rise) nodes topped = topped_from rise nodes (lower a [] (under rise nodes) topped)
+  topped_from (suc rise) nodes topped = topped_from rise nodes (lower [] (under rise nodes) topped)
 
   topped_under : (rise : ℕ) (nodes : List (List Item)) → is_empty nodes ≡ false → IsTopped nodes → IsTopped (under rise nodes)
   topped_under zero nodes some topped = topped
@@ -253,12 +98,12 @@ module _ (a : List ℕ → List ℕ) where
     some_below = some_lifted a (suc place) 0 x below sub.named
 
     last_below : (before : Option (List ℕ)) → last_after before below ≡ Some x.key
-    last_below before = sym (lift_last (suc place) 0 before below) ∙ ap (last_after before) sub.named
+    last_below before = sym (lift_last a (suc place) 0 before below) ∙ ap (last_after before) sub.named
 
     rows_below : x.rows ≡ length below
     rows_below =
         let each = all_split IsRow rows below follow.each in
-        let lifted : x.rows + 0 ≡ rows_in below = sym (ap rows_in sub.named) ∙ lift_rows (suc place) 0 below in
+        let lifted : x.rows + 0 ≡ rows_in below = sym (ap rows_in sub.named) ∙ lift_rows a (suc place) 0 below in
         omega (arith, rows_count below each.1)
 
     pub ref_fits : (nodes : List (List Item)) → IsOver (suc place) nodes rows → FitsLevel a (suc place) nodes x
@@ -269,7 +114,7 @@ module _ (a : List ℕ → List ℕ) where
         let P : List Item → Type 0 = λ items. AllByRecursion (IsGrown (up (suc place) 0)) items in
         let Q : ℕ → Type 0 = λ n. IsGrown n x in
         let R : Option (List ℕ) → Type 0 = λ k. is_after k x.key ≡ true in
-        let one = subst P sub.named (lift_grown c (suc place) 0 below (rows_grown below each.1) sub.ended sub.held) in
+        let one = subst P sub.named (lift_grown a c (suc place) 0 below (rows_grown below each.1) sub.ended sub.held) in
         let counted = over.counted in
         let few = follow.few in
         let mine = rows_below in
@@ -317,7 +162,7 @@ module _ (a : List ℕ → List ℕ) where
           let theirs = all_split (IsThere a later) (map (bytes_of 0) (cut a 0 more)) (chunks_after a turns 1 (under place over) names_more) (subst R e rest) in
           subst P (sym (append_assoc rows below more))
           (before later (extends_both c new later grow extends) turns (below ++ more)
-          (level_held later 0 below more (chunks_after a turns 1 (under place nodes)) sub.ended.0 mine.0 theirs.0
+          (level_held a later 0 below more (chunks_after a turns 1 (under place nodes)) sub.ended.0 mine.0 theirs.0
           (held_ref a later place turns 1 nodes x names_below names_more some sub.ended.1 sub.named mine.1
           (subst Q e (held_later a new later extends (ended_chunks a (suc place) nodes x) put)) theirs.1)))
 
@@ -325,8 +170,8 @@ module _ (a : List ℕ → List ℕ) where
       kept_first later extends turns more rest =
           let mine = sub_later later extends in
           let theirs = all_split (IsThere a later) (map (bytes_of 0) (cut a 0 more)) (chunks_after a turns 1 (under place ((x ∷ []) ∷ [])) (names a 0 (cut a 0 more))) rest in
-          level_held later 0 below more (inner_chunks a turns 1) sub.ended.0 mine.0 theirs.0
-          (held_first later place turns 1 x (names a 0 (cut a 0 below)) (names a 0 (cut a 0 more)) sub.ended.1 sub.named mine.1 theirs.1)
+          level_held a later 0 below more (inner_chunks a turns 1) sub.ended.0 mine.0 theirs.0
+          (held_first a later place turns 1 x (names a 0 (cut a 0 below)) (names a 0 (cut a 0 more)) sub.ended.1 sub.named mine.1 theirs.1)
 
       tower_over : (nodes : List (List Item)) → IsOver (suc place) nodes rows → AreHeld a new (ended_chunks a (suc place) nodes x)
           → Continues a (under (suc place) (pushes a (suc place) nodes x)) (rows ++ below)
@@ -428,9 +273,6 @@ module _ (a : List ℕ → List ℕ) where
 
     sub_here : IsSubtree a c (suc place) x below
     sub_here = subst (λ n. IsSubtree a c n x below) is sub
-
-    pub place_within : place ≤ length now
-    place_within = omega (arith, ap length here.are, under_length place here.nodes)
 
     pub place_fits : FitsLevel a (suc place) (drop place now) x
     place_fits =

@@ -26,9 +26,11 @@ pub(crate) fn put_chunk<D: Digester>(
     draft.put(bytes)
 }
 
-/// A copy of a key, in room that an earlier one had: the room is left without memory, until the key's is given back to it.
-pub(crate) fn copied_into(room: &mut Vec<u8>, key: &[u8]) -> Result<Blob, AllocError>
-    ensures { IfOk result (λ copy. copy ≡ key.now) }
+/// A copy of a key, in room that an earlier one had: so the names of nodes, which come one after another, have their keys in memory
+/// that is taken once. The room is left without memory, until the copy's is given back to it ([`Blob::into_vec`]).
+pub fn copied_into(room: &mut Vec<u8>, key: &[u8]) -> Result<Blob, AllocError>
+    ensures copy { IfOk result (λ copy. copy ≡ key.now) }
+    ensures left { room.new.items ≡ [] }
 {
     let none = Vec::new(*room.allocator());
     let mut copy = mem::replace(room, none);

@@ -1,6 +1,6 @@
 //! Closing the open nodes of a tower, from the lowest inner level up.
 
-ghost use Rattle.std.specs.Prelude.{◌≡◌, ◌<◌, ◌++◌, false, List, IfOk, IfErr, OnOk, option_map, option_to_list};
+ghost use Rattle.std.specs.Prelude.{◌≡◌, ◌<◌, ◌++◌, false, List, IfOk, IfErr, option_map, option_to_list};
 ghost use Rattle.tuple_codec.specs.Nodes.{Item};
 ghost use Rattle.node_format.specs.Views.{ref_of};
 ghost use Rattle.chunk_store.specs.Drafts.{Grows, chunks_of};
@@ -27,8 +27,8 @@ pub(crate) enum Closed {
 
 /// Closes the open nodes from level 1 up, the leaf having left a name or none: the root's address.
 pub(crate) fn close_levels<D: Digester>(
-    inner: Vec<OpenInner>,
-    room: Vec<u8>,
+    mut inner: Vec<OpenInner>,
+    mut room: Vec<u8>,
     draft: &mut Draft<D>,
     named: Option<RefItem>,
 ) -> Result<Address, PutFault>
@@ -38,18 +38,14 @@ pub(crate) fn close_levels<D: Digester>(
     ensures grows { Grows is_node draft.old draft.new }
     ensures cause { IfErr result (IsReason D.address (chunks_of draft.new.chunks)) }
 {
-    let mut inner = inner;
-    let mut room = room;
     let mut carry = named;
-    let mut at = 0;
-    'levels: while at < inner.len() {
+    for at in 0..inner.len() {
         let level = at as u8 + 1;
         let is_last = at + 1 == inner.len();
         match close_level(&mut room, &mut inner[at], draft, level, is_last, carry)? {
             Closed::Root(root) => return Ok(root),
             Closed::Below(named) => carry = named,
         }
-        at += 1;
     }
     match carry {
         Some(item) => Ok(item.address),

@@ -1,6 +1,6 @@
 //! The open node of a tower at a level above the leaves.
 
-ghost use Rattle.std.specs.Prelude.{◌≡◌, ◌≤◌, ◌<◌, ◌++◌, [], ◌∷◌, Some, None, false, ◌&&◌, if◌then◌else◌, length, map, IfOk, IfErr, OnOk, option_map, option_to_list};
+ghost use Rattle.std.specs.Prelude.{◌≡◌, ◌<◌, ◌++◌, [], ◌∷◌, Some, None, false, ◌&&◌, if◌then◌else◌, IfOk, IfErr, OnOk, option_map, option_to_list};
 ghost use Rattle.tuple_codec.specs.Nodes.{IsItem};
 ghost use Rattle.tuple_codec.specs.Trees.{closes};
 ghost use Rattle.node_format.specs.Outlasting.{Outlasts};
@@ -79,14 +79,7 @@ impl OpenInner {
     pub(crate) fn root(&self, is_last: bool) -> Option<Address>
         ensures { option_map (λ address. address.0) result ≡ (if is_last && is_single self.now then Some (first_of self.now).body else None) }
     {
-        if is_last { self.only() } else { None }
-    }
-
-    /// The address in the one name that the node has, if it has one.
-    fn only(&self) -> Option<Address>
-        ensures { option_map (λ address. address.0) result ≡ (if is_single self.now then Some (first_of self.now).body else None) }
-    {
-        if self.node.count() == 1 {
+        if is_last && self.node.count() == 1 {
             Some(self.last)
         } else {
             None
@@ -150,14 +143,11 @@ impl OpenInner {
         requires fits { is_empty (self.old ++ option_to_list (option_map ref_of carry)) ≡ false → IsWritable level (self.old ++ option_to_list (option_map ref_of carry)) }
         ensures { OnOk result (self.new ≡ self.old ++ option_to_list (option_map ref_of carry)) }
     {
-        match carry {
-            Some(item) => {
-                self.add(level, &item)?;
-                *room = item.key.into_vec();
-                Ok(())
-            }
-            None => Ok(()),
+        if let Some(item) = carry {
+            self.add(level, &item)?;
+            *room = item.key.into_vec();
         }
+        Ok(())
     }
 
     fn add(&mut self, level: u8, item: &RefItem) -> Result<(), AllocError>

@@ -1,6 +1,6 @@
 //! The open leaf of a tower.
 
-ghost use Rattle.std.specs.Prelude.{◌≡◌, ◌++◌, [], ◌∷◌, map, IfOk, IfErr, OnOk, option_map};
+ghost use Rattle.std.specs.Prelude.{◌≡◌, ◌++◌, [], ◌∷◌, IfOk, IfErr, OnOk, option_map};
 ghost use Rattle.tuple_codec.specs.Nodes.{leaf_item};
 ghost use Rattle.tuple_codec.specs.Trees.{closes};
 ghost use Rattle.node_format.specs.Outlasting.{Outlasts};

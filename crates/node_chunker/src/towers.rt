@@ -23,7 +23,7 @@ use chunk_store::{Draft, PutFault};
 use node_format::RefItem;
 use std::alloc::{AllocError, Global};
 use std::marker::Model;
-use tuple_codec::{Address, Blob, Digester};
+use tuple_codec::{Address, Digester};
 
 /// The levels above the leaves for which a new tower has room.
 const LEVELS: usize = 8;
@@ -230,8 +230,7 @@ fn push_name<D: Digester>(
     ensures cause { IfErr result (IsReason D.address (chunks_of draft.new.chunks)) }
 {
     let mut item = named;
-    let mut at = place;
-    'levels: while at < inner.len() {
+    for at in place..inner.len() {
         let level = at as u8 + 1;
         match inner[at].push(room, draft, level, &item, 0)? {
             None => {
@@ -240,7 +239,6 @@ fn push_name<D: Digester>(
             }
             Some(named) => item = named,
         }
-        at += 1;
     }
     begin_level(inner, &item)?;
     *room = item.key.into_vec();

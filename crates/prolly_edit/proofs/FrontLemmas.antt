@@ -4,7 +4,6 @@ use Rattle.std.specs.List.{AllByRecursion}
 use Rattle.std.proofs.Math.Dec.{eqb-suc-zero}
 use Rattle.tuple_codec.specs.Nodes.{Item, Node}
 use Rattle.chunk_store.specs.Chunks.{Chunks}
-use Rattle.chunk_store.specs.Kinds.{is_node}
 use Rattle.tree_laws.specs.Found.{ButLast, IsCanonical, IsEnded, IsOrdered, Nodes, each_of, nodes_in, rows_at}
 use Rattle.tree_laws.specs.Standing.{IsNodeFound}
 use Rattle.tree_laws.proofs.StandingReads.{items_there}
@@ -18,21 +17,9 @@ front_last [] step = sym (append-nil (on_level step.level step.items))
 front_last (first ∷ steps) step =
     ap (λ (l : Front). l ++ on_level first.level first.items) (front_last steps step) ∙ append_assoc (on_level step.level step.items) (front_of steps) (on_level first.level first.items)
 
-pub names_last : (steps : List Node) (step : Node) → HaveNames steps → 0 < length step.items → HaveNames (steps ++ step ∷ [])
-names_last [] step have some = (some, tt)
-names_last (first ∷ steps) step have some = (have.0, names_last steps step have.1 some)
-
-pub names_split : (steps : List Node) (step : Node) → HaveNames (steps ++ step ∷ []) → HaveNames steps × (0 < length step.items)
-names_split [] step have = (tt, have.0)
-names_split (first ∷ steps) step have = let more = names_split steps step have.1 in ((have.0, more.0), more.1)
-
 pub over_is : (level : ℕ) (items : List Item) → is_over (on_level level items) ≡ (length items == 0)
 over_is level [] = refl
 over_is level (item ∷ items) = sym (eqb-suc-zero (length items))
-
-pub some_left : (level : ℕ) (items : List Item) → is_over (on_level level items) ≡ false → 0 < length items
-some_left level [] over = absurd cc
-some_left level (item ∷ items) over = omega arith
 
 -- a path without a step has no node left, and one with a step has
 pub over_path : (steps : List Node) → HaveNames steps → is_over (front_of steps) ≡ (length steps == 0)

@@ -1,8 +1,8 @@
 -- Of a list that is cut into one node, no item but the last ends it.
 use Rattle.std.proofs.Common.{◌≡◌, ◌+◌, ◌<◌, ◌≤◌, ℕ, zero, suc, true, false, List, [], ◌∷◌, ◌++◌, length, take, drop, Some, subst, sym, ap, refl, ◌∙◌, append_assoc, inl, inr, arith}
 use Rattle.std.proofs.lemmas.Bool.{cases_Bool}
-use Rattle.tuple_codec.specs.Nodes.{Item, ends, item_bytes, items_bytes, leaf_item}
-use Rattle.tuple_codec.specs.Trees.{bytes_of, closes, cut, cut_from, last_key, name, names}
+use Rattle.tuple_codec.specs.Nodes.{Item, ends, item_bytes, items_bytes}
+use Rattle.tuple_codec.specs.Trees.{bytes_of, closes, cut, cut_from, last_key, names}
 use Rattle.tree_laws.proofs.StandingLists.{cut_some, names_length}
 use Rattle.tree_laws.proofs.StandingReads.{items_there}
 use Rattle.tree_laws.proofs.StandingNodes.{bytes_length, items_one as items_more}
@@ -10,9 +10,6 @@ use Rattle.tree_laws.specs.Found.{IsCanonical, nodes_in}
 use Rattle.tree_laws.specs.Standing.{IsNodeFound}
 use Rattle.tree_laws.proofs.StandingCuts.{cut_open as goes_on}
 use Rattle.std.specs.Prelude.{slice_get}
-use Rattle.std.specs.Int.{w16, w64, to_be_bytes}
-use Rattle.node_format.proofs.FieldLemmas.{wide16, wide64}
-use Rattle.std.proofs.lemmas.Option.{slice_get_within}
 use Rattle.std.proofs.lemmas.List.{length-append, length-take-le, take-append-drop}
 use Rattle.std.proofs.lemmas.Grind.{flat_map-append}
 use Rattle.basic_laws.proofs.Options.{some_is}
@@ -79,17 +76,6 @@ size_next level items at item size more here more_is size_is =
 
 pub size_within : (level : ℕ) (items : List Item) (n : ℕ) → length (bytes_of level items) ≤ 65536 → 4 + length (items_bytes level (take n items)) ≤ 65536
 size_within level items n small = omega (arith, bytes_length level items, items_part level items n)
-
--- a name's size
-pub name_size : (level : ℕ) (item : Item) → 0 < level → length item.body ≡ 20 → length (item_bytes level item) ≡ 30 + length item.key
-name_size zero item above body = absurd (omega arith)
-name_size (suc level) item above body =
-    omega (
-      arith,
-      length-append (item.key ++ item.body) (to_be_bytes w64 item.rows),
-      length-append item.key item.body,
-      wide64.len item.rows,
-    )
 
 -- an item that isn't the last doesn't end its node where it stands
 pub open_ends : (a : List ℕ → List ℕ) (level : ℕ) (items : List Item) (at size count : ℕ) (item : Item) → StaysOpen a level items → slice_get items at ≡ Some item

@@ -1,5 +1,5 @@
 -- The names that are left of an inner node's bytes.
-use Rattle.std.proofs.Common.{◌≡◌, ◌+◌, ◌-◌, ◌<◌, ◌≤◌, ◌^◌, ℕ, zero, suc, false, List, [], ◌∷◌, ◌++◌, length, take, drop, drop-drop, subst, sym, ap, refl, ◌∙◌, append_assoc, arith}
+use Rattle.std.proofs.Common.{◌≡◌, ◌+◌, ◌<◌, ◌≤◌, ℕ, zero, suc, false, List, [], ◌∷◌, ◌++◌, length, take, drop, drop-drop, subst, sym, ap, refl, ◌∙◌, append_assoc, arith}
 use Rattle.std.specs.List.{AllByRecursion}
 use Rattle.std.proofs.lemmas.List.{length-append, length-drop}
 use Rattle.std.proofs.lemmas.List.Concat.{flat_map-cons}
@@ -11,7 +11,6 @@ use Rattle.node_format.proofs.BuildLemmas.{header_length, items_again, last_is}
 use Rattle.tree_laws.proofs.StandingNodes.{items_one}
 use Rattle.prolly_edit.specs.Keeping.{StaysOpen}
 use Rattle.prolly_edit.specs.Names.{AreLeft, StaysFrom, names_from}
-use Rattle.prolly_edit.proofs.KeepLemmas.{name_size}
 
 -- ---- what the place of each tells
 
@@ -83,63 +82,60 @@ module _ (a : List ℕ → List ℕ) (level taken left start : ℕ) (bytes : Lis
   pub first_there : drop start bytes ≡ item_bytes (suc level) item ++ items_bytes (suc level) items
   first_there = are.spelled ∙ flat_map-cons (item_bytes (suc level)) item items
 
-  pub first_size : length (item_bytes (suc level) item) ≡ 30 + length item.key
-  first_size = name_size (suc level) item (omega arith) are.each.0.1
-
-  pub first_within : start + 30 + length item.key ≤ length bytes
+  pub first_within : start + length (item_bytes (suc level) item) ≤ length bytes
   first_within =
       omega (
         arith,
-        first_size,
         are.within,
         length-drop start bytes,
         ap length first_there,
         length-append (item_bytes (suc level) item) (items_bytes (suc level) items),
       )
 
-  pub first_stays : 1 < left → ends a (suc level) (start + 30 + length item.key) (taken + 1) item.key ≡ false
+  pub first_stays : 1 < left → ends a (suc level) (start + length (item_bytes (suc level) item)) (taken + 1) item.key ≡ false
   first_stays more = by items are.many are.stays where
-    by : (items : List Item) → length (item ∷ items) ≡ left → StaysFrom a (suc level) start taken (item ∷ items) → ends a (suc level) (start + 30 + length item.key) (taken + 1) item.key ≡ false
+    by : (items : List Item) → length (item ∷ items) ≡ left → StaysFrom a (suc level) start taken (item ∷ items) → ends a (suc level) (start + length (item_bytes (suc level) item)) (taken + 1) item.key ≡ false
     by [] many stays = absurd (omega (arith, many, more))
-    by (other ∷ items) many stays =
-        let e : start + 30 + length item.key ≡ start + length (item_bytes (suc level) item) = omega (arith, first_size) in
-        ap (λ n. ends a (suc level) n (taken + 1) item.key) e ∙ stays.0
+    by (other ∷ items) many stays = stays.0
 
-  others_stay : StaysFrom a (suc level) (start + 30 + length item.key) (taken + 1) items
+  others_stay : StaysFrom a (suc level) (start + length (item_bytes (suc level) item)) (taken + 1) items
   others_stay = by items are.stays where
-    by : (items : List Item) → StaysFrom a (suc level) start taken (item ∷ items) → StaysFrom a (suc level) (start + 30 + length item.key) (taken + 1) items
+    by : (items : List Item) → StaysFrom a (suc level) start taken (item ∷ items) → StaysFrom a (suc level) (start + length (item_bytes (suc level) item)) (taken + 1) items
     by [] stays = tt
-    by (other ∷ items) stays =
-        let e : start + length (item_bytes (suc level) item) ≡ start + 30 + length item.key = omega (arith, first_size) in
-        subst (λ n. StaysFrom a (suc level) n (taken + 1) (other ∷ items)) e stays.1
+    by (other ∷ items) stays = stays.1
 
-  pub others_left : (end now rest : ℕ) → end ≡ start + 30 + length item.key → now ≡ taken + 1 → rest + 1 ≡ left → AreNames a level now rest end bytes items
+  pub others_left : (end now rest : ℕ) → end ≡ start + length (item_bytes (suc level) item) → now ≡ taken + 1 → rest + 1 ≡ left → AreNames a level now rest end bytes items
   others_left end now rest end_is now_is rest_is = are_names a level now rest end bytes items (record {
     many = omega (arith, are.many, rest_is);
     each = are.each.1;
-    spelled = ap (λ n. drop n bytes) wide ∙ sym (drop-drop (length (item_bytes (suc level) item)) start bytes) ∙ ap (drop (length (item_bytes (suc level) item))) first_there
+    spelled = ap (λ n. drop n bytes) end_is ∙ sym (drop-drop (length (item_bytes (suc level) item)) start bytes) ∙ ap (drop (length (item_bytes (suc level) item))) first_there
         ∙ drop-append_seam (item_bytes (suc level) item) (items_bytes (suc level) items);
     within = omega (arith, first_within, end_is);
     small = are.small;
     few = omega (arith, are.few, now_is, rest_is);
     stays = subst (λ n. StaysFrom a (suc level) end n items) (sym now_is) (subst (λ n. StaysFrom a (suc level) n (taken + 1) items) (sym end_is) others_stay);
-  }) where
-    wide : end ≡ start + length (item_bytes (suc level) item)
-    wide = omega (arith, end_is, first_size)
+  })
 
 pub split_left : (a : List ℕ → List ℕ) (level taken left start : ℕ) (bytes : List ℕ) (items : List Item) → AreLeft a level taken left start bytes items → 0 < length items
     → (item : Item) × (others : List Item) × (items ≡ item ∷ others) × AreLeft a level taken left start bytes (item ∷ others)
 split_left a level taken left start bytes [] are some = absurd (omega (arith, some))
 split_left a level taken left start bytes (item ∷ others) are some = (item, others, refl, are)
 
+-- the first, with a copy of its key
+pub first_copied : (item : Item) (key copy body : List ℕ) (rows : ℕ) → item ≡ record { key = key; body = body; rows = rows } → copy ≡ key
+    → item ≡ record { key = copy; body = body; rows = rows }
+first_copied item key copy body rows is same =
+    let by_key : List ℕ → Item = λ k. record { key = k; body = body; rows = rows } in
+    is ∙ ap by_key (sym same)
+
 -- what is known of the first, as it was read
 pub next_ends : (a : List ℕ → List ℕ) (level taken left start : ℕ) (bytes : List ℕ) (item : Item) (items : List Item) → AreLeft a level taken left start bytes (item ∷ items)
-    → (here size count : ℕ) (key : List ℕ) → level ≡ here → start + 30 + length item.key ≡ size → taken + 1 ≡ count → item.key ≡ key → 1 < left → ends a (suc here) size count key ≡ false
+    → (here size count : ℕ) (key : List ℕ) → level ≡ here → start + length (item_bytes (suc level) item) ≡ size → taken + 1 ≡ count → item.key ≡ key → 1 < left → ends a (suc here) size count key ≡ false
 next_ends a level taken left start bytes item items are here size count key level_is size_is count_is key_is more =
     subst (λ n. ends a (suc n) size count key ≡ false) level_is
     (subst (λ n. ends a (suc level) n count key ≡ false) size_is
-    (subst (λ n. ends a (suc level) (start + 30 + length item.key) n key ≡ false) count_is
-    (subst (λ k. ends a (suc level) (start + 30 + length item.key) (taken + 1) k ≡ false) key_is (first_stays a level taken left start bytes item items are more))))
+    (subst (λ n. ends a (suc level) (start + length (item_bytes (suc level) item)) n key ≡ false) count_is
+    (subst (λ k. ends a (suc level) (start + length (item_bytes (suc level) item)) (taken + 1) k ≡ false) key_is (first_stays a level taken left start bytes item items are more))))
 
 -- nothing is left
 pub nothing_left : (a : List ℕ → List ℕ) (bytes : List ℕ) → bytes ≡ [] → AreLeft a 0 0 0 0 bytes (names_from 0 0 0 bytes)

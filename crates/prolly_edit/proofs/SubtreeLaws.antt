@@ -1,20 +1,20 @@
 -- A node of a tree that stands, if it ended by the boundary rule, is a subtree that a tower takes whole.
-use Rattle.std.proofs.Common.{◌≡◌, ◌+◌, ℕ, zero, suc, true, false, cond, List, [], ◌∷◌, ◌++◌, length, map, Some, refl, sym, ap, ◌∙◌, subst, append_assoc, append-nil, arith}
+use Rattle.std.proofs.Common.{◌≡◌, ◌+◌, ℕ, zero, suc, true, false, cond, List, [], ◌∷◌, ◌++◌, length, map, refl, sym, ap, ◌∙◌, subst, append_assoc, append-nil, arith}
 use Rattle.std.specs.List.{AllByRecursion}
-use Rattle.std.proofs.lemmas.List.{map-append}
 use Rattle.tuple_codec.specs.Nodes.{Item}
 use Rattle.tuple_codec.specs.Trees.{bytes_of, closes, cut, cut_from, name, names}
 use Rattle.chunk_store.specs.Chunks.{Chunks, Extends}
 use Rattle.chunk_store.specs.Standing.{AreHeld, IsThere}
 use Rattle.node_chunker.specs.Subtrees.{IsSubtree, lift_chunks}
 use Rattle.node_chunker.proofs.GrowthLemmas.{name_body}
+use Rattle.node_chunker.proofs.RefLemmas.{level_held}
 use Rattle.node_chunker.proofs.TowerLemmas.{all_join, all_split}
 use Rattle.tree_laws.specs.Found.{ButLast, Ended, IsCanonical, IsEnded, each_of, lift, nodes_in, rows_at}
 use Rattle.tree_laws.specs.Standing.{IsNodeFound}
-use Rattle.tree_laws.proofs.Cuts.{cut_apart, names_apart}
 use Rattle.tree_laws.proofs.Growing.{held_later}
 use Rattle.tree_laws.proofs.Lifts.{all_lift, ends, lifts}
 use Rattle.tree_laws.proofs.StandingReads.{items_there, rows_there}
+use Rattle.basic_laws.proofs.Options.{some_is}
 
 abbrev joined : List (List Item) → List Item
 joined [] = []
@@ -55,16 +55,11 @@ module _ (a : List ℕ → List ℕ) where
       → AreHeld a c (lift_chunks a rise level more) → AreHeld a c (lift_chunks a rise level (items ++ more))
   chunks_apart c zero level items more ended some others = tt
   chunks_apart c (suc rise) level items more ended some others =
-      let P : List (List ℕ) → Type 0 = AreHeld a c in
-      let Q : List Item → Type 0 = λ l. AreHeld a c (lift_chunks a rise (suc level) l) in
       let up = names a level (cut a level items) in
       let above = names a level (cut a level more) in
       let mine = all_split (IsThere a c) (map (bytes_of level) (cut a level items)) (lift_chunks a rise (suc level) up) some in
       let theirs = all_split (IsThere a c) (map (bytes_of level) (cut a level more)) (lift_chunks a rise (suc level) above) others in
-      all_join (IsThere a c) (map (bytes_of level) (cut a level (items ++ more))) (lift_chunks a rise (suc level) (names a level (cut a level (items ++ more))))
-      (subst P (sym (ap (map (bytes_of level)) (cut_apart a level [] items more ended.0) ∙ map-append (bytes_of level) (cut a level items) (cut a level more)))
-      (all_join (IsThere a c) (map (bytes_of level) (cut a level items)) (map (bytes_of level) (cut a level more)) mine.0 theirs.0))
-      (subst Q (sym (names_apart a level items more ended.0)) (chunks_apart c rise (suc level) up above ended.1 mine.1 theirs.1))
+      level_held a c level items more (lift_chunks a rise (suc level)) ended.0 mine.0 theirs.0 (chunks_apart c rise (suc level) up above ended.1 mine.1 theirs.1)
 
   chunks_last : (c : Chunks) (rise level : ℕ) (items : List Item) → AreHeld a c (lift_chunks a rise level items)
       → AreHeld a c (map (bytes_of (level + rise)) (cut a (level + rise) (lift a rise level items))) → AreHeld a c (lift_chunks a (suc rise) level items)
@@ -83,9 +78,6 @@ module _ (a : List ℕ → List ℕ) where
   none_held c (suc rise) level = none_held c rise (suc level)
 
   module _ (c : Chunks) where
-    rows : ℕ → Item → List Item
-    rows level = rows_at (nodes_in c) level
-
     all_held : (level : ℕ) → ((item : Item) → IsNodeFound c level item → IsCanonical a (nodes_in c) level item → AreHeld a c (lift_chunks a level 0 (rows_at (nodes_in c) level item)))
         → (items : List Item) → AllByRecursion (IsNodeFound c level) items → ButLast (IsCanonical a (nodes_in c) level) (IsEnded a (nodes_in c) level) items
         → AreHeld a c (lift_chunks a level 0 (each_of (rows_at (nodes_in c) level) items))
@@ -96,9 +88,6 @@ module _ (a : List ℕ → List ℕ) where
         chunks_apart c level 0 (rows_at (nodes_in c) level item) (each_of (rows_at (nodes_in c) level) (other ∷ items)) (ends a (nodes_in c) level item each.0 each.1)
         (go item found.0 each.0) (all_held level go (other ∷ items) found.1 each.2)
 
-    same_items : (x y : List Item) → Some x ≡ Some y → x ≡ y
-    same_items x y e = cc
-
     -- the nodes at and below a node of a tree that stands are held
     all_there : (level : ℕ) (item : Item) → IsNodeFound c level item → IsCanonical a (nodes_in c) level item → AreHeld a c (lift_chunks a level 0 (rows_at (nodes_in c) level item))
     all_there zero item found canonical = tt
@@ -106,7 +95,7 @@ module _ (a : List ℕ → List ℕ) where
         let items = found.0 in
         let P : List Item → Type 0 = λ l. ButLast (IsCanonical a (nodes_in c) level) (IsEnded a (nodes_in c) level) l in
         let Q : List Item → Type 0 = λ l. names a level (cut a level l) ≡ item ∷ [] in
-        let same : canonical.0 ≡ items = same_items canonical.0 items (sym canonical.1 ∙ items_there c item.body level items found.1) in
+        let same : canonical.0 ≡ items = some_is canonical.0 items (sym canonical.1 ∙ items_there c item.body level items found.1) in
         let each : ButLast (IsCanonical a (nodes_in c) level) (IsEnded a (nodes_in c) level) items = subst P same canonical.2 in
         let one : names a level (cut a level items) ≡ item ∷ [] = subst Q same canonical.3 in
         let below = each_of (rows_at (nodes_in c) level) items in

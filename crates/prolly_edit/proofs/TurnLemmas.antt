@@ -2,13 +2,11 @@
 use Rattle.std.proofs.Common.{◌≡◌, ◌<◌, ◌+◌, ◌-◌, ℕ, suc, Bool, true, false, List, [], ◌∷◌, ◌++◌, length, refl, sym, ap, ◌∙◌, subst, append-nil, arith}
 use Rattle.std.specs.List.{AllByRecursion}
 use Rattle.std.specs.Prelude.{◌&&◌}
-use Rattle.basic_laws.proofs.Options.{some_is}
 use Rattle.tuple_codec.specs.Nodes.{Item, Node}
 use Rattle.tuple_codec.specs.Trees.{AreRows}
 use Rattle.tuple_codec.specs.Edits.{edited}
 use Rattle.tuple_codec.specs.declared.edits.Edit.{Edit}
 use Rattle.chunk_store.specs.Chunks.{Chunks, Extends}
-use Rattle.chunk_store.specs.Kinds.{is_node}
 use Rattle.node_chunker.specs.Growth.{IsTower}
 use Rattle.node_chunker.specs.Subtrees.{CanPushRef, IsSubtree, is_clear}
 use Rattle.tree_laws.specs.Found.{IsEnded, Nodes, each_of, items_of, nodes_in, rows_at}

@@ -3,7 +3,6 @@
 ghost use Rattle.std.specs.Prelude.{◌≡◌, ◌<◌, ◌∷◌, ◌++◌, ◌-◌, ◌&&◌, suc, List, length, IfOk, IfErr, OnOk, not};
 ghost use Rattle.tuple_codec.specs.Nodes.{Item, Node};
 ghost use Rattle.tuple_codec.specs.Edits.{edited};
-ghost use Rattle.node_format.specs.Views.{ref_of};
 ghost use Rattle.chunk_store.specs.Chunks.{Chunks};
 ghost use Rattle.chunk_store.specs.Drafts.{Grows, chunks_of};
 ghost use Rattle.chunk_store.specs.Kinds.{is_node};

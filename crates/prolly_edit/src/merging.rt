@@ -1,8 +1,8 @@
 //! Rows and edits, merged by key and pushed onto a tower.
 
-ghost use Rattle.std.specs.Prelude.{◌≡◌, ◌≤◌, ◌+◌, ◌++◌, ◌∷◌, [], ℕ, List, Some, true, length, slice_get, take, MatchOption, IfOk, IfErr, OnOk};
+ghost use Rattle.std.specs.Prelude.{◌≡◌, ◌≤◌, ◌++◌, ◌∷◌, [], List, true, length, MatchOption, IfOk, IfErr, OnOk};
 ghost use Rattle.std.specs.Ordering.{is_lt};
-ghost use Rattle.tuple_codec.specs.Nodes.{Item, items_bytes, leaf_item, node_bytes};
+ghost use Rattle.tuple_codec.specs.Nodes.{Item, leaf_item, node_bytes};
 ghost use Rattle.tuple_codec.specs.Edits.{edited, order, putting, puts};
 ghost use Rattle.chunk_store.specs.Drafts.{Grows, chunks_of};
 ghost use Rattle.chunk_store.specs.Kinds.{is_node};
@@ -81,15 +81,11 @@ fn is_below(some: &[u8], other: &[u8]) -> bool
 fn first_before<'a>(edits: &'a [Edit], key: &[u8]) -> Option<(&'a Edit, &'a [Edit])>
     ensures { MatchOption result (are_not_before key.now edits.entry.now ≡ true) (λ p. IsFirstBefore key.now edits.entry.now p.0.now p.1.now) }
 {
-    match edits.split_first() {
-        None => None,
-        Some((edit, others)) => {
-            if is_below(edit.key.as_slice(), key) {
-                Some((edit, others))
-            } else {
-                None
-            }
-        }
+    let (edit, others) = edits.split_first()?;
+    if is_below(edit.key.as_slice(), key) {
+        Some((edit, others))
+    } else {
+        None
     }
 }
 
@@ -98,15 +94,11 @@ fn first_at<'a>(edits: &'a [Edit], key: &[u8]) -> Option<(&'a Edit, &'a [Edit])>
     requires { are_not_before key.now edits.now ≡ true }
     ensures { MatchOption result (is_past key.now edits.entry.now ≡ true) (λ p. IsFirstAt key.now edits.entry.now p.0.now p.1.now) }
 {
-    match edits.split_first() {
-        None => None,
-        Some((edit, others)) => {
-            if edit.key.as_slice() == key {
-                Some((edit, others))
-            } else {
-                None
-            }
-        }
+    let (edit, others) = edits.split_first()?;
+    if edit.key.as_slice() == key {
+        Some((edit, others))
+    } else {
+        None
     }
 }
 

@@ -1,20 +1,20 @@
 //! What a walk through a tree has left, apart from the draft that changes meanwhile.
 
 ghost use Rattle.std.specs.Prelude.{◌≡◌, ◌<◌, ◌≤◌, ◌-◌, ◌∷◌, ◌++◌, [], ℕ, suc, false, List, MatchOption, IfOk, IfSome, OnOk, length};
-ghost use Rattle.tuple_codec.specs.Nodes.{IsNode, Item, Node, ends, node_bytes};
+ghost use Rattle.tuple_codec.specs.Nodes.{IsNode, Node, ends, node_bytes};
 ghost use Rattle.node_format.specs.Outlasting.{Outlasts};
 ghost use Rattle.prolly_edit.specs.Keeping.{StaysOpen};
 ghost use Rattle.prolly_edit.specs.Names.{item_of};
-ghost use Rattle.prolly_edit.specs.Fronts.{front_of, is_over};
+ghost use Rattle.prolly_edit.specs.Fronts.{is_over};
 ghost use Rattle.prolly_tree.specs.Fronts.{on_level};
 
-use node_format::{KnownNode, RefItem, first_name, steps_of};
+use node_chunker::copied_into;
+use node_format::{KnownNode, RefItem, first_name, name_size, steps_of};
 use smallvec::SmallVec;
 use std::alloc::{AllocError, Global};
 use std::default::MadeWith;
 use std::marker::{Model, PhantomData};
-use std::mem;
-use tuple_codec::{Blob, Digester};
+use tuple_codec::Digester;
 
 /// The name of a node, and how many steps it outlasts where it stands, as its old place tells.
 #[derive(Drop)]
@@ -100,26 +100,15 @@ impl<D: Digester> Step<D> {
     {
         let (_, names) = self.bytes.split_at(self.start);
         let (key, address, rows) = first_name(names);
-        let end = self.start + 30 + key.len();
         let key = copied_into(room, key)?;
         let item = RefItem { key, address, rows };
+        let end = self.start + name_size(&item) as usize;
         let steps = steps_of_next(self.left, end as u32, u32::from(self.taken) + 1);
         self.taken += 1;
         self.left -= 1;
         self.start = end;
         Ok(Name { item, steps })
     }
-}
-
-/// A copy of a key in room that is there: the room is left without memory, until the key's is given back to it.
-fn copied_into(room: &mut Vec<u8>, key: &[u8]) -> Result<Blob, AllocError>
-    ensures { IfOk result (λ copy. copy ≡ key.now) }
-{
-    let none = Vec::new(*room.allocator());
-    let mut copy = mem::replace(room, none);
-    copy.clear();
-    copy.extend_from_slice(key)?;
-    Ok(Blob::from_vec(copy))
 }
 
 /// How many steps an item outlasts, by which a node has so many bytes and items: none are known of the last.
@@ -182,10 +171,9 @@ impl<D: Digester> Path<D> {
             Some(mut step) => {
                 let level = step.level();
                 let name = step.next(room)?;
-                if step.is_empty() {
-                    return Ok(Some((level, name)));
+                if !step.is_empty() {
+                    self.steps.push_reserved(step);
                 }
-                self.steps.push_reserved(step);
                 Ok(Some((level, name)))
             }
         }

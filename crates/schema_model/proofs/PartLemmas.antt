@@ -1,20 +1,22 @@
 -- A part that is read has the bytes that were taken, and what was written is read again.
-use Rattle.std.proofs.Common.{◌≡◌, ℕ, zero, suc, ◌+◌, ◌*◌, ◌/◌, ◌%◌, ◌≤◌, Bool, true, false, cond, eqb, ltb, List, [], ◌∷◌, ◌++◌, length, take, drop, Option, Some, None, refl, sym, ap, subst, ◌∙◌, append_assoc, arith, inl, inr, ◌⊎◌}
+use Rattle.std.proofs.Common.{◌≡◌, ℕ, zero, suc, ◌+◌, ◌*◌, ◌/◌, ◌%◌, ◌≤◌, Bool, true, false, cond, eqb, ltb, List, [], ◌∷◌, ◌++◌, length, map, take, drop, Option, Some, None, refl, sym, ap, subst, ◌∙◌, append_assoc, arith, inl, inr, ◌⊎◌}
 use Rattle.std.specs.List.{flat_map, list_all}
 use Rattle.std.specs.Option.{option_map}
 use Rattle.std.proofs.lemmas.Bool.{and_parts, eqb-true, ltb-false}
 use Rattle.std.proofs.lemmas.List.{take_at, take-append-drop, length-take}
+use Rattle.std.proofs.lemmas.List.Folds.{flat_map-map}
 use Rattle.basic_laws.proofs.Options.{guard_some as passed, mapped as map_some, some_is}
 use Rattle.tuple_codec.specs.Fields.{short, bytes_at, short_at}
 use Rattle.tuple_codec.specs.KeyBytes.{bit}
 use Rattle.tuple_codec.specs.Limits.{is_type}
+use Rattle.tuple_codec.specs.declared.addresses.Address.{Address}
 use Rattle.tuple_codec.specs.declared.values.SqlType.{SqlType}
 use Rattle.tuple_codec.specs.declared.values.SqlType.TheVariants as kind
 use Rattle.tuple_codec.proofs.NumberLemmas.{AreBytes, AreBytes-after, AreBytes-take}
 use Rattle.tuple_codec.proofs.TextLemmas.{AreBytes-rest}
 use Rattle.tuple_codec.proofs.FieldLemmas.{bytes_again}
 use Rattle.schema_model.specs.SchemaBytes.{flags, listed, type_bytes}
-use Rattle.schema_model.specs.Reading.{◌>>=◌, allowed, bool_of, byte_at, coded_at, decimal_at, flags_of, items_at, list_at, most_at, two_at, type_at}
+use Rattle.schema_model.specs.Reading.{◌>>=◌, address_at, allowed, as_address, bool_of, byte_at, coded_at, decimal_at, flags_of, items_at, list_at, most_at, two_at, type_at}
 
 -- what a reader took from the front
 pub record Takes (bytes text rest : List ℕ) : Type 0 where
@@ -258,3 +260,24 @@ module _ {A : Type 0} (written : A → List ℕ) (allows : A → Bool) (front : 
 
   pub list_reader : IsReader (listed written) (list_all allows) (list_at front)
   list_reader = record { takes = list_takes; again = items_again }
+
+-- ---- addresses
+
+pub address_again : (address : Address) (rest : List ℕ) → eqb (length address.0) 20 ≡ true → address_at (address.0 ++ rest) ≡ Some (address, rest)
+address_again address rest h = ap (option_map as_address) (bytes_again 20 address.0 rest (eqb-true _ _ h))
+
+pub address_takes : (bytes : List ℕ) (x : Address × List ℕ) → AreBytes bytes → address_at bytes ≡ Some x → Takes bytes x.0.0 x.1
+address_takes bytes x fit e =
+    let m = map_some (bytes_at 20 bytes) as_address x e in
+    subst (λ (y : Address × List ℕ). Takes bytes y.0.0 y.1) m.2 (takes bytes m.0.0 m.0.1 fit (bytes_takes 20 bytes m.0 m.1).0)
+
+address_reader : IsReader (λ (address : Address). address.0) (λ address. eqb (length address.0) 20) address_at
+address_reader = record { takes = address_takes; again = address_again }
+
+-- addresses whose bytes stand one after another
+pub addresses_again : (n : ℕ) (addresses : List Address) (rest : List ℕ) → length addresses ≡ n → list_all (λ address. eqb (length address.0) 20) addresses ≡ true
+    → items_at address_at n (flat_map (λ bytes. bytes) (map (λ (address : Address). address.0) addresses) ++ rest) ≡ Some (addresses, rest)
+addresses_again n addresses rest count h =
+    ap (λ (k : ℕ). items_at address_at k (flat_map (λ bytes. bytes) (map (λ (address : Address). address.0) addresses) ++ rest)) (sym count)
+    ∙ ap (λ (l : List ℕ). items_at address_at (length addresses) (l ++ rest)) (flat_map-map (λ (bytes : List ℕ). bytes) (λ (address : Address). address.0) addresses)
+    ∙ items_again (λ (address : Address). address.0) (λ address. eqb (length address.0) 20) address_at address_reader addresses rest h

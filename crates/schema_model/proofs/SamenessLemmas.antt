@@ -1,11 +1,10 @@
 -- Plain contents that are the same part by part are equal.
-use Rattle.std.proofs.Common.{◌≡◌, refl, ◌∙◌, ap, ℕ, Bool, true, false, ◌&&◌, List, [], ◌∷◌, Option, None, Some}
+use Rattle.std.proofs.Common.{◌≡◌, refl, ◌∙◌, ap, ℕ, Bool, true, false, List, Option, None, Some}
 use Rattle.std.specs.Bool.{Decides}
 use Rattle.std.specs.Cmp.Lexicographic.{slice_cmp, pointwise_decides, bytes_decides}
 use Rattle.std.specs.Ordering.{nat_cmp, is_eq}
 use Rattle.std.proofs.lemmas.Bool.Decides.{Decides-at, Decides-and, Decides-like, Decides-eqb}
 use Rattle.std.proofs.lemmas.Map.Text.{is_eq-slice_cmp}
-use Rattle.basic_laws.proofs.Orderings.{then_is_eq}
 use Rattle.tuple_codec.specs.Rows.{Cells, same_cells, same_value}
 use Rattle.tuple_codec.proofs.Orders.{cells_told, values_told}
 use Rattle.tuple_codec.specs.declared.values.SqlType.{SqlType}

@@ -1,5 +1,5 @@
 -- Rows, conflicts and violations are known by their items, and tables by the items of their lists.
-use Rattle.std.proofs.Common.{◌≡◌, refl, sym, ◌∙◌, ap, subst, ℕ, zero, suc, ◌<◌, Bool, true, false, cond, eqb, leb, ltb, List, [], ◌∷◌, ◌++◌, length, map, get_or, drop, Option, None, Some, append_assoc, arith}
+use Rattle.std.proofs.Common.{◌≡◌, refl, sym, ◌∙◌, ap, subst, ℕ, zero, suc, Bool, true, false, cond, eqb, leb, ltb, List, [], ◌∷◌, ◌++◌, length, map, get_or, drop, Option, None, Some, arith}
 use Rattle.std.specs.Prelude.{◌&&◌, ◌||◌}
 use Rattle.std.specs.List.{list_all}
 use Rattle.std.specs.Ordering.{is_eq}
@@ -7,13 +7,12 @@ use Rattle.std.proofs.lemmas.Bool.{and_parts, and_from, eqb-true, ltb-true, le-l
 use Rattle.basic_laws.proofs.Options.{some_is}
 use Rattle.tuple_codec.specs.Rows.{Cells, fits_all, key_cmp, key_of}
 use Rattle.tuple_codec.specs.Limits.{are_types}
-use Rattle.tuple_codec.specs.KeyBytes.{key_bytes, key_cell}
+use Rattle.tuple_codec.specs.KeyBytes.{key_bytes}
 use Rattle.tuple_codec.specs.RowBytes.{length_prefixed}
 use Rattle.tuple_codec.specs.Fronts.{length_prefixed_at}
 use Rattle.tuple_codec.specs.Nodes.{Item}
 use Rattle.tuple_codec.specs.Texts.{is_utf8}
 use Rattle.tuple_codec.specs.declared.forms.Form.TheVariants as form
-use Rattle.tuple_codec.specs.declared.values.SqlType.{SqlType}
 use Rattle.tuple_codec.specs.declared.values.SqlType.TheVariants as kind
 use Rattle.tuple_codec.specs.declared.values.Value.{Value}
 use Rattle.tuple_codec.specs.declared.values.Value.TheVariants as cell

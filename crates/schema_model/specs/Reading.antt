@@ -5,6 +5,7 @@ use Rattle.tuple_codec.specs.Rows.{Cells}
 use Rattle.tuple_codec.specs.Limits.{is_type}
 use Rattle.tuple_codec.specs.Fields.{bytes_at, short_at}
 use Rattle.tuple_codec.specs.Fronts.{cells_front, length_prefixed_at, whole}
+use Rattle.tuple_codec.specs.declared.addresses.Address.{Address}
 use Rattle.tuple_codec.specs.declared.forms.Form.TheVariants as form
 use Rattle.tuple_codec.specs.declared.values.SqlType.{SqlType}
 use Rattle.tuple_codec.specs.declared.values.SqlType.TheVariants as kind
@@ -20,6 +21,13 @@ infixl 10 ◌>>=◌
 abbrev pub ◌>>=◌ : {A B : Type 0} → Option A → (A → Option B) → Option B
 (Some x) >>= f = f x
 None >>= f = None
+
+abbrev pub as_address : List ℕ × List ℕ → Address × List ℕ
+as_address x = (record { 0 = x.0 }, x.1)
+
+-- an address
+abbrev pub address_at : List ℕ → Option (Address × List ℕ)
+address_at bytes = option_map as_address (bytes_at 20 bytes)
 
 -- a number in two bytes
 abbrev pub two_at : List ℕ → Option (ℕ × List ℕ)

@@ -3,11 +3,11 @@
 ghost use Rattle.std.specs.Prelude.{◌≡◌, ◌++◌, OnOk};
 ghost use Rattle.tuple_codec.specs.Fronts.{Gives};
 ghost use Rattle.schema_model.specs.SchemaBytes.{two_bytes};
-ghost use Rattle.schema_model.specs.Reading.{bool_of, byte_at, flags_of, two_at};
+ghost use Rattle.schema_model.specs.Reading.{address_at, bool_of, byte_at, flags_of, two_at};
 
 use crate::forms::FormBytes;
 use std::alloc::AllocError;
-use tuple_codec::Unread;
+use tuple_codec::{Address, Unread};
 
 /// A number in two bytes.
 pub(crate) fn two_at(bytes: &[u8]) -> Result<(u16, &[u8]), Unread>
@@ -40,6 +40,17 @@ pub(crate) fn flags_at(bytes: &[u8]) -> Result<((bool, bool), &[u8]), Unread>
         [3, rest @ ..] => Ok(((true, true), rest)),
         _ => Err(Unread::Malformed),
     }
+}
+
+/// An address, which has 20 bytes.
+pub fn address_at(bytes: &[u8]) -> Result<(Address, &[u8]), Unread>
+    ensures { Gives (λ x. (x.0, x.1.now)) result (address_at bytes.now) }
+{
+    if bytes.len() < 20 {
+        return Err(Unread::Malformed);
+    }
+    let (front, rest) = bytes.split_at(20);
+    Ok((Address::from_slice(front), rest))
 }
 
 /// Writes a number in two bytes.

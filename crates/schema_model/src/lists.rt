@@ -1,4 +1,4 @@
-//! Lists of parts.
+//! Lists: read, written and measured.
 
 ghost use Rattle.std.specs.Prelude.{◌≡◌, ◌<◌, ◌^◌, ◌++◌, true, length, OnOk};
 ghost use Rattle.std.specs.List.{flat_map, list_all};
@@ -8,11 +8,12 @@ ghost use Rattle.schema_model.specs.Reading.{items_at, list_at};
 
 use crate::forms::FormBytes;
 use crate::parts::Part;
+use crate::readable::Readable;
 use std::alloc::{AllocError, Global};
 use tuple_codec::{Sequence, Unread};
 
-/// A count in one byte, and that many parts.
-pub(crate) fn list_at<P: Part>(alloc: Global, bytes: &[u8]) -> Result<(Sequence<P>, &[u8]), Unread>
+/// A count in one byte, and that many things.
+pub fn list_at<P: Readable>(alloc: Global, bytes: &[u8]) -> Result<(Sequence<P>, &[u8]), Unread>
     ensures { Gives (λ x. (x.0, x.1.now)) result (list_at P.front bytes.now) }
 {
     match bytes {
@@ -21,15 +22,16 @@ pub(crate) fn list_at<P: Part>(alloc: Global, bytes: &[u8]) -> Result<(Sequence<
     }
 }
 
-/// So many parts.
-pub(crate) fn items_at<P: Part>(
+/// So many things, one after another.
+pub fn items_at<P: Readable>(
     alloc: Global,
     count: usize,
     bytes: &[u8],
 ) -> Result<(Sequence<P>, &[u8]), Unread>
     ensures { Gives (λ x. (x.0, x.1.now)) result (items_at P.front count bytes.now) }
 {
-    let mut items = Vec::with_capacity(alloc, count)?;
+    // each has a byte at least, so a count that the bytes cannot hold takes no memory for more
+    let mut items = Vec::with_capacity(alloc, count.min(bytes.len()))?;
     let mut rest = bytes;
     for _ in 0..count {
         let (item, after) = P::read(alloc, rest)?;

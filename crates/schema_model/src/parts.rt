@@ -1,9 +1,8 @@
 //! The parts that stand in lists: how each is read, written and measured.
 
-ghost use Rattle.std.specs.Prelude.{◌≡◌, ℕ, ◌<◌, ◌^◌, ◌++◌, ◌&&◌, Bool, true, List, length, nat_lt, Option, OnOk};
+ghost use Rattle.std.specs.Prelude.{◌≡◌, ℕ, ◌<◌, ◌^◌, ◌++◌, ◌&&◌, Bool, true, List, length, nat_lt, OnOk};
 ghost use Rattle.std.specs.List.{list_all};
-ghost use Rattle.tuple_codec.specs.Fronts.{Gives};
-ghost use Rattle.tuple_codec.specs.Fields.{short, short_at};
+ghost use Rattle.tuple_codec.specs.Fields.{short};
 ghost use Rattle.schema_model.specs.SchemaBytes.{check_bytes, column_bytes, foreign_bytes, index_bytes};
 ghost use Rattle.schema_model.specs.Reading.{check_at, column_at, foreign_at, index_at};
 ghost use Rattle.schema_model.specs.Written.{is_written_check, is_written_column, is_written_foreign, is_written_index, is_written_name};
@@ -11,24 +10,19 @@ ghost use Rattle.schema_model.specs.Written.{is_written_check, is_written_column
 use crate::fields::{bool_at, flags_at};
 use crate::forms::{FormBytes, push_long, push_short};
 use crate::lists::{items_at, items_size, push_items};
+use crate::readable::Readable;
 use crate::schemas::{CheckDef, Column, ForeignKey, IndexDef};
 use crate::types::{default_at, default_size, push_default, push_type, type_at, type_size};
 use std::alloc::{AllocError, Global};
 use tuple_codec::{Sequence, Text, Unread, long_at, short_at};
 
 /// A part of a schema that stands in a list.
-pub(crate) trait Part: Drop {
+pub(crate) trait Part: Readable {
     /// Its bytes.
     ghost written: { Self → List ℕ };
 
-    /// The part at the front of bytes, and the bytes after it.
-    ghost front: { List ℕ → Option (Self × List ℕ) };
-
     /// Whether the part can be written.
     ghost allowed: { Self → Bool };
-
-    fn read(alloc: Global, bytes: &[u8]) -> Result<(Self, &[u8]), Unread>
-        ensures { Gives (λ x. (x.0, x.1.now)) result (front bytes.now) };
 
     fn push(&self, out: &mut FormBytes) -> Result<(), AllocError>
         requires { allowed self.now ≡ true }
@@ -42,14 +36,7 @@ pub(crate) trait Part: Drop {
 impl Part for Text {
     ghost written = { short };
 
-    ghost front = { short_at };
-
     ghost allowed = { is_written_name };
-
-    fn read(alloc: Global, bytes: &[u8]) -> Result<(Text, &[u8]), Unread> {
-        let (name, rest) = short_at(bytes)?;
-        Ok((Text::from_slice(alloc, name)?, rest))
-    }
 
     fn push(&self, out: &mut FormBytes) -> Result<(), AllocError> {
         push_short(out, self.as_slice())
@@ -60,12 +47,8 @@ impl Part for Text {
     }
 }
 
-impl Part for Column {
-    ghost written = { column_bytes };
-
+impl Readable for Column {
     ghost front = { column_at };
-
-    ghost allowed = { is_written_column };
 
     #[tactic(auto, unfolding(crate::specs::Reading::column_at))]
     fn read(alloc: Global, bytes: &[u8]) -> Result<(Column, &[u8]), Unread> {
@@ -81,6 +64,12 @@ impl Part for Column {
         };
         Ok((column, rest))
     }
+}
+
+impl Part for Column {
+    ghost written = { column_bytes };
+
+    ghost allowed = { is_written_column };
 
     fn push(&self, out: &mut FormBytes) -> Result<(), AllocError> {
         self.name.push(out)?;
@@ -94,12 +83,8 @@ impl Part for Column {
     }
 }
 
-impl Part for IndexDef {
-    ghost written = { index_bytes };
-
+impl Readable for IndexDef {
     ghost front = { index_at };
-
-    ghost allowed = { is_written_index };
 
     #[tactic(auto, unfolding(crate::specs::Reading::index_at))]
     fn read(alloc: Global, bytes: &[u8]) -> Result<(IndexDef, &[u8]), Unread> {
@@ -114,6 +99,12 @@ impl Part for IndexDef {
         };
         Ok((index, rest))
     }
+}
+
+impl Part for IndexDef {
+    ghost written = { index_bytes };
+
+    ghost allowed = { is_written_index };
 
     fn push(&self, out: &mut FormBytes) -> Result<(), AllocError> {
         self.name.push(out)?;
@@ -126,12 +117,8 @@ impl Part for IndexDef {
     }
 }
 
-impl Part for CheckDef {
-    ghost written = { check_bytes };
-
+impl Readable for CheckDef {
     ghost front = { check_at };
-
-    ghost allowed = { is_written_check };
 
     #[tactic(auto, unfolding(crate::specs::Reading::check_at))]
     fn read(alloc: Global, bytes: &[u8]) -> Result<(CheckDef, &[u8]), Unread> {
@@ -140,6 +127,12 @@ impl Part for CheckDef {
         let text = Text::from_slice(alloc, text)?;
         Ok((CheckDef { name, text }, rest))
     }
+}
+
+impl Part for CheckDef {
+    ghost written = { check_bytes };
+
+    ghost allowed = { is_written_check };
 
     fn push(&self, out: &mut FormBytes) -> Result<(), AllocError> {
         self.name.push(out)?;
@@ -151,12 +144,8 @@ impl Part for CheckDef {
     }
 }
 
-impl Part for ForeignKey {
-    ghost written = { foreign_bytes };
-
+impl Readable for ForeignKey {
     ghost front = { foreign_at };
-
-    ghost allowed = { is_written_foreign };
 
     #[tactic(auto, unfolding(crate::specs::Reading::foreign_at))]
     fn read(alloc: Global, bytes: &[u8]) -> Result<(ForeignKey, &[u8]), Unread> {
@@ -173,6 +162,12 @@ impl Part for ForeignKey {
         };
         Ok((foreign, rest))
     }
+}
+
+impl Part for ForeignKey {
+    ghost written = { foreign_bytes };
+
+    ghost allowed = { is_written_foreign };
 
     fn push(&self, out: &mut FormBytes) -> Result<(), AllocError> {
         self.name.push(out)?;

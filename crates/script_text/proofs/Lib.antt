@@ -1,7 +1,7 @@
 pub mod BlankLemmas
 pub mod LineLemmas
 mod NumeralLemmas
-pub mod SessionLemmas
+mod SessionLemmas
 mod Vectors
 mod ScriptVectors
 mod ShownVectors

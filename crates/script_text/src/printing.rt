@@ -219,7 +219,8 @@ fn push_rows(
     Ok(())
 }
 
-fn push_order(out: &mut Vec<u8>, names: &[Text], order: &[Moment]) -> Result<(), AllocError>
+/// Writes the order line behind what `out` holds. Where memory was wanting, nothing is said of `out`.
+pub fn push_order(out: &mut Vec<u8>, names: &[Text], order: &[Moment]) -> Result<(), AllocError>
     ensures { OnOk result (out.new.items ≡ out.old.items ++ order_line names.now order.now) }
 {
     out.extend_from_slice(b"order")?;

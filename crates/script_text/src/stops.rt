@@ -34,7 +34,9 @@ pub fn print_stop(alloc: Global, stop: &StopText) -> Result<Blob, AllocError>
     Ok(Blob::from_vec(out))
 }
 
-fn push_all_refused(
+/// Writes behind what `out` holds the statements that were answered by a want of memory or a collision, session by session, each behind a space.
+/// Where memory was wanting, nothing is said of `out`.
+pub fn push_all_refused(
     alloc: Global,
     out: &mut Vec<u8>,
     names: &[Text],

@@ -3,7 +3,9 @@ use Rattle.std.proofs.Common.{◌≡◌, refl, ℕ, true, List, Option, Some, No
 use Rattle.chunk_store.specs.Chunks.{Chunks, Extends}
 use Rattle.schema_model.specs.Limits.{is_database_within_limits}
 use Rattle.schema_model.specs.PlainTables.{PlainDatabase, PlainTable}
+use Rattle.sql_write.specs.Finding.{Finds, IsFound}
 use Rattle.sql_write.specs.Putting.{MayReplace}
+use Rattle.sql_write.specs.declared.finding.Found.{Found}
 use Rattle.sql_write.proofs.TableLemmas.{kept_listed, listed_later}
 use Rattle.table_root.specs.Standing.{IsTableOf, TablesStand}
 use Rattle.table_root.specs.declared.records.StoredTable.{StoredTable}
@@ -12,8 +14,6 @@ use Rattle.write_laws.proofs.DatabaseLemmas.{found_kept, replaced_kept}
 use Rattle.plain_writes.specs.Writes.{replaced}
 use Rattle.system_tables.specs.declared.entries.Listed.{Listed}
 use Rattle.session_txn.specs.Deleting.{without_entries}
-use Rattle.session_txn.specs.Finding.{Finds, IsFound}
-use Rattle.session_txn.specs.declared.finding.Found.{Found}
 use Rattle.session_txn.proofs.DropLemmas.{limits_left, schema_limits}
 
 pub found_of : (address : List ℕ → List ℕ) (chunks : Chunks) (k name : List ℕ) (database : PlainDatabase) (found : Found) (there : Option PlainTable)

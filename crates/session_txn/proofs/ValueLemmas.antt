@@ -1,5 +1,5 @@
 -- Expressions with the session's values in their places.
-use Rattle.std.proofs.Common.{◌≡◌, refl, sym, ◌∙◌, ap, subst, inl, inr, Some, ℕ, Bool, true, false, if◌then◌else◌, List, [], ◌∷◌, map, Option, Result, Ok, Err, IfOk}
+use Rattle.std.proofs.Common.{◌≡◌, refl, sym, ◌∙◌, ap, subst, inl, inr, Some, ℕ, ◌<◌, Bool, true, false, if◌then◌else◌, List, [], ◌∷◌, map, Option, Result, Ok, Err, IfOk}
 use Rattle.std.specs.List.{AllByRecursion}
 use Rattle.std.proofs.lemmas.Bool.{or_parts as neither}
 use Rattle.sql_ast.specs.declared.expressions.Expr.{Expr, fold-roll-Expr, out-Expr, roll-Expr}
@@ -10,10 +10,12 @@ use Rattle.sql_ast.specs.declared.expressions.Term.{Term}
 use Rattle.sql_ast.specs.declared.selects.NamedExpr.{NamedExpr}
 use Rattle.sql_ast.specs.declared.selects.Select.{Select}
 use Rattle.sql_ast.specs.declared.selects.Select.TheVariants as select
+use Rattle.sql_ast.proofs.expressions.Expr.TheLaws.{the_size}
 use Rattle.sql_ast.proofs.ListNodes.{fold_in, fold_not_in, fold_or, fold_and, fold_factors, fold_terms}
 use Rattle.sql_features.specs.Features.{any_of, has, step}
 use Rattle.sql_features.specs.declared.features.Feature.TheVariants as feature
 use Rattle.sql_features.proofs.ListParts.{Listed}
+use Rattle.sql_text.proofs.PartDepths.{chain_deep, contained_deep, deepest}
 use Rattle.canonical_laws.proofs.Layers.{Parts, by_layers}
 use Rattle.plain_sql.specs.Plans.{shown_name}
 use Rattle.plain_sessions.specs.Sessions as plain
@@ -28,6 +30,13 @@ pub made_so : {A E : Type 0} (result : Result A E) (x y : A) → x ≡ y → IfO
 made_so result x y is ok = subst (λ z. IfOk result (λ made. made ≡ z)) is ok
 
 -- ---- nodes with a list
+
+pub listed_deep : (x a : Expr) (xs : List Expr) → Listed x a xs → deepest a xs < the_size x
+listed_deep x a xs (inl is) = chain_deep x a xs (inl is)
+listed_deep x a xs (inr (inl is)) = chain_deep x a xs (inr (inl is))
+listed_deep x a xs (inr (inr (inl is))) = contained_deep x a xs (inl is)
+listed_deep x a xs (inr (inr (inr (inl is)))) = contained_deep x a xs (inr is)
+listed_deep x a xs (inr (inr (inr (inr is)))) = chain_deep x a xs (inr (inr is))
 
 module _ (p : plain.Session) where
   pub terms_so : (x a b : Expr) (xs ys : List (Term × Expr)) → x ≡ e.Terms a xs → b ≡ with_values p a → ys ≡ map (λ (t : Term × Expr). (t.0, with_values p t.1)) xs

@@ -1,7 +1,6 @@
 pub mod Answering
 pub mod Committing
 pub mod Deleting
-pub mod Finding
 pub mod Planning
 pub mod Reading
 pub mod Showing

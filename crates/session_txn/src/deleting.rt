@@ -13,26 +13,23 @@ ghost use Rattle.plain_sql.specs.Plans.{meaning, scope_column};
 ghost use Rattle.plain_writes.specs.Writes.{replaced};
 ghost use Rattle.schema_model.specs.PlainTables.{PlainDatabase, PlainTable};
 ghost use Rattle.sql_rules.specs.Writes.{is_below};
+ghost use Rattle.sql_write.specs.Finding.{IsFound};
 ghost use Rattle.sql_write.specs.Writing.{Writes};
 ghost use Rattle.system_tables.specs.Entries as shown;
 ghost use Rattle.table_root.specs.Standing.{IsTableOf};
 ghost use Rattle.session_txn.specs.Deleting.{chosen_key, chosen_keys, effect_on, entries_effect, keys_chosen, list_named, without_entries};
-ghost use Rattle.session_txn.specs.Finding.{IsFound};
 
 use crate::dropping::drop_entries;
-use crate::finding::{Found, find};
-use crate::laws::laws_of_growth;
-use crate::tables::put_table;
-use chunk_store::{Draft, PutFault};
+use chunk_store::{Draft, PutFault, law_of_drafts, law_of_growth};
 use expr_eval::{BoundExpr, ScopeColumn};
 use plain_sql::{NamedType, Refused, append, passes};
 use plain_writes::tests_of;
 use schema_model::Schema;
 use sql_ast::Delete;
-use sql_write::{SqlFault, Written};
+use sql_write::{Found, SqlFault, Written, find, put_table};
 use std::alloc::{AllocError, Global};
 use system_tables::{ListEntry, Listed, columns_of, entries_of};
-use table_root::StoredTable;
+use table_root::{StoredTable, law_of_tables};
 use tuple_codec::{Address, Blob, Digester, Sequence, Text};
 
 fn is_below(name: &[u8], front: &[u8]) -> bool
@@ -149,7 +146,9 @@ fn put_emptied<D: Digester>(
     ensures grows { Grows is_data draft.old draft.new }
     ensures cause { IfErr result (IsReason D.address (chunks_of draft.new.chunks)) }
 {
-    laws_of_growth();
+    law_of_drafts();
+    law_of_growth();
+    law_of_tables();
     let made = drop_entries(alloc, draft, which, &found.table, keys)?;
     put_table(alloc, draft, found.tables, name, &made)
 }

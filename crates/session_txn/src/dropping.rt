@@ -1,75 +1,22 @@
 //! Recorded violations dropped from a table, as conflicts are.
 
-ghost use Rattle.std.specs.Prelude.{◌≡◌, ◌++◌, IfErr, IfOk, List, OnOk};
-ghost use Rattle.tuple_codec.specs.Nodes.{Item};
+ghost use Rattle.std.specs.Prelude.{IfErr, IfOk};
 ghost use Rattle.schema_model.specs.PlainTables.{PlainTable};
 ghost use Rattle.chunk_store.specs.Clashes.{IsReason};
 ghost use Rattle.chunk_store.specs.Drafts.{Grows, chunks_of};
 ghost use Rattle.chunk_store.specs.Kinds.{is_node};
-ghost use Rattle.chunk_store.specs.Standing.{IsTree};
-ghost use Rattle.prolly_tree.specs.Lists.{StandsForRows};
 ghost use Rattle.table_root.specs.Standing.{IsTableOf};
-ghost use Rattle.conflict_tables.specs.Conflicts.{IsSomeTable, is_among, removal_if, removals};
+ghost use Rattle.conflict_tables.specs.Conflicts.{IsSomeTable};
 ghost use Rattle.session_txn.specs.Deleting.{without_entries, without_violations};
 
 use chunk_store::{Draft, PutFault, law_of_drafts, law_of_growth};
-use conflict_tables::drop_conflicts;
+use conflict_tables::{copy_roots, drop_conflicts, removals};
 use plain_writes::copy_schema;
 use prolly_edit::apply;
-use prolly_tree::scan_from;
-use std::alloc::{AllocError, Global};
+use std::alloc::Global;
 use system_tables::Listed;
 use table_root::{StoredTable, law_of_tables};
-use tuple_codec::{Address, Blob, Digester, Edit, Sequence};
-
-fn is_among(keys: &[Blob], key: &[u8]) -> bool
-    ensures { result ≡ is_among keys.now key.now }
-{
-    keys.iter().any(|other| other.as_slice() == key)
-}
-
-/// Adds the removal of a key, if it is one of these.
-fn push_removal(
-    alloc: Global,
-    keys: &[Blob],
-    key: &[u8],
-    edits: &mut Vec<Edit>,
-) -> Result<(), AllocError>
-    ensures { OnOk result (edits.new.items ≡ edits.old.items ++ removal_if keys.now key.now) }
-{
-    if is_among(keys, key) {
-        edits.push(Edit {
-            key: Blob::from_vec(Vec::from_slice(alloc, key)?),
-            value: None,
-        })?;
-    }
-    Ok(())
-}
-
-/// The edits that remove these keys from the tree at an address, of those that stand there.
-fn removals<D: Digester>(
-    alloc: Global,
-    draft: &Draft<D>,
-    root: &Address,
-    keys: &[Blob],
-) -> Result<Vec<Edit>, AllocError>
-    requires { StandsForRows D.address (chunks_of draft.now.chunks) root.now.0 }
-    ensures { (rows : List Item) → IsTree D.address (chunks_of draft.now.chunks) root.now.0 rows
-        → IfOk result (λ edits. edits.items ≡ removals keys.now rows) }
-{
-    let mut edits = Vec::new(alloc);
-    let mut scan = scan_from(alloc, draft, root, &[])?;
-    'items: while let Some((key, _)) = scan.next() {
-        push_removal(alloc, keys, key, &mut edits)?;
-    }
-    Ok(edits)
-}
-
-fn copy_roots(alloc: Global, roots: &[Address]) -> Result<Sequence<Address>, AllocError>
-    ensures { IfOk result (λ copy. copy ≡ roots.now) }
-{
-    Ok(Sequence::from_vec(Vec::from_slice(alloc, roots)?))
-}
+use tuple_codec::{Blob, Digester};
 
 /// The table without its violations at these keys. All else of it stays, and a key at which it has none changes nothing.
 fn drop_violations<D: Digester>(

@@ -5,12 +5,9 @@ mod answering;
 mod committing;
 mod deleting;
 mod dropping;
-mod finding;
-mod laws;
 mod planning;
 mod selecting;
 mod showing;
-mod tables;
 mod values;
 mod writing;
 

@@ -2,16 +2,18 @@
 
 ghost use Rattle.std.specs.Prelude.{◌≡◌, IfOk, map};
 ghost use Rattle.sql_ast.specs.declared.expressions.Expr.{out-Expr};
+ghost use Rattle.sql_ast.specs.declared.expressions.Expr.TheVariants as node;
+ghost use Rattle.sql_ast.specs.declared.expressions.Literal.TheVariants as constant;
 ghost use Rattle.sql_ast.specs.declared.selects.Select.TheVariants as select;
 ghost use Rattle.plain_sql.specs.Plans.{own_name, shown_name};
 ghost use Rattle.plain_sessions.specs.Sessions as plain;
 ghost use Rattle.plain_sessions.specs.Sessions.{is_on};
-ghost use Rattle.plain_sessions.specs.Statements.{item_with_values, select_with_values, with_values};
+ghost use Rattle.plain_sessions.specs.Statements.{item_with_values, number_of, select_with_values, with_values};
 ghost use Rattle.session_state.specs.Standing.{SessionStands};
 ghost use Rattle.session_txn.specs.Values.{AreValuesOf, asked_of, kept_name, with_ends, with_list, with_part};
 
 use session_state::Session;
-use sql_ast::{Expr, Literal, NamedExpr, Select, Term};
+use sql_ast::{Comparison, Expr, Literal, NamedExpr, Select, Term};
 use sql_features::{Feature, has_feature};
 use sql_text::canonical_text;
 use std::alloc::{AllocError, Global};
@@ -132,9 +134,7 @@ fn with_values(alloc: Global, values: &Values, expr: &Expr) -> Result<Boxed<Expr
         | Expr::In(a, list)
         | Expr::NotIn(a, list)
         | Expr::Factors(a, list) => {
-            let a = with_values(alloc, values, a.get())?;
-            let list = all_with_values(alloc, values, list.as_slice())?;
-            Boxed::new(alloc, with_list(expr, a, list))
+            listed_with_values(alloc, values, expr, a.get(), list.as_slice())
         }
         Expr::Not(a)
         | Expr::IsNull(a)
@@ -147,43 +147,87 @@ fn with_values(alloc: Global, values: &Values, expr: &Expr) -> Result<Boxed<Expr
             let a = with_values(alloc, values, a.get())?;
             Boxed::new(alloc, with_part(expr, a))
         }
-        Expr::Compare(a, comparison, b) => {
-            let a = with_values(alloc, values, a.get())?;
-            let b = with_values(alloc, values, b.get())?;
-            Boxed::new(alloc, Expr::Compare(a, *comparison, b))
-        }
+        Expr::Compare(a, op, b) => compared_with_values(alloc, values, a.get(), *op, b.get()),
         Expr::Between(a, low, high) | Expr::NotBetween(a, low, high) => {
-            let a = with_values(alloc, values, a.get())?;
-            let low = with_values(alloc, values, low.get())?;
-            let high = with_values(alloc, values, high.get())?;
-            Boxed::new(alloc, with_ends(expr, a, low, high))
+            between_with_values(alloc, values, expr, a.get(), low.get(), high.get())
         }
-        Expr::Terms(a, list) => {
-            let a = with_values(alloc, values, a.get())?;
-            let list = terms_with_values(alloc, values, list.as_slice())?;
-            Boxed::new(alloc, Expr::Terms(a, list))
-        }
+        Expr::Terms(a, list) => sum_with_values(alloc, values, a.get(), list.as_slice()),
         Expr::Literal(literal) => {
             Boxed::new(alloc, Expr::Literal(copied_literal(alloc, literal)?))
         }
         Expr::Name(name) => {
             Boxed::new(alloc, Expr::Name(Text::from_slice(alloc, name.as_slice())?))
         }
-        Expr::Qualified(source, name) => {
-            let source = Text::from_slice(alloc, source.as_slice())?;
-            let name = Text::from_slice(alloc, name.as_slice())?;
-            Boxed::new(alloc, Expr::Qualified(source, name))
-        }
+        Expr::Qualified(source, name) => copied_qualified(alloc, source, name),
         Expr::CountAll => Boxed::new(alloc, Expr::CountAll),
-        Expr::ActiveBranch => {
-            let branch = Text::from_slice(alloc, values.branch.as_slice())?;
-            Boxed::new(alloc, Expr::Literal(Literal::Text(branch)))
-        }
-        Expr::Variable(name) => {
-            let on = is_on(values, name.as_slice());
-            Boxed::new(alloc, Expr::Literal(Literal::Whole(u64::from(on))))
-        }
+        Expr::ActiveBranch => branch_of(alloc, values),
+        Expr::Variable(name) => variable_of(alloc, values, name),
     }
+}
+
+/// A chain, or a value in a list.
+#[cycle(with_values)]
+fn listed_with_values(
+    alloc: Global,
+    values: &Values,
+    like: &Expr,
+    first: &Expr,
+    list: &[Expr],
+) -> Result<Boxed<Expr>, AllocError>
+    ensures { IfOk result (λ made. made ≡ with_list (out-Expr like.now) (with_values (asked_of values.now) first.now) (map (with_values (asked_of values.now)) list.now)) }
+{
+    let first = with_values(alloc, values, first)?;
+    let list = all_with_values(alloc, values, list)?;
+    Boxed::new(alloc, with_list(like, first, list))
+}
+
+/// A comparison with its operands.
+#[cycle(with_values)]
+fn compared_with_values(
+    alloc: Global,
+    values: &Values,
+    a: &Expr,
+    op: Comparison,
+    b: &Expr,
+) -> Result<Boxed<Expr>, AllocError>
+    ensures { IfOk result (λ made. made ≡ node.Compare (with_values (asked_of values.now) a.now) op (with_values (asked_of values.now) b.now)) }
+{
+    let a = with_values(alloc, values, a)?;
+    let b = with_values(alloc, values, b)?;
+    Boxed::new(alloc, Expr::Compare(a, op, b))
+}
+
+/// A value between two ends.
+#[cycle(with_values)]
+fn between_with_values(
+    alloc: Global,
+    values: &Values,
+    like: &Expr,
+    value: &Expr,
+    low: &Expr,
+    high: &Expr,
+) -> Result<Boxed<Expr>, AllocError>
+    ensures { IfOk result (λ made. made ≡ with_ends (out-Expr like.now) (with_values (asked_of values.now) value.now) (with_values (asked_of values.now) low.now) (with_values (asked_of values.now) high.now)) }
+{
+    let value = with_values(alloc, values, value)?;
+    let low = with_values(alloc, values, low)?;
+    let high = with_values(alloc, values, high)?;
+    Boxed::new(alloc, with_ends(like, value, low, high))
+}
+
+/// A chain whose operands have each a sign of its own.
+#[cycle(with_values)]
+fn sum_with_values(
+    alloc: Global,
+    values: &Values,
+    first: &Expr,
+    list: &[(Term, Expr)],
+) -> Result<Boxed<Expr>, AllocError>
+    ensures { IfOk result (λ made. made ≡ node.Terms (with_values (asked_of values.now) first.now) (map (λ x. (x.0, with_values (asked_of values.now) x.1)) list.now)) }
+{
+    let first = with_values(alloc, values, first)?;
+    let list = terms_with_values(alloc, values, list)?;
+    Boxed::new(alloc, Expr::Terms(first, list))
 }
 
 #[cycle(with_values)]
@@ -272,6 +316,30 @@ fn copied_literal(alloc: Global, literal: &Literal) -> Result<Literal, AllocErro
         Literal::Bool(bit) => Ok(Literal::Bool(*bit)),
         Literal::Null => Ok(Literal::Null),
     }
+}
+
+fn copied_qualified(alloc: Global, source: &Text, name: &Text) -> Result<Boxed<Expr>, AllocError>
+    ensures { IfOk result (λ copy. copy ≡ node.Qualified source.now name.now) }
+{
+    let source = Text::from_slice(alloc, source.as_slice())?;
+    let name = Text::from_slice(alloc, name.as_slice())?;
+    Boxed::new(alloc, Expr::Qualified(source, name))
+}
+
+/// The session's branch.
+fn branch_of(alloc: Global, values: &Values) -> Result<Boxed<Expr>, AllocError>
+    ensures { IfOk result (λ made. made ≡ node.Literal (constant.Text values.now.branch)) }
+{
+    let branch = Text::from_slice(alloc, values.branch.as_slice())?;
+    Boxed::new(alloc, Expr::Literal(Literal::Text(branch)))
+}
+
+/// The value of the variable of this name: 1 or 0.
+fn variable_of(alloc: Global, values: &Values, name: &Text) -> Result<Boxed<Expr>, AllocError>
+    ensures { IfOk result (λ made. made ≡ node.Literal (constant.Whole (number_of (is_on (asked_of values.now).variables name.now)))) }
+{
+    let on = is_on(values, name.as_slice());
+    Boxed::new(alloc, Expr::Literal(Literal::Whole(u64::from(on))))
 }
 
 /// Whether the variable of this name is 1.

@@ -1,5 +1,6 @@
 pub mod Grouping
 mod NodeLemmas
 mod Openings
+pub mod PartDepths
 mod SizeLemmas
 mod Vectors

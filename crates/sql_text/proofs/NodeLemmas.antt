@@ -1,17 +1,12 @@
 -- The canonical texts of nodes, from those of their parts.
-use Rattle.std.proofs.Common.{◌≡◌, ◌∙◌, sym, ap, refl, ℕ, suc, ◌⊎◌, inl, inr, ◌++◌, List, [], ◌∷◌, map, length, codes}
-use Rattle.sql_ast.specs.declared.expressions.Comparison.{Comparison}
+use Rattle.std.proofs.Common.{◌≡◌, ◌∙◌, sym, ap, ℕ, ◌⊎◌, inl, inr, ◌++◌, List, map}
 use Rattle.sql_ast.specs.declared.expressions.Expr.{Expr, out-Expr, fold-roll-Expr}
 use Rattle.sql_ast.specs.declared.expressions.Expr.TheOpen.{Expr-F}
 use Rattle.sql_ast.specs.declared.expressions.Expr.TheVariants as e
-use Rattle.sql_ast.specs.declared.expressions.Expr.TheVariants.{outs-And, outs-Between, outs-Count, outs-Factors, outs-In, outs-IsNotNull, outs-IsNull, outs-Max, outs-Min, outs-Negate, outs-Not, outs-NotBetween, outs-NotIn, outs-Or, outs-Sum, rolls-Between, rolls-Compare, rolls-Count, rolls-IsNotNull, rolls-IsNull, rolls-Max, rolls-Min, rolls-Negate, rolls-Not, rolls-NotBetween, rolls-Sum}
+use Rattle.sql_ast.specs.declared.expressions.Expr.TheVariants.{outs-And, outs-Between, outs-Count, outs-Factors, outs-In, outs-IsNotNull, outs-IsNull, outs-Max, outs-Min, outs-Negate, outs-Not, outs-NotBetween, outs-NotIn, outs-Or, outs-Sum, rolls-Between, rolls-Count, rolls-IsNotNull, rolls-IsNull, rolls-Max, rolls-Min, rolls-Negate, rolls-Not, rolls-NotBetween, rolls-Sum}
 use Rattle.sql_ast.specs.declared.expressions.Term.{Term}
 use Rattle.sql_ast.proofs.ListNodes.{fold_and, fold_factors, fold_in, fold_not_in, fold_or, fold_terms}
-use Rattle.sql_text.specs.Canon.{addends, back, comparison_word, contained, front, opened, operands, operator, ranged, step, text}
-
-same_length : {X Y : Type 0} (f : X → Y) (xs : List X) → length (map f xs) ≡ length xs
-same_length f [] = refl
-same_length f (x ∷ xs) = ap suc (same_length f xs)
+use Rattle.sql_text.specs.Canon.{back, chain, contained, front, operator, ranged, step, sum_text, text}
 
 -- a node that has its parts between a front and a back
 around : (x y : Expr) (shape : Expr-F Expr) (inside : List ℕ) → x ≡ y → out-Expr y ≡ shape → text y ≡ front shape ++ inside ++ back shape
@@ -45,24 +40,16 @@ text_ranged x a low high (inr is) =
     around x (e.NotBetween a low high) (Expr-F.NotBetween a low high) (ranged (text a) (text low) (text high)) is (outs-NotBetween a low high)
     (ap text (sym (rolls-NotBetween a low high)) ∙ fold-roll-Expr (List ℕ) step (Expr-F.NotBetween a low high))
 
-pub text_compare : (a : Expr) (op : Comparison) (b : Expr) → text (e.Compare a op b) ≡ codes "(" ++ text a ++ comparison_word op ++ text b ++ codes ")"
-text_compare a op b = ap text (sym (rolls-Compare a op b)) ∙ fold-roll-Expr (List ℕ) step (Expr-F.Compare a op b)
-
 -- a chain of one operator
-chained : (x y a : Expr) (shape : Expr-F Expr) (xs : List Expr) → x ≡ y → out-Expr y ≡ shape
-    → text y ≡ opened (length (map text xs)) ++ text a ++ operands (operator shape) (map text xs)
-    → text x ≡ opened (length xs) ++ text a ++ operands (operator (out-Expr x)) (map text xs)
-chained x y a shape xs is out said =
-    ap text is ∙ said ∙ ap (λ n. opened n ++ text a ++ operands (operator shape) (map text xs)) (same_length text xs)
-    ∙ sym (ap (λ s. opened (length xs) ++ text a ++ operands (operator s) (map text xs)) (ap out-Expr is ∙ out))
+chained : (x y a : Expr) (shape : Expr-F Expr) (xs : List Expr) → x ≡ y → out-Expr y ≡ shape → text y ≡ chain (operator shape) (text a) (map text xs)
+    → text x ≡ chain (operator (out-Expr x)) (text a) (map text xs)
+chained x y a shape xs is out said = ap text is ∙ said ∙ sym (ap (λ s. chain (operator s) (text a) (map text xs)) (ap out-Expr is ∙ out))
 
 pub text_chain : (x a : Expr) (xs : List Expr) → (x ≡ e.Or a xs) ⊎ ((x ≡ e.And a xs) ⊎ (x ≡ e.Factors a xs))
-    → text x ≡ opened (length xs) ++ text a ++ operands (operator (out-Expr x)) (map text xs)
+    → text x ≡ chain (operator (out-Expr x)) (text a) (map text xs)
 text_chain x a xs (inl is) = chained x (e.Or a xs) a (Expr-F.Or a xs) xs is (outs-Or a xs) (fold_or step a xs)
 text_chain x a xs (inr (inl is)) = chained x (e.And a xs) a (Expr-F.And a xs) xs is (outs-And a xs) (fold_and step a xs)
 text_chain x a xs (inr (inr is)) = chained x (e.Factors a xs) a (Expr-F.Factors a xs) xs is (outs-Factors a xs) (fold_factors step a xs)
 
-pub text_terms : (a : Expr) (xs : List (Term × Expr)) → text (e.Terms a xs) ≡ opened (length xs) ++ text a ++ addends (map (λ x. (x.0, text x.1)) xs)
-text_terms a xs =
-    fold_terms step a xs
-    ∙ ap (λ n. opened n ++ text a ++ addends (map (λ (x : Term × Expr). (x.0, text x.1)) xs)) (same_length (λ (x : Term × Expr). (x.0, text x.1)) xs)
+pub text_terms : (a : Expr) (xs : List (Term × Expr)) → text (e.Terms a xs) ≡ sum_text (text a) (map (λ x. (x.0, text x.1)) xs)
+text_terms a xs = fold_terms step a xs

@@ -1,15 +1,15 @@
 -- How long the canonical texts of nodes are.
-use Rattle.std.proofs.Common.{◌≡◌, ◌∙◌, sym, ap, refl, ℕ, zero, suc, ◌+◌, ◌⊎◌, ◌++◌, List, [], ◌∷◌, map, length, codes, arith}
-use Rattle.std.proofs.lemmas.List.{length-append}
-use Rattle.sql_ast.specs.declared.expressions.Comparison.{Comparison}
-use Rattle.sql_ast.specs.declared.expressions.Expr.{Expr, out-Expr, fold-roll-Expr}
-use Rattle.sql_ast.specs.declared.expressions.Expr.TheOpen.{Expr-F}
+use Rattle.std.proofs.Common.{◌≡◌, ap, refl, subst, ℕ, zero, suc, ◌+◌, ◌⊎◌, ◌++◌, List, [], map, length, codes, arith, IfOk, Result}
+use Rattle.std.proofs.lemmas.List.{length-append, length-map}
+use Rattle.sql_ast.specs.declared.expressions.Expr.{Expr, out-Expr}
 use Rattle.sql_ast.specs.declared.expressions.Expr.TheVariants as e
-use Rattle.sql_ast.specs.declared.expressions.Expr.TheVariants.{rolls-Qualified}
 use Rattle.sql_ast.specs.declared.expressions.Term.{Term}
-use Rattle.sql_text.specs.Canon.{addends, back, comparison_word, contained, front, listed, opened, operands, operator, ranged, step, text}
-use Rattle.sql_text.specs.Sizes.{around_size}
-use Rattle.sql_text.proofs.NodeLemmas.{Wrapped, text_chain, text_compare, text_contained, text_ranged, text_terms, text_wrapped}
+use Rattle.sql_text.specs.Canon.{addends, back, chain, contained, front, listed, opened, operands, ranged, sum_text, text}
+use Rattle.sql_text.specs.Sizes.{around_size, told}
+use Rattle.sql_text.proofs.NodeLemmas.{Wrapped, text_contained, text_ranged, text_wrapped}
+
+pub told_so : {E : Type 0} (result : Result ℕ E) (s t : List ℕ) → s ≡ t → IfOk result (λ size. size ≡ told (length s)) → IfOk result (λ size. size ≡ told (length t))
+told_so result s t is = subst (λ z. IfOk result (λ size. size ≡ told (length z))) is
 
 three : (a b c : List ℕ) → length (a ++ b ++ c) ≡ length a + length b + length c
 three a b c = omega (arith, length-append (a ++ b) c, length-append a b)
@@ -22,59 +22,39 @@ pub wrapped_long : (x a : Expr) → Wrapped x a → length (text x) ≡ length (
 wrapped_long x a is = omega (arith, ap length (text_wrapped x a is), three (front (out-Expr x)) (text a) (back (out-Expr x)))
 
 pub contained_long : (x a : Expr) (xs : List Expr) → (x ≡ e.In a xs) ⊎ (x ≡ e.NotIn a xs)
-    → length (text x) ≡ length (text a) + length (listed [] (map text xs)) + (around_size (out-Expr x) + 5)
+    → length (text x) ≡ length (contained (text a) (map text xs)) + around_size (out-Expr x)
 contained_long x a xs is =
-    omega (
-      arith,
-      ap length (text_contained x a xs is),
-      three (front (out-Expr x)) (contained (text a) (map text xs)) (back (out-Expr x)),
-      three (text a) (codes " IN (") (listed [] (map text xs)),
-    )
+    omega (arith, ap length (text_contained x a xs is), three (front (out-Expr x)) (contained (text a) (map text xs)) (back (out-Expr x)))
 
 pub ranged_long : (x a low high : Expr) → (x ≡ e.Between a low high) ⊎ (x ≡ e.NotBetween a low high)
-    → length (text x) ≡ length (text a) + length (text a) + (length (text low) + length (text high)) + (around_size (out-Expr x) + 15)
+    → length (text x) ≡ length (ranged (text a) (text low) (text high)) + around_size (out-Expr x)
 ranged_long x a low high is =
+    omega (arith, ap length (text_ranged x a low high is), three (front (out-Expr x)) (ranged (text a) (text low) (text high)) (back (out-Expr x)))
+
+-- ---- what stands inside
+
+pub long_contained : (a : List ℕ) (texts : List (List ℕ)) → length (contained a texts) ≡ length a + 5 + length (listed [] texts)
+long_contained a texts = three a (codes " IN (") (listed [] texts)
+
+pub long_ranged : (a low high : List ℕ) → length (ranged a low high) ≡ length a + length a + (length low + length high) + 15
+long_ranged a low high =
     omega (
       arith,
-      ap length (text_ranged x a low high is),
-      three (front (out-Expr x)) (ranged (text a) (text low) (text high)) (back (out-Expr x)),
-      three (text a ++ codes " >= " ++ text low ++ codes ") AND (" ++ text a) (codes " <= ") (text high),
-      three (text a ++ codes " >= " ++ text low) (codes ") AND (") (text a),
-      three (text a) (codes " >= ") (text low),
+      three (a ++ codes " >= " ++ low ++ codes ") AND (" ++ a) (codes " <= ") high,
+      three (a ++ codes " >= " ++ low) (codes ") AND (") a,
+      three a (codes " >= ") low,
     )
 
-pub compare_long : (x a : Expr) (op : Comparison) (b : Expr) → x ≡ e.Compare a op b
-    → length (text x) ≡ length (text a) + length (text b) + (length (comparison_word op) + 2)
-compare_long x a op b is =
-    omega (
-      arith,
-      ap (λ (y : Expr). length (text y)) is,
-      ap length (text_compare a op b),
-      three (codes "(" ++ text a ++ comparison_word op) (text b) (codes ")"),
-      three (codes "(") (text a) (comparison_word op),
-    )
+pub long_compare : (a word b : List ℕ) → length (codes "(" ++ a ++ word ++ b ++ codes ")") ≡ length a + length b + (length word + 2)
+long_compare a word b = omega (arith, three (codes "(" ++ a ++ word) b (codes ")"), three (codes "(") a word)
 
-pub chain_long : (x a : Expr) (xs : List Expr) → (x ≡ e.Or a xs) ⊎ ((x ≡ e.And a xs) ⊎ (x ≡ e.Factors a xs))
-    → length (text x) ≡ length xs + length (text a) + length (operands (operator (out-Expr x)) (map text xs))
-chain_long x a xs is =
-    omega (arith, ap length (text_chain x a xs is), three (opened (length xs)) (text a) (operands (operator (out-Expr x)) (map text xs)), opened_long (length xs))
+pub long_chain : (word a : List ℕ) (xs : List Expr) → length (chain word a (map text xs)) ≡ length xs + length a + length (operands word (map text xs))
+long_chain word a xs =
+    omega (arith, three (opened (length (map text xs))) a (operands word (map text xs)), opened_long (length (map text xs)), length-map xs text)
 
-pub terms_long : (x a : Expr) (xs : List (Term × Expr)) → x ≡ e.Terms a xs
-    → length (text x) ≡ length xs + length (text a) + length (addends (map (λ term. (term.0, text term.1)) xs))
-terms_long x a xs is =
-    omega (
-      arith,
-      ap (λ (y : Expr). length (text y)) is,
-      ap length (text_terms a xs),
-      three (opened (length xs)) (text a) (addends (map (λ term. (term.0, text term.1)) xs)),
-      opened_long (length xs),
-    )
+abbrev signed : List (Term × Expr) → List (Term × List ℕ)
+signed xs = map (λ term. (term.0, text term.1)) xs
 
-pub qualified_long : (x : Expr) (source name : List ℕ) → x ≡ e.Qualified source name → length (text x) ≡ length source + 1 + length name
-qualified_long x source name is =
-    omega (
-      arith,
-      ap (λ (y : Expr). length (text y)) is,
-      ap length (ap text (sym (rolls-Qualified source name)) ∙ fold-roll-Expr (List ℕ) step (Expr-F.Qualified source name)),
-      three source (codes ".") name,
-    )
+pub long_terms : (a : List ℕ) (xs : List (Term × Expr)) → length (sum_text a (signed xs)) ≡ length xs + length a + length (addends (signed xs))
+long_terms a xs =
+    omega (arith, three (opened (length (signed xs))) a (addends (signed xs)), opened_long (length (signed xs)), length-map {B = Term × List ℕ} xs (λ term. (term.0, text term.1)))

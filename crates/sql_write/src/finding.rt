@@ -15,13 +15,16 @@ use tuple_codec::{Address, Digester};
 
 /// A table of a database, with the names and addresses of all of its tables.
 #[derive(Drop)]
-pub(crate) struct Found {
-    pub(crate) tables: Vec<TableEntry>,
-    pub(crate) table: StoredTable,
+pub struct Found {
+    /// By rising name, as `put_table` takes them.
+    pub tables: Vec<TableEntry>,
+    /// The one that was named.
+    pub table: StoredTable,
 }
 
-/// The table of a name in the database at an address; refused with 1146 where there is none.
-pub(crate) fn find<D: Digester>(
+/// The table of a name in the database at an address; refused with 1146 where there is none. Of the other tables nothing is read but names and addresses,
+/// and no row of any.
+pub fn find<D: Digester>(
     alloc: Global,
     draft: &Draft<D>,
     database: &Address,

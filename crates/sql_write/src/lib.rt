@@ -1,4 +1,5 @@
-//! Statements that write, on a database that a draft keeps as trees.
+//! Statements that write, on a database that a draft keeps as trees; how one of its tables is found by name and put back; and the list of its
+//! tables' names and addresses.
 #![tactic(auto)]
 
 mod altering;
@@ -21,4 +22,8 @@ mod updating;
 mod writing;
 
 pub use faults::SqlFault;
+pub use finding::{Found, find};
+pub use laws::laws_of_growth;
+pub use listing::{placed, without};
+pub use tables::{put_table, table_in};
 pub use writing::{Written, write};

@@ -31,11 +31,8 @@ fn count_before(name: &[u8], tables: &[TableEntry]) -> usize
     }
 }
 
-/// The list with a table more, in its place by name.
-pub(crate) fn placed(
-    mut tables: Vec<TableEntry>,
-    new: TableEntry,
-) -> Result<Vec<TableEntry>, AllocError>
+/// The list with a table more, in its place by name: before the first of a greater name. One of the same name stays before it.
+pub fn placed(mut tables: Vec<TableEntry>, new: TableEntry) -> Result<Vec<TableEntry>, AllocError>
     ensures { IfOk result (λ made. made.items ≡ placed new tables.items) }
 {
     let at = count_before(new.name.as_slice(), tables.as_slice());
@@ -43,8 +40,8 @@ pub(crate) fn placed(
     Ok(tables)
 }
 
-/// The list without the table of a name.
-pub(crate) fn without(
+/// The list without the tables of a name. A name that none has is no fault.
+pub fn without(
     alloc: Global,
     tables: Vec<TableEntry>,
     name: &[u8],

@@ -31,8 +31,8 @@ pub(crate) fn read_tables<D: Digester>(
     read_database(alloc, draft, database)
 }
 
-/// The address of the table of a name.
-pub(crate) fn table_in(tables: &[TableEntry], name: &[u8]) -> Option<Address>
+/// The address of the first table of a name. Every table before it is looked at.
+pub fn table_in(tables: &[TableEntry], name: &[u8]) -> Option<Address>
     ensures { result ≡ address_in tables.now name.now }
 {
     for named in tables {
@@ -116,8 +116,9 @@ pub(crate) fn keep_table<D: Digester>(
     Ok(at)
 }
 
-/// Writes a table, and the database in which it stands in place of the one of this name: the new database's address.
-pub(crate) fn put_table<D: Digester>(
+/// Writes a table, and the database in which it stands in place of the one of this name: the new database's address. The table's trees
+/// stand in the draft already; what constrains the tables is not judged here.
+pub fn put_table<D: Digester>(
     alloc: Global,
     draft: &mut Draft<D>,
     mut tables: Vec<TableEntry>,

@@ -1,44 +1,32 @@
 -- What is written is read again, so each form has one spelling.
-use Rattle.std.proofs.Common.{◌≡◌, ℕ, suc, ◌^◌, ◌<◌, ◌≤◌, Bool, true, List, [], ◌∷◌, ◌++◌, drop, length, map, slice_index_or, take, Option, Some, None, refl, sym, ap, subst, ◌∙◌, append_assoc, append-nil, arith}
+use Rattle.std.proofs.Common.{◌≡◌, ℕ, ◌^◌, ◌<◌, ◌≤◌, Bool, true, List, [], ◌∷◌, ◌++◌, drop, length, map, slice_index_or, take, Option, Some, None, refl, sym, ap, subst, ◌∙◌, append_assoc, append-nil, arith}
 use Rattle.std.specs.Prelude.{◌&&◌}
 use Rattle.std.specs.List.{flat_map, list_all}
 use Rattle.std.specs.Option.{option_map}
 use Rattle.std.specs.Int.{w16, w32, to_be_bytes}
 use Rattle.std.proofs.lemmas.Bool.{and_parts, eqb-true}
-use Rattle.std.proofs.lemmas.List.{drop_at, length-append, take_at}
-use Rattle.std.proofs.lemmas.List.Folds.{flat_map-map}
+use Rattle.std.proofs.lemmas.List.{drop_at, length-append, length-map, take_at}
 use Rattle.std.proofs.lemmas.Nat.{from_be_bytes-to_be_bytes_2, from_be_bytes-to_be_bytes_4}
-use Rattle.basic_laws.proofs.Options.{mapped as map_some, some_is}
+use Rattle.basic_laws.proofs.Options.{some_is}
 use Rattle.basic_laws.proofs.Lists.{all_both as both_all}
 use Rattle.tuple_codec.specs.Fields.{bytes_at, short_at, short}
 use Rattle.tuple_codec.specs.declared.addresses.Address.{Address}
 use Rattle.tuple_codec.specs.declared.records.BranchRecord.{BranchRecord}
 use Rattle.tuple_codec.proofs.NumberLemmas.{AreBytes}
 use Rattle.tuple_codec.proofs.FieldLemmas.{bytes_again}
-use Rattle.schema_model.specs.Reading.{◌>>=◌, items_at}
+use Rattle.schema_model.specs.Reading.{◌>>=◌, address_at, items_at}
 use Rattle.schema_model.specs.SchemaBytes.{schema_bytes}
 use Rattle.schema_model.specs.WrittenForms.{WrittenEntry, branch_bytes, merging_bytes}
 use Rattle.schema_model.specs.declared.schemas.Schema.{Schema}
-use Rattle.schema_model.proofs.PartLemmas.{IsReader, Takes, Takes-then, bind_some, bytes_takes, items_again, short_again, short_reader, takes}
+use Rattle.schema_model.proofs.PartLemmas.{IsReader, Takes, Takes-then, address_again, address_takes, addresses_again, bind_some, items_again, short_again, short_reader}
 use Rattle.table_root.specs.Branches.{IsBranch, is_address_or_none}
 use Rattle.table_root.specs.Databases.{AreListed, IsFirstListed, IsStoredDatabase, entry_of, fits_name, has_address, named_bytes, written_database}
-use Rattle.table_root.specs.Reading.{address_at, as_address, as_four, as_two, branch_of, database_of, four_at, merging_of, named_at, schema_text, table_of, two_at}
-use Rattle.table_root.specs.Tables.{IsStoredTable, is_address, written_table}
+use Rattle.table_root.specs.Reading.{as_four, as_two, branch_of, database_of, four_at, merging_of, named_at, schema_text, table_of, two_at}
+use Rattle.table_root.specs.Tables.{IsStoredTable, written_table}
 use Rattle.table_root.specs.declared.records.StoredTable.{StoredTable}
 use Rattle.table_root.specs.declared.records.TableEntry.{TableEntry}
 
--- ---- addresses and numbers
-
-address_again : (a : Address) (rest : List ℕ) → is_address a ≡ true → address_at (a.0 ++ rest) ≡ Some (a, rest)
-address_again a rest h = ap (option_map as_address) (bytes_again 20 a.0 rest (eqb-true _ _ h))
-
-address_takes : (bytes : List ℕ) (x : Address × List ℕ) → AreBytes bytes → address_at bytes ≡ Some x → Takes bytes x.0.0 x.1
-address_takes bytes x fit e =
-    let m = map_some (bytes_at 20 bytes) as_address x e in
-    subst (λ (y : Address × List ℕ). Takes bytes y.0.0 y.1) m.2 (takes bytes m.0.0 m.0.1 fit (bytes_takes 20 bytes m.0 m.1).0)
-
-address_reader : IsReader (λ (a : Address). a.0) is_address address_at
-address_reader = record { takes = address_takes; again = address_again }
+-- ---- numbers
 
 two_again : (n : ℕ) (rest : List ℕ) → n < 2 ^ 16 → two_at (to_be_bytes w16 n ++ rest) ≡ Some (n, rest)
 two_again n rest lt = ap (option_map as_two) (bytes_again 2 (to_be_bytes w16 n) rest refl) ∙ ap (λ (k : ℕ). Some (k, rest)) (from_be_bytes-to_be_bytes_2 n lt)
@@ -71,20 +59,13 @@ after_indexes schema rows indexes = address_at indexes.1 >>= after_conflicts sch
 abbrev after_rows : Schema → Address × List ℕ → Option StoredTable
 after_rows schema rows = items_at address_at (length schema.indexes) rows.1 >>= after_indexes schema rows.0
 
-indexes_again : (n : ℕ) (indexes : List Address) (rest : List ℕ) → length indexes ≡ n → list_all is_address indexes ≡ true
-    → items_at address_at n (flat_map (λ index. index) (map (λ (index : Address). index.0) indexes) ++ rest) ≡ Some (indexes, rest)
-indexes_again n indexes rest count h =
-    ap (λ (k : ℕ). items_at address_at k (flat_map (λ index. index) (map (λ (index : Address). index.0) indexes) ++ rest)) (sym count)
-    ∙ ap (λ (l : List ℕ). items_at address_at (length indexes) (l ++ rest)) (flat_map-map (λ (bytes : List ℕ). bytes) (λ (index : Address). index.0) indexes)
-    ∙ items_again (λ (index : Address). index.0) is_address address_at address_reader indexes rest h
-
 pub roots_again : (t : StoredTable) → IsStoredTable t → table_of t.schema (roots_bytes t) ≡ Some t
 unfolding table_of
 roots_again t h =
     let second = t.conflicts.0 ++ t.violations.0 in
     let first = flat_map (λ index. index) (map (λ (index : Address). index.0) t.indexes) ++ second in
     ap (λ (o : Option (Address × List ℕ)). o >>= after_rows t.schema) (address_again t.rows first h.roots.rows)
-    ∙ ap (λ (o : Option (List Address × List ℕ)). o >>= after_indexes t.schema t.rows) (indexes_again (length t.schema.indexes) t.indexes second h.count h.roots.indexes)
+    ∙ ap (λ (o : Option (List Address × List ℕ)). o >>= after_indexes t.schema t.rows) (addresses_again (length t.schema.indexes) t.indexes second h.count h.roots.indexes)
     ∙ ap (λ (o : Option (Address × List ℕ)). o >>= after_conflicts t.schema t.rows t.indexes) (address_again t.conflicts t.violations.0 h.roots.conflicts)
     ∙ ap (λ (o : Option (Address × List ℕ)). o >>= λ violations. Some (made t.schema t.rows t.indexes t.conflicts violations.0))
     (ap address_at (sym (append-nil t.violations.0)) ∙ address_again t.violations [] h.roots.violations)
@@ -131,14 +112,10 @@ entries_are : (tables : List TableEntry) → flat_map (λ (entry : WrittenEntry)
 entries_are [] = refl
 entries_are (named ∷ tables) = ap (λ (l : List ℕ). named_bytes named ++ l) (entries_are tables)
 
-count_is : (tables : List TableEntry) → length (map entry_of tables) ≡ length tables
-count_is [] = refl
-count_is (named ∷ tables) = ap (λ (n : ℕ). suc n) (count_is tables)
-
 -- a database's bytes over its tables
 pub database_is : (tables : List TableEntry) → written_database tables ≡ 4 ∷ (to_be_bytes w16 (length tables) ++ flat_map named_bytes tables)
 database_is tables =
-    ap (λ (n : ℕ). 4 ∷ (to_be_bytes w16 n ++ flat_map (λ (entry : WrittenEntry). short entry.name ++ entry.address) (map entry_of tables))) (count_is tables)
+    ap (λ (n : ℕ). 4 ∷ (to_be_bytes w16 n ++ flat_map (λ (entry : WrittenEntry). short entry.name ++ entry.address) (map entry_of tables))) (length-map tables entry_of)
     ∙ ap (λ (l : List ℕ). 4 ∷ (to_be_bytes w16 (length tables) ++ l)) (entries_are tables)
 
 pub database_again : (tables : List TableEntry) → IsStoredDatabase tables → database_of (written_database tables) ≡ Some tables

@@ -5,17 +5,10 @@ use Rattle.std.specs.Option.{option_map}
 use Rattle.tuple_codec.specs.Fields.{bytes_at, short_at}
 use Rattle.tuple_codec.specs.declared.addresses.Address.{Address}
 use Rattle.tuple_codec.specs.declared.records.BranchRecord.{BranchRecord}
-use Rattle.schema_model.specs.Reading.{◌>>=◌, items_at}
+use Rattle.schema_model.specs.Reading.{◌>>=◌, address_at, items_at}
 use Rattle.schema_model.specs.declared.schemas.Schema.{Schema}
 use Rattle.table_root.specs.declared.records.StoredTable.{StoredTable}
 use Rattle.table_root.specs.declared.records.TableEntry.{TableEntry}
-
-abbrev pub as_address : List ℕ × List ℕ → Address × List ℕ
-as_address x = (record { 0 = x.0 }, x.1)
-
--- an address
-abbrev pub address_at : List ℕ → Option (Address × List ℕ)
-address_at bytes = option_map as_address (bytes_at 20 bytes)
 
 abbrev pub as_two : List ℕ × List ℕ → ℕ × List ℕ
 as_two x = (from_be_bytes w16 x.0, x.1)

@@ -8,9 +8,9 @@ ghost use Rattle.chunk_store.specs.Kinds.{is_branch};
 ghost use Rattle.table_root.specs.Branches.{HasBranch, IsBranch, IsBranchFound, is_address_or_none};
 ghost use Rattle.table_root.specs.Reading.{branch_of, merging_of};
 
-use crate::fields::{address_at, after_kind, push_address};
+use crate::fields::{after_kind, push_address};
 use chunk_store::{Draft, PutFault, law_of_growth};
-use schema_model::FormBytes;
+use schema_model::{FormBytes, address_at};
 use smallvec::SmallVec;
 use std::alloc::{AllocError, Global};
 use tuple_codec::{Address, BranchRecord, Digester, Unread};

@@ -10,10 +10,10 @@ ghost use Rattle.table_root.specs.Databases.{AreListed, HasDatabase, IsDatabaseF
 ghost use Rattle.table_root.specs.Reading.{database_of};
 
 use crate::fields::{after_kind, two_at};
-use crate::parts::{items_at, push_tables};
+use crate::parts::push_tables;
 use crate::records::TableEntry;
 use chunk_store::{Draft, PutFault, law_of_growth};
-use schema_model::FormBytes;
+use schema_model::{FormBytes, items_at};
 use smallvec::SmallVec;
 use std::alloc::{AllocError, Global};
 use tuple_codec::{Address, Digester, Unread};

@@ -2,7 +2,7 @@
 
 ghost use Rattle.std.specs.Prelude.{◌≡◌, ◌++◌, true, OnOk};
 ghost use Rattle.tuple_codec.specs.Fronts.{Gives};
-ghost use Rattle.table_root.specs.Reading.{address_at, after_kind, four_at, two_at};
+ghost use Rattle.table_root.specs.Reading.{after_kind, four_at, two_at};
 ghost use Rattle.table_root.specs.Tables.{is_address};
 
 use schema_model::FormBytes;
@@ -23,16 +23,6 @@ pub(crate) fn after_kind(kind: u8, bytes: &[u8]) -> Result<&[u8], Unread>
         }
         [] => Err(Unread::Malformed),
     }
-}
-
-pub(crate) fn address_at(bytes: &[u8]) -> Result<(Address, &[u8]), Unread>
-    ensures { Gives (λ x. (x.0, x.1.now)) result (address_at bytes.now) }
-{
-    if bytes.len() < 20 {
-        return Err(Unread::Malformed);
-    }
-    let (front, rest) = bytes.split_at(20);
-    Ok((Address::from_slice(front), rest))
 }
 
 /// A number in two bytes.

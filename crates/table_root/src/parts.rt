@@ -1,38 +1,17 @@
 //! What stands in written forms one after another: addresses, and tables with their names.
 
-ghost use Rattle.std.specs.Prelude.{◌≡◌, ℕ, ◌++◌, ◌-◌, true, List, Option, OnOk};
+ghost use Rattle.std.specs.Prelude.{◌≡◌, ◌++◌, true, OnOk};
 ghost use Rattle.std.specs.List.{flat_map, list_all};
-ghost use Rattle.tuple_codec.specs.Fronts.{Gives};
-ghost use Rattle.schema_model.specs.Reading.{items_at};
 ghost use Rattle.table_root.specs.Databases.{fits_name, has_address, named_bytes};
 ghost use Rattle.table_root.specs.Tables.{is_address};
 
-use crate::fields::{address_at, push_address};
+use crate::fields::push_address;
 use crate::records::TableEntry;
-use schema_model::{FormBytes, push_short};
+use schema_model::{FormBytes, Readable, address_at, push_short};
 use std::alloc::{AllocError, Global};
-use tuple_codec::{Address, Sequence, Text, Unread, short_at};
+use tuple_codec::{Address, Text, Unread, short_at};
 
-/// A part of a written form.
-pub(crate) trait Part: Drop {
-    /// The part at the front of bytes, and the bytes after it.
-    ghost front: { List ℕ → Option (Self × List ℕ) };
-
-    fn read(alloc: Global, bytes: &[u8]) -> Result<(Self, &[u8]), Unread>
-        ensures { Gives (λ x. (x.0, x.1.now)) result (front bytes.now) };
-}
-
-impl Part for Address {
-    ghost use Rattle.table_root.specs.Reading.{address_at};
-
-    ghost front = { address_at };
-
-    fn read(_alloc: Global, bytes: &[u8]) -> Result<(Address, &[u8]), Unread> {
-        address_at(bytes)
-    }
-}
-
-impl Part for TableEntry {
+impl Readable for TableEntry {
     ghost use Rattle.table_root.specs.Reading.{named_at};
 
     ghost front = { named_at };
@@ -44,24 +23,6 @@ impl Part for TableEntry {
         let name = Text::from_slice(alloc, name)?;
         Ok((TableEntry { name, table }, rest))
     }
-}
-
-/// So many parts.
-pub(crate) fn items_at<P: Part>(
-    alloc: Global,
-    count: usize,
-    bytes: &[u8],
-) -> Result<(Sequence<P>, &[u8]), Unread>
-    ensures { Gives (λ x. (x.0, x.1.now)) result (items_at P.front count bytes.now) }
-{
-    let mut items = Vec::with_capacity(alloc, count)?;
-    let mut rest = bytes;
-    for _ in 0..count {
-        let (item, after) = P::read(alloc, rest)?;
-        items.push(item)?;
-        rest = after;
-    }
-    Ok((Sequence::from_vec(items), rest))
 }
 
 /// Writes addresses one after another.

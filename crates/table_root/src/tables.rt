@@ -12,11 +12,13 @@ ghost use Rattle.table_root.specs.Finds.{Finds};
 ghost use Rattle.table_root.specs.Reading.{schema_text, table_of};
 ghost use Rattle.table_root.specs.Tables.{HasRoots, HasTable, IsStoredTable, IsTableFound, recorded_roots, written_table};
 
-use crate::fields::{address_at, after_kind, four_at, push_address};
-use crate::parts::{items_at, push_addresses};
+use crate::fields::{after_kind, four_at, push_address};
+use crate::parts::push_addresses;
 use crate::records::{RecordedRoots, StoredTable};
 use chunk_store::{Draft, PutFault, law_of_growth};
-use schema_model::{FormBytes, Schema, law_of_schemas, push_schema, read_schema, schema_size};
+use schema_model::{
+    FormBytes, Schema, address_at, items_at, law_of_schemas, push_schema, read_schema, schema_size,
+};
 use smallvec::SmallVec;
 use std::alloc::{AllocError, Global};
 use tuple_codec::{Address, Digester, Unread, bytes_at};

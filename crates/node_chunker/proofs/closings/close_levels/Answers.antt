@@ -1,4 +1,4 @@
-use Rattle.std.proofs.Common.{◌≡◌, ◌<◌, ◌≤◌, ◌+◌, ◌++◌, suc, [], length, Option, refl, subst, arith}
+use Rattle.std.proofs.Common.{◌≡◌, ◌<◌, ◌≤◌, ◌+◌, ◌++◌, suc, [], length, Option, refl, subst, ◌∙◌, arith}
 use Rattle.std.specs.Prelude.{nat_eq}
 use Rattle.std.specs.Option.{option_map, option_to_list}
 use Rattle.std.proofs.Math.ListN.{set, length-set}
@@ -15,73 +15,74 @@ use Rattle.node_chunker.proofs.closings.close_levels.Goals as goal
 
 pub overflow_cast-level : goal.overflow_cast-level
 overflow_cast-level g c =
-    let within : c.levels.at < length c.levels.inner.items = omega arith in
+    let within : c.loop-at.at < length c.loop-at.inner.items = omega arith in
     omega (
       arith,
-      level_low g.D.Digester.address (chunks_of c.levels.draft.chunks) c.levels.inner.items c.levels.at (option_to_list (option_map ref_of c.levels.carry)) c.requires.0 within
-          (c.levels.invariant.1 c.requires.0 c.requires.1),
+      level_low g.D.Digester.address (chunks_of c.loop-at.draft.chunks) c.loop-at.inner.items c.loop-at.at (option_to_list (option_map ref_of c.loop-at.carry)) c.requires.0 within
+          (c.loop-at.invariant.closing c.requires.0 c.requires.1),
     )
 
 pub overflow_add-level : goal.overflow_add-level
 overflow_add-level g c =
-    let within : c.levels.at < length c.levels.inner.items = omega arith in
+    let within : c.loop-at.at < length c.loop-at.inner.items = omega arith in
     omega (
       arith,
-      level_low g.D.Digester.address (chunks_of c.levels.draft.chunks) c.levels.inner.items c.levels.at (option_to_list (option_map ref_of c.levels.carry)) c.requires.0 within
-          (c.levels.invariant.1 c.requires.0 c.requires.1),
+      level_low g.D.Digester.address (chunks_of c.loop-at.draft.chunks) c.loop-at.inner.items c.loop-at.at (option_to_list (option_map ref_of c.loop-at.carry)) c.requires.0 within
+          (c.loop-at.invariant.closing c.requires.0 c.requires.1),
     )
 
 pub close_level-requires-clause-fits : goal.close_level-requires-clause-fits
 close_level-requires-clause-fits g c κs live =
-    let within : c.levels.at < length c.levels.inner.items = omega arith in
-    level_ready g.D.Digester.address (chunks_of c.levels.draft.chunks) c.levels.inner.items c.levels.at c.index_mut.result.now (option_to_list (option_map ref_of c.levels.carry))
-    c.requires.0 within c.index_mut.ensures.value (c.levels.invariant.1 c.requires.0 c.requires.1)
+    let within : c.loop-at.at < length c.loop-at.inner.items = omega arith in
+    level_ready g.D.Digester.address (chunks_of c.loop-at.draft.chunks) c.loop-at.inner.items c.loop-at.at c.index_mut.result.now (option_to_list (option_map ref_of c.loop-at.carry))
+    c.requires.0 within c.index_mut.ensures.value (c.loop-at.invariant.closing c.requires.0 c.requires.1)
 
 pub returns-in-Root-clause-ok : goal.returns-in-Root-clause-ok
 returns-in-Root-clause-ok g c rows closing =
     let a = g.D.Digester.address in
-    let within : c.levels.at < length c.levels.inner.items = omega arith in
-    let count : c.len-in-levels.result ≡ length c.levels.inner.items = omega arith in
+    let within : c.loop-at.at < length c.loop-at.inner.items = omega arith in
+    let count : c.len.result ≡ length c.loop-at.inner.items = omega arith in
     let new = chunks_of c.close_level.new.draft.chunks in
-    let carry = option_to_list (option_map ref_of c.levels.carry) in
+    let carry = option_to_list (option_map ref_of c.loop-at.carry) in
     let held = c.index_mut.result.now in
-    let P : Closed → Type 0 = λ o. IsLevelClosed a new (c.levels.at + 1) (held ++ carry) (nat_eq (c.levels.at + 1) c.len-in-levels.result) o in
+    let P : Closed → Type 0 = λ o. IsLevelClosed a new (c.loop-at.at + 1) (held ++ carry) (nat_eq (c.loop-at.at + 1) c.len.result) o in
     let step = subst P c.in-Root.is c.in_ok-root.ensures.ok in
-    level_root a (chunks_of c.levels.draft.chunks) new c.levels.inner.items c.levels.at held carry rows c.in-Root.root.0 c.len-in-levels.result count within
-    c.index_mut.ensures.value (c.levels.invariant.1 rows closing) step.0 step.1 (extended c.levels.draft c.close_level.new.draft c.in_ok-root.ensures.grows)
+    level_root a (chunks_of c.loop-at.draft.chunks) new c.loop-at.inner.items c.loop-at.at held carry rows c.in-Root.root.0 c.len.result count within
+    c.index_mut.ensures.value (c.loop-at.invariant.closing rows closing) step.0 step.1 (extended c.loop-at.draft c.close_level.new.draft c.in_ok-root.ensures.grows)
 
-pub levels-preserved : goal.levels-preserved
-levels-preserved g c =
+pub loop-at-preserved : goal.loop-at-preserved
+loop-at-preserved g c =
     let a = g.D.Digester.address in
-    let within : c.levels.at < length c.levels.inner.items = omega arith in
-    let count : c.len-in-levels.result ≡ length c.levels.inner.items = omega arith in
+    let within : c.loop-at.at < length c.loop-at.inner.items = omega arith in
+    let count : c.len.result ≡ length c.loop-at.inner.items = omega arith in
     let new = chunks_of c.close_level.new.draft.chunks in
-    let carry = option_to_list (option_map ref_of c.levels.carry) in
+    let carry = option_to_list (option_map ref_of c.loop-at.carry) in
     let held = c.index_mut.result.now in
-    let P : Closed → Type 0 = λ o. IsLevelClosed a new (c.levels.at + 1) (held ++ carry) (nat_eq (c.levels.at + 1) c.len-in-levels.result) o in
-    let step = subst P c.in-Below.is c.in_ok-root.ensures.ok in (
-      omega (arith, length-set c.levels.inner.items c.levels.at c.close_level.new.node),
-      λ rows closing. level_up a (chunks_of c.levels.draft.chunks) new c.levels.inner.items (set c.levels.inner.items c.levels.at c.close_level.new.node) c.levels.at held
-          c.close_level.new.node carry rows (option_map ref_of c.in-Below.named) c.len-in-levels.result count within c.index_mut.ensures.value
-          (c.levels.invariant.1 rows closing) step.0 (extended c.levels.draft c.close_level.new.draft c.in_ok-root.ensures.grows) step.1 refl,
-      drafts_grow.in_steps is_node c.args.draft.now c.levels.draft c.close_level.new.draft c.levels.invariant.2 c.in_ok-root.ensures.grows,
-    )
+    let P : Closed → Type 0 = λ o. IsLevelClosed a new (c.loop-at.at + 1) (held ++ carry) (nat_eq (c.loop-at.at + 1) c.len.result) o in
+    let step = subst P c.in-Below.is c.in_ok-root.ensures.ok in
+    record {
+      many = length-set c.loop-at.inner.items c.loop-at.at c.close_level.new.node ∙ c.loop-at.invariant.many;
+      closing = λ rows closing. level_up a (chunks_of c.loop-at.draft.chunks) new c.loop-at.inner.items (set c.loop-at.inner.items c.loop-at.at c.close_level.new.node) c.loop-at.at held
+          c.close_level.new.node carry rows (option_map ref_of c.in-Below.named) c.len.result count within c.index_mut.ensures.value
+          (c.loop-at.invariant.closing rows closing) step.0 (extended c.loop-at.draft c.close_level.new.draft c.in_ok-root.ensures.grows) step.1 refl;
+      grows = drafts_grow.in_steps is_node c.args.draft.now c.loop-at.draft c.close_level.new.draft c.loop-at.invariant.grows c.in_ok-root.ensures.grows;
+    }
 
 pub unreachable-requires : goal.unreachable-requires
 unreachable-requires g c =
     let a = g.D.Digester.address in
-    let past : length c.levels.inner.items ≤ c.levels.at = omega arith in
-    let chunks = chunks_of c.levels.draft.chunks in
+    let past : length c.loop-at.inner.items ≤ c.loop-at.at = omega arith in
+    let chunks = chunks_of c.loop-at.draft.chunks in
     let rows = c.requires.0 in
-    let P : Option RefItem → Type 0 = λ o. IsClosing a chunks (suc c.levels.at) [] (option_to_list (option_map ref_of o)) rows in
-    closing_some a chunks (suc c.levels.at) rows (subst P c.in-None.is
-    (levels_done a chunks c.levels.inner.items c.levels.at (option_to_list (option_map ref_of c.levels.carry)) rows past (c.levels.invariant.1 rows c.requires.1)))
+    let P : Option RefItem → Type 0 = λ o. IsClosing a chunks (suc c.loop-at.at) [] (option_to_list (option_map ref_of o)) rows in
+    closing_some a chunks (suc c.loop-at.at) rows (subst P c.in-None.is
+    (levels_done a chunks c.loop-at.inner.items c.loop-at.at (option_to_list (option_map ref_of c.loop-at.carry)) rows past (c.loop-at.invariant.closing rows c.requires.1)))
 
 pub returns-clause-ok : goal.returns-clause-ok
 returns-clause-ok g c rows closing =
     let a = g.D.Digester.address in
-    let past : length c.levels.inner.items ≤ c.levels.at = omega arith in
-    let chunks = chunks_of c.levels.draft.chunks in
-    let P : Option RefItem → Type 0 = λ o. IsClosing a chunks (suc c.levels.at) [] (option_to_list (option_map ref_of o)) rows in
-    closing_done a chunks (suc c.levels.at) (ref_of c.in-Some.item) rows (subst P c.in-Some.is
-    (levels_done a chunks c.levels.inner.items c.levels.at (option_to_list (option_map ref_of c.levels.carry)) rows past (c.levels.invariant.1 rows closing)))
+    let past : length c.loop-at.inner.items ≤ c.loop-at.at = omega arith in
+    let chunks = chunks_of c.loop-at.draft.chunks in
+    let P : Option RefItem → Type 0 = λ o. IsClosing a chunks (suc c.loop-at.at) [] (option_to_list (option_map ref_of o)) rows in
+    closing_done a chunks (suc c.loop-at.at) (ref_of c.in-Some.item) rows (subst P c.in-Some.is
+    (levels_done a chunks c.loop-at.inner.items c.loop-at.at (option_to_list (option_map ref_of c.loop-at.carry)) rows past (c.loop-at.invariant.closing rows closing)))

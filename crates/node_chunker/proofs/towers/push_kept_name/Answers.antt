@@ -1,12 +1,11 @@
-use Rattle.std.proofs.Common.{◌≡◌, ◌<◌, ◌≤◌, ◌+◌, ◌++◌, suc, List, length, take, drop, Option, refl, subst, ◌∙◌, arith}
+use Rattle.std.proofs.Common.{◌<◌, ◌+◌, length, Option, refl, subst, arith}
 use Rattle.std.specs.Option.{option_map}
 use Rattle.std.proofs.Math.ListN.{set}
 use Rattle.std.proofs.lemmas.Result.{IfOk-weaker}
 use Rattle.node_format.specs.declared.items.RefItem.{RefItem}
 use Rattle.node_format.specs.Views.{ref_of}
 use Rattle.chunk_store.specs.Drafts.{chunks_of}
-use Rattle.node_chunker.specs.Steps.{IsClimbing, IsPushed, IsPushedAt}
-use Rattle.node_chunker.specs.Towers.{ended_chunks, pushes}
+use Rattle.node_chunker.specs.Steps.{IsPushed, IsPushedAt}
 use Rattle.node_chunker.proofs.ClimbLemmas.{climb_begins, climb_done, climb_low, climb_ready, climb_stays, climb_up, extended}
 use Rattle.node_chunker.proofs.towers.push_kept_name.Goals as goal
 

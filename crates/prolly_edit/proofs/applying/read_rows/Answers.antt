@@ -2,7 +2,6 @@ use Rattle.std.proofs.Common.{◌≡◌, ◌++◌, sym, subst, ◌∙◌}
 use Rattle.tuple_codec.specs.Nodes.{Node}
 use Rattle.tuple_codec.specs.Edits.{edited}
 use Rattle.chunk_store.specs.Drafts.{chunks_of}
-use Rattle.chunk_store.specs.Kinds.{is_node}
 use Rattle.prolly_edit.specs.Stages.{Awaits}
 use Rattle.prolly_edit.proofs.applying.read_rows.Goals as goal
 

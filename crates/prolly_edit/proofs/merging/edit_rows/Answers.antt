@@ -1,4 +1,4 @@
-use Rattle.std.proofs.Common.{◌≡◌, ◌≤◌, ◌++◌, ◌+◌, List, drop, length, refl, subst, ap, ◌∙◌, arith}
+use Rattle.std.proofs.Common.{◌≤◌, ◌++◌, ◌+◌, List, drop, length, refl, subst, ap, ◌∙◌, arith}
 use Rattle.tuple_codec.specs.Nodes.{Item, item_bytes, leaf_item}
 use Rattle.tuple_codec.specs.Trees.{bytes_of}
 use Rattle.tuple_codec.specs.Edits.{edited}

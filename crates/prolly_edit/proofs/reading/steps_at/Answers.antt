@@ -1,4 +1,4 @@
-use Rattle.std.proofs.Common.{◌≡◌, ◌+◌, ◌<◌, ℕ, List, length, arith}
+use Rattle.std.proofs.Common.{◌≡◌, ◌+◌, ◌<◌, length, arith}
 use Rattle.prolly_edit.proofs.KeepLemmas.{open_ends}
 use Rattle.prolly_edit.proofs.reading.steps_at.Goals as goal
 

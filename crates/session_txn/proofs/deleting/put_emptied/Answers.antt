@@ -18,13 +18,12 @@ put_table-requires-after_bounds g c κs within =
     let address = g.D.Digester.address in
     let old = c.args.draft.now in
     let mid = c.drop_entries.new.draft in
-    let laws = c.laws_of_growth.ensures in
-    let more : Extends (chunks_of old.chunks) (chunks_of mid.chunks) = laws.drafts.longer_extends old.chunks mid.chunks (laws.growth.is_longer is_node old mid c.drop_entries.ensures.grows) in
+    let more : Extends (chunks_of old.chunks) (chunks_of mid.chunks) = c.law_of_drafts.ensures.longer_extends old.chunks mid.chunks (c.law_of_growth.ensures.is_longer is_node old mid c.drop_entries.ensures.grows) in
     let contents = c.requires.1 in
     let found = c.requires.2 in (
       c.requires.0,
       without_entries c.args.which c.args.keys.now contents,
-      may_replace address (chunks_of old.chunks) (chunks_of mid.chunks) c.args.database.now.0 c.args.name.now c.requires.0 contents c.args.found more laws.tables found c.args.which c.args.keys.now
+      may_replace address (chunks_of old.chunks) (chunks_of mid.chunks) c.args.database.now.0 c.args.name.now c.requires.0 contents c.args.found more c.law_of_tables.ensures.tables found c.args.which c.args.keys.now
           c.in_ok-made.made (c.in_ok-made.ensures.stands contents found.stands),
     )
 
@@ -33,8 +32,7 @@ returns-clause-stands g c = λ before contents found.
     let address = g.D.Digester.address in
     let old = c.args.draft.now in
     let mid = c.drop_entries.new.draft in
-    let laws = c.laws_of_growth.ensures in
-    let more : Extends (chunks_of old.chunks) (chunks_of mid.chunks) = laws.drafts.longer_extends old.chunks mid.chunks (laws.growth.is_longer is_node old mid c.drop_entries.ensures.grows) in
+    let more : Extends (chunks_of old.chunks) (chunks_of mid.chunks) = c.law_of_drafts.ensures.longer_extends old.chunks mid.chunks (c.law_of_growth.ensures.is_longer is_node old mid c.drop_entries.ensures.grows) in
     let new = replaced c.args.name.now (without_entries c.args.which c.args.keys.now contents) before in
     IfOk-weaker c.put_table.result (λ (root : Address). IsReadAt address (chunks_of c.put_table.new.draft.chunks) root.0 new) (λ (root : Address). IsKeptAt address (chunks_of c.put_table.new.draft.chunks) root.0 new)
     (λ root read. record {
@@ -43,12 +41,11 @@ returns-clause-stands g c = λ before contents found.
           (c.in_ok-made.ensures.stands contents found.stands);
     })
     (c.put_table.ensures.stands before (without_entries c.args.which c.args.keys.now contents)
-    (may_replace address (chunks_of old.chunks) (chunks_of mid.chunks) c.args.database.now.0 c.args.name.now before contents c.args.found more laws.tables found c.args.which c.args.keys.now
+    (may_replace address (chunks_of old.chunks) (chunks_of mid.chunks) c.args.database.now.0 c.args.name.now before contents c.args.found more c.law_of_tables.ensures.tables found c.args.which c.args.keys.now
     c.in_ok-made.made (c.in_ok-made.ensures.stands contents found.stands)))
 
 pub returns-clause-grows : goal.returns-clause-grows
 returns-clause-grows g c =
-    let laws = c.laws_of_growth.ensures in
     let old = c.args.draft.now in
     let mid = c.drop_entries.new.draft in
-    laws.growth.in_steps is_data old mid c.put_table.new.draft (laws.growth.either_left is_node (is_either is_table is_database) old mid c.drop_entries.ensures.grows) c.put_table.ensures.grows
+    c.law_of_growth.ensures.in_steps is_data old mid c.put_table.new.draft (c.law_of_growth.ensures.either_left is_node (is_either is_table is_database) old mid c.drop_entries.ensures.grows) c.put_table.ensures.grows

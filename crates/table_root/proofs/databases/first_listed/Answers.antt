@@ -1,4 +1,4 @@
-use Rattle.std.proofs.Common.{◌≡◌, ◌≤◌, ◌∙◌, List, ℕ, ap, drop, length, subst, sym, take}
+use Rattle.std.proofs.Common.{◌≤◌, ◌∙◌, List, ℕ, ap, drop, length, subst, sym, take}
 use Rattle.table_root.specs.Databases.{IsFirstListed}
 use Rattle.table_root.proofs.FormLemmas.{cut, none_listed}
 use Rattle.table_root.proofs.databases.first_listed.Goals as goal

@@ -1,4 +1,4 @@
-use Rattle.std.proofs.Common.{◌≤◌, ◌∙◌, List, ℕ, length, subst, sym}
+use Rattle.std.proofs.Common.{◌∙◌, List, ℕ, subst, sym}
 use Rattle.basic_laws.proofs.Options.{some_is}
 use Rattle.table_root.specs.Databases.{AreListed, written_database}
 use Rattle.table_root.proofs.FormLemmas.{tables_listed}

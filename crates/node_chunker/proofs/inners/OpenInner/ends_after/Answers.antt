@@ -1,4 +1,4 @@
-use Rattle.std.proofs.Common.{◌≡◌, ◌<◌, ◌≤◌, ◌+◌, ◌∙◌, ℕ, length, ap, refl, arith}
+use Rattle.std.proofs.Common.{◌+◌, ◌∙◌, length, ap, refl, arith}
 use Rattle.tuple_codec.specs.Nodes.{item_bytes, items_bytes}
 use Rattle.node_format.specs.Views.{ref_of}
 use Rattle.node_chunker.proofs.NodeLemmas.{inner_item, inner_room, last_room, inner_ends, items_same}

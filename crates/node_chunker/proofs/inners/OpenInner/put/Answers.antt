@@ -18,7 +18,7 @@ returns-clause-ok g c =
     record {
       emptied = ap (λ (n : Node). n.items) c.clear.ensures;
       named_is = name_is a level held c.in_ok-key.key c.in_ok-address.address.0 c.self.inside.rows
-          (c.in_ok-key.ensures ∙ c.last_key.ensures ∙ ap last_key items_are)
+          (c.in_ok-key.ensures.copy ∙ c.last_key.ensures ∙ ap last_key items_are)
           (c.in_ok-address.ensures.address ∙ ap a bytes_are) (c.self.invariant.1 ∙ ap rows_in c.self.view_is);
       put = subst P bytes_are c.in_ok-address.ensures.put;
     }

@@ -1,4 +1,4 @@
-use Rattle.std.proofs.Common.{◌≡◌, ◌+◌, ◌∙◌, ℕ, length, ap, refl, arith}
+use Rattle.std.proofs.Common.{◌+◌, ◌∙◌, length, ap, refl}
 use Rattle.tuple_codec.specs.Nodes.{items_bytes, leaf_item}
 use Rattle.node_chunker.proofs.NodeLemmas.{last_room, ends_is}
 use Rattle.node_chunker.proofs.leaves.OpenLeaf.ends_after.Goals as goal

@@ -1,5 +1,5 @@
 use Rattle.std.proofs.Common.{◌≡◌, ◌∙◌, ℕ, List, [], ◌∷◌, ap, subst, sym, true}
-use Rattle.tuple_codec.specs.Nodes.{Node, node_bytes}
+use Rattle.tuple_codec.specs.Nodes.{Node}
 use Rattle.tuple_codec.specs.Trees.{bytes_of, last_key}
 use Rattle.chunk_store.specs.Drafts.{chunks_of}
 use Rattle.chunk_store.specs.Kinds.{is_node}
@@ -18,7 +18,7 @@ returns-clause-ok g c =
     record {
       emptied = ap (λ (n : Node). n.items) c.clear.ensures;
       named_is = name_is a 0 held c.in_ok-key.key c.in_ok-address.address.0 c.from-rows.result
-          (c.in_ok-key.ensures ∙ c.last_key.ensures ∙ ap last_key c.self.view_is)
+          (c.in_ok-key.ensures.copy ∙ c.last_key.ensures ∙ ap last_key c.self.view_is)
           (c.in_ok-address.ensures.address ∙ ap a bytes_are) rows_are;
       put = subst P bytes_are c.in_ok-address.ensures.put;
     }

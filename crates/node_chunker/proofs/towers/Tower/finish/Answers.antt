@@ -8,7 +8,7 @@ use Rattle.node_format.specs.Views.{ref_of}
 use Rattle.chunk_store.specs.Drafts.{chunks_of}
 use Rattle.node_chunker.specs.Growth.{IsTower}
 use Rattle.node_chunker.proofs.ClimbLemmas.{extended, not_none}
-use Rattle.node_chunker.proofs.ClosingLemmas.{begins_above, leaf_ready, leaf_root}
+use Rattle.node_chunker.proofs.LeafLemmas.{begins_above, leaf_ready, leaf_root}
 use Rattle.node_chunker.proofs.towers.Tower.finish.Goals as goal
 
 pub put-requires-after_bounds : goal.put-requires-after_bounds
