@@ -1,12 +1,11 @@
 -- No violation of a table stands twice, so that they rise in order.
 use Rattle.std.proofs.Common.{◌≡◌, refl, sym, ap, ◌∙◌, ℕ, ◌+◌, Bool, true, false, cond, not, ◌&&◌, ◌||◌, ◌==◌, true≢false, nat_cmp, nat_lt, List, [], ◌∷◌, ◌++◌, filter, map, bytes_eq, length}
-use Rattle.std.specs.Cmp.{IsTotalOrder}
 use Rattle.std.specs.Cmp.Lexicographic.{bytes_decides, slice_cmp}
 use Rattle.std.specs.List.{enumerate_from, flat_map, list_all, list_any}
 use Rattle.std.specs.Ordering.{is_eq, ordering_then}
 use Rattle.std.specs.declared.cmp.Ordering.TheVariants.{Less, Equal, Greater}
 use Rattle.std.proofs.lemmas.Bool.{and_from, and_parts, eqb-true}
-use Rattle.std.proofs.lemmas.Cmp.{nat_cmp_total, nat_list_cmp_total, on_total, then_total}
+use Rattle.std.proofs.lemmas.Cmp.{on_total}
 use Rattle.std.proofs.lemmas.List.Folds.{list_all-append, list_any-append}
 use Rattle.basic_laws.proofs.Orderings.{then_left, then_right}
 use Rattle.tuple_codec.specs.Rows.{Cells, key_cmp}
@@ -23,7 +22,7 @@ use Rattle.plain_sql.specs.Lists.{has, repeats}
 use Rattle.plain_writes.specs.Violations.{Checks, breaks_check, breaks_foreign, breaks_not_null, breaks_unique, broken, of_check, of_column, of_foreign, of_index, parent_keys, violation, violations_in}
 use Rattle.plain_writes.specs.Writes.{keyed_cmp}
 use Rattle.plain_writes.proofs.SortLemmas.{risen_once}
-use Rattle.write_laws.proofs.OrderLemmas.{in_order_rises, left_not, neither_so, right_not}
+use Rattle.write_laws.proofs.OrderLemmas.{in_order_rises, left_not, neither_so, right_not, violation_total}
 use Rattle.constraint_scan.proofs.FreeLemmas.{all_flat}
 
 -- ---- violations apart
@@ -143,11 +142,6 @@ module _ {A : Type 0} (kind : ℕ) (name : A → List ℕ) (f : A → List Viola
   group_kind xs = all_flat (of_kind kind) f (λ x. weaker (is_named kind (name x)) (of_kind kind) (λ one t. (and_parts (one.kind == kind) (bytes_eq one.constraint (name x)) t).0) (f x) (named x)) xs
 
 -- ---- those of a table
-
-violation_total : IsTotalOrder violation_cmp
-violation_total =
-    then_total (on_total (λ (v : Violation). v.kind) nat_cmp_total)
-    (then_total (on_total (λ (v : Violation). v.constraint) nat_list_cmp_total) (on_total (λ (v : Violation). v.key) key_cmp_total))
 
 numbered : (n : ℕ) (columns : List Column) → are_distinct (λ (a b : Column). bytes_eq a.name b.name) columns ≡ true
     → are_distinct (λ (a b : ℕ × Column). bytes_eq a.1.name b.1.name) (enumerate_from n columns) ≡ true

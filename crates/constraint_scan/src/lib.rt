@@ -25,5 +25,5 @@ pub use judging::{first_violation, first_violation_if, is_constrained_beside};
 pub use laws::law_of_recording;
 pub use listing::{ListedViolation, violations};
 pub use reading::{read_schemas, read_tables};
-pub use recording::record_violations;
+pub use recording::{keep_table, record_violations};
 pub use seeking::{has_child, has_parent, is_repeated};

@@ -114,8 +114,8 @@ fn build_list<D: Digester>(
     Ok(root)
 }
 
-/// Writes a table that stands.
-fn keep_table<D: Digester>(
+/// Writes a table whose trees stand in the draft already, in no database: its address.
+pub fn keep_table<D: Digester>(
     alloc: Global,
     draft: &mut Draft<D>,
     table: &StoredTable,

@@ -5,8 +5,7 @@ ghost use Rattle.script_run.specs.Scripts.{IsSoundScript};
 
 use chunk_store::Sha512Cut;
 use plain_run::plain_output;
-use script_laws::law_of_read_scripts;
-use script_run::{Replayed, replay_script, run_script};
+use script_run::{Replayed, law_of_read_scripts, replay_script, run_script};
 use script_text::{RunText, Script, print_output, print_stop, read_script};
 use std::alloc::Global;
 use tuple_codec::Blob;

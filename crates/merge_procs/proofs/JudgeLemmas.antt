@@ -15,9 +15,6 @@ use Rattle.schema_model.specs.Schemas.{is_name}
 use Rattle.schema_model.specs.WrittenForms.{table_address}
 use Rattle.schema_model.proofs.SizeLemmas.{kept_few}
 use Rattle.chunk_store.specs.Chunks.{Chunks, Extends}
-use Rattle.chunk_store.specs.Drafts.{Drafting, Grows}
-use Rattle.chunk_store.specs.Kinds.{is_data, is_database, is_either, is_node, is_table}
-use Rattle.chunk_store.specs.Laws.{DraftsGrow}
 use Rattle.table_root.specs.Kept.{IsKeptAt}
 use Rattle.constraint_scan.proofs.RecordLemmas.{there_later}
 use Rattle.expr_eval.specs.Binding.{Outcome, and_then}
@@ -193,10 +190,6 @@ can_judge address old mid new commits own tables made root request state later m
   at = at;
   comes = (fine_so request state.working can.fine).0;
 }
-
-pub grown : DraftsGrow → (old mid new : Drafting) → Grows is_data old mid → Grows is_database mid new → Grows is_data old new
-grown growth old mid new first later =
-    growth.in_steps is_data old mid new first (growth.either_right is_node (is_either is_table is_database) mid new (growth.either_right is_table is_database mid new later))
 
 pub there_of : (address : List ℕ → List ℕ) (chunks : Chunks) (k : List ℕ) (tables : List entries.TableEntry) (database : PlainDatabase) → IsKeptAt address chunks k database → tables ≡ named_tables address database
     → AreThere address chunks database tables

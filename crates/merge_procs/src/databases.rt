@@ -4,7 +4,6 @@ ghost use Rattle.std.specs.Prelude.{◌≡◌, IfErr, IfOk, Ok};
 ghost use Rattle.chunk_store.specs.Clashes.{IsReason};
 ghost use Rattle.chunk_store.specs.Drafts.{Grows, chunks_of};
 ghost use Rattle.chunk_store.specs.Kinds.{is_data};
-ghost use Rattle.chunk_store.specs.Laws.{DraftsFollow, DraftsGrow};
 ghost use Rattle.table_root.specs.Kept.{HasKeptAt, IsKeptAt};
 ghost use Rattle.schema_model.specs.PlainTables.{PlainDatabase};
 ghost use Rattle.plain_merge.specs.RootMerge.{MergedDatabase};
@@ -14,9 +13,10 @@ ghost use Rattle.plain_writes.specs.Violations.{violations};
 ghost use Rattle.root_merge.specs.Merging.{AreRoots, IsMadeOf};
 ghost use Rattle.merge_procs.specs.Databases.{AreAllIn, IsMet, merged_of};
 
-use chunk_store::{Draft, PutFault, law_of_drafts, law_of_growth};
+use chunk_store::{Draft, PutFault};
 use constraint_scan::{ListedViolation, law_of_recording, record_violations, violations};
 use root_merge::{Merged, merge_roots};
+use sql_write::laws_of_growth;
 use std::alloc::{AllocError, Global};
 use table_merge::MergeFault;
 use tuple_codec::{Address, Digester};
@@ -109,13 +109,4 @@ pub(crate) fn meet<D: Digester>(
         Err(MergeFault::Memory) => Err(PutFault::Memory),
         Err(MergeFault::Collision(clash)) => Err(PutFault::Collision(clash)),
     }
-}
-
-/// How drafts grow, for proofs. It does nothing.
-fn laws_of_growth()
-    ensures drafts { DraftsFollow }
-    ensures growth { DraftsGrow }
-{
-    law_of_drafts();
-    law_of_growth();
 }

@@ -6,18 +6,16 @@ ghost use Rattle.schema_model.specs.Limits.{most_rows};
 ghost use Rattle.schema_model.specs.PlainTables.{PlainDatabase, PlainTable};
 ghost use Rattle.chunk_store.specs.Clashes.{IsReason};
 ghost use Rattle.chunk_store.specs.Drafts.{Grows, chunks_of};
-ghost use Rattle.chunk_store.specs.Kinds.{is_data, is_database};
-ghost use Rattle.table_root.specs.Kept.{HasKeptAt, IsKeptAt};
-ghost use Rattle.table_root.specs.Standing.{AreThere, IsReadAt, IsTableAt, named_tables};
+ghost use Rattle.chunk_store.specs.Kinds.{is_data};
+ghost use Rattle.table_root.specs.Standing.{AreThere, IsTableAt};
 ghost use Rattle.plain_sessions.specs.Merging.{has_too_many_rows, names_meant, resolve};
 ghost use Rattle.plain_sessions.specs.Records.{BranchState};
 ghost use Rattle.plain_sessions.specs.Statements.{resolve_worked};
 ghost use Rattle.session_laws.specs.Records.{RecordStands};
-ghost use Rattle.sql_write.specs.Putting.{AreListed};
 ghost use Rattle.merge_procs.specs.Resolving.{CanJudge, CanResolve, first_absent, first_refusal, has_name};
 ghost use Rattle.merge_procs.specs.Steps.{IsStep};
 
-use crate::settling::{laws_of_growth, settle_each};
+use crate::settling::settle_each;
 use crate::steps::{Made, Step};
 use crate::takings::{Flaw, take_flawed};
 use branch_procs::status_reply;
@@ -27,40 +25,10 @@ use prolly_tree::count;
 use schema_model::limits::MOST_ROWS;
 use session_laws::law_of_records;
 use sql_procedures::{Resolution, Tables};
+use sql_write::{laws_of_growth, put_database, read_tables};
 use std::alloc::{AllocError, Global};
-use table_root::{TableEntry, read_database, read_table, write_database};
+use table_root::{TableEntry, read_table};
 use tuple_codec::{Address, BranchRecord, Digester, Sequence, Text};
-
-/// The names and addresses of the tables of the database at an address, by rising name.
-fn read_tables<D: Digester>(
-    alloc: Global,
-    draft: &Draft<D>,
-    database: &Address,
-) -> Result<Vec<TableEntry>, AllocError>
-    requires { HasKeptAt D.address (chunks_of draft.now.chunks) database.now.0 }
-    ensures { (contents : PlainDatabase) → IsKeptAt D.address (chunks_of draft.now.chunks) database.now.0 contents
-        → IfOk result (λ tables. tables.items ≡ named_tables D.address contents) }
-{
-    laws_of_growth();
-    read_database(alloc, draft, database)
-}
-
-/// Writes the database that these tables are.
-fn write_tables<D: Digester>(
-    alloc: Global,
-    draft: &mut Draft<D>,
-    tables: &[TableEntry],
-) -> Result<Address, PutFault>
-    requires { (database : PlainDatabase) × AreListed D.address (chunks_of draft.old.chunks) tables.now database }
-    ensures stands { (database : PlainDatabase) → AreListed D.address (chunks_of draft.old.chunks) tables.now database
-        → IfOk result (λ at. IsReadAt D.address (chunks_of draft.new.chunks) at.0 database) }
-    ensures grows { Grows is_database draft.old draft.new }
-    ensures cause { IfErr result (IsReason D.address (chunks_of draft.new.chunks)) }
-{
-    laws_of_growth();
-    let at = write_database(alloc, draft, tables)?;
-    Ok(at)
-}
 
 fn has_name(tables: &[TableEntry], name: &[u8]) -> bool
     ensures { result ≡ has_name tables.now name.now }
@@ -211,7 +179,7 @@ fn settled<D: Digester>(
     law_of_records();
     let mut made = Sequence::new(alloc);
     settle_each(alloc, draft, tables, request, &mut made)?;
-    let root = write_tables(alloc, draft, made.as_slice())?;
+    let root = put_database(alloc, draft, made.as_slice())?;
     let step = judged(alloc, draft, own, made.as_slice(), root)?;
     Ok(step)
 }

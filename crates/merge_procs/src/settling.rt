@@ -5,41 +5,26 @@ ghost use Rattle.schema_model.specs.PlainTables as plain;
 ghost use Rattle.schema_model.specs.PlainTables.{PlainDatabase, PlainTable};
 ghost use Rattle.chunk_store.specs.Clashes.{IsReason};
 ghost use Rattle.chunk_store.specs.Drafts.{Grows, chunks_of};
-ghost use Rattle.chunk_store.specs.Kinds.{is_data, is_node, is_table};
-ghost use Rattle.chunk_store.specs.Laws.{DraftsFollow, DraftsGrow};
-ghost use Rattle.constraint_scan.specs.Recording.{IsEntryOf, MayStand};
+ghost use Rattle.chunk_store.specs.Kinds.{is_data, is_node};
+ghost use Rattle.constraint_scan.specs.Recording.{IsEntryOf};
 ghost use Rattle.index_keep.specs.Keeping.{with_rows};
-ghost use Rattle.table_root.specs.Standing.{AreThere, DatabasesStand, IsTableAt, IsTableOf, TableValuesStand, TablesStand};
+ghost use Rattle.table_root.specs.Standing.{AreThere, IsTableAt, IsTableOf};
 ghost use Rattle.plain_sessions.specs.Merging.{database_after, rows_after, table_after};
 ghost use Rattle.sql_procedures.specs.declared.requests.Side.TheVariants as side;
 ghost use Rattle.merge_procs.specs.Resolving.{CanSettle, CanSettleEach, CanSettleNamed, CanTake, CanTakeSide, settled, without_conflicts};
 
 use crate::takings::is_meant;
-use chunk_store::{Draft, PutFault, law_of_drafts, law_of_growth};
+use chunk_store::{Draft, PutFault, law_of_growth};
 use conflict_tables::theirs_edits;
+use constraint_scan::keep_table;
 use index_keep::apply_with_indexes;
 use node_chunker::build;
 use sql_procedures::{Resolution, Side};
+use sql_write::laws_of_growth;
 use std::alloc::Global;
-use table_root::{
-    StoredTable, TableEntry, law_of_databases, law_of_tables, read_table, write_table,
-};
+use table_root::{StoredTable, TableEntry, read_table};
 use table_rows::law_of_row_items;
 use tuple_codec::{Address, Digester, Sequence, Text, keys_are_one_spelling};
-
-/// What is found in drafts, and what stands later where they grow, for proofs. It does nothing.
-pub(crate) fn laws_of_growth()
-    ensures drafts { DraftsFollow }
-    ensures growth { DraftsGrow }
-    ensures tables { TablesStand }
-    ensures values { TableValuesStand }
-    ensures databases { DatabasesStand }
-{
-    law_of_drafts();
-    law_of_growth();
-    law_of_tables();
-    law_of_databases();
-}
 
 /// The table with theirs' row, or none, at each conflict's key.
 fn with_theirs<D: Digester>(
@@ -99,23 +84,6 @@ fn without_conflicts<D: Digester>(
         conflicts,
         violations: table.violations,
     })
-}
-
-/// Writes a table that stands.
-fn keep_table<D: Digester>(
-    alloc: Global,
-    draft: &mut Draft<D>,
-    table: &StoredTable,
-) -> Result<Address, PutFault>
-    requires { (contents : PlainTable) × MayStand D.address (chunks_of draft.old.chunks) table.now contents }
-    ensures stands { (contents : PlainTable) → MayStand D.address (chunks_of draft.old.chunks) table.now contents
-        → IfOk result (λ at. IsTableAt D.address (chunks_of draft.new.chunks) at.0 contents) }
-    ensures grows { Grows is_table draft.old draft.new }
-    ensures cause { IfErr result (IsReason D.address (chunks_of draft.new.chunks)) }
-{
-    laws_of_growth();
-    let at = write_table(alloc, draft, table)?;
-    Ok(at)
 }
 
 /// The trees of a table with the rows of a side, and without conflicts.

@@ -15,13 +15,13 @@ ghost use Rattle.plain_sql.specs.Answers.{is_null};
 ghost use Rattle.plain_sessions.specs.Merging.{breaks_index, breaks_null, has_null_at, is_meant, is_theirs, takes_bad_row, their_rows};
 ghost use Rattle.merge_procs.specs.Resolving.{AreTakings, IsTaking, is_flawed, takes_flawed, theirs_of};
 
-use crate::settling::laws_of_growth;
 use chunk_store::Draft;
 use conflict_tables::theirs_edits;
 use plain_sql::is_null;
 use schema_model::limits::MOST_INDEX_BYTES;
 use schema_model::{Column, IndexDef, Schema};
 use sql_procedures::{Resolution, Side, Tables};
+use sql_write::laws_of_growth;
 use std::alloc::{AllocError, Global};
 use table_root::{TableEntry, read_table};
 use table_rows::row_of;

@@ -15,7 +15,7 @@ use crate::words::{MomentOrder, USAGE, order_asked};
 use chunk_store::PutFault;
 use plain_run::{Followed, plain_output_in_given_order, plain_output_in_text_order};
 use program_ends::{Status, collision_text, fault_text};
-use script_laws::law_of_read_scripts;
+use script_run::law_of_read_scripts;
 use script_text::{Script, ScriptFault, read_script};
 use std::alloc::{AllocError, Global};
 use tuple_codec::Blob;

@@ -25,7 +25,7 @@ use Rattle.run_laws.specs.Laws.{LinesAreRun, shown_by}
 use Rattle.run_laws.specs.Lines.{Spoken, replies_of}
 use Rattle.run_laws.specs.Orders.{IsTextOrder, is_within}
 use Rattle.session_laws.specs.Changes.{BranchStands, Paired}
-use Rattle.session_txn.specs.Showing.{is_sound_reply}
+use Rattle.serving.specs.Serving.{is_sound_reply}
 use Rattle.script_run.specs.Running.{IsRunningAt, IsSpeaker}
 use Rattle.script_run.specs.Scripts.{IsSoundScript}
 use Rattle.script_run.specs.declared.running.Running.{Running}

@@ -24,7 +24,7 @@ use Rattle.run_laws.specs.Replaying.{dropped, reply_of}
 use Rattle.run_laws.proofs.Steps.{alone_past, moment_past}
 use Rattle.session_laws.specs.Changes.{Parts, StateStands}
 use Rattle.session_state.specs.Standing.{SessionStands}
-use Rattle.session_txn.specs.Showing.{is_sound_reply}
+use Rattle.serving.specs.Serving.{is_sound_reply}
 use Rattle.serving.specs.Serving.{Awaits, Concludes, Drops, Fails, IsBefore, IsBetween, MeetsOnce, Passes, PassesAlone, Starts}
 use Rattle.serving.specs.Steps.{number_at}
 use Rattle.serving.specs.declared.meeting.Pending.{Pending}

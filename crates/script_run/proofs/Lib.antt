@@ -8,4 +8,5 @@ pub mod OpenLemmas
 pub mod PlanningLemmas
 pub mod PlayerLemmas
 pub mod ReplayLemmas
+pub mod ScriptLemmas
 pub mod SpeakerLemmas

@@ -26,7 +26,7 @@ use Rattle.run_laws.specs.Laws.{OrdersAreFollowed, shown_of}
 use Rattle.run_laws.specs.Orders.{asked_order}
 use Rattle.run_laws.specs.Replaying.{AreWaiting, CantGoOn, IsStopped, IsWaiting, WaitsAt, all_replies, is_at, is_next}
 use Rattle.session_laws.specs.Changes.{Parts}
-use Rattle.session_txn.specs.Showing.{is_sound_reply}
+use Rattle.serving.specs.Serving.{is_sound_reply}
 use Rattle.serving.specs.Steps.{number_at}
 use Rattle.serving.specs.declared.meeting.Pending.TheVariants as pending
 use Rattle.serving.proofs.AnswerLemmas.{same_number as number_is}

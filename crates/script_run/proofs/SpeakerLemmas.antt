@@ -16,7 +16,7 @@ use Rattle.run_laws.specs.Lines.{Spoken, answered_at}
 use Rattle.run_laws.specs.Orders.{count_of}
 use Rattle.run_laws.proofs.ListLemmas.{get_put, get_put_other}
 use Rattle.session_laws.specs.Changes.{Parts}
-use Rattle.session_txn.specs.Showing.{is_sound_reply}
+use Rattle.serving.specs.Serving.{is_sound_reply}
 use Rattle.script_run.specs.Running.{AreSpeakers, IsSpeaker, Speaks}
 use Rattle.script_run.specs.declared.running.Speaker.{Speaker}
 

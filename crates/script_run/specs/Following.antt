@@ -25,7 +25,7 @@ use Rattle.run_laws.specs.Orders.{IsGivenOrder, asked_order}
 use Rattle.run_laws.specs.Replaying.{Along, IsStopped, dropped, reply_of}
 use Rattle.session_laws.specs.Changes.{Parts, StateStands}
 use Rattle.session_state.specs.declared.sessions.Session.{Session}
-use Rattle.session_txn.specs.Showing.{is_sound_reply}
+use Rattle.serving.specs.Serving.{is_sound_reply}
 use Rattle.serving.specs.Serving.{IsBefore, IsBetween, Passes}
 use Rattle.serving.specs.Starting.{IsStarted}
 use Rattle.serving.specs.Steps.{number_at}

@@ -1,4 +1,5 @@
 pub mod Following
+pub mod Laws
 pub mod Opening
 pub mod Planning
 pub mod Running

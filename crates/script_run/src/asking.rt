@@ -6,7 +6,7 @@ ghost use Rattle.plain_sessions.specs.Fitness.{IsFitCommand};
 ghost use Rattle.plain_sessions.specs.Commands.{command};
 ghost use Rattle.plain_sessions.specs.Records.{Shared};
 ghost use Rattle.plain_sessions.specs.Sessions as plain;
-ghost use Rattle.session_txn.specs.Showing.{is_sound_reply};
+ghost use Rattle.serving.specs.Serving.{is_sound_reply};
 ghost use Rattle.serving.specs.Serving.{IsBefore, Serves};
 ghost use Rattle.serving.specs.Steps.{number_at};
 

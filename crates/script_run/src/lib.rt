@@ -6,6 +6,7 @@
 mod asking;
 mod following;
 mod going;
+mod laws;
 mod lines;
 mod opening;
 mod planning;
@@ -14,6 +15,7 @@ mod running;
 
 pub use following::{Replayed, replay_script};
 pub use going::{Led, go_on, is_free, lead_in, work_out};
+pub use laws::law_of_read_scripts;
 pub use lines::{number_of, run_script};
 pub use opening::counts;
 pub use planning::{can_plan, lead_planned, look_again, look_ahead, plan_ahead};

@@ -25,5 +25,5 @@ pub use faults::SqlFault;
 pub use finding::{Found, find};
 pub use laws::laws_of_growth;
 pub use listing::{placed, without};
-pub use tables::{put_table, table_in};
+pub use tables::{put_database, put_table, read_tables, table_in};
 pub use writing::{Written, write};

@@ -7,18 +7,18 @@ ghost use Rattle.chunk_store.specs.Drafts.{Grows, chunks_of};
 ghost use Rattle.chunk_store.specs.Kinds.{is_data};
 ghost use Rattle.table_root.specs.Standing.{IsReadAt, IsTableAt, IsTableOf};
 ghost use Rattle.plain_writes.specs.Writes.{replaced};
-ghost use Rattle.constraint_scan.specs.Recording.{MayStand};
 ghost use Rattle.table_root.specs.Kept.{HasKeptAt, IsKeptAt};
 ghost use Rattle.sql_write.specs.Putting.{AreListed, AreListedAt, MayReplace, address_in, readdress, readdressed};
 
 use crate::laws::laws_of_growth;
 use chunk_store::{Draft, PutFault};
+use constraint_scan::keep_table;
 use std::alloc::{AllocError, Global};
-use table_root::{StoredTable, TableEntry, read_database, read_table, write_database, write_table};
+use table_root::{StoredTable, TableEntry, read_database, read_table, write_database};
 use tuple_codec::{Address, Digester};
 
-/// The names and addresses of the tables of the database at an address, by rising name.
-pub(crate) fn read_tables<D: Digester>(
+/// The names and addresses of the tables of the database at an address, by rising name. None of the tables is read.
+pub fn read_tables<D: Digester>(
     alloc: Global,
     draft: &Draft<D>,
     database: &Address,
@@ -82,8 +82,8 @@ fn readdress(named: &mut TableEntry, name: &[u8], table: Address)
     }
 }
 
-/// Writes a database that these tables are.
-pub(crate) fn put_database<D: Digester>(
+/// Writes a database that these tables are. The tables stand in the draft already; what constrains them is not judged here, nor how many rows they have.
+pub fn put_database<D: Digester>(
     alloc: Global,
     draft: &mut Draft<D>,
     tables: &[TableEntry],
@@ -96,23 +96,6 @@ pub(crate) fn put_database<D: Digester>(
 {
     laws_of_growth();
     let at = write_database(alloc, draft, tables)?;
-    Ok(at)
-}
-
-/// Writes a table.
-pub(crate) fn keep_table<D: Digester>(
-    alloc: Global,
-    draft: &mut Draft<D>,
-    table: &StoredTable,
-) -> Result<Address, PutFault>
-    requires { (contents : PlainTable) × MayStand D.address (chunks_of draft.old.chunks) table.now contents }
-    ensures stands { (contents : PlainTable) → MayStand D.address (chunks_of draft.old.chunks) table.now contents
-        → IfOk result (λ at. IsTableAt D.address (chunks_of draft.new.chunks) at.0 contents) }
-    ensures grows { Grows is_data draft.old draft.new }
-    ensures cause { IfErr result (IsReason D.address (chunks_of draft.new.chunks)) }
-{
-    laws_of_growth();
-    let at = write_table(alloc, draft, table)?;
     Ok(at)
 }
 

@@ -23,12 +23,11 @@ use Rattle.plain_sessions.specs.Merging.{Worked}
 use Rattle.plain_sessions.specs.Records.{BranchState}
 use Rattle.plain_sessions.specs.SystemTables.{behind, conflict_columns, conflict_row, conflicts_front, delete_by, delete_conflicts, delete_entries, delete_violations, entries_left, entry_if, entry_left, tests_on, violation_columns, violation_row, violations_front, with_table, without_conflicts, without_violations}
 use Rattle.write_laws.proofs.DatabaseLemmas.{IsKeptTable, limits_so}
-use Rattle.write_laws.proofs.OrderLemmas.{both_so, two}
+use Rattle.write_laws.proofs.OrderLemmas.{both_so, two, violation_total}
 use Rattle.write_laws.proofs.OutcomeLemmas.{found_so, then_so}
 use Rattle.state_laws.specs.Laws.{IsKeptState, IsKeptWork}
 use Rattle.state_laws.proofs.KeptLemmas.{IsKeptNamed, are_kept, few_rows, few_tables, is_kept}
 use Rattle.state_laws.proofs.PutLemmas.{IsFoundWell, found_well, put_few, put_kept}
-use Rattle.state_laws.proofs.RecordingLemmas.{violation_total}
 use Rattle.state_laws.proofs.TestLemmas.{ok_has}
 
 -- ---- what no test chooses

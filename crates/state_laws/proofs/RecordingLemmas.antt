@@ -1,16 +1,16 @@
 -- A table's violations, found anew, are violations of it within the limits, and rise.
 use Rattle.std.proofs.Common.{◌≡◌, ◌<◌, refl, ap, ◌∙◌, ℕ, Bool, true, false, cond, ◌&&◌, nat_le, nat_lt, nat_cmp, ◌==◌, List, [], ◌∷◌, ◌++◌, filter, map, bytes_eq, arith}
-use Rattle.std.specs.Cmp.{IsTotalOrder, tied_itself}
+use Rattle.std.specs.Cmp.{tied_itself}
 use Rattle.std.specs.Cmp.Lexicographic.{bytes_decides}
 use Rattle.std.specs.FinMap.{nat_cmp-IsAntisymmetric}
 use Rattle.std.specs.List.{enumerate_from, flat_map, list_all}
 use Rattle.std.specs.Ordering.{is_eq, ordering_then}
 use Rattle.std.proofs.lemmas.Bool.{and_parts, eqb-true, ltb-true, or_parts, false_from_ne_true as not_so}
-use Rattle.std.proofs.lemmas.Cmp.{nat_cmp_total, nat_list_cmp_total, on_total, then_total}
+use Rattle.std.proofs.lemmas.Cmp.{nat_cmp_total, nat_list_cmp_total}
 use Rattle.std.proofs.lemmas.List.Folds.{list_all-append}
 use Rattle.basic_laws.proofs.Orderings.{equal_is as equal_so, then_left as first_apart}
 use Rattle.tuple_codec.specs.Rows.{Cells}
-use Rattle.tuple_codec.proofs.Orders.{cells_told, key_cmp_total}
+use Rattle.tuple_codec.proofs.Orders.{cells_told}
 use Rattle.schema_model.specs.Limits.{has_short_names, is_row_within_limits, is_short_in, is_short_key, is_short_name, is_short_row, is_violation_within_limits, is_within_limits}
 use Rattle.schema_model.specs.PlainTables.{PlainDatabase, Violation, is_row, is_violation, primary_key, rises, violation_cmp}
 use Rattle.schema_model.specs.Schemas.{are_checks, are_columns, are_distinct, are_few, are_foreign, are_indexes, is_check, is_column, is_foreign, is_index, is_key, is_name, is_schema}
@@ -25,15 +25,11 @@ use Rattle.plain_sql.specs.Lists.{has, repeats}
 use Rattle.plain_writes.specs.Violations.{Checks, breaks_not_null, breaks_unique, broken, of_check, of_column, of_foreign, of_index, violation, violations_in}
 use Rattle.plain_writes.specs.Writes.{keyed_cmp}
 use Rattle.schema_laws.proofs.ListLemmas.{all_combined}
-use Rattle.write_laws.proofs.OrderLemmas.{both_so, in_order_all, in_order_rises, neither_so}
+use Rattle.write_laws.proofs.OrderLemmas.{both_so, in_order_all, in_order_rises, neither_so, violation_total}
 use Rattle.write_laws.proofs.RowLemmas.{is_good}
 use Rattle.state_laws.proofs.OnceLemmas.{flat_all, numbered_all, numbered_distinct, once_append, once_flat}
 
 -- ---- the order
-
-pub violation_total : IsTotalOrder violation_cmp
-violation_total =
-    then_total (on_total (λ (v : Violation). v.kind) nat_cmp_total) (then_total (on_total (λ (v : Violation). v.constraint) nat_list_cmp_total) (on_total (λ (v : Violation). v.key) key_cmp_total))
 
 kinds_apart : (m : ℕ) (v w : Violation) → nat_lt v.kind m ≡ true → (w.kind == m) ≡ true → is_eq (violation_cmp v w) ≡ false
 kinds_apart m v w p q =

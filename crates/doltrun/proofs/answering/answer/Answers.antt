@@ -1,6 +1,6 @@
 use Rattle.std.proofs.Common.{◌∙◌, ap}
 use Rattle.doltrun.specs.Words.{is_given}
-use Rattle.script_laws.proofs.ScriptLemmas.{script_ordered, script_sound}
+use Rattle.script_run.proofs.ScriptLemmas.{script_ordered, script_sound}
 use Rattle.doltrun.proofs.answering.answer.Goals as goal
 
 pub answer_in_text_order-requires-clause-sound : goal.answer_in_text_order-requires-clause-sound

@@ -12,13 +12,13 @@ first_refusal-requires-after_bounds g c κs within =
     let (commits, state, stands) = c.requires in (
       state.working,
       there_of g.D.Digester.address (chunks_of c.args.draft.now.chunks) c.args.own.now.working.0 c.as_slice.result.now state.working stands.working
-          (c.as_slice.ensures.value ∙ c.in_ok-tables.ensures state.working stands.working),
+          (c.as_slice.ensures.value ∙ (c.in_ok-tables.ensures state.working stands.working).listed.listed),
     )
 
 pub returns-in-Some-clause-is : goal.returns-in-Some-clause-is
 returns-in-Some-clause-is g c = λ commits state stands.
     let there = there_of g.D.Digester.address (chunks_of c.args.draft.now.chunks) c.args.own.now.working.0 c.as_slice.result.now state.working stands.working
-    (c.as_slice.ensures.value ∙ c.in_ok-tables.ensures state.working stands.working) in
+    (c.as_slice.ensures.value ∙ (c.in_ok-tables.ensures state.working stands.working).listed.listed) in
     refused_so c.args.request.now state c.in-Some.number (sym c.in-Some.is ∙ c.in_ok-refusal.ensures state.working there)
 
 pub settled-requires-after_bounds : goal.settled-requires-after_bounds
@@ -27,11 +27,11 @@ settled-requires-after_bounds g c κs within =
     let address = g.D.Digester.address in
     let chunks = chunks_of c.args.draft.now.chunks in
     let there = there_of address chunks c.args.own.now.working.0 c.as_slice.result.now state.working stands.working
-    (c.as_slice.ensures.value ∙ c.in_ok-tables.ensures state.working stands.working) in (
+    (c.as_slice.ensures.value ∙ (c.in_ok-tables.ensures state.working stands.working).listed.listed) in (
       commits,
       state,
       fine_found address chunks commits c.args.own.now c.as_slice-in-None.result.now c.args.request.now state c.in_ok-refusal.refusal stands
-          (c.as_slice-in-None.ensures.value ∙ c.in_ok-tables.ensures state.working stands.working) (c.in_ok-refusal.ensures state.working there) c.in-None.is,
+          (c.as_slice-in-None.ensures.value ∙ (c.in_ok-tables.ensures state.working stands.working).listed.listed) (c.in_ok-refusal.ensures state.working there) c.in-None.is,
     )
 
 pub returns-clause-is : goal.returns-clause-is
@@ -39,7 +39,7 @@ returns-clause-is g c = λ commits state stands.
     let address = g.D.Digester.address in
     let chunks = chunks_of c.args.draft.now.chunks in
     let there = there_of address chunks c.args.own.now.working.0 c.as_slice.result.now state.working stands.working
-    (c.as_slice.ensures.value ∙ c.in_ok-tables.ensures state.working stands.working) in
+    (c.as_slice.ensures.value ∙ (c.in_ok-tables.ensures state.working stands.working).listed.listed) in
     c.settled.ensures.is commits state
     (fine_found address chunks commits c.args.own.now c.as_slice-in-None.result.now c.args.request.now state c.in_ok-refusal.refusal stands
-    (c.as_slice-in-None.ensures.value ∙ c.in_ok-tables.ensures state.working stands.working) (c.in_ok-refusal.ensures state.working there) c.in-None.is)
+    (c.as_slice-in-None.ensures.value ∙ (c.in_ok-tables.ensures state.working stands.working).listed.listed) (c.in_ok-refusal.ensures state.working there) c.in-None.is)

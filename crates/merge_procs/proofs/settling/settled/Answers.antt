@@ -41,5 +41,4 @@ returns-clause-grows g c =
     let mid = c.settled_value.new.draft in
     let new = c.keep_table.new.draft in
     let growth = c.laws_of_growth.ensures.growth in
-    growth.in_steps is_data old mid new (growth.either_left is_node (is_either is_table is_database) old mid c.settled_value.ensures.grows)
-    (growth.either_right is_node (is_either is_table is_database) mid new (growth.either_left is_table is_database mid new c.keep_table.ensures.grows))
+    growth.in_steps is_data old mid new (growth.either_left is_node (is_either is_table is_database) old mid c.settled_value.ensures.grows) c.keep_table.ensures.grows

@@ -1,6 +1,6 @@
-//! The law of scripts, for the crates above: call it where a proof needs it. It does nothing.
+//! The law of scripts that are read: a function that does nothing, to be called where a proof needs it.
 
-ghost use Rattle.script_laws.specs.Laws.{ReadsOrdered, ReadsSound};
+ghost use Rattle.script_run.specs.Laws.{ReadsOrdered, ReadsSound};
 
 /// Every script that is read is sound, and has an order where one was asked for.
 pub fn law_of_read_scripts()

@@ -1,5 +1,5 @@
 use Rattle.std.proofs.Common.{◌≡◌, ◌++◌, drop}
-use Rattle.system_tables.proofs.names.push_copies.Given as goal
+use Rattle.plain_merge.proofs.names.push_copies.Given as goal
 
 abbrev pub invariant-loop-name : goal.invariant-loop-name
 invariant-loop-name l = l.out.items ++ drop l.name-index l.names ≡ l.fn.out.items ++ l.names
