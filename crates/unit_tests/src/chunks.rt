@@ -66,7 +66,7 @@ fn a_draft_goes_back_to_a_mark_and_restarts(rt: HostRuntime) {
 }
 
 #[test]
-fn a_sealed_draft_is_appended_to_a_store(rt: HostRuntime) {
+fn a_copied_draft_has_the_same_chunks(rt: HostRuntime) {
     let pool = PagePool::with_pages(rt.alloc(), 1).expect(&rt, "memory for a page");
     let mut draft: Draft<Sha512Cut> = Draft::new(Store::new(rt.alloc()), pool);
     let address = draft.put(b"kept").expect(&rt, "memory for a chunk");
@@ -75,7 +75,14 @@ fn a_sealed_draft_is_appended_to_a_store(rt: HostRuntime) {
         .expect(&rt, "memory for a copy");
     let found = copy.get(&address).expect(&rt, "the chunk");
     assert_eq!(rt; found, b"kept".as_slice());
-    let Ok((segment, pool)) = copy.seal() else {
+}
+
+#[test]
+fn a_sealed_draft_is_appended_to_a_store(rt: HostRuntime) {
+    let pool = PagePool::with_pages(rt.alloc(), 1).expect(&rt, "memory for a page");
+    let mut draft: Draft<Sha512Cut> = Draft::new(Store::new(rt.alloc()), pool);
+    let address = draft.put(b"kept").expect(&rt, "memory for a chunk");
+    let Ok((segment, pool)) = draft.seal() else {
         panic!(rt; "no memory for a segment");
     };
     assert_eq!(rt; pool.free_pages(), 1);
@@ -83,16 +90,22 @@ fn a_sealed_draft_is_appended_to_a_store(rt: HostRuntime) {
     store.reserve(1).expect(&rt, "memory for a segment");
     store.append(segment).expect(&rt, "no collision");
     let shared = store.share().expect(&rt, "memory for a store");
-    let found = shared.get(&address).expect(&rt, "the chunk");
+    let draft: Draft<Sha512Cut> = Draft::new(shared, pool);
+    let found = draft.get(&address).expect(&rt, "the chunk");
     assert_eq!(rt; found, b"kept".as_slice());
-    draft.restart(shared);
+}
+
+#[test]
+fn a_draft_keeps_the_pages_that_it_has(rt: HostRuntime) {
+    let pool = PagePool::with_pages(rt.alloc(), 1).expect(&rt, "memory for a page");
+    let mut draft: Draft<Sha512Cut> = Draft::new(Store::new(rt.alloc()), pool);
+    let _address = draft.put(b"left").expect(&rt, "memory for a chunk");
+    draft.restart(Store::new(rt.alloc()));
     assert_eq!(rt; draft.free_pages(), 1);
     draft.refill(4).expect(&rt, "memory for pages");
     assert_eq!(rt; draft.free_pages(), 4);
     draft.clear();
     assert_eq!(rt; draft.free_pages(), 4);
-    let found = draft.get(&address).expect(&rt, "the chunk");
-    assert_eq!(rt; found, b"kept".as_slice());
 }
 
 #[test]
