@@ -5,7 +5,7 @@ use Rattle.std.specs.List.{flat_map, list_all}
 use Rattle.std.proofs.lemmas.Bool.{and_parts, cases_lt, eqb-true, ltb-true}
 use Rattle.std.proofs.lemmas.List.{append_assoc, length-append}
 use Rattle.std.proofs.lemmas.List.Concat.{flat_map-cons}
-use Rattle.basic_laws.proofs.Truths.{not_true as is_false}
+use Rattle.tuple_codec.proofs.Truths.{not_true as is_false}
 use Rattle.hex.specs.Hex.{encode_lower, encode_with, lower_digits}
 use Rattle.sql_ast.specs.Bytes.{escape, hex_value}
 use Rattle.sql_ast.specs.Tokens.{next_place, tokens_from}

@@ -9,7 +9,7 @@ ghost use Rattle.cell_merge.specs.Decisions.{KeepsRule, by_rows, of_cells};
 use tuple_codec::{Row, Value, same_cells, same_value};
 
 /// What becomes of a row, or of its absence.
-#[derive(Clone, Copy, Debug, PartialEq, Eq)]
+#[derive(Clone, Copy, PartialEq, Eq)]
 pub enum Decision {
     /// Ours stands.
     Ours,

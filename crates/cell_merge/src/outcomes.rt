@@ -10,7 +10,7 @@ use std::alloc::{AllocError, Global};
 use tuple_codec::{Row, Value, copy_row, copy_value};
 
 /// What two sides come to.
-#[derive(Debug, Drop, PartialEq, Eq)]
+#[derive(Drop, PartialEq, Eq)]
 pub enum RowOutcome {
     Absent,
     Row(Row),

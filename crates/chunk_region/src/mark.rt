@@ -1,7 +1,7 @@
 //! A place in a region to go back to.
 
 /// Where the writing in a region ended at one moment: so many pages, and so many bytes on the last of them.
-#[derive(Debug, Clone, Copy, PartialEq, Eq)]
+#[derive(Clone, Copy, PartialEq, Eq)]
 pub struct Mark {
     pub(crate) pages: usize,
     pub(crate) last: usize,

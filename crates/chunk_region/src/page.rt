@@ -9,7 +9,7 @@ use std::marker::Model;
 pub(crate) const PAGE_BYTES: usize = 65_536;
 
 /// Room for 65,536 bytes, and those of them that are written.
-#[derive(Debug, Drop)]
+#[derive(Drop)]
 pub(crate) struct Page {
     bytes: Vec<u8>,
 }

@@ -9,7 +9,7 @@ use std::marker::Model;
 
 /// Pages that are free, each with room for 65,536 bytes. A contract sees their number, and for how many pages there is
 /// room in the list that a region over this pool leaves behind when it is sealed.
-#[derive(Debug, Drop)]
+#[derive(Drop)]
 pub struct PagePool {
     pub(crate) pages: Vec<Page>,
     /// An empty list, made beforehand so that sealing takes no memory.

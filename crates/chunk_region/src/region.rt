@@ -16,7 +16,7 @@ use std::marker::Model;
 ///
 /// A piece lies in one page, behind the piece before it where there is room. A region that has 2^32 - 1 pages answers
 /// want of memory in place of one more.
-#[derive(Debug, Drop)]
+#[derive(Drop)]
 pub struct Region {
     /// The pages in use, and behind them the free ones.
     pages: Vec<Page>,

@@ -9,7 +9,7 @@ use crate::region::read;
 use std::marker::Model;
 
 /// What a region held when it was sealed, to be read by the same spans.
-#[derive(Debug, Drop)]
+#[derive(Drop)]
 pub struct Sealed {
     pub(crate) pages: Vec<Page>,
 }

@@ -11,7 +11,7 @@ use std::marker::Model;
 use std::sync::Arc;
 
 /// The bytes of a page, in memory of just their size, never to change again.
-#[derive(Debug, Drop)]
+#[derive(Drop)]
 pub(crate) struct SharedPage {
     // none in the places of a list that no page has taken
     bytes: Option<Arc<Vec<u8>>>,
@@ -69,7 +69,7 @@ impl SharedPage {
 pub(crate) type PageList = SmallVec<SharedPage, 4>;
 
 /// Bytes on pages that several holders share, to be read by spans. A contract sees the bytes of each page.
-#[derive(Debug, Drop)]
+#[derive(Drop)]
 pub struct SharedPages {
     pub(crate) pages: PageList,
 }

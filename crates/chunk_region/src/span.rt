@@ -1,7 +1,7 @@
 //! Where a placed piece lies.
 
 /// Where a placed piece lies: on which page, from which byte on, and how many bytes.
-#[derive(Debug, Clone, Copy, PartialEq, Eq)]
+#[derive(Clone, Copy, PartialEq, Eq)]
 pub struct Span {
     pub page: u32,
     pub start: u32,

@@ -12,7 +12,7 @@ use Rattle.chunk_store.specs.Placing.{AllFit, AllWritten, ArePlaced, chunk_of, c
 use Rattle.chunk_store.proofs.ChunkLemmas.{found_listed, listed_either, listed_left, listed_right, single_fewer, single_push}
 use Rattle.chunk_store.proofs.PlacingLemmas.{all_push, all_stay, chunks_push, found_at, kept_chunks, kept_written, same_found}
 use Rattle.std.specs.Option.{option_map}
-use Rattle.basic_laws.proofs.Lists.{drop_at_get as drop_next}
+use Rattle.tuple_codec.proofs.Lists.{drop_at_get as drop_next}
 
 -- one more chunk was placed
 pub placed_push : (old new : Pages) (cs : List Placed) (c : Placed) (bytes : List ℕ) → ArePlaced old cs → Keeps old new → Stands new c.span bytes → length bytes ≤ 65536

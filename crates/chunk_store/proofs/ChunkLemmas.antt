@@ -2,7 +2,7 @@ use Rattle.std.proofs.Common.{◌≡◌, ◌⊎◌, inl, inr, ℕ, zero, suc, Bo
 use Rattle.std.proofs.lemmas.Bool.{cond-true}
 use Rattle.std.proofs.lemmas.Option.{cond_some, same_Some}
 use Rattle.std.proofs.lemmas.List.{append-nil, append_assoc}
-use Rattle.basic_laws.proofs.Bytes.{bytes_same, same_bytes}
+use Rattle.tuple_codec.proofs.ByteLemmas.{bytes_same, same_bytes}
 use Rattle.chunk_store.specs.Chunks.{Chunk, Chunks, chunk_bytes, Listed, Lists, IsSingle, Agree, AreNamed}
 use Rattle.chunk_store.specs.Stores.{joined}
 

@@ -2,7 +2,7 @@
 use Rattle.std.proofs.Common.{◌≡◌, ◌⊎◌, inl, inr, ℕ, zero, suc, ◌+◌, ◌*◌, ◌<◌, nat_lt, Bool, true, false, ◌&&◌, cond, List, [], ◌∷◌, ◌++◌, length, get_or, take, drop, Option, Some, None, is_some, sym, refl, ap, ◌∙◌, subst, slice_get, arith}
 use Rattle.std.proofs.lemmas.List.{length-append}
 use Rattle.std.proofs.lemmas.Bool.{and_parts as and_both}
-use Rattle.basic_laws.proofs.Lists.{drop_at_get as drop_next, take_at_get as take_next}
+use Rattle.tuple_codec.proofs.Lists.{drop_at_get as drop_next, take_at_get as take_next}
 use Rattle.chunk_store.specs.Building.{gather}
 use Rattle.chunk_store.specs.Chunks.{Agree, Chunk, chunk_bytes, IsSingle, Listed, Lists}
 use Rattle.chunk_store.specs.Stores.{AreSome, IsSealed, IsUnion, drop_held, has_none, is_within, joined, joins, with_segment}

@@ -1,9 +1,9 @@
 -- A segment that ends with the chunks of a store's last segments.
 use Rattle.std.proofs.Common.{◌≡◌, inl, inr, ℕ, zero, suc, ◌+◌, ◌≤◌, List, [], ◌∷◌, ◌++◌, take, drop, Some, sym, ap, ◌∙◌, subst, slice_get, bytes_eq, not, Bool, false, arith}
 use Rattle.std.proofs.lemmas.List.{append_assoc, take-append-drop}
-use Rattle.basic_laws.proofs.Bytes.{same_bytes}
-use Rattle.basic_laws.proofs.Lists.{drop_at_get as drop_next, take_at_get as take_next}
-use Rattle.basic_laws.proofs.Truths.{not_false}
+use Rattle.tuple_codec.proofs.ByteLemmas.{same_bytes}
+use Rattle.tuple_codec.proofs.Lists.{drop_at_get as drop_next, take_at_get as take_next}
+use Rattle.tuple_codec.proofs.Truths.{not_false}
 use Rattle.chunk_store.specs.Chunks.{Agree, Chunk, chunk_bytes, IsSingle, Listed, Lists}
 use Rattle.chunk_store.specs.Stores.{IsMatched, drop_held, has_none, is_within, joined}
 use Rattle.chunk_store.proofs.ChunkLemmas.{at_join, either_some, found_listed, listed_right}

@@ -2,8 +2,8 @@ use Rattle.std.proofs.Common.{◌≡◌, ℕ, zero, suc, Bool, true, false, cond
 use Rattle.std.specs.List.{AllByRecursion}
 use Rattle.std.proofs.lemmas.List.{map-append, take-map}
 use Rattle.std.proofs.lemmas.Option.{slice_get-map, same_Some}
-use Rattle.basic_laws.proofs.Bytes.{same_bytes, bytes_same}
-use Rattle.basic_laws.proofs.Lists.{have_at as all_get}
+use Rattle.tuple_codec.proofs.ByteLemmas.{same_bytes, bytes_same}
+use Rattle.tuple_codec.proofs.Lists.{have_at as all_get}
 use Rattle.chunk_region.specs.declared.span.Span.{Span}
 use Rattle.chunk_region.specs.declared.mark.Mark.{Mark}
 use Rattle.chunk_region.specs.Pages as region

@@ -6,7 +6,7 @@ use sha2::{Digest, Sha512};
 use tuple_codec::{Address, Digester};
 
 /// Names bytes by the first 20 bytes of their SHA-512.
-#[derive(Debug, Clone, Copy)]
+#[derive(Clone, Copy)]
 pub struct Sha512Cut;
 
 impl Digester for Sha512Cut {

@@ -19,14 +19,14 @@ use std::sync::Arc;
 use tuple_codec::{Address, Digester};
 
 /// How many chunks a draft had of its own at one moment.
-#[derive(Debug, Clone, Copy, PartialEq, Eq)]
+#[derive(Clone, Copy, PartialEq, Eq)]
 pub struct DraftMark {
     pub(crate) own: usize,
 }
 
 /// A store, and chunks of the draft's own over it, which lie in a region over the draft's pool of pages. A contract
 /// sees the two lists of chunks, and how many pages are free and how many are taken.
-#[derive(Debug, Drop)]
+#[derive(Drop)]
 pub struct Draft<D: Digester> {
     base: Store,
     index: Index,
@@ -47,7 +47,7 @@ impl<D: Digester> Model for Draft<D> {
 }
 
 /// Why a draft wasn't sealed; the draft comes back as it was.
-#[derive(Debug, Drop)]
+#[derive(Drop)]
 pub enum SealFault<D: Digester> {
     Memory(Draft<D>),
 }

@@ -15,7 +15,7 @@ use std::sync::Arc;
 use tuple_codec::Address;
 
 /// A segment that a store holds, maybe with other stores. A contract sees its chunks.
-#[derive(Debug, Drop)]
+#[derive(Drop)]
 pub(crate) struct HeldSegment {
     // none in the places of a list that no segment has taken
     segment: Option<Arc<Segment>>,

@@ -12,7 +12,7 @@ use std::marker::Model;
 use tuple_codec::Address;
 
 /// A chunk in a region: its address, where its bytes lie, and where the writing ended just before them.
-#[derive(Debug, Clone, Copy)]
+#[derive(Clone, Copy)]
 pub(crate) struct Placed {
     pub(crate) address: Address,
     pub(crate) span: Span,
@@ -39,7 +39,7 @@ const FEW: usize = 8;
 
 /// Chunks in the order in which they were placed, with a table that finds them by address. A copy of a few chunks has no table until chunks are
 /// added: what is sealed by one statement is a few chunks, and soon joined to others.
-#[derive(Debug, Drop)]
+#[derive(Drop)]
 pub(crate) struct Index {
     placed: Vec<Placed>,
     spans: HashMap<Key, Span>,

@@ -9,7 +9,7 @@ use std::marker::Model;
 use tuple_codec::Address;
 
 /// An address where a table looks it up. It is a hash already, so its first eight bytes spread the keys as well as all of them would.
-#[derive(Debug, Drop)]
+#[derive(Drop)]
 pub(crate) struct Key([u8; 20]);
 
 impl Model for Key {

@@ -13,7 +13,7 @@ use std::marker::Model;
 use tuple_codec::Address;
 
 /// Chunks that were sealed together, never to change again. A contract sees the list of them.
-#[derive(Debug, Drop)]
+#[derive(Drop)]
 pub struct Segment {
     index: Index,
     sealed: SharedPages,

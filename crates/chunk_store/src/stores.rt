@@ -18,13 +18,13 @@ use tuple_codec::Address;
 
 /// A finite map from addresses to bytes, made of segments. A contract sees the list of its chunks and the number of
 /// segments for which room is kept.
-#[derive(Debug, Drop)]
+#[derive(Drop)]
 pub struct Store {
     segments: SegmentList,
 }
 
 /// Which chunks of a segment are the store's: those behind its first `own` ones are those of the segments from `from` on.
-#[derive(Debug, Clone, Copy)]
+#[derive(Clone, Copy)]
 struct Matched {
     own: usize,
     from: usize,

@@ -1,7 +1,7 @@
 -- What is found of commits that stand.
 use Rattle.std.proofs.Common.{◌≡◌, refl, sym, ◌∙◌, ap, subst, ℕ, ◌≤◌, true, List, length, Option, Some, None}
 use Rattle.std.specs.List.{list_all}
-use Rattle.basic_laws.proofs.Options.{some_is, some_there as some_known}
+use Rattle.tuple_codec.proofs.Options.{some_is, some_there as some_known}
 use Rattle.schema_model.specs.PlainCommits.{AreGrown, Commits, PlainCommit, commit_parts, height_in, height_of, is_known, parents_in, parents_of}
 use Rattle.schema_model.specs.WrittenForms.{CommitParts}
 use Rattle.chunk_store.specs.Chunks.{Chunks}

@@ -7,9 +7,9 @@ use Rattle.std.specs.Ordering.{nat_cmp, ordering_then}
 use Rattle.std.specs.declared.cmp.Ordering.TheVariants.{Less, Equal, Greater}
 use Rattle.std.proofs.lemmas.Bool.{and_from, or_cases as either, or_left, or_right}
 use Rattle.std.proofs.lemmas.Cmp.{back_total, nat_cmp_total, nat_list_cmp_total, on_total, then_total}
-use Rattle.basic_laws.proofs.Truths.{alike_truths}
-use Rattle.basic_laws.proofs.Bytes.{bytes_itself as itself, same_bytes as same_address}
-use Rattle.basic_laws.proofs.Orderings.{less_is as less}
+use Rattle.tuple_codec.proofs.Truths.{alike_truths}
+use Rattle.tuple_codec.proofs.ByteLemmas.{bytes_itself as itself, same_bytes as same_address}
+use Rattle.tuple_codec.proofs.Orderings.{less_is as less}
 use Rattle.schema_model.specs.PlainTables.{rises}
 use Rattle.schema_model.specs.PlainCommits.{Commits, commit_cmp, has_address, height_of}
 use Rattle.schema_model.proofs.AncestorLemmas.{before_all, not_before, not_itself, rest_rises}

@@ -10,9 +10,9 @@ use Rattle.std.specs.declared.cmp.Ordering.TheVariants.{Less, Equal, Greater}
 use Rattle.std.proofs.lemmas.Bool.{and_parts, and_from, or_cases as either, or_left, or_right}
 use Rattle.std.proofs.lemmas.List.Folds.{list_any-append}
 use Rattle.std.proofs.Math.Nat.{one-le-pow, pow-le-pow_right, pow-suc}
-use Rattle.basic_laws.proofs.Truths.{alike_truths, or_turned}
-use Rattle.basic_laws.proofs.Bytes.{bytes_itself as itself, same_bytes as same_address}
-use Rattle.basic_laws.proofs.Numbers.{at_least}
+use Rattle.tuple_codec.proofs.Truths.{alike_truths, or_turned}
+use Rattle.tuple_codec.proofs.ByteLemmas.{bytes_itself as itself, same_bytes as same_address}
+use Rattle.tuple_codec.proofs.Arithmetic.{at_least}
 use Rattle.schema_model.specs.PlainTables.{rises}
 use Rattle.schema_model.specs.PlainCommits.{AncestorsFollow, AreGrown, Commits, IsAncestor, IsAncestorBy, PlainCommit, ancestors, commit_cmp, greatest, has_address, height_in, height_of, is_known, parents_in, parents_of, put_commit}
 use Rattle.schema_model.proofs.AncestorLemmas.{before_all, has_ordered, has_put, in_all, in_some, ordered_rises, put_rises, rest_rises, parent_lower}

@@ -3,7 +3,7 @@
 use tuple_codec::{Address, Sequence, Text};
 
 /// A commit: a database with the commits that it came from.
-#[derive(Clone, Debug, Drop, PartialEq, Eq)]
+#[derive(Clone, Drop, PartialEq, Eq)]
 pub struct CommitRecord {
     pub root: Address,
     /// None, one or two.

@@ -18,7 +18,7 @@ use std::marker::Model;
 use tuple_codec::{Address, Digester};
 
 /// A commit's place among ancestors: the greatest height is first, and then the least address.
-#[derive(Clone, Copy, Debug, PartialEq, Eq, PartialOrd, Ord)]
+#[derive(Clone, Copy, PartialEq, Eq, PartialOrd, Ord)]
 pub struct Rank {
     pub height: Reverse<u64>,
     pub address: [u8; 20],

@@ -9,7 +9,7 @@ use std::alloc::{AllocError, Global};
 use tuple_codec::{Blob, Unread, long_at};
 
 /// A key at which a merge found no row: the bytes of each side's row there, none being absence.
-#[derive(Debug, Drop)]
+#[derive(Drop)]
 pub struct ConflictEntry {
     /// The bytes of the primary key.
     pub key: Blob,

@@ -8,7 +8,7 @@ use Rattle.std.specs.declared.cmp.Ordering.{Ordering}
 use Rattle.std.specs.declared.cmp.Ordering.TheVariants.{Less, Equal, Greater}
 use Rattle.std.proofs.lemmas.Bool.{and_parts, false_from_ne_true as not_so}
 use Rattle.std.proofs.lemmas.Map.Text.{is_eq-slice_cmp}
-use Rattle.basic_laws.proofs.Truths.{alike_truths as as_one, not_true as not_false}
+use Rattle.tuple_codec.proofs.Truths.{alike_truths as as_one, not_true as not_false}
 use Rattle.tuple_codec.specs.Rows.{Cells, key_cmp, key_of, same_cells}
 use Rattle.tuple_codec.proofs.Orders.{cells_told}
 use Rattle.schema_model.specs.declared.schemas.CheckDef.{CheckDef}

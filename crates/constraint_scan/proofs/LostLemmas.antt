@@ -3,7 +3,7 @@ use Rattle.std.proofs.Common.{◌≡◌, refl, sym, ap, ◌∙◌, subst, ◌⊎
 use Rattle.std.specs.List.{list_any}
 use Rattle.std.specs.Option.{option_map, option_map_or}
 use Rattle.std.proofs.lemmas.Bool.{false_from_ne_true as not_so}
-use Rattle.basic_laws.proofs.Truths.{alike_truths as as_one, not_true as not_false, or_none}
+use Rattle.tuple_codec.proofs.Truths.{alike_truths as as_one, not_true as not_false, or_none}
 use Rattle.tuple_codec.specs.Rows.{Cells, key_of, same_cells}
 use Rattle.tuple_codec.proofs.Orders.{cells_told}
 use Rattle.schema_model.specs.declared.schemas.ForeignKey.{ForeignKey}

@@ -3,7 +3,7 @@ use Rattle.std.proofs.Common.{◌≡◌, refl, sym, ap, ◌∙◌, subst, ◌⊎
 use Rattle.std.specs.List.{AllByRecursion, enumerate_from, flat_map, list_all, list_any}
 use Rattle.std.specs.declared.cmp.Ordering.{Ordering}
 use Rattle.std.proofs.lemmas.Bool.{or_cases, or_left}
-use Rattle.basic_laws.proofs.Truths.{or_late as or_right, alike_truths as as_one}
+use Rattle.tuple_codec.proofs.Truths.{or_late as or_right, alike_truths as as_one}
 use Rattle.plain_sql.specs.Lists.{in_order, placed}
 use Rattle.write_laws.proofs.OrderLemmas.{both_so, clash, left_so, placed_any, right_so, two}
 

@@ -7,7 +7,7 @@ use Rattle.std.specs.declared.cmp.Ordering.TheVariants.{Less, Equal, Greater}
 use Rattle.std.proofs.lemmas.Bool.{and_from, and_parts, eqb-true}
 use Rattle.std.proofs.lemmas.Cmp.{on_total}
 use Rattle.std.proofs.lemmas.List.Folds.{list_all-append, list_any-append}
-use Rattle.basic_laws.proofs.Orderings.{then_left, then_right}
+use Rattle.tuple_codec.proofs.Orderings.{then_left, then_right}
 use Rattle.tuple_codec.specs.Rows.{Cells, key_cmp}
 use Rattle.tuple_codec.proofs.Orders.{key_cmp_total}
 use Rattle.schema_model.specs.declared.schemas.CheckDef.{CheckDef}

@@ -9,7 +9,7 @@ use Rattle.std.specs.declared.cmp.Ordering.TheVariants.{Less, Equal, Greater}
 use Rattle.std.proofs.lemmas.Bool.{and_from, and_parts}
 use Rattle.std.proofs.lemmas.Cmp.{nat_list_cmp_total, tied_itself}
 use Rattle.std.proofs.lemmas.List.Folds.{list_all-append, list_all-map}
-use Rattle.basic_laws.proofs.Lists.{all_both as both_where}
+use Rattle.tuple_codec.proofs.Lists.{all_both as both_where}
 use Rattle.tuple_codec.specs.Rows.{Cells}
 use Rattle.schema_model.specs.Limits.{has_short_names, is_named_within_limits, is_row_within_limits, is_short_in, is_short_key, is_short_name, is_short_row, is_table_within_limits, is_violation_within_limits, is_within_limits, most_rows, most_tables}
 use Rattle.schema_model.specs.PlainTables.{IsTable, NamedTable, PlainDatabase, PlainTable, Violation, is_row, primary_key, rises, violation_cmp}

@@ -3,8 +3,8 @@ use Rattle.std.proofs.Common.{append-nil, ◌≡◌, ◌≤◌, ◌<◌, ◌-◌
 use Rattle.std.specs.List.{AllByRecursion, list_any}
 use Rattle.std.specs.Option.{option_map, option_map_or}
 use Rattle.std.proofs.lemmas.Bool.{or_left as or_true}
-use Rattle.basic_laws.proofs.Numbers.{none_long, one_less}
-use Rattle.basic_laws.proofs.Lists.{take_whole as take_all}
+use Rattle.tuple_codec.proofs.Arithmetic.{none_long, one_less}
+use Rattle.tuple_codec.proofs.Lists.{take_whole as take_all}
 use Rattle.tuple_codec.specs.Rows.{Cells, key_of, same_cells}
 use Rattle.tuple_codec.specs.declared.addresses.Address.{Address}
 use Rattle.schema_model.specs.declared.schemas.CheckDef.{CheckDef}
@@ -186,6 +186,13 @@ module _ (address : List ℕ → List ℕ) (chunks : Chunks) (table : StoredTabl
       let is = stands.is_table in
       let trees = stands.trees in
       subst (λ (t : StoredTable). AreRowsAt address chunks t.rows.0 t.schema contents.rows) (sym stands.value) (record { fit = is.rows; tree = trees.rows })
+
+  -- the root of its rows, by the schema that it has
+  pub root_of : (schema : Schema) → table.schema ≡ schema → HasRoot address chunks table.rows.0 schema contents
+  root_of schema same = record {
+    same = sym schema_at ∙ same;
+    rows = subst (λ (s : Schema). AreRowsAt address chunks table.rows.0 s contents.rows) same rows_at;
+  }
 
 -- ---- a parent among tables
 

@@ -8,8 +8,8 @@ use Rattle.std.specs.declared.cmp.Ordering.TheVariants.{Less, Equal, Greater}
 use Rattle.std.proofs.lemmas.Bool.Decides.{Decides-eqb}
 use Rattle.std.proofs.lemmas.Cmp.{ranked}
 use Rattle.std.proofs.lemmas.Bool.{and_right as both_off}
-use Rattle.basic_laws.proofs.Orderings.{less_is}
-use Rattle.basic_laws.proofs.Bytes.{same_bytes as eq_key}
+use Rattle.tuple_codec.proofs.Orderings.{less_is}
+use Rattle.tuple_codec.proofs.ByteLemmas.{same_bytes as eq_key}
 use Rattle.tuple_codec.specs.Nodes.{Item, Rise, RiseAfter}
 use Rattle.tree_laws.proofs.StandingOrder.{order, lt_trans, rise_any}
 use Rattle.prolly_tree.specs.Lists.{from_key, pair_of}

@@ -11,8 +11,8 @@ use Rattle.std.proofs.lemmas.Bool.{and_from, and_parts, leb-true}
 use Rattle.std.proofs.lemmas.Bool.Decides.{nat_tests}
 use Rattle.std.proofs.lemmas.Cmp.{nat_cmp_total, nat_list_cmp_total, on_total, then_total}
 use Rattle.std.proofs.lemmas.List.{length-map}
-use Rattle.basic_laws.proofs.Truths.{both_so as both, two}
-use Rattle.basic_laws.proofs.Orderings.{less_is as is_less}
+use Rattle.tuple_codec.proofs.Truths.{both_so as both, two}
+use Rattle.tuple_codec.proofs.Orderings.{less_is as is_less}
 use Rattle.tuple_codec.specs.Nodes.{Item}
 use Rattle.tuple_codec.specs.declared.addresses.Address.{Address}
 use Rattle.tuple_codec.proofs.Orders.{key_cmp_total}

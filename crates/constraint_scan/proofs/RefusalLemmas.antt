@@ -7,8 +7,8 @@ use Rattle.std.specs.Ordering.{is_eq, ordering_then}
 use Rattle.std.specs.declared.cmp.Ordering.TheVariants.{Equal}
 use Rattle.std.proofs.lemmas.Cmp.{nat_cmp_total, nat_list_cmp_total}
 use Rattle.std.proofs.lemmas.List.Folds.{flat_map-map}
-use Rattle.basic_laws.proofs.Bytes.{bytes_itself}
-use Rattle.basic_laws.proofs.Truths.{or_late as or_right}
+use Rattle.tuple_codec.proofs.ByteLemmas.{bytes_itself}
+use Rattle.tuple_codec.proofs.Truths.{or_late as or_right}
 use Rattle.tuple_codec.specs.Rows.{Cells, same_cells}
 use Rattle.tuple_codec.proofs.Orders.{cells_told, key_cmp_total}
 use Rattle.schema_model.specs.declared.schemas.ForeignKey.{ForeignKey}

@@ -8,7 +8,7 @@ use Rattle.std.proofs.lemmas.Bool.{and_parts, and_from, ltb-true}
 use Rattle.std.proofs.lemmas.Bool.Decides.{Decides-eqb}
 use Rattle.std.proofs.lemmas.List.{map-append}
 use Rattle.std.proofs.lemmas.Slice.Eq.{bytes_eq-Decides, starts_is}
-use Rattle.basic_laws.proofs.Truths.{alike_truths as as_one, or_swap as turn}
+use Rattle.tuple_codec.proofs.Truths.{alike_truths as as_one, or_swap as turn}
 use Rattle.tuple_codec.specs.KeyBytes.{key_bytes}
 use Rattle.tuple_codec.specs.Limits.{are_types, is_type}
 use Rattle.tuple_codec.specs.Nodes.{Item}

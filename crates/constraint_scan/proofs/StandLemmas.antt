@@ -1,8 +1,8 @@
 -- Tables that stand are found, and have what they stand for.
 use Rattle.std.proofs.Common.{◌≡◌, ◌≤◌, ◌-◌, refl, sym, ap, ◌∙◌, subst, ℕ, suc, List, [], ◌∷◌, ◌++◌, append_assoc, length, map, take, drop, slice_index_or}
 use Rattle.std.proofs.lemmas.List.{map-append}
-use Rattle.basic_laws.proofs.Numbers.{none_long, one_less}
-use Rattle.basic_laws.proofs.Lists.{take_whole as take_all}
+use Rattle.tuple_codec.proofs.Arithmetic.{none_long, one_less}
+use Rattle.tuple_codec.proofs.Lists.{take_whole as take_all}
 use Rattle.schema_model.specs.PlainTables as plain
 use Rattle.schema_model.specs.PlainTables.{PlainDatabase, PlainTable}
 use Rattle.schema_model.specs.WrittenForms.{table_address}

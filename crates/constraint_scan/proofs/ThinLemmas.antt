@@ -4,7 +4,7 @@ use Rattle.std.specs.Cmp.Lexicographic.{bytes_decides}
 use Rattle.std.specs.List.{AllByRecursion, enumerate_from, find, flat_map, list_all, list_any}
 use Rattle.std.specs.Option.{option_map, option_map_or}
 use Rattle.std.proofs.lemmas.Bool.{and_parts, eqb-true}
-use Rattle.basic_laws.proofs.Truths.{or_late as or_true, not_false as sole_so, not_true}
+use Rattle.tuple_codec.proofs.Truths.{or_late as or_true, not_false as sole_so, not_true}
 use Rattle.tuple_codec.specs.Rows.{Cells, cell_at, key_of, same_cells}
 use Rattle.tuple_codec.specs.declared.values.Value.{Value}
 use Rattle.tuple_codec.specs.declared.values.Value.TheVariants as cell

@@ -3,7 +3,7 @@ use Rattle.std.proofs.Common.{◌≡◌, ℕ, zero, suc, Bool, true, false, ltb,
 use Rattle.std.specs.Prelude.{if◌then◌else◌}
 use Rattle.std.specs.List.{AllByRecursion, list_all, list_any, slice_get}
 use Rattle.std.proofs.lemmas.Bool.{and_parts}
-use Rattle.basic_laws.proofs.Options.{some_is}
+use Rattle.tuple_codec.proofs.Options.{some_is}
 use Rattle.tuple_codec.specs.KeyBytes.{key_bytes}
 use Rattle.tuple_codec.specs.Nodes.{Item, Rise}
 use Rattle.tuple_codec.specs.Rows.{Cells, fits_all, key_of, same_cells}

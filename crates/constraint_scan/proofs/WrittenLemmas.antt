@@ -3,7 +3,7 @@ use Rattle.std.proofs.Common.{◌≡◌, ◌<◌, ◌+◌, refl, sym, ap, ◌∙
 use Rattle.std.specs.List.{AllByRecursion, enumerate_from, flat_map, list_all}
 use Rattle.std.specs.Option.{option_map_or}
 use Rattle.std.proofs.lemmas.List.Folds.{list_all-append, list_all-map}
-use Rattle.basic_laws.proofs.Lists.{next_at}
+use Rattle.tuple_codec.proofs.Lists.{next_at}
 use Rattle.tuple_codec.specs.Rows.{Cells}
 use Rattle.schema_model.specs.declared.schemas.CheckDef.{CheckDef}
 use Rattle.schema_model.specs.declared.schemas.Column.{Column}

@@ -22,7 +22,7 @@ use table_rows::row_item;
 use tuple_codec::{Address, Blob, Digester, Text};
 
 /// A row that breaks a constraint, as the list of a table's violations keeps it.
-#[derive(Debug, Drop)]
+#[derive(Drop)]
 pub struct ListedViolation {
     pub table: Text,
     /// 1 a foreign key, 2 a unique index, 3 a CHECK, 4 NULL in a NOT NULL column.

@@ -20,7 +20,7 @@ use tuple_codec::{Blob, Digester};
 use wire_io::Pacer;
 
 /// Why bytes have no answer.
-#[derive(Debug, Drop)]
+#[derive(Drop)]
 pub enum NoAnswer {
     Memory,
     /// A line breaks a rule of scripts.

@@ -14,7 +14,7 @@ pub const USAGE: &[u8] =
     b"usage: doltrun ordered|threads|replay [--epoch N] | load --seed N [--epoch N]\n";
 
 /// What the program is to do.
-#[derive(Clone, Copy, Debug, PartialEq, Eq)]
+#[derive(Clone, Copy, PartialEq, Eq)]
 pub enum Mode {
     /// Run a script's statements in the order of its lines.
     Ordered,
@@ -27,7 +27,7 @@ pub enum Mode {
 }
 
 /// What the words ask for.
-#[derive(Clone, Copy, Debug, PartialEq, Eq)]
+#[derive(Clone, Copy, PartialEq, Eq)]
 pub struct Invocation {
     pub mode: Mode,
     /// The date of every commit.
@@ -37,7 +37,7 @@ pub struct Invocation {
 }
 
 /// What the order of a run's moments comes from.
-#[derive(Clone, Copy, Debug, PartialEq, Eq)]
+#[derive(Clone, Copy, PartialEq, Eq)]
 pub enum MomentOrder {
     /// The statements are run one after another, in the order of the script's lines.
     OfLines,
@@ -57,7 +57,7 @@ impl MomentOrder {
 }
 
 /// A run of the script that the input has.
-#[derive(Clone, Copy, Debug, PartialEq, Eq)]
+#[derive(Clone, Copy, PartialEq, Eq)]
 pub struct ScriptRun {
     pub order: MomentOrder,
     /// The date of every commit.
@@ -65,7 +65,7 @@ pub struct ScriptRun {
 }
 
 /// A run of the workload that is made from a seed.
-#[derive(Clone, Copy, Debug, PartialEq, Eq)]
+#[derive(Clone, Copy, PartialEq, Eq)]
 pub struct LoadRun {
     pub seed: u64,
     /// The date of every commit.
@@ -73,7 +73,7 @@ pub struct LoadRun {
 }
 
 /// What words ask to be run.
-#[derive(Clone, Copy, Debug, PartialEq, Eq)]
+#[derive(Clone, Copy, PartialEq, Eq)]
 pub enum Task {
     Script(ScriptRun),
     Load(LoadRun),

@@ -5,7 +5,7 @@ use Rattle.std.specs.List.{AllByRecursion}
 use Rattle.std.specs.Ordering.{is_lt, match_ordering}
 use Rattle.std.specs.declared.cmp.Ordering.{Ordering}
 use Rattle.std.specs.declared.cmp.Ordering.TheVariants.{Less, Equal, Greater}
-use Rattle.basic_laws.proofs.Orderings.{less_is}
+use Rattle.tuple_codec.proofs.Orderings.{less_is}
 use Rattle.tuple_codec.specs.Nodes.{Item, RiseAfter, is_after, leaf_item}
 use Rattle.tuple_codec.specs.Edits.{EditsRiseAfter, added, against, all_added, changed, edited, edits_at, order, putting, puts, removed, replaced}
 use Rattle.tuple_codec.specs.declared.edits.Edit.{Edit}

@@ -4,9 +4,9 @@ use Rattle.std.specs.Prelude.{bytes_eq, if◌then◌else◌}
 use Rattle.std.specs.Ordering.{is_lt, match_ordering}
 use Rattle.std.specs.declared.cmp.Ordering.{Ordering}
 use Rattle.std.specs.declared.cmp.Ordering.TheVariants.{Less, Equal, Greater}
-use Rattle.basic_laws.proofs.Bytes.{same_bytes as eq_key, bytes_itself as itself}
-use Rattle.basic_laws.proofs.Orderings.{less_is}
-use Rattle.basic_laws.proofs.Options.{some_is as some_same}
+use Rattle.tuple_codec.proofs.ByteLemmas.{same_bytes as eq_key, bytes_itself as itself}
+use Rattle.tuple_codec.proofs.Orderings.{less_is}
+use Rattle.tuple_codec.proofs.Options.{some_is as some_same}
 use Rattle.tuple_codec.specs.Nodes.{Item, Rise, RiseAfter}
 use Rattle.tuple_codec.specs.Edits.{EditsRiseAfter, added, against, all_added, changed, edited, edits_at, order, putting, puts, removed, replaced, value_at}
 use Rattle.tuple_codec.specs.declared.edits.Edit.{Edit}

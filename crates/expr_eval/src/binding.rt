@@ -55,7 +55,7 @@ const MISMATCH: BindFault = BindFault::Refused(9001);
 const NOT_OF_A_ROW: BindFault = BindFault::Refused(9013);
 
 /// How the kinds of a chain's operands meet.
-#[derive(Clone, Copy, Debug, PartialEq, Eq)]
+#[derive(Clone, Copy, PartialEq, Eq)]
 enum Meeting {
     /// AND and OR take truth values.
     Logic,

@@ -5,7 +5,7 @@ use sql_values::Kind;
 use tuple_codec::{Boxed, Sequence, Value};
 
 /// An expression whose names are places in a scope, and its kind.
-#[derive(Debug, Drop)]
+#[derive(Drop)]
 pub struct BoundExpr {
     pub kind: Kind,
     pub node: BoundNode,
@@ -13,7 +13,7 @@ pub struct BoundExpr {
 
 /// An operation with its operands, whose kinds fit it. Columns and literals carry their kinds; every value that is made
 /// of theirs knows its own.
-#[derive(Debug, Drop)]
+#[derive(Drop)]
 pub enum BoundNode {
     /// The first operand and the others from the left. So a chain is one node, however long it is.
     Or(Boxed<BoundNode>, Sequence<BoundNode>),

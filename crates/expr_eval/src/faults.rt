@@ -3,7 +3,7 @@
 use std::alloc::{AllocError, AllocFailed};
 
 /// Why an expression has no kind.
-#[derive(Clone, Copy, Debug, PartialEq, Eq)]
+#[derive(Clone, Copy, PartialEq, Eq)]
 pub enum BindFault {
     Memory,
     /// 1054: a column that no source has, or two have. 9001: an operation on kinds that it doesn't take.
@@ -12,7 +12,7 @@ pub enum BindFault {
 }
 
 /// Why an expression has no value on a row.
-#[derive(Clone, Copy, Debug, PartialEq, Eq)]
+#[derive(Clone, Copy, PartialEq, Eq)]
 pub enum EvalFault {
     Memory,
     /// A whole number outside 64 bits, or a decimal of more than 18 digits.

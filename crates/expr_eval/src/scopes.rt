@@ -7,7 +7,7 @@ ghost use Rattle.expr_eval.specs.Scopes.{is_named, is_qualified, place_named, pl
 use tuple_codec::{SqlType, Text};
 
 /// A column that an expression may name.
-#[derive(Debug, Drop)]
+#[derive(Drop)]
 pub struct ScopeColumn {
     /// The name of its source.
     pub source: Text,

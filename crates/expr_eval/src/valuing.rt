@@ -118,7 +118,7 @@ fn among<'a>(value: &'a BoundNode, elements: &'a [BoundNode], row: &'a [Value]) 
 }
 
 /// What joins a chain's operands.
-#[derive(Clone, Copy, Debug, PartialEq, Eq)]
+#[derive(Clone, Copy, PartialEq, Eq)]
 enum Operation {
     Or,
     And,

@@ -7,7 +7,7 @@ use Rattle.std.specs.Ordering.{is_lt}
 use Rattle.std.specs.declared.cmp.Ordering.{Ordering}
 use Rattle.std.specs.declared.cmp.Ordering.TheVariants.{Less, Equal, Greater}
 use Rattle.std.proofs.lemmas.Bool.{and_parts}
-use Rattle.basic_laws.proofs.Bytes.{same_bytes as eq_key, bytes_itself as itself}
+use Rattle.tuple_codec.proofs.ByteLemmas.{same_bytes as eq_key, bytes_itself as itself}
 use Rattle.tuple_codec.specs.Edits.{EditsRiseAfter, edited, order, value_at}
 use Rattle.tuple_codec.specs.Nodes.{Item, Rise, RiseAfter, is_after, leaf_item}
 use Rattle.tuple_codec.specs.declared.edits.Edit.{Edit}

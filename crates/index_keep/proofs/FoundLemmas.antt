@@ -4,8 +4,8 @@ use Rattle.std.specs.Prelude.{bytes_eq, if◌then◌else◌}
 use Rattle.std.specs.List.{list_all}
 use Rattle.std.specs.Option.{option_map}
 use Rattle.std.proofs.lemmas.Bool.{and_parts}
-use Rattle.basic_laws.proofs.Bytes.{same_bytes as eq_key}
-use Rattle.basic_laws.proofs.Options.{none_mapped as nothing, some_is}
+use Rattle.tuple_codec.proofs.ByteLemmas.{same_bytes as eq_key}
+use Rattle.tuple_codec.proofs.Options.{none_mapped as nothing, some_is}
 use Rattle.tuple_codec.specs.Edits.{value_at}
 use Rattle.tuple_codec.specs.Nodes.{RiseAfter, leaf_item}
 use Rattle.edit_laws.proofs.Values.{above}

@@ -6,7 +6,7 @@ use Rattle.std.specs.Ordering.{is_lt, match_ordering}
 use Rattle.std.specs.declared.cmp.Ordering.{Ordering}
 use Rattle.std.specs.declared.cmp.Ordering.TheVariants.{Less, Equal, Greater}
 use Rattle.std.proofs.lemmas.Bool.{and_from, and_parts, leb-true}
-use Rattle.basic_laws.proofs.Lists.{all_weaker}
+use Rattle.tuple_codec.proofs.Lists.{all_weaker}
 use Rattle.tuple_codec.specs.Edits.{edited, edits_at, order, putting, puts}
 use Rattle.tuple_codec.specs.Nodes.{Item, RiseAfter}
 use Rattle.tuple_codec.specs.Rows.{Cells, key_cmp}

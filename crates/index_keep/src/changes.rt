@@ -16,7 +16,7 @@ use table_rows::row_of;
 use tuple_codec::{Address, Digester, Edit, Row, Sequence};
 
 /// What stood under a key of rows, and what stands there then.
-#[derive(Debug, Drop)]
+#[derive(Drop)]
 pub struct RowChange {
     /// The row that stood there, if one did.
     pub old: Option<Row>,

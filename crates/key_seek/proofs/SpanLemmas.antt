@@ -6,7 +6,7 @@ use Rattle.std.specs.Cmp.Lexicographic.{slice_cmp}
 use Rattle.std.specs.declared.cmp.Ordering.{Ordering}
 use Rattle.std.specs.declared.cmp.Ordering.TheVariants.{Less, Equal, Greater}
 use Rattle.std.proofs.lemmas.Bool.{and_from, and_parts}
-use Rattle.basic_laws.proofs.Orderings.{less_is}
+use Rattle.tuple_codec.proofs.Orderings.{less_is}
 use Rattle.tuple_codec.specs.KeyBytes.{key_bytes, key_cell}
 use Rattle.tuple_codec.specs.Limits.{are_types, is_type}
 use Rattle.tuple_codec.specs.Rows.{Cells, fits, fits_all, key_cmp, key_of, value_cmp}

@@ -12,7 +12,7 @@ use Rattle.schema_model.specs.declared.schemas.Schema.{Schema}
 use Rattle.constraint_scan.specs.Roots.{IsIndexedAt}
 use Rattle.table_root.specs.Standing.{IsTableOf}
 use Rattle.table_root.specs.declared.records.StoredTable.{StoredTable}
-use Rattle.basic_laws.proofs.Options.{some_is}
+use Rattle.tuple_codec.proofs.Options.{some_is}
 use Rattle.tuple_codec.specs.Trees.{root}
 use Rattle.tuple_codec.specs.Rows.{Cells, fits_all}
 use Rattle.tuple_codec.specs.declared.addresses.Address.{Address}

@@ -20,7 +20,7 @@ use table_root::StoredTable;
 use tuple_codec::{Digester, Row, Sequence};
 
 /// What is sought in place of all rows.
-#[derive(Debug, Drop)]
+#[derive(Drop)]
 pub enum Seek {
     Keys(KeySpan),
     Entries(Entries),

@@ -31,7 +31,7 @@ use table_rows::row_of;
 use tuple_codec::{Address, Blob, Digester, Row, Sequence, encode_key, keys_keep_order};
 
 /// The entries that have these cells, of the schema's index at a place.
-#[derive(Debug, Drop)]
+#[derive(Drop)]
 pub struct Entries {
     pub place: usize,
     pub cells: Row,

@@ -8,7 +8,7 @@ use std::cmp::Ordering;
 use tuple_codec::{Row, Value, copy_row, copy_value};
 
 /// One end of a span.
-#[derive(Debug, Drop)]
+#[derive(Drop)]
 pub enum End {
     Open,
     /// The value lies in the span.
@@ -18,7 +18,7 @@ pub enum End {
 }
 
 /// The primary keys that begin with these cells, and whose next cell, if they have one, lies between the ends.
-#[derive(Debug, Drop)]
+#[derive(Drop)]
 pub struct KeySpan {
     pub fixed: Row,
     pub low: End,

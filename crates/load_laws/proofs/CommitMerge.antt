@@ -7,7 +7,7 @@ use Rattle.std.specs.Cmp.Lexicographic.{pointwise, pointwise_decides}
 use Rattle.std.specs.declared.cmp.Ordering.{Ordering}
 use Rattle.std.specs.declared.cmp.Ordering.TheVariants.{Less, Equal, Greater}
 use Rattle.std.proofs.lemmas.Bool.{and_parts, eqb-false, eqb-true, ltb-false, ltb-true}
-use Rattle.basic_laws.proofs.Orderings.{then_equal}
+use Rattle.tuple_codec.proofs.Orderings.{then_equal}
 use Rattle.tuple_codec.specs.RowRule.{or_by_cells, row3, same_option}
 use Rattle.tuple_codec.specs.Rows.{Cells, key_cmp, same_cells}
 use Rattle.tuple_codec.specs.declared.values.Value.TheVariants as cell

@@ -5,7 +5,7 @@ use Rattle.std.specs.Option.{option_and_then, option_map}
 use Rattle.std.proofs.lemmas.Bool.{cases_eq}
 use Rattle.std.proofs.lemmas.List.{length-set}
 use Rattle.std.proofs.lemmas.Option.{slice_get_within}
-use Rattle.basic_laws.proofs.Lists.{all_at, there_at}
+use Rattle.tuple_codec.proofs.Lists.{all_at, there_at}
 use Rattle.script_text.specs.declared.scripts.Line.{Line}
 use Rattle.script_text.specs.declared.scripts.Moment.{Moment}
 use Rattle.script_text.specs.declared.scripts.Script.{Script}
@@ -26,7 +26,7 @@ use Rattle.load_laws.specs.Tables.{holding, rows_in, working}
 use Rattle.load_laws.proofs.RunningMoments.{Goes, Moved, main_at, moves, still_goes}
 use Rattle.load_laws.proofs.RunningRows.{AreBlocks, all_of_eight, no_block, nothing_whole, whole, whole_alike}
 use Rattle.load_laws.proofs.RunningSessions.{Rests, batch_first, rest_stays, some_in, standing, todo_of}
-use Rattle.basic_laws.proofs.Options.{chosen_so, mapped_so}
+use Rattle.tuple_codec.proofs.Options.{chosen_so, mapped_so}
 
 -- ---- options
 

@@ -2,7 +2,7 @@
 use Rattle.std.proofs.Common.{◌≡◌, ◌≢◌, refl, sym, ◌∙◌, ap, subst, ℕ, ℤ, ◌+◌, ◌<◌, true, false, ◌==◌, List, [], ◌∷◌, ◌++◌, map, Option, Some, None, Ok, inl, inr, ◌⊎◌, codes, if◌then◌else◌}
 use Rattle.std.specs.List.{list_all}
 use Rattle.std.specs.Option.{option_and_then, option_map}
-use Rattle.basic_laws.proofs.Lists.{all_append}
+use Rattle.tuple_codec.proofs.Lists.{all_append}
 use Rattle.script_text.specs.declared.replies.Reply.{Reply}
 use Rattle.expr_eval.specs.Binding.{Outcome, and_then}
 use Rattle.plain_sessions.specs.CommitRule.{decide}
@@ -21,7 +21,7 @@ use Rattle.load_laws.specs.Tables.{IsSmall, rows_in, working}
 use Rattle.load_laws.proofs.RunningMeeting.{they_meet}
 use Rattle.load_laws.proofs.RunningRows.{AreBlocks, IsBlock, all_behind, all_front, block_elsewhere, block_front, block_here, blocks_with, whole, with_block}
 use Rattle.load_laws.proofs.RunningSessions.{Later, Rests, Waits, batch_first, begun_with, made_steps, rest_stays, row_steps, standing, through_making, todo_of}
-use Rattle.basic_laws.proofs.Options.{some_is}
+use Rattle.tuple_codec.proofs.Options.{some_is}
 
 abbrev pub main_at : BranchState → List Branch
 main_at state = record { name = codes "main"; state = state } ∷ []

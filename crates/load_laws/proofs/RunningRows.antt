@@ -3,7 +3,7 @@ use Rattle.std.proofs.Common.{◌≡◌, ◌≢◌, refl, sym, ◌∙◌, ap, su
 use Rattle.std.specs.List.{AllByRecursion, flat_map}
 use Rattle.std.proofs.lemmas.List.{length-append, length-map, map-append}
 use Rattle.std.proofs.lemmas.Bool.Decides.{nat_tests}
-use Rattle.basic_laws.proofs.Truths.{if_true}
+use Rattle.tuple_codec.proofs.Truths.{if_true}
 use Rattle.load_laws.specs.Batches.{IsOwn}
 use Rattle.load_laws.specs.Steps.{Pair}
 use Rattle.load_laws.specs.Tables.{ArePairRows, IsFree, IsSmall, PairsRise, changed, changed_one, put, value_at}

@@ -3,8 +3,8 @@ use Rattle.std.proofs.Common.{◌≡◌, ◌≢◌, refl, sym, ◌∙◌, ap, su
 use Rattle.std.specs.List.{AllByRecursion, flat_map, list_all}
 use Rattle.std.specs.Option.{option_map, option_map_or}
 use Rattle.std.proofs.lemmas.List.{length-append, length-map}
-use Rattle.basic_laws.proofs.Lists.{all_append}
-use Rattle.basic_laws.proofs.Truths.{if_true}
+use Rattle.tuple_codec.proofs.Lists.{all_append}
+use Rattle.tuple_codec.proofs.Truths.{if_true}
 use Rattle.script_text.specs.declared.replies.Reply.{Reply}
 use Rattle.schema_model.specs.PlainCommits.{Commits}
 use Rattle.sql_ast.specs.declared.statements.Write.TheVariants as write

@@ -3,8 +3,8 @@ use Rattle.std.proofs.Common.{◌≡◌, ◌∙◌, ◌<◌, ℕ, pos, ◌^◌, 
 use Rattle.std.specs.Ordering.{int_cmp, nat_cmp, is_eq, is_lt, ordering_then}
 use Rattle.std.specs.declared.cmp.Ordering.{Ordering}
 use Rattle.std.specs.declared.cmp.Ordering.TheVariants.{Less, Equal, Greater}
-use Rattle.basic_laws.proofs.Orderings.{then_equal, then_is_eq}
-use Rattle.basic_laws.proofs.Truths.{two}
+use Rattle.tuple_codec.proofs.Orderings.{then_equal, then_is_eq}
+use Rattle.tuple_codec.proofs.Truths.{two}
 use Rattle.tuple_codec.specs.Rows.{Cells, same_cells}
 use Rattle.tuple_codec.specs.declared.values.Value.TheVariants as cell
 use Rattle.sql_ast.specs.declared.expressions.Comparison.TheVariants as op

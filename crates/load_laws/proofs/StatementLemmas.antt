@@ -1,7 +1,7 @@
 -- What each statement makes of the table.
 use Rattle.std.proofs.Common.{◌≡◌, ◌∙◌, ◌+◌, ◌<◌, ◌≤◌, ◌==◌, ◌&&◌, ℕ, pos, refl, ap, ap₂, arith, cond, true, false, List, [], ◌∷◌, ◌++◌, map, filter, length, set, fold, count_by, Option, None, Some, Ok, codes, eqb-true, eq-eqb, le-ltb}
 use Rattle.std.proofs.lemmas.List.{length-map}
-use Rattle.basic_laws.proofs.Truths.{two}
+use Rattle.tuple_codec.proofs.Truths.{two}
 use Rattle.tuple_codec.specs.Rows.{Cells}
 use Rattle.tuple_codec.specs.declared.values.Value.TheVariants as cell
 use Rattle.schema_model.specs.PlainTables.{Violation, violation_cmp}

@@ -2,7 +2,7 @@
 use Rattle.std.proofs.Common.{◌≡◌, ◌≢◌, ◌∙◌, ◌<◌, ℕ, suc, refl, ap, ap₂, sym, subst, arith, false, List, [], ◌∷◌, ◌++◌, ◌==◌, nat_lt, map, length, fold, append-nil, append_assoc, le-ltb, ne_eqb, eqb-true, Ok}
 use Rattle.std.specs.List.{AllByRecursion}
 use Rattle.std.specs.declared.cmp.Ordering.{Ordering}
-use Rattle.basic_laws.proofs.Truths.{two}
+use Rattle.tuple_codec.proofs.Truths.{two}
 use Rattle.tuple_codec.specs.Rows.{Cells}
 use Rattle.plain_sql.proofs.InsertionLemmas.{neither_so, placed_past, placed_stop}
 use Rattle.plain_sql.specs.Lists.{has, placed, repeats, unless}

@@ -4,8 +4,8 @@ use Rattle.std.specs.List.{AllByRecursion, list_all, list_any}
 use Rattle.std.specs.Prelude.{bytes_eq, codes, slice_get, slice_index_or}
 use Rattle.std.specs.Option.{option_and_then, option_map, option_map_or}
 use Rattle.std.proofs.lemmas.Bool.{and_parts as both}
-use Rattle.basic_laws.proofs.Options.{none_so, some_is}
-use Rattle.basic_laws.proofs.Truths.{left_not, right_not}
+use Rattle.tuple_codec.proofs.Options.{none_so, some_is}
+use Rattle.tuple_codec.proofs.Truths.{left_not, right_not}
 use Rattle.tuple_codec.specs.AddressTexts.{address_text}
 use Rattle.schema_model.specs.PlainTables.{NamedTable, PlainDatabase}
 use Rattle.schema_model.specs.WrittenForms.{database_address}

@@ -5,9 +5,9 @@ use Rattle.std.specs.List.{slice_get}
 use Rattle.std.specs.declared.cmp.Ordering.{Ordering}
 use Rattle.std.specs.declared.cmp.Ordering.TheVariants.{Less, Equal, Greater}
 use Rattle.std.proofs.lemmas.Bool.{and_parts, or_cases as either, or_left}
-use Rattle.basic_laws.proofs.Bytes.{bytes_itself as itself, same_bytes as same_address}
-use Rattle.basic_laws.proofs.Truths.{right_not as rest_false}
-use Rattle.basic_laws.proofs.Options.{some_is}
+use Rattle.tuple_codec.proofs.ByteLemmas.{bytes_itself as itself, same_bytes as same_address}
+use Rattle.tuple_codec.proofs.Truths.{right_not as rest_false}
+use Rattle.tuple_codec.proofs.Options.{some_is}
 use Rattle.schema_model.specs.PlainTables.{rises}
 use Rattle.schema_model.specs.PlainCommits.{AncestorsFollow, AreGrown, Commits, IsBaseOrNone, ancestors, base, commit_cmp, first_in, has_address, is_known}
 use Rattle.schema_model.proofs.AncestorLemmas.{alike, before_all, not_before, not_itself, turned, known_here as known_by}

@@ -2,8 +2,8 @@
 use Rattle.std.proofs.Common.{◌≡◌, refl, ◌∙◌, sym, ap, subst, ℕ, ℤ, Bool, true, false, ◌&&◌, ◌||◌, not, List, [], ◌∷◌, ◌++◌, length, Some, Result, Ok, Err}
 use Rattle.std.specs.Prelude.{IfOk, bytes_eq, is_some}
 use Rattle.std.specs.List.{list_any}
-use Rattle.basic_laws.proofs.Bytes.{bytes_same}
-use Rattle.basic_laws.proofs.Truths.{alike_truths as one_test}
+use Rattle.tuple_codec.proofs.ByteLemmas.{bytes_same}
+use Rattle.tuple_codec.proofs.Truths.{alike_truths as one_test}
 use Rattle.tuple_codec.specs.declared.addresses.Address.{Address}
 use Rattle.tuple_codec.specs.declared.records.BranchRecord.{BranchRecord}
 use Rattle.chunk_store.specs.Chunks.{Chunk, Chunks, Extends, chunk_bytes}

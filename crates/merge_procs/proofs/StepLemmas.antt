@@ -1,7 +1,7 @@
 -- What calls that aren't decided on make of a session's own record, and the session after them.
 use Rattle.std.proofs.Common.{◌≡◌, refl, sym, ◌∙◌, ap, subst, inl, inr, ℕ, Bool, true, not, List, [], ◌++◌, length, codes, Option, None, Some, is_some, Result, Ok, Err, IfOk, IfErr, if◌then◌else◌}
 use Rattle.std.specs.Option.{option_map}
-use Rattle.basic_laws.proofs.Options.{some_there as has_one}
+use Rattle.tuple_codec.proofs.Options.{some_there as has_one}
 use Rattle.tuple_codec.specs.declared.addresses.Address.{Address}
 use Rattle.tuple_codec.specs.declared.records.BranchRecord.{BranchRecord}
 use Rattle.chunk_store.specs.Chunks.{Chunk, Chunks, chunk_bytes}

@@ -7,9 +7,9 @@ use Rattle.std.specs.Option.{option_map, option_to_list}
 use Rattle.std.specs.Ordering.{is_lt}
 use Rattle.std.proofs.lemmas.Bool.{and_parts, leb-true}
 use Rattle.std.proofs.lemmas.List.{length-map}
-use Rattle.basic_laws.proofs.Bytes.{same_bytes as eq_key}
-use Rattle.basic_laws.proofs.Orderings.{less_is}
-use Rattle.basic_laws.proofs.Lists.{filter_few}
+use Rattle.tuple_codec.proofs.ByteLemmas.{same_bytes as eq_key}
+use Rattle.tuple_codec.proofs.Orderings.{less_is}
+use Rattle.tuple_codec.proofs.Lists.{filter_few}
 use Rattle.tuple_codec.specs.Edits.{EditsRiseAfter, edited, order, value_at}
 use Rattle.tuple_codec.specs.KeyBytes.{key_bytes}
 use Rattle.tuple_codec.specs.Nodes.{Item, Rise, RiseAfter, is_after}

@@ -28,7 +28,7 @@ use table_rows::row_of;
 use tuple_codec::{Address, Digester, Edit, Row, Sequence, Text, Value, key_of, key_size};
 
 /// What forbids to take a row.
-#[derive(Clone, Copy, Debug, PartialEq, Eq)]
+#[derive(Clone, Copy, PartialEq, Eq)]
 pub(crate) enum Flaw {
     /// NULL in a NOT NULL column.
     Null,

@@ -17,7 +17,7 @@ use node_format::RefItem;
 use tuple_codec::{Address, Digester};
 
 /// What closing a level came to.
-#[derive(Debug, Drop)]
+#[derive(Drop)]
 pub(crate) enum Closed {
     /// The root's address.
     Root(Address),

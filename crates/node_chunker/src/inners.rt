@@ -20,7 +20,7 @@ use std::marker::Model;
 use tuple_codec::{Address, Digester};
 
 /// The names in an inner node that is still open.
-#[derive(Debug, Drop)]
+#[derive(Drop)]
 pub(crate) struct OpenInner {
     // of level 1, or of the level at which it was last put; items are the same bytes at each level above the leaves
     node: NodeBuilder,

@@ -20,7 +20,7 @@ use std::marker::Model;
 use tuple_codec::Digester;
 
 /// The rows of the leaf that is still open.
-#[derive(Debug, Drop)]
+#[derive(Drop)]
 pub(crate) struct OpenLeaf {
     node: NodeBuilder,
 }

@@ -31,7 +31,7 @@ const LEVELS: usize = 8;
 /// The nodes of a tree that are still open, one a level, while its rows come in rising order.
 ///
 /// After a refused call a tower is spent: it can only be dropped.
-#[derive(Debug, Drop)]
+#[derive(Drop)]
 pub struct Tower {
     leaf: OpenLeaf,
     inner: Vec<OpenInner>,

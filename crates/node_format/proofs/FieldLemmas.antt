@@ -4,7 +4,7 @@ use Rattle.std.specs.Int.{Width, w16, w64, byte_len, from_be_bytes, to_be_bytes}
 use Rattle.std.proofs.lemmas.Bool.{cases_lt, ltb-false, le-ltb}
 use Rattle.std.proofs.lemmas.List.{take_at, drop_at, take-append-drop, length-append, length-take, get_or-drop, get_or-take, get_or_past}
 use Rattle.std.proofs.lemmas.Nat.{be_bytes_2, be_bytes_8, from_be_bytes-to_be_bytes_2, from_be_bytes-to_be_bytes_8}
-use Rattle.basic_laws.proofs.Options.{guard_some, some_is}
+use Rattle.tuple_codec.proofs.Options.{guard_some, some_is}
 use Rattle.tuple_codec.specs.Nodes.{Item, leaf_item, sized, item_bytes, IsItem}
 use Rattle.tuple_codec.proofs.FieldLemmas.{bytes_again}
 use Rattle.tuple_codec.specs.Fields.{bytes_at}

@@ -5,7 +5,7 @@ use Rattle.std.specs.List.{slice_get}
 use Rattle.std.specs.Int.{w64}
 use Rattle.std.proofs.Math.Nat.{div-add-mod'}
 use Rattle.std.proofs.lemmas.Option.{none-some, slice_get-get_or}
-use Rattle.basic_laws.proofs.Options.{some_is}
+use Rattle.tuple_codec.proofs.Options.{some_is}
 use Rattle.tuple_codec.specs.Fields.{bytes_at}
 use Rattle.tuple_codec.specs.Nodes.{Item, Node, leaf_item}
 use Rattle.node_format.specs.Reading.{◌>>=◌, inner_at, item_at, items_from, leaf_at, number_at, sized_at, skip}

@@ -5,7 +5,7 @@ use Rattle.std.specs.Option.{option_map}
 use Rattle.std.specs.List.{slice_get, AllByRecursion}
 use Rattle.std.proofs.lemmas.Bool.{ltb-true, lt-ltb, and_parts as both_true}
 use Rattle.std.proofs.lemmas.List.Concat.{flat_map-cons}
-use Rattle.basic_laws.proofs.Options.{some_is, chosen_some}
+use Rattle.tuple_codec.proofs.Options.{some_is, chosen_some}
 use Rattle.tuple_codec.specs.Nodes.{Item, item_bytes, items_bytes, IsItem, is_after, RiseAfter}
 use Rattle.node_format.specs.Reading.{item_at, may_follow, next_at, stopping, stop_at_end, stop_at, rest_of, skip, listed, items_from}
 use Rattle.node_format.proofs.FieldLemmas.{IsBytes, bind_some, Takes, Holds-IsItem, IsItem-rows, item_takes, item_again}

@@ -5,7 +5,7 @@ use Rattle.std.specs.Int.{w16, to_be_bytes}
 use Rattle.std.proofs.lemmas.Bool.{ltb-true, lt-ltb, eqb-true, eq-eqb, and_parts as both_true, or_cases as one_true}
 use Rattle.std.proofs.lemmas.List.{length-append}
 use Rattle.std.proofs.lemmas.Option.{none-some}
-use Rattle.basic_laws.proofs.Options.{some_is, chosen_some}
+use Rattle.tuple_codec.proofs.Options.{some_is, chosen_some}
 use Rattle.tuple_codec.specs.Nodes.{Item, Node, IsHeader, IsNode, header_bytes, items_bytes, kind_of, node_bytes}
 use Rattle.node_format.specs.Reading.{number_at, is_header, header_at, stop_at, items_from}
 use Rattle.node_format.specs.Marks.{node_from}

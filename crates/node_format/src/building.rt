@@ -13,7 +13,7 @@ use tuple_codec::Address;
 const ROOM: usize = 8192;
 
 /// A node that built, in its bytes.
-#[derive(Debug, Drop)]
+#[derive(Drop)]
 pub struct NodeBuilder {
     level: u8,
     count: u16,

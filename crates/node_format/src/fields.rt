@@ -9,7 +9,7 @@ ghost use Rattle.node_format.specs.Views.{seen};
 ghost use Rattle.node_format.specs.Reading.{number_at, sized_at, leaf_at, inner_at, item_at};
 
 /// An item that lies in a node's bytes.
-#[derive(Clone, Copy, Debug)]
+#[derive(Clone, Copy)]
 pub(crate) struct ItemRef<'a> {
     pub(crate) key: &'a [u8],
     pub(crate) body: &'a [u8],

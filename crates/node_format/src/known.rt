@@ -10,7 +10,7 @@ use tuple_codec::Address;
 
 /// A node that lies in bytes which are known to be a node's, so that they needn't be read: making it takes the same time for
 /// each node. Its items are gone through by [`first_row`] or [`first_name`].
-#[derive(Debug, Drop)]
+#[derive(Drop)]
 pub struct KnownNode<'a> {
     level: u8,
     count: u16,

@@ -10,7 +10,7 @@ use crate::scan::after_item;
 pub(crate) const PLACES: usize = 128;
 
 /// Where each item begins whose number is a multiple of the stride. It lies in the node's view, so it takes no memory.
-#[derive(Clone, Copy, Debug)]
+#[derive(Clone, Copy)]
 pub(crate) struct Marks {
     pub(crate) stride: u16,
     pub(crate) places: [u32; PLACES],

@@ -19,7 +19,7 @@ use tuple_codec::Address;
 /// The offset is 0 where the header is short, its kind or level is wrong, or an inner node has no item. Else it is that
 /// of the first item that is cut short, whose key doesn't rise, or which has no row below; else that of the first byte
 /// after the last item.
-#[derive(Clone, Copy, Debug, PartialEq, Eq)]
+#[derive(Clone, Copy, PartialEq, Eq)]
 pub struct Malformed {
     pub at: u32,
 }
@@ -29,7 +29,7 @@ pub struct Malformed {
 /// The places of some items are noted while the node is read: of each one in a node of fewer than 128 items, of each
 /// second one below 256, and so on. An item is then found from the last noted place before it, by as many short steps
 /// over lengths as items lie between: none below 128 items, at most n / 128 in a node of n items.
-#[derive(Debug, Drop)]
+#[derive(Drop)]
 pub struct NodeRef<'a> {
     level: u8,
     count: u16,

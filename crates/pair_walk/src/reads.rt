@@ -4,7 +4,7 @@ ghost use Rattle.std.specs.Prelude.{◌≡◌};
 ghost use Rattle.pair_walk.specs.Counts.{counted};
 
 /// How many nodes were read. At its last value, 2^64 - 1, the count stays.
-#[derive(Clone, Copy, Debug, PartialEq, Eq)]
+#[derive(Clone, Copy, PartialEq, Eq)]
 pub struct ReadCount(u64);
 
 impl ReadCount {

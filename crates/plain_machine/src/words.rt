@@ -7,7 +7,7 @@ ghost use Rattle.plain_machine.specs.Words.{is_given, order_asked, order_named};
 pub const USAGE: &[u8] = b"usage: plain_machine ordered|replay\n";
 
 /// Where the order of a script's moments comes from.
-#[derive(Clone, Copy, Debug, PartialEq, Eq)]
+#[derive(Clone, Copy, PartialEq, Eq)]
 pub enum MomentOrder {
     /// The statements are run one after another, in the order of the script's lines.
     OfLines,

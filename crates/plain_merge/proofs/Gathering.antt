@@ -2,7 +2,7 @@
 use Rattle.std.proofs.Common.{◌≡◌, ℕ, Bool, true, false, List, [], ◌∷◌, Option, None, Some, refl, sym, ap, ◌∙◌, subst}
 use Rattle.std.specs.Prelude.{bytes_eq, if◌then◌else◌}
 use Rattle.std.specs.Option.{option_map, option_and_then}
-use Rattle.basic_laws.proofs.Bytes.{same_bytes as eq_key}
+use Rattle.tuple_codec.proofs.ByteLemmas.{same_bytes as eq_key}
 use Rattle.tuple_codec.specs.Nodes.{Item, Rise, RiseAfter, leaf_item}
 use Rattle.tuple_codec.specs.Edits.{EditsRiseAfter, changed, edited, order, value_at}
 use Rattle.tuple_codec.specs.declared.edits.ItemChange.{ItemChange}

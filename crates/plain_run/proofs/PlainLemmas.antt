@@ -12,8 +12,8 @@ use Rattle.std.proofs.lemmas.List.{append-nil, length-set}
 use Rattle.std.proofs.lemmas.List.Sums.{position_or_len_is}
 use Rattle.std.proofs.lemmas.Map.Keys.{apart_from_distinct}
 use Rattle.std.proofs.lemmas.Option.{slice_get_within}
-use Rattle.basic_laws.proofs.Bytes.{bytes_same}
-use Rattle.basic_laws.proofs.Truths.{if_true}
+use Rattle.tuple_codec.proofs.ByteLemmas.{bytes_same}
+use Rattle.tuple_codec.proofs.Truths.{if_true}
 use Rattle.chunk_store.specs.declared.faults.PutFault.{PutFault}
 use Rattle.script_text.specs.Collisions.{AllTellTruly}
 use Rattle.script_text.specs.Input.{place_of}

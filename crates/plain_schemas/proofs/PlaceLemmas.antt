@@ -4,7 +4,7 @@ use Rattle.std.specs.List.{flat_map, list_all, list_any}
 use Rattle.std.specs.Option.{option_to_list}
 use Rattle.std.proofs.lemmas.Bool.{and_from, lt-ltb}
 use Rattle.std.proofs.lemmas.List.Quantifiers.{position-Some}
-use Rattle.basic_laws.proofs.Lists.{all_append}
+use Rattle.tuple_codec.proofs.Lists.{all_append}
 use Rattle.tuple_codec.specs.declared.values.SqlType.TheVariants as type
 use Rattle.schema_model.specs.declared.schemas.Column.{Column}
 use Rattle.sql_ast.specs.declared.tables.Element.{Element}

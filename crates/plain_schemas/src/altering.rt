@@ -1,14 +1,19 @@
 //! ALTER TABLE: which column may be changed, and into what.
 
-ghost use Rattle.std.specs.Prelude.{◌≡◌, ◌&&◌, ◌||◌, IfOk, bytes_eq, map, true};
+ghost use Rattle.std.specs.Prelude.{◌≡◌, ◌&&◌, ◌||◌, IfOk, Ok, bytes_eq, is_some, map, not, true};
 ghost use Rattle.std.specs.List.{list_any};
 ghost use Rattle.tuple_codec.specs.Limits.{is_type};
 ghost use Rattle.schema_model.specs.PlainTables.{is_keyed};
 ghost use Rattle.sql_rules.specs.Names.{contains};
+ghost use Rattle.expr_eval.specs.Binding.{and_then};
 ghost use Rattle.plain_sql.specs.Gives.{Gives, GivesBy};
+ghost use Rattle.plain_sql.specs.Lists.{unless};
 ghost use Rattle.plain_writes.specs.Seen.{effect_seen, named_seen, table_seen};
-ghost use Rattle.plain_writes.specs.Violations.{checks_by};
-ghost use Rattle.plain_schemas.specs.Altered.{alter_effect, altered, change_of, check_needs, column_after, free_place, has_type, is_open, is_used, kind_at, redefined, refers_to, without_column};
+ghost use Rattle.plain_writes.specs.Violations.{checks_by, column_place};
+ghost use Rattle.plain_writes.specs.Writes.{replaced};
+ghost use Rattle.plain_schemas.specs.Altered.{alter_effect, altered, change_of, check_needs, column_after, free_place, has_type, is_open, is_used, kind_at, redefined, refers_to, table_after, without_column};
+ghost use Rattle.plain_schemas.specs.Effects.{changed_to};
+ghost use Rattle.plain_schemas.specs.declared.changing.ColumnChange.TheVariants as change;
 
 use crate::changing::{ColumnChange, table_after, without_column};
 use crate::columns::defined;
@@ -45,6 +50,13 @@ fn some_foreign_key_has(foreign: &[ForeignKey], place: usize) -> bool
         .any(|key| is_keyed(key.columns.as_slice(), place))
 }
 
+/// Of any type, so that a caller's proof opens no expression.
+fn is_nothing<T: Drop>(found: Option<T>) -> bool
+    ensures { result ≡ not (is_some found) }
+{
+    found.is_none()
+}
+
 fn check_needs<R: Reads>(
     alloc: Global,
     name: &[u8],
@@ -54,10 +66,8 @@ fn check_needs<R: Reads>(
     ensures { IfOk result (λ needs. needs ≡ check_needs (checks_by R.reading) name.now without.now check.now) }
 {
     let scope = own_scope(alloc, name, without)?;
-    match check_of::<R>(alloc, scope.as_slice(), check.text.as_slice())? {
-        Some(_) => Ok(false),
-        None => Ok(true),
-    }
+    let found = check_of::<R>(alloc, scope.as_slice(), check.text.as_slice())?;
+    Ok(is_nothing(found))
 }
 
 fn some_check_needs<R: Reads>(
@@ -200,6 +210,29 @@ fn redefined(schema: &Schema, place: usize, column: Column) -> Result<ColumnChan
     }
 }
 
+fn added(alloc: Global, schema: &Schema, column: &ColumnElement) -> Result<ColumnChange, Refused>
+    ensures same { Gives result (unless (is_some (column_place schema.now column.now.name)) 9013 (and_then (column_after column.now) (λ made. Ok (change.Add made)))) }
+    ensures typed { IfOk result (λ change. has_type change ≡ true) }
+{
+    if column_place(schema, column.name.as_slice()).is_some() {
+        return Err(Refused::By(9013));
+    }
+    Ok(ColumnChange::Add(column_after(alloc, column)?))
+}
+
+fn redefined_anew(
+    alloc: Global,
+    schema: &Schema,
+    place: usize,
+    column: &ColumnElement,
+) -> Result<ColumnChange, Refused>
+    ensures same { Gives result (and_then (column_after column.now) (redefined schema.now place)) }
+    ensures typed { IfOk result (λ change. has_type change ≡ true) }
+{
+    let after = column_after(alloc, column)?;
+    redefined(schema, place, after)
+}
+
 /// What the action does, or why it may not.
 pub fn change_of<R: Reads>(
     alloc: Global,
@@ -212,19 +245,14 @@ pub fn change_of<R: Reads>(
     ensures typed { IfOk result (λ change. has_type change ≡ true) }
 {
     match action {
-        AlterAction::Add(column) => {
-            if column_place(schema, column.name.as_slice()).is_some() {
-                return Err(Refused::By(9013));
-            }
-            Ok(ColumnChange::Add(column_after(alloc, column)?))
-        }
+        AlterAction::Add(column) => added(alloc, schema, column),
         AlterAction::Drop(column) => {
             let place = free_place::<R>(alloc, database, name, schema, column.as_slice())?;
             Ok(ColumnChange::Remove(place))
         }
         AlterAction::Modify(column) => {
             let place = free_place::<R>(alloc, database, name, schema, column.name.as_slice())?;
-            redefined(schema, place, column_after(alloc, column)?)
+            redefined_anew(alloc, schema, place, column)
         }
     }
 }
@@ -233,6 +261,36 @@ fn is_open(table: &Table) -> bool
     ensures { result ≡ is_open (table_seen table.now) }
 {
     !table.conflicts.as_slice().is_empty() || !table.violations.as_slice().is_empty()
+}
+
+/// What a statement does that puts a table in the place of the one of its name.
+fn replacing(
+    alloc: Global,
+    database: &[NamedTable],
+    name: &Text,
+    after: &Table,
+) -> Result<Effect, Refused>
+    ensures { GivesBy effect_seen result (Ok (changed_to (replaced name.now (table_seen after.now) (map named_seen database.now)))) }
+{
+    Ok(Effect {
+        database: replaced(alloc, name.as_slice(), after, database)?,
+        count: None,
+    })
+}
+
+/// The database with the table of this name changed.
+fn with_change(
+    alloc: Global,
+    database: &[NamedTable],
+    name: &Text,
+    table: &Table,
+    change: &ColumnChange,
+) -> Result<Effect, Refused>
+    requires { has_type change.now ≡ true }
+    ensures { GivesBy effect_seen result (and_then (table_after (table_seen table.now) change.now) (λ after. Ok (changed_to (replaced name.now after (map named_seen database.now))))) }
+{
+    let after = table_after(alloc, table, change)?;
+    replacing(alloc, database, name, &after)
 }
 
 fn altered<R: Reads>(
@@ -248,11 +306,7 @@ fn altered<R: Reads>(
     }
     let name = alter.table.as_slice();
     let change = change_of::<R>(alloc, database, name, &table.schema, &alter.action)?;
-    let after = table_after(alloc, table, &change)?;
-    Ok(Effect {
-        database: replaced(alloc, name, &after, database)?,
-        count: None,
-    })
+    with_change(alloc, database, &alter.table, table, &change)
 }
 
 /// What ALTER TABLE makes of a database, or its first refusal. CHECKs are read by `R`. The whole database is copied.

@@ -1,10 +1,14 @@
 //! What ALTER makes of a schema and of rows, once it is allowed.
 
-ghost use Rattle.std.specs.Prelude.{◌≡◌, ◌++◌, ◌∷◌, [], IfOk, map, set, true};
+ghost use Rattle.std.specs.Prelude.{◌≡◌, ◌++◌, ◌∷◌, [], IfOk, Ok, map, set, true};
 ghost use Rattle.std.specs.List.{remove};
+ghost use Rattle.tuple_codec.specs.Limits.{is_type};
+ghost use Rattle.tuple_codec.specs.Rows.{cell_at};
+ghost use Rattle.expr_eval.specs.Binding.{and_then};
 ghost use Rattle.plain_sql.specs.Gives.{Gives, GivesBy};
 ghost use Rattle.plain_sql.specs.Lists.{each};
 ghost use Rattle.plain_writes.specs.Seen.{table_seen};
+ghost use Rattle.plain_writes.specs.Writes.{assigned, standard};
 ghost use Rattle.plain_schemas.specs.Altered.{foreign_without, has_type, index_without, moved_up, row_after, schema_after, small_row_after, table_after, with_columns, without_column};
 
 use crate::naming::copied_names;
@@ -122,21 +126,25 @@ fn foreign_keys_without(
 pub fn without_column(alloc: Global, schema: &Schema, gone: usize) -> Result<Schema, AllocError>
     ensures { IfOk result (λ after. after ≡ without_column schema.now gone) }
 {
+    let key = all_moved(alloc, gone, schema.key.as_slice())?;
+    let indexes = indexes_without(alloc, gone, schema.indexes.as_slice())?;
+    let foreign = foreign_keys_without(alloc, gone, schema.foreign.as_slice())?;
     let copy = copy_schema(alloc, schema)?;
     Ok(Schema {
         columns: without(copy.columns, gone),
-        key: all_moved(alloc, gone, schema.key.as_slice())?,
-        indexes: indexes_without(alloc, gone, schema.indexes.as_slice())?,
+        key,
+        indexes,
         checks: copy.checks,
-        foreign: foreign_keys_without(alloc, gone, schema.foreign.as_slice())?,
+        foreign,
     })
 }
 
 fn with_column(alloc: Global, schema: &Schema, column: &Column) -> Result<Schema, AllocError>
     ensures { IfOk result (λ after. after ≡ with_columns schema.now (schema.now.columns ++ column.now ∷ [])) }
 {
+    let column = copy_column(alloc, column)?;
     let mut after = copy_schema(alloc, schema)?;
-    after.columns.push(copy_column(alloc, column)?)?;
+    after.columns.push(column)?;
     Ok(after)
 }
 
@@ -148,9 +156,10 @@ fn with_column_at(
 ) -> Result<Schema, AllocError>
     ensures { IfOk result (λ after. after ≡ with_columns schema.now (set schema.now.columns place column.now)) }
 {
+    let column = copy_column(alloc, column)?;
     let after = copy_schema(alloc, schema)?;
     Ok(Schema {
-        columns: with(after.columns, place, copy_column(alloc, column)?),
+        columns: with(after.columns, place, column),
         key: after.key,
         indexes: after.indexes,
         checks: after.checks,
@@ -168,22 +177,44 @@ fn schema_after(alloc: Global, change: &ColumnChange, schema: &Schema) -> Result
     }
 }
 
+fn row_with_new(alloc: Global, column: &Column, row: &Row) -> Result<Row, Refused>
+    ensures { Gives result (and_then (standard column.now) (λ value. Ok (row.now ++ value ∷ []))) }
+{
+    let value = standard(alloc, column)?;
+    let mut after = copy_row(alloc, row.as_slice())?;
+    after.push(value)?;
+    Ok(after)
+}
+
+fn row_with_assigned(
+    alloc: Global,
+    place: usize,
+    kind: &Kind,
+    column: &Column,
+    row: &Row,
+) -> Result<Row, Refused>
+    requires { is_type column.now.kind ≡ true }
+    ensures { Gives result (and_then (assigned kind.now column.now (cell_at row.now place)) (λ value. Ok (set row.now place value))) }
+{
+    let value = cell_at(alloc, row.as_slice(), place)?;
+    let kept = assigned(kind, column, value)?;
+    let after = copy_row(alloc, row.as_slice())?;
+    Ok(with(after, place, kept))
+}
+
 /// The row with its new cell, lost cell or cell assigned anew.
 fn row_after(alloc: Global, change: &ColumnChange, row: &Row) -> Result<Row, Refused>
     requires { has_type change.now ≡ true }
     ensures { Gives result (row_after change.now row.now) }
 {
-    let mut after = copy_row(alloc, row.as_slice())?;
     match change {
-        ColumnChange::Add(column) => {
-            after.push(standard(alloc, column)?)?;
-            Ok(after)
+        ColumnChange::Add(column) => row_with_new(alloc, column, row),
+        ColumnChange::Remove(place) => {
+            let after = copy_row(alloc, row.as_slice())?;
+            Ok(without(after, *place))
         }
-        ColumnChange::Remove(place) => Ok(without(after, *place)),
         ColumnChange::Redefine(place, kind, column) => {
-            let value = cell_at(alloc, row.as_slice(), *place)?;
-            let kept = assigned(kind, column, value)?;
-            Ok(with(after, *place, kept))
+            row_with_assigned(alloc, *place, kind, column, row)
         }
     }
 }

@@ -1,6 +1,6 @@
 //! The schema that CREATE says.
 
-ghost use Rattle.std.specs.Prelude.{◌≡◌, ◌≤◌, IfOk, length};
+ghost use Rattle.std.specs.Prelude.{◌≡◌, ◌≤◌, [], IfOk, length};
 ghost use Rattle.std.specs.List.{flat_map, list_any};
 ghost use Rattle.std.specs.Option.{option_to_list};
 ghost use Rattle.sql_rules.specs.Tables.{is_key_mark};
@@ -11,7 +11,7 @@ ghost use Rattle.plain_schemas.specs.Effects.{key_lists};
 use crate::columns::{in_bytes, place_in, places};
 use crate::naming::{IndexPart, checks_named, foreign_named, index_parts, indexes_named};
 use plain_sql::append;
-use schema_model::{Column, Schema};
+use schema_model::{CheckDef, Column, ForeignKey, IndexDef, Schema};
 use sql_ast::{Attribute, CreateTable, Element};
 use sql_rules::{Sort, made_names};
 use std::alloc::{AllocError, Global};
@@ -29,7 +29,7 @@ fn marks_key(attribute: &Attribute) -> bool
 fn some_marks_key(attributes: &[Attribute]) -> bool
     ensures { result ≡ list_any is_key_mark attributes.now }
 {
-    attributes.iter().any(|attribute| marks_key(attribute))
+    attributes.iter().any(marks_key)
 }
 
 fn place_alone(
@@ -94,6 +94,44 @@ fn byte_key(
     in_bytes(alloc, wide.as_slice())
 }
 
+/// The indexes, in the order of the text.
+fn own_indexes(
+    alloc: Global,
+    create: &CreateTable,
+    columns: &[Column],
+) -> Result<Sequence<IndexDef>, AllocError>
+    requires { length columns.now ≤ 64 }
+    ensures { IfOk result (λ indexes. indexes ≡ (schema_of create.now columns.now).indexes) }
+{
+    let elements = create.elements.as_slice();
+    let made = made_names(alloc, &create.table, elements, Sort::Unique)?;
+    let parts = index_parts(alloc, elements)?;
+    indexes_named(alloc, columns, made.as_slice(), parts.as_slice())
+}
+
+/// The CHECKs, in the order of the text.
+fn own_checks(alloc: Global, create: &CreateTable) -> Result<Sequence<CheckDef>, AllocError>
+    ensures { IfOk result (λ checks. checks ≡ (schema_of create.now []).checks) }
+{
+    let elements = create.elements.as_slice();
+    let made = made_names(alloc, &create.table, elements, Sort::Check)?;
+    checks_named(alloc, made.as_slice(), elements)
+}
+
+/// The foreign keys, in the order of the text.
+fn own_foreign_keys(
+    alloc: Global,
+    create: &CreateTable,
+    columns: &[Column],
+) -> Result<Sequence<ForeignKey>, AllocError>
+    requires { length columns.now ≤ 64 }
+    ensures { IfOk result (λ foreign. foreign ≡ (schema_of create.now columns.now).foreign) }
+{
+    let elements = create.elements.as_slice();
+    let made = made_names(alloc, &create.table, elements, Sort::ForeignKey)?;
+    foreign_named(alloc, columns, made.as_slice(), elements)
+}
+
 /// The schema, once its columns are made.
 pub fn schema_of(
     alloc: Global,
@@ -103,17 +141,11 @@ pub fn schema_of(
     requires { length columns ≤ 64 }
     ensures { IfOk result (λ schema. schema ≡ schema_of create.now columns) }
 {
-    let table = &create.table;
-    let elements = create.elements.as_slice();
-    let unique = made_names(alloc, table, elements, Sort::Unique)?;
-    let check = made_names(alloc, table, elements, Sort::Check)?;
-    let reference = made_names(alloc, table, elements, Sort::ForeignKey)?;
-    let parts = index_parts(alloc, elements)?;
     let own = columns.as_slice();
-    let key = byte_key(alloc, own, elements)?;
-    let indexes = indexes_named(alloc, own, unique.as_slice(), parts.as_slice())?;
-    let checks = checks_named(alloc, check.as_slice(), elements)?;
-    let foreign = foreign_named(alloc, own, reference.as_slice(), elements)?;
+    let key = byte_key(alloc, own, create.elements.as_slice())?;
+    let indexes = own_indexes(alloc, create, own)?;
+    let checks = own_checks(alloc, create)?;
+    let foreign = own_foreign_keys(alloc, create, own)?;
     Ok(Schema {
         columns,
         key,

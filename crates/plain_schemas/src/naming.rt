@@ -8,7 +8,7 @@ ghost use Rattle.plain_schemas.specs.Made.{checks_named, foreign_named, index_on
 use crate::columns::{in_bytes, places};
 use plain_sql::append;
 use schema_model::{CheckDef, Column, ForeignKey, IndexDef};
-use sql_ast::{Attribute, ColumnElement, Element};
+use sql_ast::{Attribute, ColumnElement, Element, ForeignKeyElement};
 use sql_text::canonical_text;
 use std::alloc::{AllocError, Global};
 use tuple_codec::{Sequence, Text};
@@ -189,6 +189,23 @@ pub fn checks_named(
     Ok(checks)
 }
 
+fn foreign_of(
+    alloc: Global,
+    columns: &[Column],
+    key: &ForeignKeyElement,
+    name: Text,
+) -> Result<ForeignKey, AllocError>
+    requires { length columns.now ≤ 64 }
+    ensures { IfOk result (λ foreign. foreign ≡ record { name = name; columns = places columns.now key.now.columns; parent = key.now.parent; parent_columns = key.now.parent_columns }) }
+{
+    Ok(ForeignKey {
+        name,
+        columns: byte_places(alloc, columns, key.columns.as_slice())?,
+        parent: Text::from_slice(alloc, key.parent.as_slice())?,
+        parent_columns: copied_names(alloc, key.parent_columns.as_slice())?,
+    })
+}
+
 /// The foreign keys with their names, given or made, and their columns' places; the parent's columns stay names.
 pub fn foreign_named(
     alloc: Global,
@@ -204,12 +221,7 @@ pub fn foreign_named(
     for element in elements {
         if let Element::ForeignKey(key) = element {
             let (name, more) = name_for(alloc, left, &key.name)?;
-            foreign.push(ForeignKey {
-                name,
-                columns: byte_places(alloc, columns, key.columns.as_slice())?,
-                parent: Text::from_slice(alloc, key.parent.as_slice())?,
-                parent_columns: copied_names(alloc, key.parent_columns.as_slice())?,
-            })?;
+            foreign.push(foreign_of(alloc, columns, key, name)?)?;
             left = more;
         }
     }

@@ -167,7 +167,7 @@ fn are_short_checks(checks: &[CheckDef]) -> bool
 fn are_short(names: &[Text]) -> bool
     ensures { result ≡ list_all is_short_name names.now }
 {
-    names.iter().all(|name| is_short(name))
+    names.iter().all(is_short)
 }
 
 fn has_short_names(foreign: &ForeignKey) -> bool
@@ -181,7 +181,7 @@ fn has_short_names(foreign: &ForeignKey) -> bool
 fn have_short_names(foreign: &[ForeignKey]) -> bool
     ensures { result ≡ list_all has_short_names foreign.now }
 {
-    foreign.iter().all(|key| has_short_names(key))
+    foreign.iter().all(has_short_names)
 }
 
 /// Whether the schema keeps the limits on data.

@@ -7,8 +7,8 @@ use Rattle.std.proofs.lemmas.Bool.Decides.{nat_tests}
 use Rattle.std.proofs.Math.Nat.{mul-le-mul_right}
 use Rattle.std.proofs.lemmas.List.{append-nil}
 use Rattle.std.proofs.lemmas.List.Elements.{All-nil, All-pop, All-push}
-use Rattle.basic_laws.proofs.Lists.{filter_few}
-use Rattle.basic_laws.proofs.Truths.{two}
+use Rattle.tuple_codec.proofs.Lists.{filter_few}
+use Rattle.tuple_codec.proofs.Truths.{two}
 use Rattle.tuple_codec.specs.Rows.{Cells, cell_at}
 use Rattle.expr_eval.specs.Binding.{Outcome}
 use Rattle.plain_sql.specs.Answers.{Meaning, kept_row}

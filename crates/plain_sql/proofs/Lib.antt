@@ -10,3 +10,4 @@ pub mod MissedLemmas
 pub mod LinkLemmas
 mod LookupLemmas
 mod LevelLemmas
+mod EachLemmas

@@ -6,7 +6,7 @@ use Rattle.std.proofs.lemmas.List.{drop_more, length-append}
 use Rattle.std.specs.Option.{IfSome, option_map}
 use native.Mathlib.Nat.{eq_of_mul-eq-mul_right, mul-pos, one-le-pow}
 use Rattle.std.specs.Ordering.{int_cmp, is_eq}
-use Rattle.basic_laws.proofs.Truths.{left_so, two as case_of}
+use Rattle.tuple_codec.proofs.Truths.{left_so, two as case_of}
 use Rattle.sql_ast.specs.declared.expressions.Comparison.{Comparison}
 use Rattle.sql_ast.specs.declared.expressions.Comparison.TheVariants as op
 use Rattle.tuple_codec.specs.Rows.{Cells, cell_at, same_value, value_cmp}

@@ -11,7 +11,7 @@ use Rattle.std.specs.declared.cmp.Ordering.TheVariants.{Less, Equal, Greater}
 use Rattle.std.proofs.lemmas.Cmp.{on_total}
 use Rattle.std.proofs.lemmas.List.{get_or-drop, length-drop, take_more}
 use Rattle.std.proofs.lemmas.List.Sorted.{ranks_by}
-use Rattle.basic_laws.proofs.Truths.{left_so, two, not_true as not_so}
+use Rattle.tuple_codec.proofs.Truths.{left_so, two, not_true as not_so}
 use Rattle.tuple_codec.specs.Rows.{Cells, cell_at, same_value, value_cmp}
 use Rattle.tuple_codec.specs.declared.values.Value.{Value}
 use Rattle.tuple_codec.specs.declared.values.Value.TheVariants as cell

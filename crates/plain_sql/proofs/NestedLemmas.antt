@@ -2,7 +2,7 @@
 use Rattle.std.proofs.Common.{◌≡◌, ◌<◌, ◌≤◌, ◌∙◌, sym, ap, refl, subst, ℕ, suc, ◌+◌, ◌-◌, List, [], ◌∷◌, ◌++◌, length, take, drop, get_or, map, Ok, Err, arith}
 use Rattle.std.proofs.lemmas.List.{append_assoc, append-nil, drop_more, length-append, length-drop}
 use Rattle.std.specs.List.{flat_map}
-use Rattle.basic_laws.proofs.Lists.{take_whole}
+use Rattle.tuple_codec.proofs.Lists.{take_whole}
 use Rattle.tuple_codec.specs.Rows.{Cells}
 use Rattle.expr_eval.specs.Binding.{Outcome, and_then}
 use Rattle.plain_sql.specs.Lists.{all_of, behind, each}

@@ -9,8 +9,8 @@ use Rattle.std.proofs.lemmas.Cmp.{on_total, tied_itself}
 use Rattle.std.proofs.lemmas.List.Elements.{filter-append}
 use Rattle.std.proofs.lemmas.List.Folds.{list_any-append}
 use Rattle.std.proofs.lemmas.List.Sorted.{ranks_by}
-use Rattle.basic_laws.proofs.Truths.{both_so, left_so, two, not_true as not_so, or_again, or_none}
-use Rattle.basic_laws.proofs.Lists.{all_append, any_map}
+use Rattle.tuple_codec.proofs.Truths.{both_so, left_so, two, not_true as not_so, or_again, or_none}
+use Rattle.tuple_codec.proofs.Lists.{all_append, any_map}
 use Rattle.tuple_codec.specs.Rows.{Cells, key_cmp, key_of}
 use Rattle.tuple_codec.proofs.Orders.{cells_told, key_cmp_total}
 use Rattle.plain_sql.specs.Answers.{has_key, keys_in}

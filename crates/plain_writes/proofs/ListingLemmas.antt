@@ -2,18 +2,28 @@
 use Rattle.std.proofs.Common.{◌≡◌, ◌∙◌, ◌++◌, ◌+◌, ◌<◌, ap, sym, refl, true, false, not, cond, ℕ, List, [], ◌∷◌, map, filter, length, drop, get_or, append_assoc}
 use Rattle.std.proofs.lemmas.List.{map-append}
 use Rattle.std.specs.List.{flat_map, list_any}
-use Rattle.basic_laws.proofs.Lists.{next_at}
-use Rattle.schema_model.specs.PlainTables.{PlainDatabase}
+use Rattle.tuple_codec.proofs.Lists.{next_at}
+use Rattle.schema_model.specs.PlainTables.{PlainDatabase, Violation}
 use Rattle.plain_writes.specs.declared.breaking.Broken.{Broken}
 use Rattle.plain_writes.specs.declared.listing.Found as listing
 use Rattle.plain_writes.specs.Seen.{broken_seen, found_seen}
 use Rattle.plain_writes.specs.Violations.{Found, number_of, numbers_of, same_violation}
 
-pub seen_joined : (a b c d : List Broken)
+seen_joined : (a b c d : List Broken)
     → map broken_seen (a ++ b ++ c ++ d) ≡ map broken_seen a ++ map broken_seen b ++ map broken_seen c ++ map broken_seen d
 seen_joined a b c d =
     map-append broken_seen (a ++ b ++ c) d
     ∙ ap (λ l. l ++ map broken_seen d) (map-append broken_seen (a ++ b) c ∙ ap (λ l. l ++ map broken_seen c) (map-append broken_seen a b))
+
+-- the violations of four kinds, each kind put behind those before
+pub all_seen : (a b c d one two all : List Broken) (p q r s : List Violation)
+    → one ≡ a ++ b → two ≡ one ++ c → all ≡ two ++ d
+    → map broken_seen a ≡ p → map broken_seen b ≡ q → map broken_seen c ≡ r → map broken_seen d ≡ s
+    → map broken_seen all ≡ p ++ q ++ r ++ s
+all_seen a b c d one two all p q r s first second third seen_a seen_b seen_c seen_d =
+    ap (map broken_seen) (third ∙ ap (λ (l : List Broken). l ++ d) (second ∙ ap (λ (l : List Broken). l ++ c) first))
+    ∙ seen_joined a b c d
+    ∙ (λ i. seen_a i ++ seen_b i ++ seen_c i ++ seen_d i)
 
 one_more : (old : PlainDatabase) (before : List Found) (x : Found) (xs : List Found)
     → numbers_of old before (x ∷ xs) ≡ numbers_of old before (x ∷ []) ++ numbers_of old before xs

@@ -8,8 +8,8 @@ use Rattle.std.specs.declared.cmp.Ordering.{Ordering}
 use Rattle.std.proofs.lemmas.Cmp.{on_total}
 use Rattle.std.proofs.lemmas.List.{drop_all}
 use Rattle.std.proofs.lemmas.List.Sorted.{ranks_by}
-use Rattle.basic_laws.proofs.Lists.{next_at}
-use Rattle.basic_laws.proofs.Truths.{and_none, left_so, not_false, not_true, or_none, two, or_turned}
+use Rattle.tuple_codec.proofs.Lists.{next_at}
+use Rattle.tuple_codec.proofs.Truths.{and_none, left_so, not_false, not_true, or_none, two, or_turned}
 use Rattle.tuple_codec.specs.Rows.{Cells, key_cmp, key_of, same_cells}
 use Rattle.tuple_codec.proofs.Orders.{key_cmp_total}
 use Rattle.schema_model.specs.declared.schemas.Schema.{Schema}

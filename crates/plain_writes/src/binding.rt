@@ -7,7 +7,7 @@ ghost use Rattle.plain_sql.specs.Gives.{GivesBy};
 ghost use Rattle.plain_sql.specs.Lists.{each};
 ghost use Rattle.plain_sql.specs.Plans.{meaning};
 ghost use Rattle.plain_writes.specs.Seen.{setting_seen};
-ghost use Rattle.plain_writes.specs.Writes.{assign_to, bound_assignment, tests_of};
+ghost use Rattle.plain_writes.specs.Writes.{assign_if, assign_to, bound_assignment, tests_of};
 
 use crate::columns::column_place;
 use crate::copies::copy_column;
@@ -20,6 +20,26 @@ use sql_values::may_assign;
 use std::alloc::Global;
 use tuple_codec::Sequence;
 
+/// The setting, if a value of this kind may be assigned to the column.
+fn assign_if(
+    alloc: Global,
+    place: usize,
+    column: &Column,
+    value: BoundExpr,
+) -> Result<BoundAssignment, Refused>
+    ensures typed { IfOk result (λ one. one.column ≡ column.now) }
+    ensures is { GivesBy setting_seen result (assign_if place column.now value) }
+{
+    if !may_assign(&value.kind, &column.kind) {
+        return Err(Refused::By(9001));
+    }
+    Ok(BoundAssignment {
+        place,
+        column: copy_column(alloc, column)?,
+        value,
+    })
+}
+
 fn assign_to(
     alloc: Global,
     scope: &[ScopeColumn],
@@ -31,14 +51,7 @@ fn assign_to(
     ensures is { GivesBy setting_seen result (assign_to scope.now expr.now place column.now) }
 {
     let value = bound(alloc, scope, expr)?;
-    if !may_assign(&value.kind, &column.kind) {
-        return Err(Refused::By(9001));
-    }
-    Ok(BoundAssignment {
-        place,
-        column: copy_column(alloc, column)?,
-        value,
-    })
+    assign_if(alloc, place, column, value)
 }
 
 #[tactic(auto, using(crate::proofs::PlaceLemmas::all_at))]

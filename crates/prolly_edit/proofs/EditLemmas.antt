@@ -9,7 +9,7 @@ use Rattle.std.specs.FinMap.{slice_cmp-IsAntisymmetric, nat_cmp-IsAntisymmetric}
 use Rattle.std.specs.Prelude.{not, bytes_eq}
 use Rattle.std.proofs.lemmas.Cmp.{tied_itself}
 use Rattle.std.proofs.lemmas.Map.Text.{is_eq-slice_cmp}
-use Rattle.basic_laws.proofs.Orderings.{less_is}
+use Rattle.tuple_codec.proofs.Orderings.{less_is}
 use Rattle.tuple_codec.specs.Nodes.{Item, RiseAfter}
 use Rattle.tuple_codec.specs.Trees.{AreRows, IsRow}
 use Rattle.tuple_codec.specs.Edits.{EditsRiseAfter, edited, edits_at, order, putting, puts}

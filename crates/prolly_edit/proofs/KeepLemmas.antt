@@ -12,8 +12,8 @@ use Rattle.tree_laws.proofs.StandingCuts.{cut_open as goes_on}
 use Rattle.std.specs.Prelude.{slice_get}
 use Rattle.std.proofs.lemmas.List.{length-append, length-take-le, take-append-drop}
 use Rattle.std.proofs.lemmas.Grind.{flat_map-append}
-use Rattle.basic_laws.proofs.Options.{some_is}
-use Rattle.basic_laws.proofs.Lists.{take_at_get as take_next}
+use Rattle.tuple_codec.proofs.Options.{some_is}
+use Rattle.tuple_codec.proofs.Lists.{take_at_get as take_next}
 use Rattle.chunk_store.specs.Chunks.{Chunks}
 use Rattle.node_format.proofs.BuildLemmas.{last_is}
 use Rattle.prolly_edit.specs.Keeping.{StaysOpen}

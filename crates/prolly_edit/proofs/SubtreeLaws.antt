@@ -14,7 +14,7 @@ use Rattle.tree_laws.specs.Standing.{IsNodeFound}
 use Rattle.tree_laws.proofs.Growing.{held_later}
 use Rattle.tree_laws.proofs.Lifts.{all_lift, ends, lifts}
 use Rattle.tree_laws.proofs.StandingReads.{items_there, rows_there}
-use Rattle.basic_laws.proofs.Options.{some_is}
+use Rattle.tuple_codec.proofs.Options.{some_is}
 
 abbrev joined : List (List Item) → List Item
 joined [] = []

@@ -7,7 +7,7 @@ use Rattle.std.specs.declared.cmp.Ordering.TheVariants.{Less, Equal, Greater}
 use Rattle.std.proofs.lemmas.Cmp.{nat_list_cmp_total}
 use Rattle.std.proofs.lemmas.List.{length-drop, take-append-drop}
 use Rattle.std.proofs.lemmas.List.Folds.{list_any-append}
-use Rattle.basic_laws.proofs.Lists.{have_at}
+use Rattle.tuple_codec.proofs.Lists.{have_at}
 use Rattle.tuple_codec.specs.Edits.{EditsRiseAfter, value_at}
 use Rattle.tuple_codec.specs.Nodes.{Item, Node}
 use Rattle.tuple_codec.specs.declared.edits.Edit.{Edit}

@@ -10,7 +10,7 @@ use std::marker::Model;
 use tuple_codec::Address;
 
 /// The first of what a walk has left.
-#[derive(Clone, Copy, Debug)]
+#[derive(Clone, Copy)]
 pub enum WalkHead<'a> {
     Row {
         key: &'a [u8],
@@ -26,7 +26,7 @@ pub enum WalkHead<'a> {
 }
 
 /// What a node has left. The default has nothing.
-#[derive(Debug, Drop)]
+#[derive(Drop)]
 pub(crate) struct Step<'a> {
     node: Option<NodeRef<'a>>,
     at: u16,

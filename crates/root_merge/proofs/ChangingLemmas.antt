@@ -6,8 +6,8 @@ use Rattle.std.specs.Ordering.{match_ordering}
 use Rattle.std.specs.declared.cmp.Ordering.TheVariants.{Less, Equal, Greater}
 use Rattle.std.proofs.lemmas.Bool.{and_parts}
 use Rattle.std.proofs.lemmas.List.{drop_more, drop_all}
-use Rattle.basic_laws.proofs.Bytes.{same_bytes as eq_key}
-use Rattle.basic_laws.proofs.Options.{some_is as some_same}
+use Rattle.tuple_codec.proofs.ByteLemmas.{same_bytes as eq_key}
+use Rattle.tuple_codec.proofs.Options.{some_is as some_same}
 use Rattle.tuple_codec.specs.Edits.{added, against, all_added, changed, order, removed, replaced}
 use Rattle.tuple_codec.specs.Nodes.{Item}
 use Rattle.tuple_codec.specs.Rows.{Cells}

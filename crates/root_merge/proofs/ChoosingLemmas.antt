@@ -2,7 +2,7 @@
 use Rattle.std.proofs.Common.{◌≡◌, refl, sym, ap, ◌∙◌, subst, ℕ, true, false, Bool, List, bytes_eq, Option, Some, None}
 use Rattle.std.specs.Prelude.{if◌then◌else◌}
 use Rattle.std.specs.Cmp.Lexicographic.{bytes_decides}
-use Rattle.basic_laws.proofs.Truths.{alike_truths as same_truth}
+use Rattle.tuple_codec.proofs.Truths.{alike_truths as same_truth}
 use Rattle.tuple_codec.specs.Rows.{AreTold}
 use Rattle.tuple_codec.specs.RowRule.{same_option}
 use Rattle.tuple_codec.specs.declared.addresses.Address.{Address}

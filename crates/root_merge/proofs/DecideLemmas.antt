@@ -15,8 +15,8 @@ use Rattle.table_merge.specs.declared.faults.MergeFault.TheVariants as fault
 use Rattle.std.specs.List.{flat_map, list_all}
 use Rattle.std.specs.Option.{option_map_or}
 use Rattle.std.proofs.lemmas.Bool.{and_parts, and_right as and_fails}
-use Rattle.basic_laws.proofs.Lists.{none_below}
-use Rattle.basic_laws.proofs.Truths.{not_true as bool_false, not_false as bool_true}
+use Rattle.tuple_codec.proofs.Lists.{none_below}
+use Rattle.tuple_codec.proofs.Truths.{not_true as bool_false, not_false as bool_true}
 use Rattle.plain_writes.specs.Violations.{Found, table_in, violations}
 use Rattle.plain_writes.specs.CheckTexts.{checks}
 use Rattle.constraint_scan.specs.Recorded.{AllAreRecorded}

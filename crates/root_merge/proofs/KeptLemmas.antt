@@ -2,8 +2,8 @@
 use Rattle.std.proofs.Common.{◌≡◌, refl, sym, ap, ◌∙◌, subst, ℕ, true, false, Bool, cond, ◌&&◌, nat_le, ◌≤◌, List, [], ◌∷◌, length, take, drop, slice_index_or, suc, ◌-◌, arith, bytes_eq, Option, Some, None}
 use Rattle.std.specs.List.{AllByRecursion, list_all}
 use Rattle.std.proofs.lemmas.Bool.{and_parts}
-use Rattle.basic_laws.proofs.Numbers.{one_less}
-use Rattle.basic_laws.proofs.Lists.{take_whole as take_all}
+use Rattle.tuple_codec.proofs.Arithmetic.{one_less}
+use Rattle.tuple_codec.proofs.Lists.{take_whole as take_all}
 use Rattle.tuple_codec.specs.declared.addresses.Address.{Address}
 use Rattle.schema_model.specs.Limits.{is_database_within_limits, is_conflict_within_limits, is_named_within_limits, is_row_within_limits, is_short_name, is_table_within_limits, is_violation_within_limits, is_within_limits, most_rows, most_tables}
 use Rattle.schema_model.specs.PlainTables.{PlainDatabase, PlainTable}

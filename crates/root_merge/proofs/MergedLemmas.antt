@@ -8,7 +8,7 @@ use Rattle.std.specs.declared.cmp.Ordering.TheVariants.{Less, Equal, Greater}
 use Rattle.std.specs.List.{list_all}
 use Rattle.std.proofs.lemmas.Bool.{and_parts, and_from, le-leb, leb-true}
 use Rattle.std.proofs.lemmas.List.{length-map}
-use Rattle.basic_laws.proofs.Orderings.{less_is}
+use Rattle.tuple_codec.proofs.Orderings.{less_is}
 use Rattle.tuple_codec.specs.Edits.{order}
 use Rattle.tuple_codec.specs.Nodes.{is_after}
 use Rattle.tuple_codec.specs.Rows.{key_cmp}

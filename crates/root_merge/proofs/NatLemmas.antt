@@ -1,7 +1,7 @@
 -- Numbers that are 0, or not.
 use Rattle.std.proofs.Common.{◌≡◌, ◌+◌, ap, ℕ, true, false, not, ◌==◌, arith}
 use Rattle.std.proofs.lemmas.Bool.Decides.{nat_tests}
-use Rattle.basic_laws.proofs.Truths.{not_true as bool_false, not_false as bool_true}
+use Rattle.tuple_codec.proofs.Truths.{not_true as bool_false, not_false as bool_true}
 
 pub nat_false : (n : ℕ) → (n ≡ 0 → ⊥) → (n == 0) ≡ false
 nat_false n apart = grind (arith, nat_tests)

@@ -1,6 +1,6 @@
 -- Addresses that were seen to have recorded nothing: what they stand for, later, and with one more; and what some tables have recorded.
 use Rattle.std.proofs.Common.{◌≡◌, refl, sym, ap, ◌∙◌, subst, ℕ, true, false, Bool, ◌||◌, List, [], ◌∷◌, ◌++◌, bytes_eq, drop, slice_index_or, Option, Some, None, is_some, true≢false}
-use Rattle.basic_laws.proofs.Bytes.{same_bytes}
+use Rattle.tuple_codec.proofs.ByteLemmas.{same_bytes}
 use Rattle.tuple_codec.specs.declared.addresses.Address.{Address}
 use Rattle.schema_model.specs.PlainTables as plain
 use Rattle.schema_model.specs.PlainTables.{PlainDatabase, PlainTable}

@@ -3,7 +3,7 @@
 use tuple_codec::BranchRecord;
 
 /// What becomes of a branch: a record, or the number of the first refusal.
-#[derive(Clone, Copy, Debug, PartialEq, Eq)]
+#[derive(Clone, Copy, PartialEq, Eq)]
 pub enum Candidate {
     Record(BranchRecord),
     Refused(u16),

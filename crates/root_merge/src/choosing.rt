@@ -8,7 +8,7 @@ use table_root::TableEntry;
 use tuple_codec::Address;
 
 /// What becomes of the tables of one name.
-#[derive(Debug, Drop)]
+#[derive(Drop)]
 pub(crate) enum Choice {
     /// One of them is taken as it stands, or its absence.
     Whole(Option<Address>),

@@ -26,7 +26,7 @@ use table_merge::MergeFault;
 use tuple_codec::{Address, BranchRecord, Digester};
 
 /// What databases come to where they are merged.
-#[derive(Clone, Copy, Debug, PartialEq, Eq)]
+#[derive(Clone, Copy, PartialEq, Eq)]
 enum Side {
     /// The database at an address, without conflicts.
     Clean(Address),

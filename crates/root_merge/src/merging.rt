@@ -27,7 +27,7 @@ use table_root::{TableEntry, law_of_tables, write_database};
 use tuple_codec::{Address, Digester, Text};
 
 /// A merged database: its address, and how many conflicts rows met in all its tables.
-#[derive(Clone, Copy, Debug, PartialEq, Eq)]
+#[derive(Clone, Copy, PartialEq, Eq)]
 pub struct Merged {
     pub root: Address,
     pub conflicts: u64,

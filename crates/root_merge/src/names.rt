@@ -12,7 +12,7 @@ use table_root::TableEntry;
 use tuple_codec::Text;
 
 /// A name, and what becomes of its tables.
-#[derive(Debug, Drop)]
+#[derive(Drop)]
 pub(crate) struct Named {
     pub name: Text,
     pub choice: Choice,

@@ -61,7 +61,7 @@ fn base_at<D: Digester>(
 }
 
 /// Tables of one name, whose rows are merged.
-#[derive(Debug, Drop)]
+#[derive(Drop)]
 pub(crate) struct Sides {
     pub base: Option<StoredTable>,
     pub ours: StoredTable,

@@ -22,7 +22,7 @@ use table_root::{first_listed, listed_tables, recorded_roots};
 use tuple_codec::{Address, BranchRecord, Digester};
 
 /// Whether tables have recorded conflicts, and whether violations.
-#[derive(Clone, Copy, Debug, PartialEq, Eq)]
+#[derive(Clone, Copy, PartialEq, Eq)]
 pub(crate) struct Left {
     pub conflicts: bool,
     pub violations: bool,

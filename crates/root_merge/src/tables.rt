@@ -30,7 +30,7 @@ use table_rows::read_rows;
 use tuple_codec::{Address, Digester, Row, Sequence};
 
 /// Where a table stands that others came to, if there is one, and how many conflicts its rows met.
-#[derive(Debug, Drop)]
+#[derive(Drop)]
 pub(crate) struct Became {
     pub table: Option<Address>,
     pub conflicts: u64,

@@ -4,8 +4,8 @@ use Rattle.std.specs.List.{AllByRecursion, list_all}
 use Rattle.std.specs.Option.{option_map, option_and_then}
 use Rattle.std.proofs.lemmas.List.{length-set}
 use Rattle.std.proofs.lemmas.Bool.Decides.{nat_tests}
-use Rattle.basic_laws.proofs.Truths.{if_true}
-use Rattle.basic_laws.proofs.Lists.{there_at as there}
+use Rattle.tuple_codec.proofs.Truths.{if_true}
+use Rattle.tuple_codec.proofs.Lists.{there_at as there}
 use Rattle.script_text.specs.Output.{Shortage, shortages_in}
 use Rattle.script_text.specs.declared.scripts.Script.{Script}
 use Rattle.plain_sessions.specs.Records.{Shared, opening}

@@ -6,7 +6,7 @@ use Rattle.std.specs.Prelude.{slice_index_or}
 use Rattle.std.proofs.lemmas.List.{append-nil, length_push}
 use Rattle.std.proofs.lemmas.Option.{get_or_from_slice_get}
 use Rattle.std.proofs.lemmas.Bool.Decides.{nat_tests}
-use Rattle.basic_laws.proofs.Truths.{if_true}
+use Rattle.tuple_codec.proofs.Truths.{if_true}
 use Rattle.script_text.specs.Output.{shortage, shortages_in}
 use Rattle.script_text.specs.declared.replies.Reply.{Reply}
 use Rattle.script_text.specs.declared.scripts.Line.{Line}

@@ -6,7 +6,7 @@ use Rattle.std.proofs.lemmas.List.{drop_all, length-map, length-set}
 use Rattle.std.proofs.lemmas.Option.{slice_get_within}
 use Rattle.std.proofs.lemmas.Bool.Decides.{nat_tests}
 use Rattle.std.proofs.lemmas.Bool.{and_from as join}
-use Rattle.basic_laws.proofs.Lists.{drop_at_get, take_at_get}
+use Rattle.tuple_codec.proofs.Lists.{drop_at_get, take_at_get}
 use Rattle.script_text.specs.Output.{Shortage, shortage, shortages_in}
 use Rattle.script_text.specs.declared.replies.Reply.{Reply}
 use Rattle.script_text.specs.declared.scripts.Line.{Line}

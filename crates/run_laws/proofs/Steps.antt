@@ -2,7 +2,7 @@
 use Rattle.std.proofs.Common.{◌≡◌, sym, ◌∙◌, ap, ℕ, ℤ, Bool, true, false, ◌==◌, List, [], ◌∷◌, Option, Some, None, slice_get, slice_set, arith, if◌then◌else◌}
 use Rattle.std.specs.Option.{option_map, option_and_then}
 use Rattle.std.proofs.lemmas.Bool.Decides.{nat_tests}
-use Rattle.basic_laws.proofs.Truths.{if_true}
+use Rattle.tuple_codec.proofs.Truths.{if_true}
 use Rattle.script_text.specs.Output.{Shortage}
 use Rattle.script_text.specs.declared.replies.Reply.{Reply}
 use Rattle.script_text.specs.declared.scripts.Moment.{Moment}

@@ -3,7 +3,7 @@ use Rattle.std.proofs.Common.{◌≡◌, ◌<◌, ◌≤◌, refl, sym, ap, ◌�
 use Rattle.std.specs.List.{list_all, list_any, remove, slice_get}
 use Rattle.std.proofs.lemmas.Bool.{and_parts, not-true, not_from_false, or_parts}
 use Rattle.std.proofs.lemmas.List.{length-append, length-map, length-set}
-use Rattle.basic_laws.proofs.Lists.{all_append}
+use Rattle.tuple_codec.proofs.Lists.{all_append}
 use Rattle.schema_model.specs.Limits.{is_within_limits}
 use Rattle.schema_model.specs.PlainTables.{is_keyed}
 use Rattle.schema_model.specs.Schemas.{are_distinct, are_few, are_foreign, are_indexes, are_positions, is_column, is_foreign, is_index, is_name, is_not_null, is_schema}

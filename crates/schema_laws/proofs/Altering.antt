@@ -4,7 +4,7 @@ use Rattle.std.specs.Cmp.Lexicographic.{bytes_decides}
 use Rattle.std.specs.List.{list_all, list_any, remove, slice_get}
 use Rattle.std.specs.Prelude.{is_some}
 use Rattle.std.proofs.lemmas.Bool.{and_parts, not-false, or_parts}
-use Rattle.basic_laws.proofs.Options.{none_so as none_there}
+use Rattle.tuple_codec.proofs.Options.{none_so as none_there}
 use Rattle.tuple_codec.specs.Rows.{Cells, cell_at, fits, fits_all, key_cmp}
 use Rattle.tuple_codec.specs.declared.values.SqlType.{SqlType}
 use Rattle.tuple_codec.specs.declared.values.Value.{Value}

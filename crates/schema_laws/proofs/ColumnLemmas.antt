@@ -2,7 +2,7 @@
 use Rattle.std.proofs.Common.{◌≡◌, refl, ap, subst, ℕ, Bool, true, not, ◌&&◌, ◌||◌, List, [], ◌∷◌, length, map, Option, Some, None, Result, Ok, Err, bytes_eq, arith}
 use Rattle.std.specs.List.{list_any}
 use Rattle.std.proofs.lemmas.Bool.{lt-ltb}
-use Rattle.basic_laws.proofs.Options.{chosen_so, mapped_so}
+use Rattle.tuple_codec.proofs.Options.{chosen_so, mapped_so}
 use Rattle.tuple_codec.specs.Limits.{is_type}
 use Rattle.tuple_codec.specs.Rows.{fits}
 use Rattle.tuple_codec.specs.declared.values.SqlType.{SqlType}

@@ -6,8 +6,8 @@ use Rattle.std.specs.Option.{option_to_list}
 use Rattle.std.proofs.lemmas.Bool.{and_parts, eqb-false, eqb-true, not-false, not_from_false, or_left, or_parts, or_right}
 use Rattle.std.proofs.lemmas.List.{append-nil}
 use Rattle.std.proofs.lemmas.List.Sums.{sum_by-cons}
-use Rattle.basic_laws.proofs.Lists.{have_at}
-use Rattle.basic_laws.proofs.Bytes.{bytes_turned as eq_turned}
+use Rattle.tuple_codec.proofs.Lists.{have_at}
+use Rattle.tuple_codec.proofs.ByteLemmas.{bytes_turned as eq_turned}
 use Rattle.schema_model.specs.Schemas as schemas
 use Rattle.schema_model.specs.Schemas.{are_distinct, are_positions, is_column, is_empty, is_name}
 use Rattle.schema_model.specs.declared.schemas.Column.{Column}

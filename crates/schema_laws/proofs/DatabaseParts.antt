@@ -9,7 +9,7 @@ use Rattle.std.specs.declared.cmp.Ordering.TheVariants.{Less, Equal, Greater}
 use Rattle.std.specs.Ordering.{ordering_reverse}
 use Rattle.std.proofs.lemmas.Bool.{and_parts, le-leb, leb-false, leb-true, or_parts}
 use Rattle.std.proofs.lemmas.Cmp.{nat_list_cmp_total, on_total}
-use Rattle.basic_laws.proofs.Orderings.{less_is as less_so}
+use Rattle.tuple_codec.proofs.Orderings.{less_is as less_so}
 use Rattle.schema_model.specs.Limits.{is_named_within_limits, most_tables}
 use Rattle.schema_model.specs.PlainTables.{IsTable, NamedTable, PlainDatabase, rises}
 use Rattle.schema_model.specs.Schemas.{is_name}

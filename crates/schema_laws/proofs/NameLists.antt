@@ -8,7 +8,7 @@ use Rattle.std.proofs.lemmas.Bool.{and_parts, leb-true, lt-ltb, ltb-true, not-tr
 use Rattle.std.proofs.lemmas.Fmt.{decimal_injective, IsAscii-decimal}
 use Rattle.std.proofs.lemmas.List.{append_cancel_left}
 use Rattle.std.proofs.lemmas.Str.{IsUtf8-append, IsUtf8-from_ascii, IsUtf8-nil}
-use Rattle.basic_laws.proofs.Bytes.{bytes_turned as eq_turned}
+use Rattle.tuple_codec.proofs.ByteLemmas.{bytes_turned as eq_turned}
 use Rattle.tuple_codec.specs.Texts.{is_utf8}
 use Rattle.tuple_codec.proofs.Utf8Lemmas.{from_test, to_test}
 use Rattle.schema_model.specs.Limits.{is_short_name}

@@ -3,7 +3,7 @@ use Rattle.std.proofs.Common.{◌≡◌, ◌≤◌, ◌+◌, ℕ, suc, true, Lis
 use Rattle.std.specs.Prelude.{Result, Ok, Err, map, is_some, not}
 use Rattle.std.proofs.lemmas.List.{length-map}
 use Rattle.std.proofs.lemmas.Bool.{and_parts, leb-true}
-use Rattle.basic_laws.proofs.Lists.{filter_few as fewer}
+use Rattle.tuple_codec.proofs.Lists.{filter_few as fewer}
 use Rattle.schema_model.specs.Limits.{is_within_limits}
 use Rattle.schema_model.specs.declared.schemas.Column.{Column}
 use Rattle.schema_model.specs.declared.schemas.Schema.{Schema}

@@ -4,7 +4,7 @@ use std::alloc::AllocError;
 use tuple_codec::Text;
 
 /// Why schemas didn't merge.
-#[derive(Debug, Drop, PartialEq, Eq)]
+#[derive(Drop, PartialEq, Eq)]
 pub enum SchemaFault {
     Memory,
     /// The first column, index, check or foreign key in conflict, or `primary key`.

@@ -10,10 +10,10 @@ use Rattle.std.specs.declared.cmp.Ordering.TheVariants.{Less, Equal, Greater}
 use Rattle.std.proofs.lemmas.Bool.{and_parts, and_from, or_cases as either, or_left, or_right}
 use Rattle.std.proofs.lemmas.Cmp.{back_total, nat_cmp_total, nat_list_cmp_total, on_total, then_total}
 use Rattle.std.proofs.lemmas.List.Folds.{list_any-append}
-use Rattle.basic_laws.proofs.Numbers.{at_least}
-use Rattle.basic_laws.proofs.Bytes.{bytes_itself as itself, same_bytes as same_address}
-use Rattle.basic_laws.proofs.Orderings.{less_is as less, own_reverse, then_is_eq}
-use Rattle.basic_laws.proofs.Truths.{or_swap as swap, or_again as twice}
+use Rattle.tuple_codec.proofs.Arithmetic.{at_least}
+use Rattle.tuple_codec.proofs.ByteLemmas.{bytes_itself as itself, same_bytes as same_address}
+use Rattle.tuple_codec.proofs.Orderings.{less_is as less, own_reverse, then_is_eq}
+use Rattle.tuple_codec.proofs.Truths.{or_swap as swap, or_again as twice}
 use Rattle.schema_model.specs.PlainTables.{rises}
 use Rattle.schema_model.specs.PlainCommits.{AncestorsFollow, AreGrown, Commits, IsAncestor, IsAncestorBy, IsBaseOrNone, PlainCommit, ancestors, ancestors_within, base, commit_cmp, first_in, greatest, has_address, height_in, height_of, in_commit_order, is_ancestor, is_known, parents_in, parents_of, put_commit}
 use Rattle.schema_model.proofs.SamenessLemmas.{text_decides}

@@ -5,7 +5,7 @@ use Rattle.std.specs.Option.{option_map}
 use Rattle.std.proofs.lemmas.Bool.{and_parts, eqb-true, ltb-false}
 use Rattle.std.proofs.lemmas.List.{take_at, take-append-drop, length-take}
 use Rattle.std.proofs.lemmas.List.Folds.{flat_map-map}
-use Rattle.basic_laws.proofs.Options.{guard_some as passed, mapped as map_some, some_is}
+use Rattle.tuple_codec.proofs.Options.{guard_some as passed, mapped as map_some, some_is}
 use Rattle.tuple_codec.specs.Fields.{short, bytes_at, short_at}
 use Rattle.tuple_codec.specs.KeyBytes.{bit}
 use Rattle.tuple_codec.specs.Limits.{is_type}

@@ -3,7 +3,7 @@ use Rattle.std.proofs.Common.{◌≡◌, ℕ, suc, ◌+◌, ◌*◌, ◌/◌, �
 use Rattle.std.specs.Prelude.{is_some}
 use Rattle.std.specs.Option.{option_map, option_and_then}
 use Rattle.std.proofs.lemmas.Bool.{and_from}
-use Rattle.basic_laws.proofs.Options.{mapped as map_some, some_is, bound}
+use Rattle.tuple_codec.proofs.Options.{mapped as map_some, some_is, bound}
 use Rattle.tuple_codec.specs.Fields.{bytes_at}
 use Rattle.tuple_codec.specs.Rows.{Cells, fits}
 use Rattle.tuple_codec.specs.Limits.{is_type}

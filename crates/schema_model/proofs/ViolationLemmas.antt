@@ -5,7 +5,7 @@ use Rattle.std.specs.Ordering.{is_eq, ordering_then}
 use Rattle.std.proofs.lemmas.Map.Text.{is_eq-slice_cmp}
 use Rattle.tuple_codec.specs.Rows.{key_cmp}
 use Rattle.schema_model.specs.PlainTables.{Violation, violation_cmp}
-use Rattle.basic_laws.proofs.Orderings.{then_right, then_left}
+use Rattle.tuple_codec.proofs.Orderings.{then_right, then_left}
 
 pub names_apart : (a b : Violation) → bytes_eq a.constraint b.constraint ≡ false → is_eq (violation_cmp a b) ≡ false
 names_apart a b apart =

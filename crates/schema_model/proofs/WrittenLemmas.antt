@@ -3,7 +3,7 @@ use Rattle.std.proofs.Common.{◌≡◌, ℕ, true, List, length, ltb}
 use Rattle.std.specs.Prelude.{◌&&◌}
 use Rattle.std.specs.List.{list_all}
 use Rattle.std.proofs.lemmas.Bool.{and_parts, and_from}
-use Rattle.basic_laws.proofs.Lists.{all_weaker as each_has}
+use Rattle.tuple_codec.proofs.Lists.{all_weaker as each_has}
 use Rattle.tuple_codec.specs.Texts.{is_utf8}
 use Rattle.tuple_codec.specs.Limits.{is_type}
 use Rattle.schema_model.specs.Schemas.{are_positions, default_fits, is_check, is_column, is_foreign, is_index, is_name}

@@ -3,7 +3,7 @@
 use tuple_codec::{Sequence, SqlType, Text, Value};
 
 /// A column of a table.
-#[derive(Clone, Debug, Drop, PartialEq, Eq)]
+#[derive(Clone, Drop, PartialEq, Eq)]
 pub struct Column {
     pub name: Text,
     pub kind: SqlType,
@@ -13,7 +13,7 @@ pub struct Column {
 }
 
 /// An index on columns, which are named by their positions.
-#[derive(Clone, Debug, Drop, PartialEq, Eq)]
+#[derive(Clone, Drop, PartialEq, Eq)]
 pub struct IndexDef {
     pub name: Text,
     pub unique: bool,
@@ -21,14 +21,14 @@ pub struct IndexDef {
 }
 
 /// A condition that rows keep, as its canonical text.
-#[derive(Clone, Debug, Drop, PartialEq, Eq)]
+#[derive(Clone, Drop, PartialEq, Eq)]
 pub struct CheckDef {
     pub name: Text,
     pub text: Text,
 }
 
 /// Columns whose values stand in columns of a parent table.
-#[derive(Clone, Debug, Drop, PartialEq, Eq)]
+#[derive(Clone, Drop, PartialEq, Eq)]
 pub struct ForeignKey {
     pub name: Text,
     pub columns: Sequence<u8>,
@@ -38,7 +38,7 @@ pub struct ForeignKey {
 }
 
 /// What a table's rows look like and what they keep.
-#[derive(Clone, Debug, Drop, PartialEq, Eq)]
+#[derive(Clone, Drop, PartialEq, Eq)]
 pub struct Schema {
     pub columns: Sequence<Column>,
     /// The positions of the primary key's columns.

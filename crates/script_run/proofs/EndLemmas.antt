@@ -5,7 +5,7 @@ use Rattle.std.proofs.lemmas.List.{length-map}
 use Rattle.std.proofs.lemmas.Option.{slice_get_within}
 use Rattle.std.proofs.lemmas.Bool.Decides.{nat_tests}
 use Rattle.std.proofs.lemmas.Bool.{and_parts as both, and_from as join}
-use Rattle.basic_laws.proofs.Lists.{all_weaker, there_at}
+use Rattle.tuple_codec.proofs.Lists.{all_weaker, there_at}
 use Rattle.tuple_codec.specs.declared.addresses.Address.{Address}
 use Rattle.chunk_store.specs.Chunks.{Chunk}
 use Rattle.schema_model.specs.PlainCommits.{Commits}

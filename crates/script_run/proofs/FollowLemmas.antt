@@ -7,7 +7,7 @@ use Rattle.std.proofs.lemmas.List.Quantifiers.{position-Some}
 use Rattle.std.proofs.lemmas.Bool.Decides.{nat_tests}
 use Rattle.std.proofs.lemmas.Option.{same_Some, slice_get-map, slice_get_within}
 use Rattle.std.proofs.lemmas.Bool.{and_from as join}
-use Rattle.basic_laws.proofs.Lists.{all_append, there_at}
+use Rattle.tuple_codec.proofs.Lists.{all_append, there_at}
 use Rattle.chunk_store.specs.Chunks.{Lists}
 use Rattle.script_text.specs.Input.{place_of}
 use Rattle.script_text.specs.Shown.{is_shown_moment}

@@ -4,7 +4,7 @@ use Rattle.std.specs.Prelude.{slice_index_or}
 use Rattle.std.proofs.lemmas.List.{length-append, length-drop, length-map}
 use Rattle.std.proofs.lemmas.Bool.Decides.{nat_tests}
 use Rattle.std.proofs.lemmas.Bool.{and_parts as both, and_from as join}
-use Rattle.basic_laws.proofs.Lists.{all_append, drop_at_get, there_at}
+use Rattle.tuple_codec.proofs.Lists.{all_append, drop_at_get, there_at}
 use Rattle.script_text.specs.Collisions.{TellsTruly}
 use Rattle.script_text.specs.Output.{shortage}
 use Rattle.script_text.specs.declared.replies.Reply.{Reply}

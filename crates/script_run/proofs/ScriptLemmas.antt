@@ -8,7 +8,7 @@ use Rattle.std.proofs.lemmas.List.{length_push}
 use Rattle.std.proofs.lemmas.List.Sums.{take_while-cons}
 use Rattle.std.proofs.lemmas.Bool.Decides.{nat_tests}
 use Rattle.std.proofs.lemmas.Bool.{and_parts as both, and_from as join}
-use Rattle.basic_laws.proofs.Lists.{all_weaker, all_append}
+use Rattle.tuple_codec.proofs.Lists.{all_weaker, all_append}
 use Rattle.tuple_codec.specs.Texts.{is_utf8}
 use Rattle.script_text.specs.Input.{SpokenLine, add_line, add_statement, and_then, bad, is_name, is_name_byte, is_one_too_many, is_skipped, items_of, lines_of, most_bytes, most_statement_bytes, most_statements, no_script, ordered_by, ordered_from, parts_after, parts_of, script, script_from, script_in, statement_in, with_statement}
 use Rattle.script_text.specs.Shown.{is_shown_name}

@@ -5,7 +5,7 @@ use Rattle.std.proofs.lemmas.List.{length-set}
 use Rattle.std.proofs.lemmas.Bool.Decides.{nat_tests}
 use Rattle.std.proofs.lemmas.Option.{same_Some}
 use Rattle.std.proofs.lemmas.Bool.{and_parts as both, and_from as join}
-use Rattle.basic_laws.proofs.Lists.{all_append}
+use Rattle.tuple_codec.proofs.Lists.{all_append}
 use Rattle.script_text.specs.Collisions.{TellsTruly}
 use Rattle.script_text.specs.declared.replies.Reply.{Reply}
 use Rattle.script_text.specs.declared.scripts.Line.{Line}

@@ -2,7 +2,7 @@
 use Rattle.std.proofs.Common.{◌≡◌, ℕ, ◌<◌, ◌+◌, List, [], ◌∷◌, ◌++◌, length, get_or, take, true, false, ap, ◌&&◌}
 use Rattle.std.specs.List.{list_all}
 use Rattle.std.proofs.lemmas.List.{take_more}
-use Rattle.basic_laws.proofs.Truths.{and_none as and_false}
+use Rattle.tuple_codec.proofs.Truths.{and_none as and_false}
 use Rattle.script_text.specs.Input.{is_blank, without_trailing}
 
 all_blank : (bytes : List ℕ) (byte : ℕ) → is_blank byte ≡ true → list_all is_blank (bytes ++ byte ∷ []) ≡ list_all is_blank bytes

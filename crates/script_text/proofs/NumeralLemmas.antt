@@ -8,7 +8,7 @@ use Rattle.std.specs.Str.{all_ascii_digits}
 use Rattle.std.specs.Str.Parse.{ParsesUnsigned, digits_value}
 use Rattle.std.proofs.lemmas.Bool.Decides.{nat_tests}
 use Rattle.std.proofs.lemmas.Str.Parse.{numerals_by_value, parse_digits, tells_all_ascii_digits}
-use Rattle.basic_laws.proofs.Truths.{left_so as first_holds}
+use Rattle.tuple_codec.proofs.Truths.{left_so as first_holds}
 use Rattle.script_text.specs.Numerals.{is_numeral, number}
 
 same_test : (text : List ℕ) → all_ascii_digits text ≡ list_all is_ascii_digit text

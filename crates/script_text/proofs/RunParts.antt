@@ -7,7 +7,7 @@ use Rattle.std.proofs.lemmas.Bool.{and_parts, cases_order, false≢true, ne_eqb}
 use Rattle.std.proofs.lemmas.List.{append_cancel_left}
 use Rattle.std.proofs.lemmas.Map.Keys.{apart_from_distinct}
 use Rattle.std.proofs.lemmas.Option.{slice_get-map}
-use Rattle.basic_laws.proofs.Bytes.{bytes_same as bytes_eq_same}
+use Rattle.tuple_codec.proofs.ByteLemmas.{bytes_same as bytes_eq_same}
 use Rattle.script_text.specs.declared.outputs.RunText.{RunText}
 use Rattle.script_text.specs.declared.replies.Reply.{Reply}
 use Rattle.script_text.specs.declared.scripts.Moment.{Moment}

@@ -5,7 +5,7 @@ use Rattle.std.specs.List.{AllByRecursion, list_all, IsDistinct}
 use Rattle.std.specs.Str.{bytes_eq}
 use Rattle.std.proofs.lemmas.Bool.{and_from, and_parts, cond_both, false≢true, ne_eqb}
 use Rattle.std.proofs.lemmas.List.{append_cancel_left, length-map}
-use Rattle.basic_laws.proofs.Bytes.{bytes_same as bytes_eq_same}
+use Rattle.tuple_codec.proofs.ByteLemmas.{bytes_same as bytes_eq_same}
 use Rattle.hex.specs.Hex.{encode_lower}
 use Rattle.chunk_store.specs.declared.faults.Clash.{Clash}
 use Rattle.tuple_codec.specs.AddressTexts.{address_text, letter}

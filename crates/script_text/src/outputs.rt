@@ -5,7 +5,7 @@ use crate::scripts::Moment;
 use tuple_codec::{BranchRecord, Sequence, Text};
 
 /// A branch at the end of a run: its name, and the addresses that its record has.
-#[derive(Debug, Drop)]
+#[derive(Drop)]
 pub struct BranchLine {
     pub name: Text,
     pub rec: BranchRecord,
@@ -13,7 +13,7 @@ pub struct BranchLine {
 
 /// What a run shows: the sessions' names, each session's replies, the moments in their order, and the branches at the
 /// end, by the bytes of their names.
-#[derive(Debug, Drop)]
+#[derive(Drop)]
 pub struct RunText {
     pub names: Sequence<Text>,
     pub replies: Sequence<Sequence<Reply>>,
@@ -23,7 +23,7 @@ pub struct RunText {
 
 /// Where a given order can't be followed: the item, counted from 1, or one past the last where a moment is left; and what each session answered
 /// before it.
-#[derive(Debug, Drop)]
+#[derive(Drop)]
 pub struct StopText {
     pub item: u64,
     pub names: Sequence<Text>,

@@ -7,7 +7,7 @@ use chunk_store::Clash;
 use tuple_codec::{Address, Answer};
 
 /// What a statement answers.
-#[derive(Debug, Drop)]
+#[derive(Drop)]
 pub enum Reply {
     Done,
     /// So many rows were added.

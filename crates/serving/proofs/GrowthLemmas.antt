@@ -4,8 +4,8 @@ use Rattle.std.specs.List.{list_all}
 use Rattle.std.specs.Option.{option_to_list}
 use Rattle.std.specs.Cmp.Lexicographic.{bytes_decides, pointwise, pointwise_decides}
 use Rattle.std.proofs.lemmas.Option.{cond_some, same_Some}
-use Rattle.basic_laws.proofs.Options.{some_there as what_is_known}
-use Rattle.basic_laws.proofs.Numbers.{at_least as no_less}
+use Rattle.tuple_codec.proofs.Options.{some_there as what_is_known}
+use Rattle.tuple_codec.proofs.Arithmetic.{at_least as no_less}
 use Rattle.schema_model.specs.PlainCommits.{AreGrown, Commits, IsGrown, PlainCommit, commit_address, greatest, height_in, height_of, is_known, with_commit}
 use Rattle.schema_model.specs.PlainTables.{PlainDatabase}
 use Rattle.tuple_codec.specs.declared.records.BranchRecord.{BranchRecord}

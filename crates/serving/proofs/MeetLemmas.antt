@@ -1,7 +1,7 @@
 -- A statement that needs a moment: what its waiting tells, what its first moment comes to, and where its session goes then.
 use Rattle.std.proofs.Common.{◌≡◌, refl, ◌∙◌, sym, ap, subst, ℕ, ◌+◌, ℤ, Bool, true, false, List, Option, Some, None, Ok, Err, IfOk, IfErr, option_map, slice_get, if◌then◌else◌}
 use Rattle.std.specs.Prelude.{Result}
-use Rattle.basic_laws.proofs.Options.{none_mapped}
+use Rattle.tuple_codec.proofs.Options.{none_mapped}
 use Rattle.chunk_store.specs.Chunks.{Lists}
 use Rattle.chunk_store.specs.declared.faults.PutFault.{PutFault}
 use Rattle.expr_eval.specs.Binding.{Outcome, and_then}

@@ -2,7 +2,7 @@
 use Rattle.std.proofs.Common.{◌≡◌, ◌≢◌, refl, ◌∙◌, sym, ap, ℕ, Bool, true, false, not, ◌&&◌, ◌||◌, ◌==◌, nat_le, List, [], ◌∷◌, length, Some, None, if◌then◌else◌}
 use Rattle.std.specs.List.{list_all}
 use Rattle.std.proofs.lemmas.Bool.{and_parts, and_from as both_true}
-use Rattle.basic_laws.proofs.Lists.{all_weaker}
+use Rattle.tuple_codec.proofs.Lists.{all_weaker}
 use Rattle.sql_procedures.specs.Arguments as call
 use Rattle.sql_procedures.specs.Arguments.{begins_with_minus, is_point}
 use Rattle.table_root.specs.Names.{begins_well, is_branch_name, is_name_byte, name_of}

@@ -3,7 +3,7 @@ use Rattle.std.proofs.Common.{◌≡◌, refl, ◌∙◌, sym, ap, subst, inl, i
 use Rattle.std.specs.Prelude.{Result}
 use Rattle.std.specs.Arc.{arc_value}
 use Rattle.std.specs.Option.{option_and_then}
-use Rattle.basic_laws.proofs.Options.{some_there}
+use Rattle.tuple_codec.proofs.Options.{some_there}
 use Rattle.chunk_store.specs.Chunks.{IsSingle, chunk_bytes}
 use Rattle.chunk_store.specs.Clashes.{IsCause}
 use Rattle.chunk_store.specs.Drafts.{DraftParts}

@@ -1,8 +1,8 @@
 -- The shared state before a statement, what is looked at, and what other chunks and moments leave of it.
 use Rattle.std.proofs.Common.{◌≡◌, ◌≢◌, refl, ◌∙◌, sym, ap, ℕ, suc, zero, Bool, true, false, List, [], ◌∷◌, map, Option, Some, None, option_map, is_some, if◌then◌else◌, bytes_eq, find}
 use Rattle.std.proofs.lemmas.Option.{same_Some}
-use Rattle.basic_laws.proofs.Lists.{all_at}
-use Rattle.basic_laws.proofs.Options.{some_there as is_there}
+use Rattle.tuple_codec.proofs.Lists.{all_at}
+use Rattle.tuple_codec.proofs.Options.{some_there as is_there}
 use Rattle.tuple_codec.specs.declared.records.BranchRecord.{BranchRecord}
 use Rattle.schema_model.specs.PlainCommits.{Commits}
 use Rattle.chunk_store.specs.Chunks.{Chunk}

@@ -5,7 +5,7 @@ use Rattle.std.specs.List.{list_all}
 use Rattle.std.specs.Cmp.Lexicographic.{bytes_decides, pointwise_decides}
 use Rattle.std.proofs.lemmas.Bool.Decides.{Decides-and, Decides-eqb, Decides-int_eq}
 use Rattle.std.proofs.lemmas.Option.{cond_some, same_Some}
-use Rattle.basic_laws.proofs.Options.{some_there as what_is_known}
+use Rattle.tuple_codec.proofs.Options.{some_there as what_is_known}
 use Rattle.schema_model.specs.Limits.{is_database_within_limits}
 use Rattle.schema_model.specs.PlainCommits.{AreGrown, Commits, IsAncestor, IsAncestorBy, IsGrown, PlainCommit, commit_address, has_address, is_known, parents_in, parents_of, plain_commit_bytes, with_commit}
 use Rattle.schema_model.specs.Sameness.{SamenessIsEquality}

@@ -3,8 +3,8 @@ use Rattle.std.proofs.Common.{◌≡◌, refl, subst, sym, ◌∙◌, ap, ℕ, B
 use Rattle.std.specs.Option.{option_eq, option_map_or}
 use Rattle.std.specs.Cmp.Lexicographic.{bytes_decides}
 use Rattle.std.proofs.lemmas.Bool.{and_parts as both, and_from as of_both}
-use Rattle.basic_laws.proofs.Bytes.{bytes_itself as itself}
-use Rattle.basic_laws.proofs.Truths.{alike_truths as one_test}
+use Rattle.tuple_codec.proofs.ByteLemmas.{bytes_itself as itself}
+use Rattle.tuple_codec.proofs.Truths.{alike_truths as one_test}
 use Rattle.tuple_codec.specs.declared.addresses.Address.{Address}
 use Rattle.tuple_codec.specs.declared.records.BranchRecord.{BranchRecord}
 use Rattle.table_root.specs.declared.heads.Look.{Look}

@@ -14,7 +14,7 @@ use table_root::{BranchName, Look};
 use tuple_codec::{Address, BranchRecord, Digester, Text};
 
 /// Where a session stands in its script, by its statement's number from 1.
-#[derive(Clone, Copy, Debug, PartialEq, Eq)]
+#[derive(Clone, Copy, PartialEq, Eq)]
 pub enum Position {
     Before(u32),
     /// Between the statement's start and its decision.
@@ -22,7 +22,7 @@ pub enum Position {
 }
 
 /// One session: its variables, and its transaction, if one is open, in a draft of its own.
-#[derive(Debug, Drop)]
+#[derive(Drop)]
 pub struct Session<D: Digester> {
     pub name: Text,
     /// By first appearance, from 0.

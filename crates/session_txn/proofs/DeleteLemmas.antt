@@ -3,9 +3,9 @@ use Rattle.std.proofs.Common.{◌≡◌, ◌+◌, ◌-◌, refl, sym, ap, ◌∙
 use Rattle.std.specs.Cmp.Lexicographic.{bytes_decides}
 use Rattle.std.specs.List.{list_all}
 use Rattle.std.proofs.lemmas.Bool.{and_from, and_parts}
-use Rattle.basic_laws.proofs.Bytes.{bytes_itself as itself}
-use Rattle.basic_laws.proofs.Orderings.{less_is}
-use Rattle.basic_laws.proofs.Truths.{not_true}
+use Rattle.tuple_codec.proofs.ByteLemmas.{bytes_itself as itself}
+use Rattle.tuple_codec.proofs.Orderings.{less_is}
+use Rattle.tuple_codec.proofs.Truths.{not_true}
 use Rattle.conflict_tables.specs.Conflicts.{is_among}
 use Rattle.edit_laws.proofs.Orders.{apart, less_trans}
 use Rattle.expr_eval.specs.Binding.{Outcome, and_then}

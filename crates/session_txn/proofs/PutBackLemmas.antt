@@ -5,7 +5,7 @@ use Rattle.std.specs.List.{AllByRecursion, find, list_all, list_any}
 use Rattle.std.specs.Option.{option_map}
 use Rattle.std.proofs.lemmas.Bool.{and_from, and_parts}
 use Rattle.std.proofs.lemmas.List.{length-drop, take_all}
-use Rattle.basic_laws.proofs.Orderings.{less_is}
+use Rattle.tuple_codec.proofs.Orderings.{less_is}
 use Rattle.chunk_store.specs.Chunks.{Chunks}
 use Rattle.conflict_tables.specs.Conflicts as conflicts
 use Rattle.table_root.specs.Kept.{IsKeptAt}

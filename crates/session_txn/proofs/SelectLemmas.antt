@@ -4,7 +4,7 @@ use Rattle.std.proofs.lemmas.Bool.Decides.{nat_tests}
 use Rattle.std.proofs.lemmas.List.{append_assoc}
 use Rattle.std.specs.List.{list_all}
 use Rattle.std.proofs.lemmas.Bool.{and_parts as both}
-use Rattle.basic_laws.proofs.Options.{some_there as has_one}
+use Rattle.tuple_codec.proofs.Options.{some_there as has_one}
 use Rattle.schema_model.specs.PlainTables.{PlainDatabase}
 use Rattle.sql_ast.specs.declared.selects.FromClause.{FromClause}
 use Rattle.sql_ast.specs.declared.selects.Query.{Query}

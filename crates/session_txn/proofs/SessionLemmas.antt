@@ -1,8 +1,8 @@
 -- What a session's steps leave of it.
 use Rattle.std.proofs.Common.{◌≡◌, ◌≤◌, ◌+◌, arith, refl, sym, ◌∙◌, ap, subst, inl, inr, ◌⊎◌, ℕ, Bool, true, false, ◌&&◌, not, List, [], ◌∷◌, ◌++◌, Option, None, Some, Ok, Err, cond, if◌then◌else◌}
 use Rattle.std.specs.Option.{option_map}
-use Rattle.basic_laws.proofs.Options.{some_there as has_one}
-use Rattle.basic_laws.proofs.Truths.{not_true as kept_so}
+use Rattle.tuple_codec.proofs.Options.{some_there as has_one}
+use Rattle.tuple_codec.proofs.Truths.{not_true as kept_so}
 use Rattle.tuple_codec.specs.declared.addresses.Address.{Address}
 use Rattle.tuple_codec.specs.declared.records.BranchRecord.{BranchRecord}
 use Rattle.chunk_store.specs.Chunks.{Chunk, chunk_bytes}

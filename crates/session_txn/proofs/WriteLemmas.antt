@@ -1,7 +1,7 @@
 -- Statements that write, in a transaction.
 use Rattle.std.proofs.Common.{◌≡◌, refl, sym, ◌∙◌, ap, subst, inl, inr, ◌⊎◌, ℕ, Bool, true, false, List, [], ◌∷◌, ◌++◌, length, Option, None, Some, Ok, Err, bytes_eq, if◌then◌else◌}
-use Rattle.basic_laws.proofs.Options.{some_there as has_one}
-use Rattle.basic_laws.proofs.Truths.{two}
+use Rattle.tuple_codec.proofs.Options.{some_there as has_one}
+use Rattle.tuple_codec.proofs.Truths.{two}
 use Rattle.tuple_codec.specs.declared.addresses.Address.{Address}
 use Rattle.tuple_codec.specs.declared.records.BranchRecord.{BranchRecord}
 use Rattle.chunk_store.specs.Chunks.{Chunk, Chunks, chunk_bytes}

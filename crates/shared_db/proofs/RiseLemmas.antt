@@ -4,7 +4,7 @@ use Rattle.std.specs.Cmp.{IsTotalOrder}
 use Rattle.std.specs.List.{AllByRecursion, list_any}
 use Rattle.std.specs.Ordering.{is_lt, is_eq}
 use Rattle.std.specs.declared.cmp.Ordering.{Ordering}
-use Rattle.basic_laws.proofs.Orderings.{less_is, own_reverse as not_less}
+use Rattle.tuple_codec.proofs.Orderings.{less_is, own_reverse as not_less}
 use Rattle.schema_model.specs.PlainTables.{rises}
 use Rattle.plain_sql.specs.Lists.{has, in_order, placed}
 use Rattle.plain_writes.proofs.InsertionLemmas.{both_so, clash, left_not, left_so, placed_past, placed_stop, right_not, right_so, turned, two}

@@ -8,8 +8,8 @@ use Rattle.std.specs.Cmp.Lexicographic.{bytes_decides, slice_cmp}
 use Rattle.std.proofs.lemmas.Bool.{leb-false, leb-true}
 use Rattle.std.proofs.lemmas.Cmp.{nat_list_cmp_total, on_total}
 use Rattle.std.proofs.lemmas.Map.Text.{is_eq-slice_cmp}
-use Rattle.basic_laws.proofs.Lists.{filter_few as fewer_few}
-use Rattle.basic_laws.proofs.Bytes.{bytes_turned as same_test}
+use Rattle.tuple_codec.proofs.Lists.{filter_few as fewer_few}
+use Rattle.tuple_codec.proofs.ByteLemmas.{bytes_turned as same_test}
 use Rattle.tuple_codec.specs.declared.records.BranchRecord.{BranchRecord}
 use Rattle.schema_model.specs.Limits.{most_branches}
 use Rattle.schema_model.specs.PlainCommits.{Commits, is_known}

@@ -15,14 +15,14 @@ use table_root::{BranchHead, BranchName, HeadList, Heads};
 use tuple_codec::{BranchRecord, Sequence, Text};
 
 /// A branch and its record.
-#[derive(Clone, Copy, Debug)]
+#[derive(Clone, Copy)]
 pub struct NamedBranch {
     pub name: BranchName,
     pub rec: BranchRecord,
 }
 
 /// The branch on which a session is, and how many statements it has.
-#[derive(Clone, Copy, Debug)]
+#[derive(Clone, Copy)]
 pub struct Member {
     pub branch: BranchName,
     pub statements: u32,

@@ -7,14 +7,14 @@ use table_root::BranchName;
 use tuple_codec::BranchRecord;
 
 /// What a decision makes of a branch's record.
-#[derive(Clone, Copy, Debug, PartialEq, Eq)]
+#[derive(Clone, Copy, PartialEq, Eq)]
 pub enum RecordChange {
     Nothing,
     Record(BranchRecord),
 }
 
 /// How a decision was settled.
-#[derive(Debug, Drop)]
+#[derive(Drop)]
 pub enum Settled {
     Done,
     /// The branch's record isn't the one looked at: this one is newer. Nothing has changed.
@@ -26,7 +26,7 @@ pub enum Settled {
 }
 
 /// A decision as planned: what becomes of the branch's record, what the statement then answers, and the chunks that the record needs.
-#[derive(Debug, Drop)]
+#[derive(Drop)]
 pub struct DecisionPlan {
     pub change: RecordChange,
     pub reply: Reply,
@@ -34,7 +34,7 @@ pub struct DecisionPlan {
 }
 
 /// A step on the list of branches.
-#[derive(Clone, Copy, Debug)]
+#[derive(Clone, Copy)]
 pub enum BranchStep {
     Create(BranchName, Point),
     Delete(BranchName),
@@ -43,14 +43,14 @@ pub enum BranchStep {
 }
 
 /// The commit at which a branch is made: the head of the session's own branch, or the one named, a branch first and then an address.
-#[derive(Clone, Copy, Debug)]
+#[derive(Clone, Copy)]
 pub enum Point {
     Own,
     Named(BranchName),
 }
 
 /// How a step on the list of branches ended. All but `Done` leave the branches as they were.
-#[derive(Clone, Copy, Debug, PartialEq, Eq)]
+#[derive(Clone, Copy, PartialEq, Eq)]
 pub enum BranchReply {
     Done,
     /// 9004.

@@ -37,7 +37,7 @@ use tuple_codec::{Address, BranchRecord, Digester, Sequence};
 
 /// The shared state as values; the chunks in which it stands are the store's. A contract sees its parts, and for how many
 /// moments, branches and segments more it has room.
-#[derive(Debug, Drop)]
+#[derive(Drop)]
 pub struct SharedDb {
     /// By the bytes of their names.
     branches: Vec<NamedBranch>,

@@ -3,7 +3,7 @@
 use tuple_codec::{Blob, Boxed, Sequence, Text};
 
 /// A literal.
-#[derive(Debug, Drop)]
+#[derive(Drop)]
 pub enum Literal {
     /// A whole number, at most 2^63 - 1, or 2^63 where it stands directly after a unary minus.
     Whole(u64),
@@ -18,7 +18,7 @@ pub enum Literal {
 }
 
 /// The operators of comparison.
-#[derive(Clone, Copy, Debug, PartialEq, Eq)]
+#[derive(Clone, Copy, PartialEq, Eq)]
 pub enum Comparison {
     Equal,
     NotEqual,
@@ -29,14 +29,14 @@ pub enum Comparison {
 }
 
 /// What happens to an operand of a sum.
-#[derive(Clone, Copy, Debug, PartialEq, Eq)]
+#[derive(Clone, Copy, PartialEq, Eq)]
 pub enum Term {
     Plus,
     Minus,
 }
 
 /// An expression.
-#[derive(Debug, Drop)]
+#[derive(Drop)]
 pub enum Expr {
     /// The first operand and the others from the left, of which there is at least one. So a chain is one node, however long it is.
     Or(Boxed<Expr>, Sequence<Expr>),

@@ -7,7 +7,7 @@ use std::alloc::{AllocError, Global};
 use std::marker::Model;
 
 /// The bytes of a word that is being read. Those of a reserved word take no memory: none has more than 16.
-#[derive(Debug, Drop)]
+#[derive(Drop)]
 pub struct Held {
     bytes: SmallVec<u8, 16>,
 }

@@ -23,7 +23,7 @@ const TOO_LARGE: u64 = (1 << 63) + 1;
 const MOST_DECIMAL_DIGITS: u8 = 18;
 
 /// What was read of a text: the open token, and the closed ones.
-#[derive(Debug, Drop)]
+#[derive(Drop)]
 pub struct Reading {
     pub place: LexerState,
     /// Where the open token begins.

@@ -3,7 +3,7 @@
 use crate::signs::Sign;
 
 /// Where the reader of tokens stands: in or behind which part of the token that it reads.
-#[derive(Clone, Copy, Debug, PartialEq, Eq)]
+#[derive(Clone, Copy, PartialEq, Eq)]
 pub enum LexerState {
     /// No token is open.
     Between,
@@ -33,7 +33,7 @@ pub enum LexerState {
 }
 
 /// What the last token was, as far as the bound of a whole literal asks.
-#[derive(Clone, Copy, Debug, PartialEq, Eq)]
+#[derive(Clone, Copy, PartialEq, Eq)]
 pub enum Last {
     /// An operand may end with it, so that a minus behind it has two.
     Operand,

@@ -4,7 +4,7 @@ use crate::expressions::Expr;
 use tuple_codec::{Sequence, Text};
 
 /// A SELECT, with sources or without.
-#[derive(Debug, Drop)]
+#[derive(Drop)]
 pub enum Select {
     From(Query),
     /// Without FROM: expressions, at least one, each perhaps with AS and a name.
@@ -12,14 +12,14 @@ pub enum Select {
 }
 
 /// An expression, and the name that AS gives it.
-#[derive(Debug, Drop)]
+#[derive(Drop)]
 pub struct NamedExpr {
     pub expr: Expr,
     pub name: Option<Text>,
 }
 
 /// A SELECT with sources.
-#[derive(Debug, Drop)]
+#[derive(Drop)]
 pub struct Query {
     pub distinct: bool,
     pub items: Items,
@@ -28,7 +28,7 @@ pub struct Query {
 }
 
 /// What a SELECT shows.
-#[derive(Debug, Drop)]
+#[derive(Drop)]
 pub enum Items {
     /// `*`.
     All,
@@ -37,7 +37,7 @@ pub enum Items {
 }
 
 /// An item of a SELECT.
-#[derive(Debug, Drop)]
+#[derive(Drop)]
 pub enum SelectItem {
     /// All columns of the source of this name.
     AllOf(Text),
@@ -46,28 +46,28 @@ pub enum SelectItem {
 }
 
 /// The sources: a first one, and those that are joined to it.
-#[derive(Debug, Drop)]
+#[derive(Drop)]
 pub struct FromClause {
     pub first: TableSource,
     pub joins: Sequence<Join>,
 }
 
 /// A table, and the name that the statement gives it.
-#[derive(Debug, Drop)]
+#[derive(Drop)]
 pub struct TableSource {
     pub table: Text,
     pub alias: Option<Text>,
 }
 
 /// A source that is joined, with its condition.
-#[derive(Debug, Drop)]
+#[derive(Drop)]
 pub struct Join {
     pub source: TableSource,
     pub on: Expr,
 }
 
 /// What follows the sources.
-#[derive(Debug, Drop)]
+#[derive(Drop)]
 pub struct Clauses {
     /// WHERE.
     pub filter: Option<Expr>,
@@ -77,7 +77,7 @@ pub struct Clauses {
 }
 
 /// ORDER BY and LIMIT.
-#[derive(Debug, Drop)]
+#[derive(Drop)]
 pub struct Sorting {
     /// Without ORDER BY none.
     pub keys: Sequence<OrderKey>,
@@ -85,28 +85,28 @@ pub struct Sorting {
 }
 
 /// A column's name, perhaps with its source.
-#[derive(Debug, Drop)]
+#[derive(Drop)]
 pub enum ColumnName {
     Name(Text),
     Qualified(Text, Text),
 }
 
 /// A key of ORDER BY.
-#[derive(Debug, Drop)]
+#[derive(Drop)]
 pub struct OrderKey {
     pub expr: Expr,
     pub direction: Direction,
 }
 
 /// Which way a key orders; ascending where none is given.
-#[derive(Clone, Copy, Debug, PartialEq, Eq)]
+#[derive(Clone, Copy, PartialEq, Eq)]
 pub enum Direction {
     Ascending,
     Descending,
 }
 
 /// How many rows are shown at most, and how many before them are passed over.
-#[derive(Clone, Copy, Debug, PartialEq, Eq)]
+#[derive(Clone, Copy, PartialEq, Eq)]
 pub struct Limit {
     pub count: u64,
     pub offset: Option<u64>,

@@ -1,7 +1,7 @@
 //! The signs of the language, of one or two bytes.
 
 /// The signs.
-#[derive(Clone, Copy, Debug, PartialEq, Eq)]
+#[derive(Clone, Copy, PartialEq, Eq)]
 pub enum Sign {
     /// `(`.
     OpenParenthesis,

@@ -6,7 +6,7 @@ use crate::tables::{ColumnElement, CreateTable, DropTable};
 use tuple_codec::{Sequence, Text};
 
 /// A statement.
-#[derive(Debug, Drop)]
+#[derive(Drop)]
 pub enum Statement {
     Write(Write),
     Select(Select),
@@ -21,7 +21,7 @@ pub enum Statement {
 }
 
 /// A statement that changes a database.
-#[derive(Debug, Drop)]
+#[derive(Drop)]
 pub enum Write {
     Create(CreateTable),
     Drop(DropTable),
@@ -32,7 +32,7 @@ pub enum Write {
 }
 
 /// `INSERT`.
-#[derive(Debug, Drop)]
+#[derive(Drop)]
 pub struct Insert {
     pub table: Text,
     /// The columns that are named, where any are.
@@ -45,14 +45,14 @@ pub struct Insert {
 pub type Tuple = Sequence<InsertCell>;
 
 /// A cell of an `INSERT`.
-#[derive(Debug, Drop)]
+#[derive(Drop)]
 pub enum InsertCell {
     Value(Expr),
     Default,
 }
 
 /// `UPDATE`.
-#[derive(Debug, Drop)]
+#[derive(Drop)]
 pub struct Update {
     pub table: Text,
     /// At least one.
@@ -61,28 +61,28 @@ pub struct Update {
 }
 
 /// A column of an `UPDATE`, and what it is set to.
-#[derive(Debug, Drop)]
+#[derive(Drop)]
 pub struct Assignment {
     pub column: Text,
     pub value: Expr,
 }
 
 /// `DELETE`.
-#[derive(Debug, Drop)]
+#[derive(Drop)]
 pub struct Delete {
     pub table: Text,
     pub filter: Option<Expr>,
 }
 
 /// `ALTER TABLE`.
-#[derive(Debug, Drop)]
+#[derive(Drop)]
 pub struct Alter {
     pub table: Text,
     pub action: AlterAction,
 }
 
 /// What `ALTER TABLE` does to a column. Its columns are neither PRIMARY KEY nor UNIQUE.
-#[derive(Debug, Drop)]
+#[derive(Drop)]
 pub enum AlterAction {
     /// A new last column.
     Add(ColumnElement),
@@ -93,14 +93,14 @@ pub enum AlterAction {
 }
 
 /// `SET`: a variable, and whether it is switched on.
-#[derive(Debug, Drop)]
+#[derive(Drop)]
 pub struct Setting {
     pub variable: Text,
     pub on: bool,
 }
 
 /// `CALL`: a procedure and its arguments, strings without quotes and escapes.
-#[derive(Debug, Drop)]
+#[derive(Drop)]
 pub struct Call {
     pub name: Text,
     pub arguments: Sequence<Text>,

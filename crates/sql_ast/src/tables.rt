@@ -4,7 +4,7 @@ use crate::expressions::{Expr, Literal};
 use tuple_codec::{Sequence, Text};
 
 /// `CREATE TABLE`.
-#[derive(Debug, Drop)]
+#[derive(Drop)]
 pub struct CreateTable {
     pub if_not_exists: bool,
     pub table: Text,
@@ -13,14 +13,14 @@ pub struct CreateTable {
 }
 
 /// `DROP TABLE`.
-#[derive(Debug, Drop)]
+#[derive(Drop)]
 pub struct DropTable {
     pub if_exists: bool,
     pub table: Text,
 }
 
 /// An element of a table.
-#[derive(Debug, Drop)]
+#[derive(Drop)]
 pub enum Element {
     Column(ColumnElement),
     PrimaryKey(Sequence<Text>),
@@ -33,7 +33,7 @@ pub enum Element {
 }
 
 /// A column.
-#[derive(Debug, Drop)]
+#[derive(Drop)]
 pub struct ColumnElement {
     pub name: Text,
     pub kind: TypeName,
@@ -41,7 +41,7 @@ pub struct ColumnElement {
 }
 
 /// A type as it is written, its numbers not yet judged.
-#[derive(Clone, Copy, Debug, PartialEq, Eq)]
+#[derive(Clone, Copy, PartialEq, Eq)]
 pub enum TypeName {
     BigInt,
     /// `INT` or `INTEGER`.
@@ -55,7 +55,7 @@ pub enum TypeName {
 }
 
 /// What may stand behind a column's type.
-#[derive(Debug, Drop)]
+#[derive(Drop)]
 pub enum Attribute {
     NotNull,
     Null,
@@ -66,7 +66,7 @@ pub enum Attribute {
 }
 
 /// A foreign key; both of its actions are RESTRICT.
-#[derive(Debug, Drop)]
+#[derive(Drop)]
 pub struct ForeignKeyElement {
     pub name: Option<Text>,
     pub columns: Sequence<Text>,

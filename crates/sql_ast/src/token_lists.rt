@@ -9,7 +9,7 @@ use std::default::MadeWith;
 use std::marker::Model;
 
 /// The tokens of a text. The first sixteen take no memory: most statements that write a row have no more.
-#[derive(Debug, Drop)]
+#[derive(Drop)]
 pub struct TokenList {
     tokens: SmallVec<Token, 16>,
 }

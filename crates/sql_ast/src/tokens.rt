@@ -1,7 +1,7 @@
 //! Tokens: their kinds, and where they stand in the text.
 
 /// The kinds of token.
-#[derive(Clone, Copy, Debug, PartialEq, Eq)]
+#[derive(Clone, Copy, PartialEq, Eq)]
 pub enum TokenKind {
     /// Letters, digits and `_`, not beginning with a digit.
     Word,
@@ -19,7 +19,7 @@ pub enum TokenKind {
 }
 
 /// A token and where it stands in its text, in bytes from 0: from `start` up to and without `end`.
-#[derive(Clone, Copy, Debug, PartialEq, Eq)]
+#[derive(Clone, Copy, PartialEq, Eq)]
 pub struct Token {
     pub kind: TokenKind,
     pub start: u32,

@@ -1,7 +1,7 @@
 //! The reserved words of the language.
 
 /// The reserved words: a name can be none of them, except in backquotes.
-#[derive(Clone, Copy, Debug, PartialEq, Eq)]
+#[derive(Clone, Copy, PartialEq, Eq)]
 pub enum Keyword {
     Create,
     Table,

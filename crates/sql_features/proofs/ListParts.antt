@@ -1,7 +1,7 @@
 -- What the folds over an expression give at a node that holds a list, whichever node it is.
 use Rattle.std.proofs.Common.{◌≡◌, ◌∙◌, sym, ap, refl, Bool, false, ◌||◌, ◌<◌, ◌⊎◌, inl, inr, List, [], ◌∷◌, map, max, arith}
 use Rattle.std.specs.List.{list_any}
-use Rattle.basic_laws.proofs.Lists.{any_map as list_any-map}
+use Rattle.tuple_codec.proofs.Lists.{any_map as list_any-map}
 use Rattle.sql_ast.specs.declared.expressions.Expr.{Expr}
 use Rattle.sql_ast.specs.declared.expressions.Expr.TheOpen.{Expr-F}
 use Rattle.sql_ast.specs.declared.expressions.Expr.TheVariants as e

@@ -9,7 +9,7 @@ use sql_ast::{Expr, MOST_NAME_BYTES, Term};
 use tuple_codec::Text;
 
 /// What a part of an expression can be.
-#[derive(Clone, Copy, Debug, PartialEq, Eq)]
+#[derive(Clone, Copy, PartialEq, Eq)]
 pub enum Feature {
     /// A call of COUNT, SUM, MIN or MAX.
     Aggregate,

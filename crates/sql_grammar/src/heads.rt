@@ -10,7 +10,7 @@ use std::mem::replace;
 use tuple_codec::{Sequence, Text};
 
 /// How a comparison goes on behind its first sum.
-#[derive(Clone, Copy, Debug)]
+#[derive(Clone, Copy)]
 pub enum Test {
     Compare(Comparison),
     Is,
@@ -21,7 +21,7 @@ pub enum Test {
 }
 
 /// The functions, whose names aren't reserved.
-#[derive(Clone, Copy, Debug)]
+#[derive(Clone, Copy)]
 pub enum Function {
     Count,
     Sum,

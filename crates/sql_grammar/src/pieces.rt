@@ -6,7 +6,7 @@ use std::default::MadeWith;
 use tuple_codec::{Blob, Text};
 
 /// A token with its value.
-#[derive(Debug, Drop)]
+#[derive(Drop)]
 pub enum Piece {
     /// A reserved word.
     Keyword(Keyword),

@@ -6,7 +6,7 @@ ghost use Rattle.sql_grammar.specs.declared.stops.Stop.TheVariants.{Memory};
 use std::alloc::{AllocError, AllocFailed};
 
 /// Why a reader stopped.
-#[derive(Clone, Copy, Debug, PartialEq, Eq)]
+#[derive(Clone, Copy, PartialEq, Eq)]
 pub enum Stop {
     Memory,
     /// No rule goes on where so many pieces are left.

@@ -9,7 +9,7 @@ use std::alloc::{AllocError, Global};
 use tuple_codec::Text;
 
 /// What the arguments of DOLT_MERGE have said so far.
-#[derive(Debug, Drop)]
+#[derive(Drop)]
 pub struct Merge {
     /// The next argument is the message.
     pub awaits_message: bool,

@@ -13,7 +13,7 @@ use std::alloc::{AllocError, Global};
 use tuple_codec::Text;
 
 /// The procedures of the language.
-#[derive(Clone, Copy, Debug, PartialEq, Eq)]
+#[derive(Clone, Copy, PartialEq, Eq)]
 pub enum Procedure {
     Add,
     Reset,

@@ -3,7 +3,7 @@
 use tuple_codec::{Sequence, Text};
 
 /// What a call of a procedure asks for.
-#[derive(Debug, Drop)]
+#[derive(Drop)]
 pub enum Request {
     Add(Tables),
     Reset(Reset),
@@ -16,7 +16,7 @@ pub enum Request {
 }
 
 /// The tables that are meant.
-#[derive(Debug, Drop)]
+#[derive(Drop)]
 pub enum Tables {
     All,
     /// At least one, in lower case, none twice.
@@ -24,7 +24,7 @@ pub enum Tables {
 }
 
 /// What is set back to the head.
-#[derive(Debug, Drop)]
+#[derive(Drop)]
 pub enum Reset {
     /// Both roots.
     Hard,
@@ -33,7 +33,7 @@ pub enum Reset {
 }
 
 /// What a commit stages first.
-#[derive(Clone, Copy, Debug, PartialEq, Eq)]
+#[derive(Clone, Copy, PartialEq, Eq)]
 pub enum Staging {
     AsIs,
     /// The tables that the staged root or the head's root has.
@@ -42,7 +42,7 @@ pub enum Staging {
 }
 
 /// `DOLT_COMMIT`.
-#[derive(Debug, Drop)]
+#[derive(Drop)]
 pub struct CommitRequest {
     pub message: Text,
     pub staging: Staging,
@@ -50,35 +50,35 @@ pub struct CommitRequest {
 }
 
 /// A branch that is to be made, at a point or where the session is.
-#[derive(Debug, Drop)]
+#[derive(Drop)]
 pub struct NewBranch {
     pub name: Text,
     pub point: Option<Text>,
 }
 
 /// `DOLT_BRANCH`.
-#[derive(Debug, Drop)]
+#[derive(Drop)]
 pub enum BranchRequest {
     Create(NewBranch),
     Delete(Text),
 }
 
 /// `DOLT_CHECKOUT`.
-#[derive(Debug, Drop)]
+#[derive(Drop)]
 pub enum CheckoutRequest {
     Existing(Text),
     New(NewBranch),
 }
 
 /// `DOLT_MERGE`.
-#[derive(Debug, Drop)]
+#[derive(Drop)]
 pub enum MergeRequest {
     Abort,
     Merge(MergeOf),
 }
 
 /// What is merged, and how.
-#[derive(Debug, Drop)]
+#[derive(Drop)]
 pub struct MergeOf {
     /// A branch or a commit.
     pub name: Text,
@@ -87,21 +87,21 @@ pub struct MergeOf {
 }
 
 /// A side of a merge.
-#[derive(Clone, Copy, Debug, PartialEq, Eq)]
+#[derive(Clone, Copy, PartialEq, Eq)]
 pub enum Side {
     Ours,
     Theirs,
 }
 
 /// `DOLT_CONFLICTS_RESOLVE`.
-#[derive(Debug, Drop)]
+#[derive(Drop)]
 pub struct Resolution {
     pub side: Side,
     pub tables: Tables,
 }
 
 /// `DOLT_VERIFY_CONSTRAINTS`; in either form all rows are looked at.
-#[derive(Clone, Copy, Debug, PartialEq, Eq)]
+#[derive(Clone, Copy, PartialEq, Eq)]
 pub enum Verification {
     /// What is found is recorded.
     Recorded,

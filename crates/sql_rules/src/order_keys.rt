@@ -12,7 +12,7 @@ use sql_ast::{Expr, Items, Literal, OrderKey, SelectItem};
 use tuple_codec::Text;
 
 /// What a key of ORDER BY orders by.
-#[derive(Clone, Copy, Debug, PartialEq, Eq)]
+#[derive(Clone, Copy, PartialEq, Eq)]
 pub enum Key {
     /// The item at this place, counted from 0.
     AtItem(usize),

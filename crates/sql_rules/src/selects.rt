@@ -22,7 +22,7 @@ use sql_features::{Feature, has_feature, is_aggregate_node, nests_aggregates};
 use tuple_codec::Text;
 
 /// What a grouped SELECT shows in an item.
-#[derive(Clone, Copy, Debug, PartialEq, Eq)]
+#[derive(Clone, Copy, PartialEq, Eq)]
 pub enum GroupItem {
     /// The column of GROUP BY at this place, counted from 0.
     GroupColumn(usize),

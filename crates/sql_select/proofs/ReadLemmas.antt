@@ -2,8 +2,8 @@
 use Rattle.std.proofs.Common.{◌≡◌, refl, sym, ap, ◌∙◌, ℕ, Bool, true, false, cond, ◌||◌, List, [], ◌∷◌, ◌++◌, map, filter, Some, Ok, bytes_eq}
 use Rattle.std.specs.List.{find, list_any}
 use Rattle.std.specs.Cmp.Lexicographic.{bytes_decides}
-use Rattle.basic_laws.proofs.Truths.{or_late, two}
-use Rattle.basic_laws.proofs.Bytes.{bytes_itself as same_first}
+use Rattle.tuple_codec.proofs.Truths.{or_late, two}
+use Rattle.tuple_codec.proofs.ByteLemmas.{bytes_itself as same_first}
 use Rattle.schema_model.specs.PlainTables as plain
 use Rattle.schema_model.specs.PlainTables.{PlainDatabase}
 use Rattle.sql_ast.specs.declared.selects.FromClause.{FromClause}

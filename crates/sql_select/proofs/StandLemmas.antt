@@ -1,7 +1,7 @@
 -- Tables and databases that stand are found, and have what they stand for.
 use Rattle.std.proofs.Common.{◌≡◌, ◌≤◌, ◌-◌, refl, sym, ap, ◌∙◌, subst, ℕ, suc, Bool, true, false, cond, List, [], ◌∷◌, ◌++◌, length, map, filter, take, drop, slice_index_or}
-use Rattle.basic_laws.proofs.Numbers.{none_long, one_less}
-use Rattle.basic_laws.proofs.Lists.{take_whole as take_all}
+use Rattle.tuple_codec.proofs.Arithmetic.{none_long, one_less}
+use Rattle.tuple_codec.proofs.Lists.{take_whole as take_all}
 use Rattle.schema_model.specs.PlainTables as plain
 use Rattle.schema_model.specs.PlainTables.{PlainDatabase, PlainTable}
 use Rattle.chunk_store.specs.Chunks.{Chunks}

@@ -10,21 +10,21 @@ use std::alloc::{AllocError, Global};
 use tuple_codec::{Sequence, Text};
 
 /// An item, and whether it stands only before FROM.
-#[derive(Debug, Drop)]
+#[derive(Drop)]
 pub struct ShownItem {
     pub item: SelectItem,
     pub wants_from: bool,
 }
 
 /// Items, and whether one of them stands only before FROM.
-#[derive(Debug, Drop)]
+#[derive(Drop)]
 pub struct Listing {
     pub items: Sequence<SelectItem>,
     pub wants_from: bool,
 }
 
 /// What a SELECT shows, and whether that stands only before FROM.
-#[derive(Debug, Drop)]
+#[derive(Drop)]
 pub struct Choice {
     pub items: Items,
     pub wants_from: bool,

@@ -14,7 +14,7 @@ use crate::worths::Worth;
 use tuple_codec::{SqlType, Value, value_fits};
 
 /// Why a column doesn't keep a value.
-#[derive(Clone, Copy, Debug, PartialEq, Eq)]
+#[derive(Clone, Copy, PartialEq, Eq)]
 pub enum Misfit {
     /// A number outside the column's range.
     OutOfRange,

@@ -8,7 +8,7 @@ use crate::scales::Scale;
 use tuple_codec::SqlType;
 
 /// What an expression gives, known before any row is seen.
-#[derive(Clone, Copy, Debug, PartialEq, Eq)]
+#[derive(Clone, Copy, PartialEq, Eq)]
 pub enum Kind {
     Int,
     Bool,

@@ -9,7 +9,7 @@ use crate::scales::Scale;
 use crate::worths::Worth;
 
 /// A number exactly: so many units, or tenths, or hundredths, by the scale.
-#[derive(Clone, Copy, Debug)]
+#[derive(Clone, Copy)]
 pub struct Number {
     pub units: i64,
     pub scale: Scale,

@@ -10,7 +10,7 @@ use std::alloc::{AllocError, Global};
 use tuple_codec::{Sequence, Text, Value};
 
 /// What an expression is worth on a row: texts are borrowed, and a decimal knows its scale.
-#[derive(Clone, Copy, Debug)]
+#[derive(Clone, Copy)]
 pub enum Worth<'a> {
     Null,
     Int(i64),

@@ -7,10 +7,10 @@ use Rattle.std.specs.Ordering.{is_eq, is_lt}
 use Rattle.std.specs.declared.cmp.Ordering.{Ordering}
 use Rattle.std.specs.List.Sorted.{ties}
 use Rattle.std.proofs.lemmas.Map.Text.{is_eq-slice_cmp}
-use Rattle.basic_laws.proofs.Bytes.{same_bytes as eq_key}
-use Rattle.basic_laws.proofs.Lists.{all_append}
-use Rattle.basic_laws.proofs.Options.{none_so}
-use Rattle.basic_laws.proofs.Truths.{not_false as not_true}
+use Rattle.tuple_codec.proofs.ByteLemmas.{same_bytes as eq_key}
+use Rattle.tuple_codec.proofs.Lists.{all_append}
+use Rattle.tuple_codec.proofs.Options.{none_so}
+use Rattle.tuple_codec.proofs.Truths.{not_false as not_true}
 use Rattle.tuple_codec.specs.Edits.{EditsRiseAfter, edited, order, value_at}
 use Rattle.tuple_codec.specs.KeyBytes.{key_bytes}
 use Rattle.tuple_codec.specs.Nodes.{Item, Rise, RiseAfter}

@@ -4,7 +4,7 @@ use Rattle.std.specs.Prelude.{bytes_eq, if◌then◌else◌}
 use Rattle.std.specs.List.{AllByRecursion, find, insert, list_any}
 use Rattle.std.specs.Option.{option_map}
 use Rattle.std.specs.Ordering.{is_lt}
-use Rattle.basic_laws.proofs.Bytes.{bytes_itself as itself}
+use Rattle.tuple_codec.proofs.ByteLemmas.{bytes_itself as itself}
 use Rattle.tuple_codec.specs.Edits.{order}
 use Rattle.schema_model.specs.PlainTables as plain
 use Rattle.schema_model.specs.PlainTables.{PlainDatabase, PlainTable}

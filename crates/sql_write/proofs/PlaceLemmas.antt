@@ -2,7 +2,7 @@
 use Rattle.std.proofs.Common.{◌≡◌, refl, sym, ap, ◌∙◌, subst, ℕ, ◌+◌, ◌<◌, ◌^◌, Bool, true, false, List, ◌++◌, length, map, Option, None, Some, Ok, Err, arith, length-append}
 use Rattle.std.specs.List.{list_all}
 use Rattle.std.proofs.lemmas.List.{length-map}
-use Rattle.basic_laws.proofs.Lists.{all_append}
+use Rattle.tuple_codec.proofs.Lists.{all_append}
 use Rattle.tuple_codec.specs.Nodes.{Rise}
 use Rattle.tuple_codec.specs.Rows.{Cells}
 use Rattle.tuple_codec.specs.declared.edits.Edit.{Edit}

@@ -23,7 +23,7 @@ use std::alloc::Global;
 use tuple_codec::{Address, Digester};
 
 /// The database after a statement, and how many rows it wrote: 0 where the reply tells no number.
-#[derive(Clone, Copy, Debug, PartialEq, Eq)]
+#[derive(Clone, Copy, PartialEq, Eq)]
 pub struct Written {
     pub root: Address,
     pub rows: u64,

@@ -1,7 +1,7 @@
 -- What the commit rule leaves.
 use Rattle.std.proofs.Common.{◌≡◌, refl, sym, ap, ◌∙◌, subst, true, cond, not, ◌&&◌, ◌||◌, Result, Ok, Err, None}
 use Rattle.std.proofs.lemmas.Bool.{and_parts}
-use Rattle.basic_laws.proofs.Truths.{not_false}
+use Rattle.tuple_codec.proofs.Truths.{not_false}
 use Rattle.schema_model.specs.Limits.{is_database_within_limits}
 use Rattle.schema_model.specs.PlainTables.{IsDatabase, PlainDatabase}
 use Rattle.expr_eval.specs.Binding.{Outcome, and_then}

@@ -5,9 +5,9 @@ use Rattle.std.specs.List.{list_all}
 use Rattle.std.specs.declared.cmp.Ordering.{Ordering}
 use Rattle.std.proofs.lemmas.Bool.{and_parts}
 use Rattle.std.proofs.lemmas.Cmp.{on_total}
-use Rattle.basic_laws.proofs.Lists.{all_append}
-use Rattle.basic_laws.proofs.Orderings.{less_is as less_so}
-use Rattle.basic_laws.proofs.Options.{some_is as some_so}
+use Rattle.tuple_codec.proofs.Lists.{all_append}
+use Rattle.tuple_codec.proofs.Orderings.{less_is as less_so}
+use Rattle.tuple_codec.proofs.Options.{some_is as some_so}
 use Rattle.tuple_codec.specs.Rows.{Cells, key_cmp}
 use Rattle.tuple_codec.proofs.Orders.{key_cmp_total}
 use Rattle.schema_model.specs.Limits.{is_conflict_within_limits, is_violation_within_limits}

@@ -1,7 +1,7 @@
 -- What a merge between branches comes to.
 use Rattle.std.proofs.Common.{◌≡◌, ◌∙◌, refl, sym, ap, ℕ, true, false, cond, not, ◌&&◌, is_some, List, [], Option, None, Some, Result, Ok, Err, codes}
 use Rattle.std.specs.Option.{option_map_or}
-use Rattle.basic_laws.proofs.Truths.{not_false}
+use Rattle.tuple_codec.proofs.Truths.{not_false}
 use Rattle.schema_model.specs.Limits.{is_database_within_limits}
 use Rattle.schema_model.specs.PlainCommits.{Commits, base, is_ancestor}
 use Rattle.sql_procedures.specs.declared.requests.MergeOf.{MergeOf}

@@ -8,7 +8,7 @@ use Rattle.std.specs.Ordering.{is_eq, ordering_then}
 use Rattle.std.proofs.lemmas.Bool.{and_parts, eqb-true, ltb-true, or_parts, false_from_ne_true as not_so}
 use Rattle.std.proofs.lemmas.Cmp.{nat_cmp_total, nat_list_cmp_total}
 use Rattle.std.proofs.lemmas.List.Folds.{list_all-append}
-use Rattle.basic_laws.proofs.Orderings.{equal_is as equal_so, then_left as first_apart}
+use Rattle.tuple_codec.proofs.Orderings.{equal_is as equal_so, then_left as first_apart}
 use Rattle.tuple_codec.specs.Rows.{Cells}
 use Rattle.tuple_codec.proofs.Orders.{cells_told}
 use Rattle.schema_model.specs.Limits.{has_short_names, is_row_within_limits, is_short_in, is_short_key, is_short_name, is_short_row, is_violation_within_limits, is_within_limits}

@@ -6,8 +6,8 @@ use Rattle.std.specs.Ordering.{is_eq}
 use Rattle.std.specs.declared.cmp.Ordering.{Ordering}
 use Rattle.std.proofs.lemmas.Bool.{and_parts, not-true, or_left, or_parts, or_right, false_from_ne_true as not_so}
 use Rattle.std.proofs.lemmas.Cmp.{on_total}
-use Rattle.basic_laws.proofs.Lists.{all_append}
-use Rattle.basic_laws.proofs.Truths.{not_false}
+use Rattle.tuple_codec.proofs.Lists.{all_append}
+use Rattle.tuple_codec.proofs.Truths.{not_false}
 use Rattle.tuple_codec.specs.Rows.{Cells, key_cmp, same_cells}
 use Rattle.tuple_codec.proofs.Orders.{cells_told, key_cmp_total}
 use Rattle.schema_model.specs.Limits.{is_conflict_within_limits, is_row_within_limits, is_short_key, is_short_row, is_short_side, most_rows}

@@ -7,7 +7,7 @@ use Rattle.std.specs.declared.cmp.Ordering.{Ordering}
 use Rattle.std.specs.declared.cmp.Ordering.TheVariants.{Less, Equal, Greater}
 use Rattle.std.proofs.lemmas.Bool.{and_parts}
 use Rattle.std.proofs.lemmas.Cmp.{nat_list_cmp_total}
-use Rattle.basic_laws.proofs.Orderings.{less_is as less_so}
+use Rattle.tuple_codec.proofs.Orderings.{less_is as less_so}
 use Rattle.tuple_codec.specs.RowRule.{same_option, three_way}
 use Rattle.schema_model.specs.PlainTables.{IsDatabase, IsTable, NamedTable, PlainDatabase, PlainTable, rises}
 use Rattle.schema_model.specs.Sameness.{is_same_table}

@@ -3,7 +3,7 @@ use Rattle.std.proofs.Common.{◌≡◌, refl, ◌∙◌, ap, ℕ, zero, suc, tr
 use Rattle.std.specs.List.{list_all, list_any}
 use Rattle.std.specs.Cmp.Lexicographic.{bytes_decides}
 use Rattle.std.proofs.lemmas.Bool.{and_from}
-use Rattle.basic_laws.proofs.Truths.{or_late}
+use Rattle.tuple_codec.proofs.Truths.{or_late}
 use Rattle.chunk_store.specs.Chunks.{Chunks}
 use Rattle.plain_sessions.specs.Sessions.{Transaction}
 use Rattle.schema_model.specs.PlainCommits.{AncestorsFollow, Commits, IsAncestor, ancestors, has_address, is_known}

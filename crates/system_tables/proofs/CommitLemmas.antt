@@ -2,7 +2,7 @@
 use Rattle.std.proofs.Common.{◌≡◌, refl, sym, ◌∙◌, ap, subst, ℕ, true, List, ◌∷◌, [], Some}
 use Rattle.std.proofs.lemmas.Bool.{and_from, and_parts}
 use Rattle.std.proofs.lemmas.Option.{same_Some}
-use Rattle.basic_laws.proofs.Options.{some_there as some_known}
+use Rattle.tuple_codec.proofs.Options.{some_there as some_known}
 use Rattle.chunk_store.specs.Chunks.{Chunks}
 use Rattle.commit_graph.specs.Commits.{HasCommit, HasOneSpelling, IsCommitFound}
 use Rattle.commit_graph.specs.Standing.{CommitsFollow}

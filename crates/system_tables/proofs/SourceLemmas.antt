@@ -4,7 +4,7 @@ use Rattle.std.specs.Prelude.{OnOk, Result, Ok, Err}
 use Rattle.std.specs.List.{list_all, list_any}
 use Rattle.std.specs.Cmp.Lexicographic.{bytes_decides}
 use Rattle.std.proofs.lemmas.Bool.{and_from, and_parts, or_parts as neither, or_from as of_neither}
-use Rattle.basic_laws.proofs.Truths.{two}
+use Rattle.tuple_codec.proofs.Truths.{two}
 use Rattle.plain_sessions.specs.SystemTables.{conflicts, conflicts_of, constraint_violations, violations_of}
 use Rattle.schema_model.specs.PlainTables.{NamedTable, PlainDatabase}
 use Rattle.sql_ast.specs.declared.selects.Join.{Join}

@@ -7,14 +7,14 @@ use std::alloc::{AllocError, Global};
 use tuple_codec::{Blob, Row, Sequence};
 
 /// Which of a table's lists.
-#[derive(Clone, Copy, Debug, PartialEq, Eq)]
+#[derive(Clone, Copy, PartialEq, Eq)]
 pub enum Listed {
     Conflicts,
     Violations,
 }
 
 /// An entry of one of a table's lists.
-#[derive(Debug, Drop)]
+#[derive(Drop)]
 pub struct ListEntry {
     /// The key of its item in the list's tree.
     pub key: Blob,

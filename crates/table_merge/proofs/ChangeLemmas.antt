@@ -2,8 +2,8 @@
 use Rattle.std.proofs.Common.{◌≡◌, ◌⊎◌, inl, inr, ℕ, Bool, true, false, List, [], ◌∷◌, Option, Some, None, refl, sym, ap, ◌∙◌, subst, option_map}
 use Rattle.std.specs.Prelude.{bytes_eq, if◌then◌else◌}
 use Rattle.std.specs.List.{AllByRecursion}
-use Rattle.basic_laws.proofs.Bytes.{same_bytes as eq_key, bytes_itself as itself}
-use Rattle.basic_laws.proofs.Options.{some_is, none_mapped as nothing}
+use Rattle.tuple_codec.proofs.ByteLemmas.{same_bytes as eq_key, bytes_itself as itself}
+use Rattle.tuple_codec.proofs.Options.{some_is, none_mapped as nothing}
 use Rattle.tuple_codec.specs.Edits.{EditsRiseAfter, edited, putting, value_at}
 use Rattle.tuple_codec.specs.Nodes.{Item, Rise, leaf_item}
 use Rattle.tuple_codec.specs.Trees.{IsRow}

@@ -5,8 +5,8 @@ use Rattle.std.proofs.lemmas.List.{take-append-drop}
 use Rattle.std.specs.Prelude.{if◌then◌else◌}
 use Rattle.std.specs.Ordering.{is_eq, ordering_reverse}
 use Rattle.std.specs.declared.cmp.Ordering.TheVariants.{Less, Equal, Greater}
-use Rattle.basic_laws.proofs.Orderings.{less_is}
-use Rattle.basic_laws.proofs.Numbers.{one_less}
+use Rattle.tuple_codec.proofs.Orderings.{less_is}
+use Rattle.tuple_codec.proofs.Arithmetic.{one_less}
 use Rattle.tuple_codec.specs.Rows.{Cells, key_cmp, same_cells}
 use Rattle.tuple_codec.proofs.Orders.{key_cmp_total}
 use Rattle.table_merge.specs.Rising.{RiseFrom}

@@ -3,7 +3,7 @@ use Rattle.std.proofs.Common.{◌≡◌, ◌⊎◌, inl, inr, ℕ, zero, suc, Bo
 use Rattle.std.specs.Prelude.{if◌then◌else◌}
 use Rattle.std.specs.List.{list_all}
 use Rattle.std.proofs.lemmas.Bool.{and_parts, and_from}
-use Rattle.basic_laws.proofs.Options.{some_is}
+use Rattle.tuple_codec.proofs.Options.{some_is}
 use Rattle.tuple_codec.specs.RowRule.{by_cells, cells3, or_by_cells, row3, same_option, three_way}
 use Rattle.tuple_codec.specs.Rows.{Cells, cell_at, fits, fits_all, key_of, same_cells, same_value}
 use Rattle.tuple_codec.specs.declared.values.SqlType.{SqlType}

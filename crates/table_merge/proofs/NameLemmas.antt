@@ -4,9 +4,9 @@ use Rattle.std.specs.Prelude.{if◌then◌else◌}
 use Rattle.std.specs.List.{list_all, list_any, position_from}
 use Rattle.std.proofs.lemmas.Bool.{and_parts, or_parts}
 use Rattle.std.proofs.lemmas.Iterator.Adapters.{position_from-zero}
-use Rattle.basic_laws.proofs.Bytes.{same_bytes as eq_name, bytes_itself as itself}
-use Rattle.basic_laws.proofs.Truths.{not_true}
-use Rattle.basic_laws.proofs.Options.{some_is}
+use Rattle.tuple_codec.proofs.ByteLemmas.{same_bytes as eq_name, bytes_itself as itself}
+use Rattle.tuple_codec.proofs.Truths.{not_true}
+use Rattle.tuple_codec.proofs.Options.{some_is}
 use Rattle.schema_model.specs.Schemas.{are_distinct}
 use Rattle.schema_model.specs.declared.schemas.Column.{Column}
 use Rattle.schema_merge.specs.Parts.{find, place_of}

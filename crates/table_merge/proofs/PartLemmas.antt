@@ -4,9 +4,9 @@ use Rattle.std.specs.Prelude.{if◌then◌else◌}
 use Rattle.std.specs.List.{list_all, list_any}
 use Rattle.std.proofs.lemmas.Bool.{and_parts, and_from, or_parts, or_from, not_from_false}
 use Rattle.std.proofs.lemmas.List.Folds.{list_any-append}
-use Rattle.basic_laws.proofs.Bytes.{same_bytes as eq_name, bytes_itself as itself}
-use Rattle.basic_laws.proofs.Truths.{not_true}
-use Rattle.basic_laws.proofs.Options.{some_is, chosen_so as and_then_some, mapped_so as map_some}
+use Rattle.tuple_codec.proofs.ByteLemmas.{same_bytes as eq_name, bytes_itself as itself}
+use Rattle.tuple_codec.proofs.Truths.{not_true}
+use Rattle.tuple_codec.proofs.Options.{some_is, chosen_so as and_then_some, mapped_so as map_some}
 use Rattle.tuple_codec.specs.RowRule.{same_option, three_way}
 use Rattle.schema_model.specs.Schemas.{are_distinct}
 use Rattle.schema_model.specs.declared.schemas.Column.{Column}

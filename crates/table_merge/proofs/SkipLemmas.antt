@@ -4,8 +4,8 @@ use Rattle.std.specs.Prelude.{bytes_eq, if◌then◌else◌}
 use Rattle.std.specs.List.{AllByRecursion, list_all}
 use Rattle.std.specs.Option.{option_map_or}
 use Rattle.std.proofs.lemmas.Bool.{and_parts, and_from}
-use Rattle.basic_laws.proofs.Bytes.{bytes_itself as itself}
-use Rattle.basic_laws.proofs.Options.{some_is}
+use Rattle.tuple_codec.proofs.ByteLemmas.{bytes_itself as itself}
+use Rattle.tuple_codec.proofs.Options.{some_is}
 use Rattle.tuple_codec.specs.Edits.{EditsRiseAfter, changed, edited, value_at}
 use Rattle.tuple_codec.specs.KeyBytes.{key_bytes}
 use Rattle.tuple_codec.specs.Nodes.{Item, Rise, leaf_item}

@@ -8,7 +8,7 @@ use Rattle.std.proofs.Math.ListN.{drop_of_length-le}
 use Rattle.std.proofs.Math.Seq.{drop-cons}
 use Rattle.std.proofs.lemmas.List.{append-nil}
 use Rattle.std.proofs.lemmas.Bool.{and_parts, and_from}
-use Rattle.basic_laws.proofs.Truths.{and_none as none_more}
+use Rattle.tuple_codec.proofs.Truths.{and_none as none_more}
 use Rattle.tuple_codec.specs.Nodes.{Item}
 use Rattle.tuple_codec.specs.RowRule.{row3}
 use Rattle.tuple_codec.specs.Rows.{Cells, fits_all, key_cmp, same_cells}

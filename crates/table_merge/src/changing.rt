@@ -25,7 +25,7 @@ use tuple_codec::{
 };
 
 /// The edits that make merged rows of ours, and the items of the conflicts, by rising key.
-#[derive(Debug, Drop)]
+#[derive(Drop)]
 pub(crate) struct Merged {
     pub edits: Vec<Edit>,
     pub conflicts: Vec<LeafItem>,

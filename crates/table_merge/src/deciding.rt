@@ -24,7 +24,7 @@ use table_rows::row_item;
 use tuple_codec::{Row, Sequence, SqlType, encode_key, push_long};
 
 /// The items of what a merge leaves at a key.
-#[derive(Debug, Drop)]
+#[derive(Drop)]
 pub(crate) struct Decided {
     pub row: Option<LeafItem>,
     pub conflict: Option<LeafItem>,

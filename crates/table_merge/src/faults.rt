@@ -34,7 +34,7 @@ impl From<AllocError> for MergeFault {
 }
 
 /// Why something wasn't made of rows.
-#[derive(Debug, Drop, PartialEq, Eq)]
+#[derive(Drop, PartialEq, Eq)]
 pub(crate) enum Stop {
     Memory,
     Limit,

@@ -15,7 +15,7 @@ use std::cmp::Ordering;
 use tuple_codec::{Row, copy_row, key_cmp, key_of};
 
 /// A row beside its primary key.
-#[derive(Debug, Drop)]
+#[derive(Drop)]
 pub(crate) struct KeyedRow {
     pub key: Row,
     pub row: Row,

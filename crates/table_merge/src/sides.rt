@@ -18,7 +18,7 @@ use table_rows::read_rows;
 use tuple_codec::Digester;
 
 /// Rows of base, ours and theirs on one schema.
-#[derive(Debug, Drop)]
+#[derive(Drop)]
 pub(crate) struct Sides {
     pub base: Vec<KeyedRow>,
     pub ours: Vec<KeyedRow>,

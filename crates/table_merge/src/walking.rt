@@ -20,7 +20,7 @@ use std::alloc::{AllocError, Global};
 use tuple_codec::Row;
 
 /// The items of a merged table's rows and conflicts, by rising key.
-#[derive(Debug, Drop)]
+#[derive(Drop)]
 pub(crate) struct Lists {
     pub rows: Vec<LeafItem>,
     pub conflicts: Vec<LeafItem>,

@@ -7,8 +7,8 @@ use Rattle.std.specs.Int.{w16, w32, to_be_bytes}
 use Rattle.std.proofs.lemmas.Bool.{and_parts, eqb-true}
 use Rattle.std.proofs.lemmas.List.{drop_at, length-append, length-map, take_at}
 use Rattle.std.proofs.lemmas.Nat.{from_be_bytes-to_be_bytes_2, from_be_bytes-to_be_bytes_4}
-use Rattle.basic_laws.proofs.Options.{some_is}
-use Rattle.basic_laws.proofs.Lists.{all_both as both_all}
+use Rattle.tuple_codec.proofs.Options.{some_is}
+use Rattle.tuple_codec.proofs.Lists.{all_both as both_all}
 use Rattle.tuple_codec.specs.Fields.{bytes_at, short_at, short}
 use Rattle.tuple_codec.specs.declared.addresses.Address.{Address}
 use Rattle.tuple_codec.specs.declared.records.BranchRecord.{BranchRecord}

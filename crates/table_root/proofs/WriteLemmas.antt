@@ -5,7 +5,7 @@ use Rattle.std.specs.Int.{w16, w32, to_be_bytes}
 use Rattle.std.proofs.lemmas.Bool.{and_parts, eqb-true, leb-true, lt-ltb}
 use Rattle.std.proofs.lemmas.List.{length-append}
 use Rattle.std.proofs.lemmas.List.Folds.{flat_map-map}
-use Rattle.basic_laws.proofs.Lists.{all_weaker as each_has}
+use Rattle.tuple_codec.proofs.Lists.{all_weaker as each_has}
 use Rattle.tuple_codec.specs.Fields.{short}
 use Rattle.tuple_codec.specs.declared.addresses.Address.{Address}
 use Rattle.schema_model.specs.Limits.{has_short_names, is_short_name, is_within_limits}

@@ -12,7 +12,7 @@ use std::marker::Model;
 use tuple_codec::{Address, BranchRecord};
 
 /// A branch's name and its newest commit.
-#[derive(Clone, Copy, Debug)]
+#[derive(Clone, Copy)]
 pub struct BranchHead {
     pub branch: BranchName,
     pub head: Address,
@@ -32,7 +32,7 @@ impl MadeWith<Global> for BranchHead {
 pub type HeadList = SmallVec<BranchHead, 2>;
 
 /// The heads of branches, by rising name.
-#[derive(Debug, Drop)]
+#[derive(Drop)]
 pub struct Heads {
     heads: HeadList,
 }
@@ -69,7 +69,7 @@ impl Heads {
 
 /// What a session sees of the shared state at one moment: a branch and its record, the heads of all branches, and a store
 /// in which what these name stands.
-#[derive(Debug, Drop)]
+#[derive(Drop)]
 pub struct Look {
     pub branch: BranchName,
     pub rec: BranchRecord,

@@ -11,7 +11,7 @@ const MOST: usize = 64;
 
 /// A branch's name: 1 to 64 ASCII letters, digits, `_`, `-`, `.` and `/`, which don't begin with `-`. It is held in
 /// place, so that it is copied without memory. A contract sees its bytes.
-#[derive(Clone, Copy, Debug)]
+#[derive(Clone, Copy)]
 pub struct BranchName {
     /// The name's bytes, and zeros after them.
     held: [u8; MOST],

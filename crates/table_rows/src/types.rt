@@ -9,7 +9,7 @@ use std::alloc::{AllocError, Global};
 use tuple_codec::SqlType;
 
 /// The types of the cells of a schema's rows, as they stand in items: found once for a table.
-#[derive(Debug, Drop)]
+#[derive(Drop)]
 pub(crate) struct ItemTypes {
     pub(crate) key: Vec<SqlType>,
     pub(crate) body: Vec<SqlType>,

@@ -6,7 +6,7 @@ use Rattle.std.proofs.lemmas.Bool.Decides.{nat_tests}
 use Rattle.std.proofs.lemmas.List.{get_or-map, length-map}
 use Rattle.std.proofs.lemmas.Option.{get_or_from_slice_get, slice_get_within}
 use Rattle.std.proofs.lemmas.Bool.{and_from as join}
-use Rattle.basic_laws.proofs.Lists.{there_at as found_there}
+use Rattle.tuple_codec.proofs.Lists.{there_at as found_there}
 use Rattle.script_text.specs.Collisions.{AllTellTruly}
 use Rattle.script_text.specs.Output.{shortages_in}
 use Rattle.script_text.specs.Shown.{IsPrintable, IsShown, is_shown_moment}

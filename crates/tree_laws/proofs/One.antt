@@ -1,6 +1,6 @@
 -- An address stands for one list of rows.
 use Rattle.std.proofs.Common.{◌≡◌, ℕ, List, sym, ap, ◌∙◌, subst}
-use Rattle.basic_laws.proofs.Options.{some_is}
+use Rattle.tuple_codec.proofs.Options.{some_is}
 use Rattle.tuple_codec.specs.Nodes.{Item, Node}
 use Rattle.tuple_codec.specs.Trees.{root}
 use Rattle.chunk_store.specs.Chunks.{Chunks}

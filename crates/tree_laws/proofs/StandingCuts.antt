@@ -2,7 +2,7 @@
 use Rattle.std.proofs.Common.{◌≡◌, ◌<◌, ◌≤◌, ◌+◌, ◌⊎◌, inl, inr, ℕ, Bool, true, false, cond, ◌&&◌, leb, List, [], ◌∷◌, ◌++◌, length, refl, sym, ap, ◌∙◌, append_assoc, append-nil, arith}
 use Rattle.std.proofs.lemmas.Bool.{leb-false}
 use Rattle.std.proofs.lemmas.Bool.Decides.{leb_tells}
-use Rattle.basic_laws.proofs.Truths.{left_so as both_true, left_not as or_false}
+use Rattle.tuple_codec.proofs.Truths.{left_so as both_true, left_not as or_false}
 use Rattle.tuple_codec.specs.Nodes.{Item, ends, items_bytes}
 use Rattle.tuple_codec.specs.Trees.{closes, cut, cut_from}
 use Rattle.tree_laws.specs.Found.{left}

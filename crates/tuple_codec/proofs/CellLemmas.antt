@@ -6,7 +6,7 @@ use Rattle.std.specs.Int.{w64, from_be_bytes, to_be_bytes}
 use Rattle.std.proofs.lemmas.Bool.{ltb-true, lt-ltb, leb-true, and_parts, and_from, cases_Bool, eqb-true}
 use Rattle.std.proofs.lemmas.List.{append-nil, nil_from_length}
 use Rattle.std.proofs.Math.Nat.{pow-le-pow_right}
-use Rattle.basic_laws.proofs.Options.{bound, chosen_some as chosen, mapped}
+use Rattle.tuple_codec.proofs.Options.{bound, chosen_some as chosen, mapped}
 use Rattle.tuple_codec.specs.Rows.{Cells, fits, fits_all, fits_bits}
 use Rattle.tuple_codec.specs.Limits.{is_type, are_types}
 use Rattle.tuple_codec.specs.KeyBytes.{bit}

@@ -6,3 +6,9 @@ pub mod CellLemmas
 pub mod OrderLemmas
 pub mod AddressLemmas
 pub mod FieldLemmas
+pub mod ByteLemmas
+pub mod Lists
+pub mod Arithmetic
+pub mod Options
+pub mod Orderings
+pub mod Truths

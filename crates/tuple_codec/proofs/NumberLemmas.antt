@@ -14,7 +14,7 @@ use Rattle.std.proofs.lemmas.Int.{ints, to_z-of_z}
 use Rattle.std.proofs.lemmas.List.{drop_at, take-append-drop, length-append, length-take, get_or-drop, get_or-take, get_or_past}
 use Rattle.std.proofs.lemmas.Nat.{be_bytes_8, from_be_bytes-to_be_bytes_8, mod-mul-add}
 use Rattle.std.proofs.lemmas.Grind.{pow_more}
-use Rattle.basic_laws.proofs.Options.{guard_some as passed}
+use Rattle.tuple_codec.proofs.Options.{guard_some as passed}
 use Rattle.tuple_codec.specs.Rows.{fits_bits}
 use Rattle.tuple_codec.specs.KeyBytes.{turned}
 use Rattle.tuple_codec.specs.Cells.{bits_of}

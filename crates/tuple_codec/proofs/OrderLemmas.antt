@@ -8,7 +8,7 @@ use Rattle.std.specs.declared.cmp.Ordering.{Ordering}
 use Rattle.std.specs.Cmp.Lexicographic.{slice_cmp}
 use Rattle.std.proofs.lemmas.Bool.{leb-true, lt-ltb, and_parts, and_from}
 use Rattle.std.proofs.lemmas.List.{append-nil}
-use Rattle.basic_laws.proofs.Orderings.{then_equal as ends}
+use Rattle.tuple_codec.proofs.Orderings.{then_equal as ends}
 use Rattle.tuple_codec.specs.Texts.{is_utf8, char_count}
 use Rattle.tuple_codec.specs.Rows.{Cells, fits, fits_all, fits_bits, value_cmp, key_cmp}
 use Rattle.tuple_codec.specs.Limits.{is_type, are_types}

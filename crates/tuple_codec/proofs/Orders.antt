@@ -8,7 +8,7 @@ use Rattle.std.specs.declared.cmp.Ordering.TheVariants.{Equal}
 use Rattle.std.proofs.lemmas.Cmp.{nat_cmp_total, int_cmp_total, nat_list_cmp_total, lists_total, on_total, then_total}
 use Rattle.std.specs.Cmp.{Equal-is, bool_cmp_total, tied_itself}
 use Rattle.std.specs.FinMap.{IsAntisymmetric, int_cmp-IsAntisymmetric, nat_cmp-IsAntisymmetric, slice_cmp-IsAntisymmetric}
-use Rattle.basic_laws.proofs.Orderings.{then_equal}
+use Rattle.tuple_codec.proofs.Orderings.{then_equal}
 use Rattle.tuple_codec.specs.Rows.{AreTold, key_cmp, rank, same_cells, same_value, value_cmp}
 use Rattle.tuple_codec.specs.declared.values.Value.{Value}
 use Rattle.tuple_codec.specs.declared.values.Value.TheVariants as cell

@@ -8,7 +8,7 @@ use Rattle.std.specs.declared.cmp.Ordering.TheVariants.{Less, Greater}
 use Rattle.std.specs.Cmp.{nat_cmp_is}
 use Rattle.std.specs.Cmp.Lexicographic.{slice_cmp}
 use Rattle.std.proofs.lemmas.List.{take_at, drop_at, take-append-drop, length-append, length-take}
-use Rattle.basic_laws.proofs.Options.{guard_some as passed}
+use Rattle.tuple_codec.proofs.Options.{guard_some as passed}
 use Rattle.tuple_codec.specs.KeyBytes.{escape, escaped}
 use Rattle.tuple_codec.specs.RowBytes.{length_prefixed}
 use Rattle.tuple_codec.specs.Fronts.{with_front, unescaped, length_prefixed_at}

@@ -5,7 +5,7 @@ use crate::sequences::Sequence;
 use crate::values::{Row, SqlType};
 
 /// A query's answer: columns with one type each, and rows with one value a column.
-#[derive(Debug, Drop)]
+#[derive(Drop)]
 pub struct Answer {
     pub names: Sequence<Text>,
     pub kinds: Sequence<SqlType>,

@@ -3,14 +3,14 @@
 use crate::values::Blob;
 
 /// What is done to one key of a list: a value is put there, or the key is removed.
-#[derive(Clone, Debug, Drop, PartialEq, Eq)]
+#[derive(Clone, Drop, PartialEq, Eq)]
 pub struct Edit {
     pub key: Blob,
     pub value: Option<Blob>,
 }
 
 /// A key at which two lists differ, with what each has there; none is absence.
-#[derive(Clone, Debug, Drop, PartialEq, Eq)]
+#[derive(Clone, Drop, PartialEq, Eq)]
 pub struct ItemChange {
     pub key: Blob,
     pub old: Option<Blob>,

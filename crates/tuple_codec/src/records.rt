@@ -3,7 +3,7 @@
 use crate::addresses::Address;
 
 /// What a branch holds: its newest commit, its working and its staged database, and the commit of a merge in progress.
-#[derive(Clone, Copy, Debug, PartialEq, Eq)]
+#[derive(Clone, Copy, PartialEq, Eq)]
 pub struct BranchRecord {
     pub head: Address,
     pub working: Address,

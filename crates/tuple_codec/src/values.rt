@@ -15,7 +15,7 @@ pub type Blob = Sequence<u8>;
 pub type Row = Sequence<Value>;
 
 /// A column's type.
-#[derive(Clone, Copy, Debug, PartialEq, Eq)]
+#[derive(Clone, Copy, PartialEq, Eq)]
 pub enum SqlType {
     /// Whole numbers of 64 bits.
     BigInt,
@@ -31,7 +31,7 @@ pub enum SqlType {
 }
 
 /// A cell.
-#[derive(Clone, Debug, Drop, PartialEq, Eq)]
+#[derive(Clone, Drop, PartialEq, Eq)]
 pub enum Value {
     Null,
     Int(i64),

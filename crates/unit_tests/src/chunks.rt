@@ -5,7 +5,7 @@ use chunk_store::{Draft, PutFault, Sha512Cut, Store};
 use tuple_codec::{Address, Digester};
 
 /// Names all bytes alike.
-#[derive(Debug, Drop)]
+#[derive(Drop)]
 struct OneForAll;
 
 impl Digester for OneForAll {

@@ -60,7 +60,7 @@ pub trait Pacer: Sync {
 }
 
 /// A pacer that does nothing.
-#[derive(Debug, Clone, Copy, PartialEq, Eq)]
+#[derive(Clone, Copy, PartialEq, Eq)]
 pub struct NoPace;
 
 impl Pacer for NoPace {

@@ -7,7 +7,7 @@ use std::alloc::{AllocError, Global};
 use tuple_codec::{Sequence, Text};
 
 /// What a session has said, and what it draws its next number from.
-#[derive(Debug, Drop)]
+#[derive(Drop)]
 pub struct Speech {
     pub statements: Sequence<Text>,
     pub x: u64,

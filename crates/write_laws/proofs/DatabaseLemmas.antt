@@ -6,7 +6,7 @@ use Rattle.std.specs.List.{list_all, AllByRecursion, find}
 use Rattle.std.specs.Option.{option_map}
 use Rattle.std.proofs.lemmas.Bool.{ltb-false, le-leb}
 use Rattle.std.proofs.lemmas.Cmp.{on_total}
-use Rattle.basic_laws.proofs.Lists.{all_both}
+use Rattle.tuple_codec.proofs.Lists.{all_both}
 use Rattle.tuple_codec.specs.Rows.{Cells}
 use Rattle.tuple_codec.proofs.Orders.{key_cmp_total}
 use Rattle.schema_model.specs.declared.schemas.Schema.{Schema}

@@ -1,7 +1,7 @@
 -- Rows that statements write fit their table and keep the limits.
 use Rattle.std.proofs.Common.{◌≡◌, refl, sym, ap, ◌∙◌, subst, ℕ, zero, suc, ◌+◌, Bool, true, false, cond, not, ◌&&◌, ◌⊎◌, inl, inr, List, [], ◌∷◌, map, filter, set, slice_get, Option, Some, None, Result, Ok, Err, unwrap_or}
 use Rattle.std.specs.List.{list_all, AllByRecursion, enumerate_from}
-use Rattle.basic_laws.proofs.Truths.{not_both}
+use Rattle.tuple_codec.proofs.Truths.{not_both}
 use Rattle.tuple_codec.specs.Rows.{Cells, fits, fits_all, same_cells}
 use Rattle.tuple_codec.specs.declared.values.SqlType.{SqlType}
 use Rattle.tuple_codec.specs.declared.values.Value.{Value}

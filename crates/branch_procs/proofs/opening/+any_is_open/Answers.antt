@@ -1,6 +1,6 @@
 use Rattle.std.proofs.Common.{◌≡◌, sym, ap}
 use Rattle.std.proofs.lemmas.Result.{IfOk-weaker}
-use Rattle.basic_laws.proofs.Lists.{none_below}
+use Rattle.tuple_codec.proofs.Lists.{none_below}
 use Rattle.chunk_store.specs.Drafts.{chunks_of}
 use Rattle.constraint_scan.proofs.StandLemmas.{parts_of, there_none}
 use Rattle.plain_sessions.specs.Branching.{is_open}

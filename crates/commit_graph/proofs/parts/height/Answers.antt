@@ -1,5 +1,5 @@
 use Rattle.std.proofs.Common.{◌∙◌, ap}
-use Rattle.basic_laws.proofs.Options.{some_is}
+use Rattle.tuple_codec.proofs.Options.{some_is}
 use Rattle.schema_model.proofs.PartLemmas.{nothing}
 use Rattle.schema_model.specs.WrittenForms.{commit_bytes}
 use Rattle.commit_graph.specs.Reading.{height_in}

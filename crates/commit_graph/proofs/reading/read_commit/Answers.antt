@@ -1,5 +1,5 @@
 use Rattle.std.proofs.Common.{◌∙◌, subst}
-use Rattle.basic_laws.proofs.Options.{some_is}
+use Rattle.tuple_codec.proofs.Options.{some_is}
 use Rattle.schema_model.specs.WrittenForms.{CommitParts, commit_bytes}
 use Rattle.chunk_store.specs.Drafts.{chunks_of}
 use Rattle.commit_graph.specs.Commits.{IsCommitFound, parts_of}

@@ -1,7 +1,7 @@
 use Rattle.std.proofs.Common.{◌≡◌, ◌-◌, ap, sym, drop, length, take}
 use Rattle.std.specs.List.{list_any}
 use Rattle.std.proofs.lemmas.Result.{IfOk-weaker}
-use Rattle.basic_laws.proofs.Lists.{any_first, any_later, none_below as no_items}
+use Rattle.tuple_codec.proofs.Lists.{any_first, any_later, none_below as no_items}
 use Rattle.schema_model.specs.declared.schemas.CheckDef.{CheckDef}
 use Rattle.plain_writes.specs.CheckTexts.{checks}
 use Rattle.plain_writes.specs.Violations.{breaks_check}

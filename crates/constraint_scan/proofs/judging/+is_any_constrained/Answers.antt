@@ -1,6 +1,6 @@
 use Rattle.std.proofs.Common.{◌≡◌, sym, ap}
 use Rattle.std.proofs.lemmas.Result.{IfOk-weaker}
-use Rattle.basic_laws.proofs.Lists.{any_first, any_later, none_below}
+use Rattle.tuple_codec.proofs.Lists.{any_first, any_later, none_below}
 use Rattle.schema_model.specs.PlainTables.{NamedTable}
 use Rattle.chunk_store.specs.Drafts.{chunks_of}
 use Rattle.constraint_scan.specs.Scanning.{has_constraints, is_constrained}

@@ -1,6 +1,6 @@
 use Rattle.std.proofs.Common.{◌≡◌, ◌∙◌, ◌&&◌, IfOk, ap, subst, sym}
 use Rattle.chunk_store.specs.Drafts.{chunks_of}
-use Rattle.basic_laws.proofs.Lists.{none_below}
+use Rattle.tuple_codec.proofs.Lists.{none_below}
 use Rattle.constraint_scan.specs.Thinned.{are_quiet}
 use Rattle.constraint_scan.proofs.StandLemmas.{parts_of, there_none}
 use Rattle.constraint_scan.proofs.quiet.+are_quiet.Goals as goal

@@ -1,5 +1,5 @@
 use Rattle.std.proofs.Common.{◌∙◌, find, sym}
-use Rattle.basic_laws.proofs.Options.{none_so as none_of}
+use Rattle.tuple_codec.proofs.Options.{none_so as none_of}
 use Rattle.load_run.specs.Loading.{is_main}
 use Rattle.load_run.proofs.CountLemmas.{none_in}
 use Rattle.load_run.proofs.counting.count_rows.Goals as goal

@@ -1,6 +1,6 @@
 use Rattle.std.proofs.Common.{◌≡◌, length, nat_lt}
 use Rattle.std.proofs.lemmas.Result.{IfOk-weaker}
-use Rattle.basic_laws.proofs.Lists.{any_first, any_later}
+use Rattle.tuple_codec.proofs.Lists.{any_first, any_later}
 use Rattle.schema_model.specs.Limits.{most_rows}
 use Rattle.schema_model.specs.PlainTables.{NamedTable}
 use Rattle.chunk_store.specs.Drafts.{chunks_of}

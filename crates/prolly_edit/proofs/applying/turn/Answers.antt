@@ -1,6 +1,6 @@
 use Rattle.std.proofs.Common.{◌≡◌, ◌+◌, ◌∷◌, suc, sym, subst, ◌∙◌, arith}
 use Rattle.std.proofs.lemmas.Result.{IfOk-weaker}
-use Rattle.basic_laws.proofs.Truths.{not_true}
+use Rattle.tuple_codec.proofs.Truths.{not_true}
 use Rattle.node_format.specs.Views.{ref_of}
 use Rattle.node_format.specs.Outlasting.{Outlasts}
 use Rattle.chunk_store.specs.Drafts.{chunks_of}

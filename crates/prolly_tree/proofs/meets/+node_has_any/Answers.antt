@@ -1,5 +1,5 @@
 use Rattle.std.proofs.Common.{◌≡◌, ◌<◌, ◌∷◌, ◌∙◌, None, List, length, drop, refl, sym, ap, subst, arith}
-use Rattle.basic_laws.proofs.Lists.{next_at}
+use Rattle.tuple_codec.proofs.Lists.{next_at}
 use Rattle.tuple_codec.specs.Edits.{EditsRiseAfter}
 use Rattle.tuple_codec.specs.declared.edits.Edit.{Edit}
 use Rattle.chunk_store.specs.Drafts.{chunks_of}

@@ -1,5 +1,5 @@
 use Rattle.std.proofs.Common.{◌∙◌}
-use Rattle.basic_laws.proofs.Options.{some_is}
+use Rattle.tuple_codec.proofs.Options.{some_is}
 use Rattle.prolly_tree.proofs.nodes.known_at.Goals as goal
 
 pub of-requires : goal.of-requires

@@ -1,5 +1,5 @@
 use Rattle.std.proofs.Common.{sym, ◌∙◌}
-use Rattle.basic_laws.proofs.Options.{some_is}
+use Rattle.tuple_codec.proofs.Options.{some_is}
 use Rattle.node_format.proofs.NodeLemmas.{one_spelling}
 use Rattle.prolly_tree.proofs.nodes.node_at.Goals as goal
 

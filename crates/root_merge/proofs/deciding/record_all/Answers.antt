@@ -11,7 +11,7 @@ use Rattle.table_root.specs.Kept.{IsKeptAt}
 use Rattle.plain_sessions.specs.CommitRule.{is_none, recorded}
 use Rattle.root_merge.specs.declared.settling.Left.{Left}
 use Rattle.root_merge.proofs.DecideLemmas.{all_recorded, can_record, read_kept, stays_recorded}
-use Rattle.basic_laws.proofs.Truths.{not_true as bool_false}
+use Rattle.tuple_codec.proofs.Truths.{not_true as bool_false}
 use Rattle.chunk_store.specs.Kinds.{is_data}
 use Rattle.root_merge.proofs.SettlingLemmas.{settled_later}
 use Rattle.root_merge.proofs.deciding.record_all.Goals as goal

@@ -1,6 +1,6 @@
 use Rattle.std.proofs.Common.{◌≡◌, ◌∙◌, None, sym, take, drop, length, ◌-◌}
 use Rattle.std.proofs.lemmas.Result.{IfErr-weaker, on_ok_weaker}
-use Rattle.basic_laws.proofs.Lists.{none_below}
+use Rattle.tuple_codec.proofs.Lists.{none_below}
 use Rattle.chunk_store.specs.Drafts.{chunks_of}
 use Rattle.root_merge.specs.Merging.{IsSchemaFault, part_in}
 use Rattle.root_merge.specs.Names.{together}

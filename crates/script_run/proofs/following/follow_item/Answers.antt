@@ -1,7 +1,7 @@
 use Rattle.std.proofs.Common.{◌≡◌, ◌∙◌, ◌+◌, ◌<◌, ◌++◌, ◌∷◌, [], refl, sym, ap, subst, List, ℕ, ℤ, take, None, Some, w64}
 use Rattle.std.proofs.lemmas.Int.{to_z-of_z}
 use Rattle.std.proofs.lemmas.Option.{same_Some}
-use Rattle.basic_laws.proofs.Lists.{take_at_get}
+use Rattle.tuple_codec.proofs.Lists.{take_at_get}
 use Rattle.script_text.specs.Input.{place_of}
 use Rattle.script_text.specs.declared.scripts.Moment.{Moment}
 use Rattle.run_laws.specs.Orders.{asked_order}

@@ -1,7 +1,7 @@
 use Rattle.std.proofs.Common.{◌≡◌, ◌∙◌, ◌==◌, true, false, sym, subst, length}
 use Rattle.std.specs.List.{list_all}
 use Rattle.std.proofs.lemmas.Bool.{and_parts as both}
-use Rattle.basic_laws.proofs.Truths.{not_both}
+use Rattle.tuple_codec.proofs.Truths.{not_both}
 use Rattle.run_laws.specs.Orders.{asked_order}
 use Rattle.script_run.specs.Following.{is_through}
 use Rattle.script_run.proofs.ReplayLemmas.{all_followed, as_many_by, as_many_test}

@@ -1,5 +1,5 @@
 use Rattle.std.proofs.Common.{arith, ◌∙◌, ap}
-use Rattle.basic_laws.proofs.Lists.{all_mapped}
+use Rattle.tuple_codec.proofs.Lists.{all_mapped}
 use Rattle.table_root.specs.Heads.{heads_rise}
 use Rattle.serving.specs.Ahead.{with_head}
 use Rattle.serving.proofs.AheadLemmas.{heads_still_rise}

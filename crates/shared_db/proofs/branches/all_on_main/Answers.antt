@@ -1,5 +1,5 @@
 use Rattle.std.proofs.Common.{arith, ◌∙◌, ap}
-use Rattle.basic_laws.proofs.Lists.{all_mapped as all_done}
+use Rattle.tuple_codec.proofs.Lists.{all_mapped as all_done}
 use Rattle.shared_db.specs.Members.{numbers_of, on_main, places_of}
 use Rattle.shared_db.proofs.LineLemmas.{numbers_are, places_are}
 use Rattle.shared_db.proofs.branches.all_on_main.Goals as goal

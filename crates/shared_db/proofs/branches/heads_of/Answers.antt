@@ -1,5 +1,5 @@
 use Rattle.std.proofs.Common.{arith, ◌∙◌, ap}
-use Rattle.basic_laws.proofs.Lists.{all_mapped as all_done}
+use Rattle.tuple_codec.proofs.Lists.{all_mapped as all_done}
 use Rattle.table_root.specs.Heads.{heads_rise}
 use Rattle.shared_db.specs.Members.{branch_head, lines_of}
 use Rattle.shared_db.proofs.LineLemmas.{heads_are, heads_rise_so}

@@ -1,6 +1,6 @@
 use Rattle.std.proofs.Common.{arith, ◌∙◌, ap, sym, slice_set}
 use Rattle.std.proofs.lemmas.List.Edits.{map_over_more}
-use Rattle.basic_laws.proofs.Lists.{all_written}
+use Rattle.tuple_codec.proofs.Lists.{all_written}
 use Rattle.shared_db.specs.Members.{lines_of, with_rec}
 use Rattle.shared_db.proofs.LineLemmas.{changed_are}
 use Rattle.shared_db.proofs.branches.set_record.Goals as goal

@@ -1,7 +1,7 @@
 use Rattle.std.proofs.Common.{arith, ◌∙◌, ap, sym, slice_set}
 use Rattle.std.proofs.lemmas.List.Edits.{map_over_more}
 use Rattle.sql_write.specs.Putting.{readdress}
-use Rattle.basic_laws.proofs.Lists.{all_written}
+use Rattle.tuple_codec.proofs.Lists.{all_written}
 use Rattle.sql_write.proofs.tables.readdress_all.Goals as goal
 
 pub loop-named-preserved : goal.loop-named-preserved

@@ -1,5 +1,5 @@
 use Rattle.std.proofs.Common.{◌∙◌, List, ℕ, subst, sym}
-use Rattle.basic_laws.proofs.Options.{some_is}
+use Rattle.tuple_codec.proofs.Options.{some_is}
 use Rattle.table_root.specs.Databases.{AreListed, written_database}
 use Rattle.table_root.proofs.FormLemmas.{tables_listed}
 use Rattle.table_root.proofs.databases.listed_tables.Goals as goal

@@ -1,5 +1,5 @@
 use Rattle.std.proofs.Common.{List, ◌∙◌, sym, ap, subst}
-use Rattle.basic_laws.proofs.Options.{some_is}
+use Rattle.tuple_codec.proofs.Options.{some_is}
 use Rattle.chunk_store.specs.Drafts.{chunks_of}
 use Rattle.table_root.specs.Databases.{IsDatabaseFound, written_database}
 use Rattle.table_root.specs.Reading.{database_of}

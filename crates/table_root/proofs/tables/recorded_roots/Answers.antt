@@ -1,5 +1,5 @@
 use Rattle.std.proofs.Common.{◌≤◌, ◌∙◌, List, ℕ, length, sym, subst}
-use Rattle.basic_laws.proofs.Options.{some_is}
+use Rattle.tuple_codec.proofs.Options.{some_is}
 use Rattle.table_root.specs.Tables.{written_table}
 use Rattle.table_root.proofs.ReadLemmas.{at_end, roots_long}
 use Rattle.table_root.proofs.tables.recorded_roots.Goals as goal

@@ -1,5 +1,5 @@
 use Rattle.std.proofs.Common.{List, [], ◌∷◌, ◌++◌, ap, sym, ◌∙◌}
-use Rattle.basic_laws.proofs.Lists.{take_at_get as take_next}
+use Rattle.tuple_codec.proofs.Lists.{take_at_get as take_next}
 use Rattle.chunk_store.specs.Chunks.{Chunk}
 use Rattle.chunk_store.specs.Drafts.{DraftParts}
 use Rattle.chunk_store.proofs.drafts.Draft.copy_into.Goals as goal

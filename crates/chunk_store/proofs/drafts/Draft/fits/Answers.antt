@@ -1,5 +1,5 @@
 use Rattle.std.proofs.Common.{◌≡◌, ℕ, List, Some, take, subst, sym, ◌∙◌}
-use Rattle.basic_laws.proofs.Lists.{take_at_get as take_next}
+use Rattle.tuple_codec.proofs.Lists.{take_at_get as take_next}
 use Rattle.chunk_store.specs.Chunks.{Chunk, Agree, chunk_bytes}
 use Rattle.chunk_store.proofs.ChunkLemmas.{agree_push}
 use Rattle.chunk_store.proofs.ClashLemmas.{allowed_from}

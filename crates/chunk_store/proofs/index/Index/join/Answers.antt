@@ -1,5 +1,5 @@
 use Rattle.std.proofs.Common.{◌<◌, ◌+◌, ◌^◌, List, drop, map, ap, ◌∙◌}
-use Rattle.basic_laws.proofs.Lists.{have_at as all_get}
+use Rattle.tuple_codec.proofs.Lists.{have_at as all_get}
 use Rattle.chunk_store.specs.declared.index.Placed.{Placed}
 use Rattle.chunk_store.specs.Placing.{gather_placed, placed_behind, with_placed}
 use Rattle.chunk_store.proofs.BuildLemmas.{gather_placed_next, with_placed_step}

@@ -1,6 +1,6 @@
 use Rattle.std.proofs.Common.{◌≡◌, [], ◌∷◌, ◌++◌, List, None, Some, true, ap, sym, subst, ◌∙◌, bytes_eq}
 use Rattle.std.specs.HashMap.{get}
-use Rattle.basic_laws.proofs.Lists.{take_at_get as take_next}
+use Rattle.tuple_codec.proofs.Lists.{take_at_get as take_next}
 use Rattle.chunk_store.specs.declared.index.Placed.{Placed}
 use Rattle.chunk_store.specs.Placing.{IsIndex, span_at}
 use Rattle.chunk_store.proofs.PlacingLemmas.{apart_get, changed_at, index_push}

@@ -1,5 +1,5 @@
 use Rattle.std.proofs.Common.{◌≡◌, ◌≤◌, length, subst, List, None, Some, slice_get, take}
-use Rattle.basic_laws.proofs.Lists.{have_at as all_get}
+use Rattle.tuple_codec.proofs.Lists.{have_at as all_get}
 use Rattle.chunk_region.specs.Pages.{IsWritten}
 use Rattle.chunk_store.specs.declared.index.Placed.{Placed}
 use Rattle.chunk_store.specs.Chunks.{Chunk, chunk_bytes}

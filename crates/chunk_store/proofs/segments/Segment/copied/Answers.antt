@@ -1,5 +1,5 @@
 use Rattle.std.proofs.Common.{◌≡◌, List, [], ◌∷◌, ◌++◌, None, ap, sym, subst, ◌∙◌}
-use Rattle.basic_laws.proofs.Lists.{take_at_get as take_next}
+use Rattle.tuple_codec.proofs.Lists.{take_at_get as take_next}
 use Rattle.chunk_store.specs.declared.index.Placed.{Placed}
 use Rattle.chunk_store.specs.Chunks.{Chunk, chunk_bytes}
 use Rattle.chunk_store.specs.Placing.{ArePlaced, chunks_in, span_at, written}

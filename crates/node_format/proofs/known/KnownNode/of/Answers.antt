@@ -1,6 +1,6 @@
 use Rattle.std.proofs.Common.{◌≡◌, ap, ◌∙◌}
 use Rattle.std.proofs.lemmas.Option.{none-some}
-use Rattle.basic_laws.proofs.Options.{some_is}
+use Rattle.tuple_codec.proofs.Options.{some_is}
 use Rattle.node_format.specs.Reading.{header_at}
 use Rattle.node_format.proofs.KnownLemmas.{is_known, known_is}
 use Rattle.node_format.proofs.NodeLemmas.{node_header, parts_of}
