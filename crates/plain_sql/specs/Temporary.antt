@@ -5,7 +5,7 @@ use Rattle.sql_ast.specs.declared.expressions.Expr.TheOpen.{Expr-F}
 use Rattle.sql_ast.specs.declared.selects.SelectItem.{SelectItem}
 use Rattle.sql_ast.specs.declared.selects.SelectItem.TheVariants as item
 use Rattle.sql_ast.specs.declared.selects.TableSource.{TableSource}
-use Rattle.sql_features.specs.Features.{is_aggregate}
+use Rattle.sql_text.specs.Features.{is_aggregate}
 
 abbrev pub name_or : List ℕ → Option (List ℕ) → List ℕ
 name_or table (Some alias) = alias

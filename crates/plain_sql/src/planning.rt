@@ -16,7 +16,7 @@ use crate::keys::sort_keys;
 use crate::ranking::Sorter;
 use expr_eval::{BoundExpr, ScopeColumn, place_named, place_qualified};
 use sql_ast::{ColumnName, Items, Limit, NamedExpr, Query, SelectItem};
-use sql_features::is_aggregate_node;
+use sql_text::is_aggregate_node;
 use std::alloc::Global;
 use tuple_codec::Sequence;
 

@@ -21,11 +21,11 @@ use Rattle.sql_ast.specs.declared.selects.Join.{Join}
 use Rattle.sql_ast.specs.declared.selects.ColumnName.{ColumnName}
 use Rattle.sql_ast.specs.declared.selects.ColumnName.TheVariants as column
 use Rattle.sql_ast.specs.declared.selects.OrderKey.{OrderKey}
-use Rattle.sql_features.specs.Features.{has, is_aggregate}
+use Rattle.sql_text.specs.Features.{has, is_aggregate}
 use Rattle.sql_rules.specs.Names.{in_given, repeats_by}
-use Rattle.sql_features.specs.Nesting.{nests}
+use Rattle.sql_text.specs.Nesting.{nests}
 use Rattle.sql_rules.specs.Writes.{is_misplaced, is_misplaced_if}
-use Rattle.sql_features.specs.declared.features.Feature.TheVariants as feature
+use Rattle.sql_text.specs.declared.features.Feature.TheVariants as feature
 use Rattle.sql_rules.specs.declared.order_keys.Key.{Key}
 use Rattle.sql_rules.specs.declared.order_keys.Key.TheVariants.{AtItem, OverSources}
 use Rattle.sql_rules.specs.declared.selects.GroupItem.{GroupItem}

@@ -5,9 +5,9 @@ ghost use Rattle.std.specs.List.{list_all, list_any, position};
 ghost use Rattle.std.specs.Str.{bytes_eq};
 ghost use Rattle.sql_ast.specs.declared.expressions.Expr.{out-Expr};
 ghost use Rattle.sql_ast.specs.declared.selects.ColumnName.TheVariants.{Name, Qualified};
-ghost use Rattle.sql_features.specs.Features.{has};
+ghost use Rattle.sql_text.specs.Features.{has};
 ghost use Rattle.sql_rules.specs.Names.{repeats_by};
-ghost use Rattle.sql_features.specs.Nesting.{nests};
+ghost use Rattle.sql_text.specs.Nesting.{nests};
 ghost use Rattle.sql_rules.specs.Selects as spec;
 ghost use Rattle.sql_rules.specs.Selects.{alone_outside, are_of_groups, from_outside, grouped_as, in_item, in_items, is_call, is_filled, is_grouped, is_of_groups, is_open_to_sources, is_ungrouped_item_shown, is_written_as, items_outside, joined_name, key_outside, keys_outside, mixes_aggregates, name_or, query_outside, repeats_source, select_outside};
 ghost use Rattle.sql_rules.specs.Writes.{is_misplaced};
@@ -18,7 +18,7 @@ use sql_ast::{
     ColumnName, Expr, FromClause, Items, Join, NamedExpr, OrderKey, Query, Select, SelectItem,
     TableSource,
 };
-use sql_features::{Feature, has_feature, is_aggregate_node, nests_aggregates};
+use sql_text::{Feature, has_feature, is_aggregate_node, nests_aggregates};
 use tuple_codec::Text;
 
 /// What a grouped SELECT shows in an item.

@@ -22,7 +22,7 @@ use Rattle.plain_sql.specs.Temporary.{source_name}
 use Rattle.plain_sql.specs.declared.sources.Known.{Known}
 use Rattle.plain_sql.specs.declared.sources.Read.{Read}
 use Rattle.plain_sql.specs.Passing.{IsPassedOver}
-use Rattle.key_seek.specs.Seeking.{Seeks}
+use Rattle.sql_select.specs.Seeking.{Seeks}
 use Rattle.sql_select.specs.Seeks.{AddsServing, AreNeeded, ServesQuery, scope_in}
 use Rattle.sql_select.specs.Sources.{known_table}
 

@@ -1,2 +1,6 @@
 pub mod Canon
+pub mod Depths
+pub mod Features
+pub mod Nesting
 pub mod Sizes
+pub mod Values
