@@ -5,7 +5,7 @@ ghost use Rattle.chunk_store.specs.Drafts.{chunks_of};
 ghost use Rattle.schema_model.specs.PlainTables.{PlainTable};
 ghost use Rattle.table_root.specs.Standing.{IsTableOf};
 ghost use Rattle.plain_sql.specs.Plans.{scope_column};
-ghost use Rattle.plain_sql.specs.Temporary.{source_name};
+ghost use Rattle.sql_text.specs.SelectNames.{source_name};
 ghost use Rattle.sql_select.specs.Choosing.{IsSeekOf, is_wanted};
 ghost use Rattle.sql_select.specs.declared.choosing.Seek as seeks;
 ghost use Rattle.sql_select.specs.Seeks.{AreNeeded, SeeksBy, SeeksSource};

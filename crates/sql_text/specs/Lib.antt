@@ -2,5 +2,6 @@ pub mod Canon
 pub mod Depths
 pub mod Features
 pub mod Nesting
+pub mod SelectNames
 pub mod Sizes
 pub mod Values
