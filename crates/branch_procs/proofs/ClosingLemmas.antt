@@ -25,8 +25,8 @@ use Rattle.plain_sessions.specs.Sessions as plain_sessions
 use Rattle.plain_sessions.specs.Statements.{commit_worked, worked}
 use Rattle.plain_sessions.specs.declared.commands.Work.TheVariants as work
 use Rattle.root_merge.specs.States.{bytes_of}
-use Rattle.write_laws.proofs.OrderLemmas.{clash, two}
-use Rattle.state_laws.proofs.PutLemmas.{taking_few}
+use Rattle.plain_writes.proofs.RowOrderLemmas.{clash, two}
+use Rattle.keep_laws.proofs.PutLemmas.{taking_few}
 use Rattle.branch_procs.specs.Closing.{IsVerdict}
 use Rattle.branch_procs.specs.Listing.{AreFewTables}
 use Rattle.branch_procs.specs.Staging.{are_same, refusal_of}

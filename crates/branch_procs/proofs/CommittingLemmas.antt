@@ -43,8 +43,8 @@ use Rattle.root_merge.specs.Deciding.{AreStates, set}
 use Rattle.root_merge.specs.States.{BranchStateStands, IsCandidate}
 use Rattle.root_merge.specs.declared.candidates.Candidate.{Candidate}
 use Rattle.root_merge.specs.declared.candidates.Candidate.TheVariants as made
-use Rattle.session_laws.specs.Commits.{AreAmong, CommitsAreThere, HasNoCommit}
-use Rattle.session_laws.specs.Laws.{CommitsFollow, RecordsFollow}
+use Rattle.session_state.specs.Commits.{AreAmong, CommitsAreThere, HasNoCommit}
+use Rattle.session_state.specs.Laws.{CommitsFollow, RecordsFollow}
 use Rattle.session_state.specs.declared.sessions.Session.{Session}
 use Rattle.shared_db.specs.Plans.{IsPlannedAs, IsRefusedBy, PlanIs, brought}
 use Rattle.shared_db.specs.declared.changes.DecisionPlan.{DecisionPlan}

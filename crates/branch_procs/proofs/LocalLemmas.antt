@@ -41,10 +41,10 @@ use Rattle.plain_sessions.specs.declared.commands.Work.TheVariants.{Ask, Change,
 use Rattle.root_merge.specs.States.{BranchStateStands, IsCandidate}
 use Rattle.root_merge.specs.declared.candidates.Candidate.{Candidate}
 use Rattle.root_merge.specs.declared.candidates.Candidate.TheVariants as cand
-use Rattle.session_laws.specs.Commits.{HasNoCommit}
-use Rattle.session_laws.specs.Laws.{TransactionsFollow}
-use Rattle.session_laws.specs.Records.{RecordStands}
-use Rattle.session_laws.specs.Transactions.{StartStands, TransactionStands}
+use Rattle.session_state.specs.Commits.{HasNoCommit}
+use Rattle.session_state.specs.Laws.{TransactionsFollow}
+use Rattle.session_state.specs.Records.{RecordStands}
+use Rattle.session_state.specs.Transactions.{StartStands, TransactionStands}
 use Rattle.session_state.specs.Standing.{SessionStands}
 use Rattle.session_state.specs.declared.sessions.Session.{Session}
 use Rattle.session_txn.specs.Answering.{AnswersAlone}

@@ -13,7 +13,7 @@ use Rattle.commit_graph.specs.declared.commits.CommitRecord.{CommitRecord}
 use Rattle.schema_model.specs.PlainCommits.{Commits, commit_parts, greatest, height_of, is_known}
 use Rattle.plain_sessions.specs.Records.{BranchState, commit_on}
 use Rattle.root_merge.specs.States.{bytes_of}
-use Rattle.write_laws.proofs.OrderLemmas.{two}
+use Rattle.plain_writes.proofs.RowOrderLemmas.{two}
 use Rattle.branch_procs.specs.Committing.{CanCommit, parents_on}
 
 greatest_one : (h : ℕ) → h ≡ greatest (h ∷ [])

@@ -14,7 +14,7 @@ use Rattle.commit_graph.specs.declared.commits.CommitRecord.{CommitRecord}
 use Rattle.table_root.specs.Kept.{IsKeptAt}
 use Rattle.table_root.specs.Standing.{DatabasesStand}
 use Rattle.plain_sessions.specs.Records.{database_in, root_of}
-use Rattle.session_laws.specs.Commits.{CommitsAreThere}
+use Rattle.session_state.specs.Commits.{CommitsAreThere}
 
 module _ (address : List ℕ → List ℕ) (chunks : ChunksFollow) (law : CommitsFollow) (d : DraftParts) (commits : Commits) (there : CommitsAreThere address (chunk_bytes d.base) commits) (k : List ℕ) where
   more : Extends (chunk_bytes d.base) (chunks_of d)

@@ -10,7 +10,7 @@ use Rattle.table_root.specs.Kept.{IsKeptAt}
 use Rattle.table_root.specs.Standing.{TablesStand, named_tables}
 use Rattle.table_root.specs.declared.records.TableEntry.{TableEntry}
 use Rattle.sql_write.proofs.TableLemmas.{stand_later}
-use Rattle.write_laws.proofs.OrderLemmas.{both_so, right_so}
+use Rattle.plain_writes.proofs.RowOrderLemmas.{both_so, right_so}
 use Rattle.branch_procs.specs.Listing.{AreFewTables, AreTables}
 
 pub few_so : (database : PlainDatabase) → length database ≤ 256 → nat_le (length database) most_tables ≡ true

@@ -21,10 +21,10 @@ use Rattle.plain_sessions.specs.Branching.{put_table, table_cmp}
 use Rattle.sql_write.specs.Listing as listing
 use Rattle.sql_write.specs.Putting.{address_in}
 use Rattle.sql_write.proofs.ListingLemmas.{all_without, named_placed, named_without}
-use Rattle.write_laws.proofs.OrderLemmas.{both_so, clash, left_not, placed_past, placed_stop, right_not, turned, two}
-use Rattle.state_laws.proofs.KeptLemmas.{AreKept, IsKeptNamed, are_kept, by_name, have_so, within_are}
-use Rattle.state_laws.proofs.PutLemmas.{found_well, in_order_have, name_total, put_kept, tables_rise, taking_kept, apart_from}
-use Rattle.state_laws.proofs.RootLemmas.{TablesRise, tables_lower}
+use Rattle.plain_writes.proofs.RowOrderLemmas.{both_so, clash, left_not, placed_past, placed_stop, right_not, turned, two}
+use Rattle.keep_laws.proofs.KeptLemmas.{AreKept, IsKeptNamed, are_kept, by_name, have_so, within_are}
+use Rattle.keep_laws.proofs.PutLemmas.{found_well, in_order_have, name_total, put_kept, tables_rise, taking_kept, apart_from}
+use Rattle.keep_laws.proofs.RootLemmas.{TablesRise, tables_lower}
 use Rattle.branch_procs.specs.Listing.{AreFewTables, AreTables}
 use Rattle.branch_procs.specs.Taking.{put, taking, taking_all}
 use Rattle.branch_procs.proofs.TablesLemmas.{few_so}

@@ -20,8 +20,8 @@ use Rattle.plain_sessions.specs.declared.commands.Work.TheVariants.{Add, ResetTo
 use Rattle.root_merge.specs.States.{BranchStateStands}
 use Rattle.root_merge.specs.declared.candidates.Candidate.{Candidate}
 use Rattle.root_merge.specs.declared.candidates.Candidate.TheVariants as candidate
-use Rattle.session_laws.specs.Commits.{CommitsAreThere}
-use Rattle.session_laws.specs.Records.{RecordStands}
+use Rattle.session_state.specs.Commits.{CommitsAreThere}
+use Rattle.session_state.specs.Records.{RecordStands}
 use Rattle.session_txn.specs.Showing.{IsDue}
 
 -- it stages tables, or sets them back

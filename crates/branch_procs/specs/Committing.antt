@@ -15,7 +15,7 @@ use Rattle.plain_sessions.specs.Branching.{staged_first}
 use Rattle.plain_sessions.specs.Records.{BranchState, root_of}
 use Rattle.plain_sessions.specs.Replies.{one_row, text_field}
 use Rattle.root_merge.specs.States.{BranchStateStands}
-use Rattle.session_laws.specs.Commits.{CommitsAreThere}
+use Rattle.session_state.specs.Commits.{CommitsAreThere}
 use Rattle.shared_db.specs.Plans.{brought}
 use Rattle.shared_db.specs.declared.changes.DecisionPlan.{DecisionPlan}
 use Rattle.shared_db.specs.declared.changes.RecordChange.TheVariants.{Record}

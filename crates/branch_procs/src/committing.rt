@@ -18,7 +18,7 @@ ghost use Rattle.plain_sessions.specs.Statements.{worked};
 ghost use Rattle.plain_sessions.specs.declared.commands.Work.TheVariants as work;
 ghost use Rattle.root_merge.specs.Deciding.{set};
 ghost use Rattle.root_merge.specs.States.{IsCandidate};
-ghost use Rattle.session_laws.specs.Laws.{CommitsFollow, RecordsFollow};
+ghost use Rattle.session_state.specs.Laws.{CommitsFollow, RecordsFollow};
 ghost use Rattle.session_txn.specs.Answering.{Decides};
 ghost use Rattle.session_txn.specs.Committing.{IsWorkOf};
 ghost use Rattle.shared_db.specs.Plans.{IsRefusedBy, PlanIs};
@@ -30,8 +30,7 @@ use chunk_store::{Draft, PutFault, SealFault, law_of_chunks, law_of_drafts, law_
 use commit_graph::write_commit;
 use root_merge::{Candidate, candidate};
 use script_text::Reply;
-use session_laws::{law_of_records, law_of_standing_commits};
-use session_state::Session;
+use session_state::{Session, law_of_records, law_of_standing_commits};
 use shared_db::{DecisionPlan, RecordChange};
 use sql_procedures::{CommitRequest, Staging};
 use std::alloc::Global;

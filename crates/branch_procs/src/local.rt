@@ -12,7 +12,7 @@ ghost use Rattle.plain_sessions.specs.Records.{BranchState, root_of};
 ghost use Rattle.plain_sessions.specs.Sessions as plain;
 ghost use Rattle.plain_sessions.specs.declared.commands.Command.TheVariants as command;
 ghost use Rattle.root_merge.specs.States.{IsCandidate};
-ghost use Rattle.session_laws.specs.Laws.{RecordsFollow, TransactionsFollow};
+ghost use Rattle.session_state.specs.Laws.{RecordsFollow, TransactionsFollow};
 ghost use Rattle.session_state.specs.Standing.{IsInTransaction, SessionStands};
 ghost use Rattle.session_txn.specs.Answering.{AnswersAlone};
 ghost use Rattle.session_txn.specs.Showing.{is_sound_reply};
@@ -25,8 +25,7 @@ use chunk_store::{Draft, DraftMark, PutFault, law_of_chunks, law_of_drafts, law_
 use plain_sessions::Work;
 use root_merge::Candidate;
 use script_text::Reply;
-use session_laws::{law_of_records, law_of_transactions};
-use session_state::Session;
+use session_state::{Session, law_of_records, law_of_transactions};
 use session_txn::due;
 use std::alloc::Global;
 use tuple_codec::{BranchRecord, Digester};

@@ -6,7 +6,7 @@ ghost use Rattle.chunk_store.specs.Chunks.{chunk_bytes};
 ghost use Rattle.chunk_store.specs.Drafts.{chunks_of};
 ghost use Rattle.table_root.specs.Kept.{IsKeptAt};
 ghost use Rattle.plain_sessions.specs.Records.{root_of};
-ghost use Rattle.session_laws.specs.Commits.{CommitsAreThere};
+ghost use Rattle.session_state.specs.Commits.{CommitsAreThere};
 
 use chunk_store::{Draft, law_of_chunks};
 use commit_graph::{law_of_commits, law_of_standing_commits, read_commit};

@@ -9,7 +9,7 @@ use Rattle.schema_model.specs.PlainCommits.{AreGrown, Commits, IsGrown, PlainCom
 use Rattle.schema_model.specs.PlainTables.{PlainDatabase}
 use Rattle.schema_model.specs.WrittenForms.{CommitParts, database_address}
 use Rattle.chunk_store.specs.Chunks.{Chunks, Extends}
-use Rattle.tree_laws.proofs.Growing.{there_later}
+use Rattle.prolly_tree.proofs.Growing.{there_later}
 use Rattle.table_root.specs.Standing.{DatabasesStand}
 use Rattle.commit_graph.specs.Commits.{IsCommitFound}
 use Rattle.commit_graph.specs.Standing.{CommitsFollow, CommitsStand, IsCommitAt, IsCommitThere, first_of, in_either}

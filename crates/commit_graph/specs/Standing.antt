@@ -4,7 +4,7 @@ use Rattle.schema_model.specs.PlainCommits.{AreGrown, Commits, IsGrown, PlainCom
 use Rattle.schema_model.specs.WrittenForms.{database_address}
 use Rattle.chunk_store.specs.Chunks.{Chunks, Extends}
 use Rattle.chunk_store.specs.Standing.{IsThere}
-use Rattle.tree_laws.specs.Standing.{Exactly}
+use Rattle.prolly_tree.specs.Standing.{Exactly}
 use Rattle.table_root.specs.Standing.{IsDatabaseAt}
 use Rattle.commit_graph.specs.Commits.{IsCommit, IsCommitFound}
 

@@ -24,9 +24,9 @@ use Rattle.table_root.specs.Standing.{IsTableOf, TableValuesStand}
 use Rattle.table_root.specs.declared.records.StoredTable.{StoredTable}
 use Rattle.prolly_edit.specs.Editing.{CanEdit, PutsRow}
 use Rattle.prolly_tree.specs.Lists.{from_key, pair_of}
-use Rattle.table_rows.proofs.ReadingLemmas.{from_first}
-use Rattle.edit_laws.proofs.Orders.{greater}
-use Rattle.edit_laws.proofs.Rising.{edits_lower}
+use Rattle.table_root.proofs.ReadingLemmas.{from_first}
+use Rattle.tuple_codec.proofs.KeyOrders.{greater}
+use Rattle.tuple_codec.proofs.Rising.{edits_lower}
 use Rattle.conflict_tables.specs.Conflicts.{is_dropped, removal, removal_if, removal_of, removals, stays, without_conflicts}
 
 module _ (keys : List (List ℕ)) where

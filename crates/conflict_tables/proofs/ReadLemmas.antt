@@ -8,7 +8,7 @@ use Rattle.tuple_codec.proofs.TextLemmas.{counted_again}
 use Rattle.schema_model.specs.PlainTables.{Conflict, PlainTable, body_bytes, conflict_item, conflict_items, side_bytes}
 use Rattle.schema_model.specs.declared.schemas.Schema.{Schema}
 use Rattle.prolly_tree.specs.Lists.{from_key, pair_of}
-use Rattle.table_rows.proofs.ReadingLemmas.{from_first}
+use Rattle.table_root.proofs.ReadingLemmas.{from_first}
 use Rattle.conflict_tables.specs.Conflicts.{edit_of, entry_of, side_at, theirs_edit, theirs_edits, with_base, with_ours, with_theirs, written_conflict, written_conflicts, written_side}
 use Rattle.conflict_tables.specs.declared.entries.ConflictEntry.{ConflictEntry}
 

@@ -11,7 +11,7 @@ use Rattle.schema_model.specs.declared.schemas.IndexDef.{IndexDef}
 use Rattle.schema_model.specs.declared.schemas.Schema.{Schema}
 use Rattle.schema_model.specs.PlainTables.{NamedTable, PlainDatabase, Violation, violation_cmp}
 use Rattle.plain_writes.specs.Violations.{Checks, Found, breaks_check, breaks_not_null, breaks_unique, broken, found_in, of_check, of_column, of_foreign, of_index, violation, violations, violations_in}
-use Rattle.write_laws.proofs.OrderLemmas.{clash, two}
+use Rattle.plain_writes.proofs.RowOrderLemmas.{clash, two}
 use Rattle.constraint_scan.specs.Changed.{is_orphan_by}
 use Rattle.constraint_scan.proofs.MemberLemmas.{Stands, any_flat, any_in_order, any_joined, any_mapped, at_filter, at_some, filter_at, some_at}
 

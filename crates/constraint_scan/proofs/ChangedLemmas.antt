@@ -18,7 +18,7 @@ use Rattle.schema_model.specs.declared.schemas.Schema.{Schema}
 use Rattle.schema_model.specs.PlainTables.{Conflict, IsTable, NamedTable, PlainDatabase, PlainTable, Violation, primary_key, violation_cmp}
 use Rattle.schema_model.specs.Schemas.{are_distinct, are_foreign}
 use Rattle.plain_writes.specs.Violations.{Checks, Found, breaks_check, breaks_unique, first_of, first_violation, had_in, had_row, is_twin, is_whole, number_of, numbers_of, same_violation, table_in, violations}
-use Rattle.write_laws.proofs.OrderLemmas.{both_so, clash, left_so, right_so, two}
+use Rattle.plain_writes.proofs.RowOrderLemmas.{both_so, clash, left_so, right_so, two}
 use Rattle.constraint_scan.specs.Changed.{AreAlike, has_just, is_failed, is_left, is_orphan, is_orphan_by, is_repeated, some_changed, some_kept, told_by_rows}
 use Rattle.constraint_scan.specs.Scanning.{empty_named}
 use Rattle.constraint_scan.proofs.CauseLemmas.{Cause, ByCheck, ByColumn, ByForeign, ByIndex, cause_of, found, of_failed, of_orphan, of_repeated, row_of}

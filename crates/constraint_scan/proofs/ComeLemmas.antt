@@ -19,10 +19,10 @@ use Rattle.schema_model.specs.PlainTables.{is_row, row_item}
 use Rattle.schema_model.specs.Schemas.{is_schema}
 use Rattle.schema_model.specs.declared.schemas.Schema.{Schema}
 use Rattle.prolly_tree.specs.Lists.{pair_of}
-use Rattle.edit_laws.proofs.Orders.{same_key, turned, unlike, apart as unlike_back}
-use Rattle.edit_laws.proofs.Rising.{rows_lower}
-use Rattle.table_rows.specs.Rows.{RowItemsFollow}
-use Rattle.write_laws.proofs.OrderLemmas.{both_so, left_so, neither_so, right_so}
+use Rattle.tuple_codec.proofs.KeyOrders.{same_key, turned, unlike, apart as unlike_back}
+use Rattle.tuple_codec.proofs.Rising.{rows_lower}
+use Rattle.table_root.specs.Rows.{RowItemsFollow}
+use Rattle.plain_writes.proofs.RowOrderLemmas.{both_so, left_so, neither_so, right_so}
 use Rattle.constraint_scan.specs.Pairs.{come_of, come_pairs, row_pairs}
 
 abbrev is_same_item : Item → Item → Bool

@@ -11,7 +11,7 @@ use Rattle.schema_model.specs.declared.schemas.Schema.{Schema}
 use Rattle.schema_model.specs.Schemas.{is_empty}
 use Rattle.schema_model.specs.PlainTables.{NamedTable, PlainDatabase, Violation, violation_cmp}
 use Rattle.plain_writes.specs.Violations.{Checks, Found, breaks_not_null, broken, breaks_unique, first_of, first_violation, found_in, had_row, number_of, numbers_of, of_check, of_column, of_foreign, of_index, same_violation, violation, violations, violations_in}
-use Rattle.write_laws.proofs.OrderLemmas.{both_so, in_order_all, left_not, left_so, right_not, right_so}
+use Rattle.plain_writes.proofs.RowOrderLemmas.{both_so, in_order_all, left_not, left_so, right_not, right_so}
 use Rattle.constraint_scan.specs.Scanning.{has_constraints, is_constrained}
 
 abbrev is_null : Violation → Bool

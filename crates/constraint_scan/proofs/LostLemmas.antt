@@ -10,7 +10,7 @@ use Rattle.schema_model.specs.declared.schemas.ForeignKey.{ForeignKey}
 use Rattle.schema_model.specs.declared.schemas.Schema.{Schema}
 use Rattle.schema_model.specs.PlainTables.{NamedTable, PlainDatabase, PlainTable}
 use Rattle.plain_writes.specs.Violations.{Checks, first_violation, is_called, is_whole, keys_at, keys_of_parent, parent_keys, places_of, same_types, table_in, types_at}
-use Rattle.write_laws.proofs.OrderLemmas.{both_so, clash, left_so, right_so, two}
+use Rattle.plain_writes.proofs.RowOrderLemmas.{both_so, clash, left_so, right_so, two}
 use Rattle.constraint_scan.specs.Changed.{AreAlike, has_just, is_deserted, is_failed, is_left, is_missed, is_missed_row, is_orphan, is_orphan_by, is_repeated, some_changed, some_deserted, some_kept, told_by_changes, told_by_rows, with_row}
 use Rattle.constraint_scan.specs.Scanning.{empty_named, empty_table, skeleton}
 use Rattle.constraint_scan.proofs.ChangedLemmas.{changed_there, kept_at, kept_there, rows_tell}

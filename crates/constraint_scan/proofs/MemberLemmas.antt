@@ -5,7 +5,7 @@ use Rattle.std.specs.declared.cmp.Ordering.{Ordering}
 use Rattle.std.proofs.lemmas.Bool.{or_cases, or_left}
 use Rattle.tuple_codec.proofs.Truths.{or_late as or_right, alike_truths as as_one}
 use Rattle.plain_sql.specs.Lists.{in_order, placed}
-use Rattle.write_laws.proofs.OrderLemmas.{both_so, clash, left_so, placed_any, right_so, two}
+use Rattle.plain_writes.proofs.RowOrderLemmas.{both_so, clash, left_so, placed_any, right_so, two}
 
 abbrev pub Stands : {A : Type 0} → A → List A → Type 0
 Stands x [] = ⊥

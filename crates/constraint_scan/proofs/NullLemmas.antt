@@ -11,8 +11,8 @@ use Rattle.tuple_codec.specs.Rows.{Cells, same_cells}
 use Rattle.tuple_codec.specs.declared.values.Value.TheVariants as cell
 use Rattle.schema_model.specs.PlainTables.{body_bytes, is_row, primary_key, row_item}
 use Rattle.schema_model.specs.declared.schemas.Schema.{Schema}
-use Rattle.edit_laws.proofs.Values.{above}
-use Rattle.table_rows.specs.Rows.{IsRowOf}
+use Rattle.tuple_codec.proofs.EditedValues.{above}
+use Rattle.table_root.specs.Rows.{IsRowOf}
 use Rattle.constraint_scan.specs.Thinned.{has_null_key}
 
 -- a zero byte is the key NULL

@@ -22,7 +22,7 @@ use Rattle.plain_sql.specs.Lists.{has, repeats}
 use Rattle.plain_writes.specs.Violations.{Checks, breaks_check, breaks_foreign, breaks_not_null, breaks_unique, broken, of_check, of_column, of_foreign, of_index, parent_keys, violation, violations_in}
 use Rattle.plain_writes.specs.Writes.{keyed_cmp}
 use Rattle.plain_writes.proofs.SortLemmas.{risen_once}
-use Rattle.write_laws.proofs.OrderLemmas.{in_order_rises, left_not, neither_so, right_not, violation_total}
+use Rattle.plain_writes.proofs.RowOrderLemmas.{in_order_rises, left_not, neither_so, right_not, violation_total}
 use Rattle.constraint_scan.proofs.FreeLemmas.{all_flat}
 
 -- ---- violations apart

@@ -22,7 +22,7 @@ use Rattle.schema_model.specs.declared.schemas.Schema.{Schema}
 use Rattle.schema_model.proofs.FitLemmas.{primary_key_fits}
 use Rattle.plain_writes.specs.CheckTexts.{checks}
 use Rattle.plain_writes.specs.Violations.{Checks, Found, breaks_check, breaks_foreign, breaks_not_null, breaks_unique, broken, found_in, of_check, of_column, of_foreign, of_index, parent_keys, violation, violations, violations_in}
-use Rattle.write_laws.proofs.OrderLemmas.{in_order_all, two}
+use Rattle.plain_writes.proofs.RowOrderLemmas.{in_order_all, two}
 use Rattle.constraint_scan.specs.Recorded.{AllAreRecorded, with_all}
 use Rattle.constraint_scan.specs.Recording.{found_cmp, is_of, may_stand, may_stand_in, recorded_as, violations_of, with_list}
 use Rattle.constraint_scan.proofs.NameLemmas.{Finds, Lies, Rise, each_found, others_after, others_apart, rest_rises}

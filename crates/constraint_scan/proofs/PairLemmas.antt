@@ -17,7 +17,7 @@ use Rattle.schema_model.specs.Schemas.{is_schema}
 use Rattle.table_root.specs.Standing.{AreThere, IsTableOf, named_tables}
 use Rattle.table_root.specs.declared.records.StoredTable.{StoredTable}
 use Rattle.table_root.specs.declared.records.TableEntry as entries
-use Rattle.table_rows.specs.Rows.{AreRowsAt}
+use Rattle.table_root.specs.Rows.{AreRowsAt}
 use Rattle.constraint_scan.specs.Changed.{ChangesTell, has_just, is_failed, is_missed, is_missed_row, is_orphan, is_orphan_by, is_repeated, repeats_by, some_changed, some_deserted}
 use Rattle.constraint_scan.specs.Pairs.{ArePairs, HasRoot, IsPair, come_of, deserts, some_come, some_deserts, told_by_pairs}
 use Rattle.constraint_scan.specs.Scanning.{skeleton}

@@ -11,10 +11,10 @@ use Rattle.std.proofs.lemmas.Bool.{and_right as both_off}
 use Rattle.tuple_codec.proofs.Orderings.{less_is}
 use Rattle.tuple_codec.proofs.ByteLemmas.{same_bytes as eq_key}
 use Rattle.tuple_codec.specs.Nodes.{Item, Rise, RiseAfter}
-use Rattle.tree_laws.proofs.StandingOrder.{order, lt_trans, rise_any}
+use Rattle.prolly_tree.proofs.StandingOrder.{order, lt_trans, rise_any}
 use Rattle.prolly_tree.specs.Lists.{from_key, pair_of}
 use Rattle.constraint_scan.specs.Seeking.{begins, begins_first, begins_other, is_another}
-use Rattle.edit_laws.proofs.Orders.{apart}
+use Rattle.tuple_codec.proofs.KeyOrders.{apart}
 
 -- ---- numbers
 

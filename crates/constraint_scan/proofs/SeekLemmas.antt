@@ -26,7 +26,7 @@ use Rattle.schema_model.specs.declared.schemas.Schema.{Schema}
 use Rattle.schema_model.proofs.FitLemmas.{form_of, cell_at as cell_fits, kind_fits as kind_of, types_joined}
 use Rattle.plain_writes.specs.Violations.{is_twin, types_at}
 use Rattle.constraint_scan.specs.Seeking.{begins, is_another}
-use Rattle.tree_laws.proofs.StandingOrder.{order}
+use Rattle.prolly_tree.proofs.StandingOrder.{order}
 
 -- ---- cells at places
 

@@ -13,7 +13,7 @@ use Rattle.table_root.specs.Standing.{AreThere, IsTableAt, IsTableOf, TablesStan
 use Rattle.table_root.specs.Tables.{IsTableFound}
 use Rattle.table_root.specs.declared.records.StoredTable.{StoredTable}
 use Rattle.table_root.specs.declared.records.TableEntry as entries
-use Rattle.table_rows.specs.Rows.{AreRowsAt}
+use Rattle.table_root.specs.Rows.{AreRowsAt}
 
 module _ (address : List ℕ → List ℕ) (chunks : Chunks) (k : List ℕ) where
   pub table_found : TablesStand → (table : PlainTable) → IsTableAt address chunks k table → (read : StoredTable) × IsTableFound chunks k read

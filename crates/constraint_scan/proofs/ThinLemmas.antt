@@ -15,7 +15,7 @@ use Rattle.schema_model.specs.declared.schemas.Schema.{Schema}
 use Rattle.plain_sql.specs.Answers.{is_null}
 use Rattle.plain_sql.specs.Lists.{in_order}
 use Rattle.plain_writes.specs.Violations.{Checks, Found, breaks_foreign, breaks_not_null, broken, found_in, is_called, keys_of_parent, of_check, of_column, of_foreign, of_index, parent_keys, table_in, violation, violations, violations_in}
-use Rattle.write_laws.proofs.OrderLemmas.{left_not, right_not}
+use Rattle.plain_writes.proofs.RowOrderLemmas.{left_not, right_not}
 use Rattle.constraint_scan.specs.Scanning.{bare, is_constrained, skeleton}
 use Rattle.constraint_scan.specs.Thinned.{are_quiet, has_null_key, is_guarded, is_judged, is_parent, is_quiet, is_sole, looks_for, thin_named, thin_rows, thinned}
 use Rattle.constraint_scan.specs.Written.{fits, fits_in, written, written_in}

@@ -15,11 +15,11 @@ use Rattle.schema_model.specs.declared.schemas.IndexDef.{IndexDef}
 use Rattle.schema_model.specs.declared.schemas.Schema.{Schema}
 use Rattle.chunk_store.specs.Chunks.{Chunks}
 use Rattle.chunk_store.specs.Standing.{IsTree}
-use Rattle.tree_laws.proofs.Standing.{trees_lead}
+use Rattle.prolly_tree.proofs.Standing.{trees_lead}
 use Rattle.plain_writes.specs.Violations.{is_twin, types_at}
 use Rattle.table_root.specs.Standing.{IsTableOf}
 use Rattle.table_root.specs.declared.records.StoredTable.{StoredTable}
-use Rattle.table_rows.specs.Rows.{AreRowsAt}
+use Rattle.table_root.specs.Rows.{AreRowsAt}
 use Rattle.constraint_scan.specs.Seeking.{begins, can_seek, is_another, sought}
 use Rattle.constraint_scan.specs.Roots.{IsIndexedAt, root_for}
 use Rattle.constraint_scan.proofs.SeekLemmas.{any_sorted, any_twin, any_with, cells_first}

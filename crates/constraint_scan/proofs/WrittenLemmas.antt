@@ -15,7 +15,7 @@ use Rattle.schema_model.specs.Schemas.{is_schema}
 use Rattle.plain_writes.specs.Seen.{found_seen}
 use Rattle.plain_writes.specs.declared.listing.Found as listing
 use Rattle.plain_writes.specs.Violations.{Checks, Found, breaks_check, breaks_foreign, breaks_not_null, breaks_unique, broken, found_in, of_check, of_column, of_foreign, of_index, parent_keys, violation, violations, violations_in}
-use Rattle.write_laws.proofs.OrderLemmas.{both_so, in_order_all, left_so, right_so}
+use Rattle.plain_writes.proofs.RowOrderLemmas.{both_so, in_order_all, left_so, right_so}
 use Rattle.constraint_scan.specs.Scanning.{bare}
 use Rattle.constraint_scan.specs.Written.{fits, fits_in, written, written_in}
 use Rattle.constraint_scan.proofs.FreeLemmas.{all_flat}

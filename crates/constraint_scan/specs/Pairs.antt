@@ -10,7 +10,7 @@ use Rattle.schema_model.specs.declared.schemas.Schema.{Schema}
 use Rattle.prolly_tree.specs.Lists.{pair_of}
 use Rattle.chunk_store.specs.Chunks.{Chunks}
 use Rattle.table_root.specs.Standing.{IsTableOf}
-use Rattle.table_rows.specs.Rows.{AreRowsAt}
+use Rattle.table_root.specs.Rows.{AreRowsAt}
 use Rattle.plain_writes.specs.Violations.{Checks}
 use Rattle.constraint_scan.specs.Changed.{is_failed, is_missed_row, is_orphan, is_repeated}
 use Rattle.constraint_scan.specs.declared.pairing.Pair.{Pair}

@@ -10,7 +10,7 @@ use std::alloc::{AllocError, Global};
 pub struct CanonicalChecks;
 
 impl Reads for CanonicalChecks {
-    ghost use Rattle.sql_pieces.specs.Checking.{canonical_expression};
+    ghost use Rattle.sql_grammar.specs.Checking.{canonical_expression};
 
     ghost reading = { canonical_expression };
 

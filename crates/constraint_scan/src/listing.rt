@@ -17,8 +17,7 @@ use chunk_store::Draft;
 use plain_writes::{Found, NamedTable, table_in, violations as violations_of_tables};
 use schema_model::Schema;
 use std::alloc::{AllocError, Global};
-use table_root::{TableEntry, law_of_databases, read_database};
-use table_rows::row_item;
+use table_root::{TableEntry, law_of_databases, read_database, row_item};
 use tuple_codec::{Address, Blob, Digester, Text};
 
 /// A row that breaks a constraint, as the list of a table's violations keeps it.

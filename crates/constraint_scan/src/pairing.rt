@@ -7,7 +7,7 @@ ghost use Rattle.schema_model.specs.PlainTables.{NamedTable, PlainDatabase, Plai
 ghost use Rattle.schema_model.specs.Schemas.{is_schema};
 ghost use Rattle.chunk_store.specs.Drafts.{chunks_of};
 ghost use Rattle.table_root.specs.Standing.{AreThere, CanRead, IsReadAt, IsTableAt, IsTableOf};
-ghost use Rattle.table_rows.specs.Rows.{AreRowsAt, HasRowsAt};
+ghost use Rattle.table_root.specs.Rows.{AreRowsAt, HasRowsAt};
 ghost use Rattle.constraint_scan.specs.Pairs.{ArePairs, HasRoot, IsPair, come_of, come_pairs, row_pairs};
 ghost use Rattle.constraint_scan.specs.Recording.{IsEntryOf};
 
@@ -16,9 +16,9 @@ use pair_walk::{ReadCount, changes};
 use schema_model::{Schema, is_same_schema, law_of_sameness};
 use std::alloc::{AllocError, Global};
 use table_root::{
-    StoredTable, TableEntry, law_of_databases, law_of_tables, read_database, read_table,
+    StoredTable, TableEntry, law_of_databases, law_of_row_items, law_of_tables, read_database,
+    read_table, row_of,
 };
-use table_rows::{law_of_row_items, row_of};
 use tuple_codec::{Address, Digester, ItemChange, Row, Sequence, Text};
 
 /// A table that both databases have, with one schema.

@@ -11,8 +11,9 @@ use chunk_store::Draft;
 use plain_writes::{NamedTable, Table};
 use schema_model::Schema;
 use std::alloc::{AllocError, Global};
-use table_root::{TableEntry, law_of_databases, law_of_tables, read_database, read_table};
-use table_rows::read_rows;
+use table_root::{
+    TableEntry, law_of_databases, law_of_tables, read_database, read_rows, read_table,
+};
 use tuple_codec::{Address, Digester, Row, Sequence, Text};
 
 /// A table of this schema and these rows, in which no merge left anything open.

@@ -17,8 +17,7 @@ use chunk_store::Draft;
 use plain_writes::same_types;
 use schema_model::{ForeignKey, IndexDef, Schema};
 use std::alloc::{AllocError, Global};
-use table_root::StoredTable;
-use table_rows::read_rows;
+use table_root::{StoredTable, read_rows};
 use tuple_codec::{Address, Digester, Row, Sequence, Value, copy_row, key_of};
 
 /// All rows of a table.

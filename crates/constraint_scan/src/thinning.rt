@@ -8,7 +8,7 @@ ghost use Rattle.schema_model.specs.Schemas.{is_schema};
 ghost use Rattle.chunk_store.specs.Drafts.{chunks_of};
 ghost use Rattle.plain_writes.specs.Seen.{named_seen};
 ghost use Rattle.table_root.specs.Standing.{AreThere, IsTableAt};
-ghost use Rattle.table_rows.specs.Rows.{AreRowsAt, HasRowsAt};
+ghost use Rattle.table_root.specs.Rows.{AreRowsAt, HasRowsAt};
 ghost use Rattle.constraint_scan.specs.Thinned.{has_null_key, is_guarded, is_judged, is_parent, is_sole, looks_for, thin_named, thinned};
 
 use crate::judging::is_constrained;
@@ -18,8 +18,7 @@ use plain_writes::NamedTable;
 use prolly_tree::get;
 use schema_model::{Column, Schema};
 use std::alloc::{AllocError, Global};
-use table_root::{TableEntry, law_of_tables, read_table};
-use table_rows::{read_rows, row_of};
+use table_root::{TableEntry, law_of_tables, read_rows, read_table, row_of};
 use tuple_codec::{Address, Digester, Row, Sequence, Text};
 
 fn is_sole(key: &[u8], place: usize) -> bool

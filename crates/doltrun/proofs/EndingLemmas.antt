@@ -5,7 +5,7 @@ use Rattle.doltrun.specs.Endings.{EndsBy, SinkTells, SourceTells}
 use Rattle.doltrun.specs.Headline.{most_taken}
 use Rattle.doltrun.specs.declared.words.Task.{Task}
 use Rattle.doltrun.specs.declared.words.Task.TheVariants as task
-use Rattle.program_ends.specs.declared.status.Status.TheVariants as status
+use Rattle.script_text.specs.declared.status.Status.TheVariants as status
 
 nothing_taken : (told : Option (List ℕ)) → LosesAtMost most_taken told told
 nothing_taken None = record { taken = []; bound = omega arith; consumes = tt }

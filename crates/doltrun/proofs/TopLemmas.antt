@@ -7,13 +7,13 @@ use Rattle.tuple_codec.proofs.Truths.{if_true}
 use Rattle.script_text.specs.Input.{bad, lines_of, most_bytes, script, script_in}
 use Rattle.script_text.specs.declared.faults.BadScript.{BadScript}
 use Rattle.script_text.specs.declared.scripts.Script.{Script}
-use Rattle.program_ends.specs.Lines.{fault_line}
+use Rattle.script_text.specs.Lines.{fault_line}
 use Rattle.doltrun.specs.Headline.{HasScript, WritesAnswer}
 use Rattle.doltrun.specs.Stops.{Answer, Answers, AnswersAll, AnswersPart, Collides, Collision, FallsShort, Fault, Faults, IsToWrite, IsTold, IsWanted, Stop, Stops, StopsThere, WritesCollision, WritesFault, WritesStop}
 use Rattle.doltrun.specs.Words.{is_given}
 use Rattle.doltrun.specs.declared.words.ScriptRun.{ScriptRun}
-use Rattle.program_ends.specs.declared.status.Status.{Status}
-use Rattle.program_ends.specs.declared.status.Status.TheVariants as status
+use Rattle.script_text.specs.declared.status.Status.{Status}
+use Rattle.script_text.specs.declared.status.Status.TheVariants as status
 
 -- the bytes that were read, of those that a source had left: all of them, or more than a script may have
 pub record IsRead (told left : Option (List ℕ)) (bytes : List ℕ) : Type 0 where

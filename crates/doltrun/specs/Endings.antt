@@ -12,8 +12,8 @@ use Rattle.doltrun.specs.declared.words.LoadRun.{LoadRun}
 use Rattle.doltrun.specs.declared.words.ScriptRun.{ScriptRun}
 use Rattle.doltrun.specs.declared.words.Task.{Task}
 use Rattle.doltrun.specs.declared.words.Task.TheVariants as task
-use Rattle.program_ends.specs.declared.status.Status.{Status}
-use Rattle.program_ends.specs.declared.status.Status.TheVariants as status
+use Rattle.script_text.specs.declared.status.Status.{Status}
+use Rattle.script_text.specs.declared.status.Status.TheVariants as status
 
 -- what a kind of source tells: the bytes left, the faults counted, and whether its reads never fail
 pub record SourceTells (S : Type 0) : Type 0 where

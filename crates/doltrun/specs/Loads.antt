@@ -8,7 +8,7 @@ use Rattle.script_text.specs.Shown.{IsShown}
 use Rattle.script_text.specs.declared.outputs.RunText.{RunText}
 use Rattle.shared_db.specs.Opening.{IsOpeningClash}
 use Rattle.wire_io.specs.Moves.{AppendsFront}
-use Rattle.program_ends.specs.Lines.{collision_line}
+use Rattle.script_text.specs.Lines.{collision_line}
 use Rattle.doltrun.specs.declared.words.LoadRun.{LoadRun}
 
 -- These are the lines of a run which is the plain machine's run of the seed's workload with the epoch asked, along its own order and with the wants of

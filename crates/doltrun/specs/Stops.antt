@@ -11,15 +11,15 @@ use Rattle.script_text.specs.declared.scripts.Script.{Script}
 use Rattle.script_run.specs.Following.{IsStoppedAt}
 use Rattle.wire_io.specs.Moves.{AppendsFront}
 use Rattle.shared_db.specs.Opening.{IsOpeningClash}
-use Rattle.program_ends.specs.Lines.{collision_line, fault_line}
+use Rattle.script_text.specs.Lines.{collision_line, fault_line}
 use Rattle.doltrun.specs.Headline.{HasScript, IsAnswer}
 use Rattle.doltrun.specs.declared.answering.NoAnswer.{NoAnswer}
 use Rattle.doltrun.specs.declared.answering.NoAnswer.TheVariants as fault
 use Rattle.doltrun.specs.Words.{is_given}
 use Rattle.doltrun.specs.declared.words.MomentOrder.TheVariants.{Given}
 use Rattle.doltrun.specs.declared.words.ScriptRun.{ScriptRun}
-use Rattle.program_ends.specs.declared.status.Status.{Status}
-use Rattle.program_ends.specs.declared.status.Status.TheVariants as status
+use Rattle.script_text.specs.declared.status.Status.{Status}
+use Rattle.script_text.specs.declared.status.Status.TheVariants as status
 
 -- the first line of the input that breaks a rule, and the rule, were appended
 pub record WritesFault (asked : ScriptRun) (told old new : Option (List ℕ)) : Type 0 where

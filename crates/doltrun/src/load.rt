@@ -13,7 +13,7 @@ use crate::words::LoadRun;
 use crate::writing::{write_clash, write_last};
 use chunk_store::PutFault;
 use load_run::{Load, print_load, run_load};
-use program_ends::Status;
+use script_text::Status;
 use std::alloc::Global;
 use std::sync::Wait;
 use std::thread::Threads;

@@ -15,8 +15,8 @@ mod top;
 mod words;
 mod writing;
 
-pub use program_ends::Status;
-use program_ends::given_words;
+pub use script_text::Status;
+use script_text::given_words;
 use std::process::ExitCode;
 pub use top::{run, run_with};
 use wire_io::{NoPace, StdSink, StdSource};

@@ -10,7 +10,7 @@ use crate::load::run_workload;
 use crate::words::{ScriptRun, Task, USAGE, task_to_do};
 use crate::writing::{write_answer, write_last};
 use chunk_store::Sha512Cut;
-use program_ends::Status;
+use script_text::Status;
 use std::alloc::Global;
 use std::sync::Wait;
 use std::thread::Threads;

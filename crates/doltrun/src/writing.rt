@@ -7,15 +7,14 @@ ghost use Rattle.wire_io.specs.Causes.{Rose};
 ghost use Rattle.wire_io.specs.Moves.{AppendsFront};
 ghost use Rattle.script_text.specs.Input.{script};
 ghost use Rattle.script_text.specs.declared.faults.BadScript.{BadScript};
-ghost use Rattle.program_ends.specs.Lines.{collision_line, fault_line};
+ghost use Rattle.script_text.specs.Lines.{collision_line, fault_line};
 ghost use Rattle.doltrun.specs.Stops.{AnswersAll, AnswersPart, WritesCollision, WritesStop};
 ghost use Rattle.doltrun.specs.Words.{is_given};
 
 use crate::answering::{NoAnswer, answer};
 use crate::words::ScriptRun;
 use chunk_store::Clash;
-use program_ends::{Status, collision_text, fault_text};
-use script_text::BadScript;
+use script_text::{BadScript, Status, collision_text, fault_text};
 use std::alloc::Global;
 use std::sync::Wait;
 use std::thread::Threads;

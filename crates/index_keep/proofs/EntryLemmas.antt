@@ -12,10 +12,10 @@ use Rattle.tuple_codec.specs.Edits.{EditsRiseAfter, edited, order, value_at}
 use Rattle.tuple_codec.specs.Nodes.{Item, Rise, RiseAfter, is_after, leaf_item}
 use Rattle.tuple_codec.specs.declared.edits.Edit.{Edit}
 use Rattle.schema_model.specs.PlainTables.{placed, sorted}
-use Rattle.edit_laws.specs.ByKey.{AreLeafRows, edit_at, over}
-use Rattle.edit_laws.proofs.Orders.{same_key, turned, unlike as not_back}
-use Rattle.edit_laws.proofs.Rising.{edited_all, edited_rise}
-use Rattle.edit_laws.proofs.Values.{edited_value, same_rows}
+use Rattle.tuple_codec.specs.ByKey.{AreLeafRows, edit_at, over}
+use Rattle.tuple_codec.proofs.KeyOrders.{same_key, turned, unlike as not_back}
+use Rattle.tuple_codec.proofs.Rising.{edited_all, edited_rise}
+use Rattle.tuple_codec.proofs.EditedValues.{edited_value, same_rows}
 use Rattle.index_keep.specs.Entries.{entry_edits, found, put_entry, remove_entry}
 use Rattle.index_keep.specs.Steps.{AreApart, AreOnce}
 use Rattle.index_keep.proofs.FoundLemmas.{Apart, found_fits, found_name}

@@ -8,7 +8,7 @@ use Rattle.tuple_codec.proofs.ByteLemmas.{same_bytes as eq_key}
 use Rattle.tuple_codec.proofs.Options.{none_mapped as nothing, some_is}
 use Rattle.tuple_codec.specs.Edits.{value_at}
 use Rattle.tuple_codec.specs.Nodes.{RiseAfter, leaf_item}
-use Rattle.edit_laws.proofs.Values.{above}
+use Rattle.tuple_codec.proofs.EditedValues.{above}
 use Rattle.index_keep.specs.Entries.{found}
 
 module _ {A : Type 0} (name : A → List ℕ) where

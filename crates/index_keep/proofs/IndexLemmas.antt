@@ -11,8 +11,8 @@ use Rattle.schema_model.specs.PlainTables.{body_bytes, index_items, is_row, row_
 use Rattle.schema_model.specs.Schemas.{is_index, is_schema}
 use Rattle.schema_model.specs.declared.schemas.IndexDef.{IndexDef}
 use Rattle.schema_model.specs.declared.schemas.Schema.{Schema}
-use Rattle.edit_laws.proofs.Rising.{edited_rise}
-use Rattle.table_rows.specs.Rows.{RowItemsFollow}
+use Rattle.tuple_codec.proofs.Rising.{edited_rise}
+use Rattle.table_root.specs.Rows.{RowItemsFollow}
 use Rattle.index_keep.specs.Entries.{AreSorted, changes_at, edits_of_change, edits_of_changes, entry_key, found, keys_of, row_change, row_key}
 use Rattle.index_keep.specs.Keeping.{table_of_rows}
 use Rattle.index_keep.specs.Laws.{AreEditedRows, IndexListsFollow}

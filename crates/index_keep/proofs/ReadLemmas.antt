@@ -12,9 +12,9 @@ use Rattle.tuple_codec.specs.declared.edits.Edit.{Edit}
 use Rattle.schema_model.specs.PlainTables.{body_bytes, is_row, row_item}
 use Rattle.schema_model.specs.declared.schemas.Schema.{Schema}
 use Rattle.chunk_store.specs.Chunks.{Chunks}
-use Rattle.edit_laws.specs.ByKey.{edit_at, over}
-use Rattle.edit_laws.proofs.Values.{edited_value, edits_above}
-use Rattle.table_rows.specs.Rows.{IsRowOf}
+use Rattle.tuple_codec.specs.ByKey.{edit_at, over}
+use Rattle.tuple_codec.proofs.EditedValues.{edited_value, edits_above}
+use Rattle.table_root.specs.Rows.{IsRowOf}
 use Rattle.index_keep.specs.Entries.{changes_at, found, keys_of, row_change, row_key}
 use Rattle.index_keep.specs.Steps.{IsRowEdit, IsRowsEdit, IsValueAt}
 use Rattle.index_keep.specs.declared.changes.RowChange.{RowChange}

@@ -21,7 +21,7 @@ use Rattle.schema_model.specs.declared.schemas.Schema.{Schema}
 use Rattle.chunk_store.specs.Chunks.{Chunks}
 use Rattle.chunk_store.specs.Standing.{IsTree}
 use Rattle.prolly_edit.specs.Editing.{PutsRow}
-use Rattle.table_rows.specs.Rows.{RowItemsFollow}
+use Rattle.table_root.specs.Rows.{RowItemsFollow}
 use Rattle.index_keep.specs.Entries.{row_key}
 use Rattle.index_keep.specs.Keeping.{table_of_rows}
 use Rattle.index_keep.specs.Steps.{StandAt}

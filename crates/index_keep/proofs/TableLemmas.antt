@@ -14,12 +14,12 @@ use Rattle.schema_model.specs.declared.schemas.IndexDef.{IndexDef}
 use Rattle.schema_model.specs.declared.schemas.Schema.{Schema}
 use Rattle.chunk_store.specs.Chunks.{Chunks, Extends}
 use Rattle.chunk_store.specs.Standing.{IsTree}
-use Rattle.tree_laws.proofs.Growing.{tree_later}
-use Rattle.edit_laws.proofs.Rising.{edited_rise}
+use Rattle.prolly_tree.proofs.Growing.{tree_later}
+use Rattle.tuple_codec.proofs.Rising.{edited_rise}
 use Rattle.prolly_edit.specs.Editing.{CanEdit}
 use Rattle.table_root.specs.Standing.{IsTableOf, table_of_lists}
 use Rattle.table_root.specs.declared.records.StoredTable.{StoredTable}
-use Rattle.table_rows.specs.Rows.{RowItemsFollow}
+use Rattle.table_root.specs.Rows.{RowItemsFollow}
 use Rattle.index_keep.specs.Entries.{changes_at, keys_of, row_change, row_key}
 use Rattle.index_keep.specs.Keeping.{AreIndexes, CanEditTable, CanIndex, table_of_rows, with_rows}
 use Rattle.index_keep.specs.Steps.{CanEditIndexes, IsRowsEdit, StandAt}

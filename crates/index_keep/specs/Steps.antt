@@ -15,7 +15,7 @@ use Rattle.schema_model.specs.declared.schemas.IndexDef.{IndexDef}
 use Rattle.schema_model.specs.declared.schemas.Schema.{Schema}
 use Rattle.chunk_store.specs.Chunks.{Chunks}
 use Rattle.chunk_store.specs.Standing.{IsTree}
-use Rattle.edit_laws.specs.ByKey.{edit_at}
+use Rattle.tuple_codec.specs.ByKey.{edit_at}
 use Rattle.index_keep.specs.Entries.{changes_at, found, row_key}
 use Rattle.index_keep.specs.Keeping.{AreRowsOf, table_of_rows}
 use Rattle.index_keep.specs.declared.changes.RowChange.{RowChange}

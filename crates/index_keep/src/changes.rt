@@ -12,7 +12,7 @@ use chunk_store::Draft;
 use prolly_tree::get;
 use schema_model::Schema;
 use std::alloc::{AllocError, Global};
-use table_rows::row_of;
+use table_root::row_of;
 use tuple_codec::{Address, Digester, Edit, Row, Sequence};
 
 /// What stood under a key of rows, and what stands there then.

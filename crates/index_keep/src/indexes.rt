@@ -19,7 +19,7 @@ use node_chunker::build;
 use prolly_edit::apply;
 use schema_model::{IndexDef, Schema};
 use std::alloc::Global;
-use table_rows::read_rows;
+use table_root::read_rows;
 use tuple_codec::{Address, Digester, Sequence, keys_are_one_spelling};
 
 /// Makes the lists of a table's indexes: the roots of their trees, one for each of the schema's indexes, in their order.

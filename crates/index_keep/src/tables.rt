@@ -14,8 +14,7 @@ use crate::indexes::edit_indexes;
 use chunk_store::{Draft, PutFault};
 use prolly_edit::apply;
 use std::alloc::Global;
-use table_root::StoredTable;
-use table_rows::law_of_row_items;
+use table_root::{StoredTable, law_of_row_items};
 use tuple_codec::{Digester, Edit};
 
 /// Edits a table's rows and, with them, the list of each of its indexes. All else of the table stays.

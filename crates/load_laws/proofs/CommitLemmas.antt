@@ -11,8 +11,8 @@ use Rattle.schema_model.specs.PlainTables.{PlainDatabase, Violation, violation_c
 use Rattle.schema_model.specs.Sameness.{is_same_database, is_same_option, is_same_table}
 use Rattle.expr_eval.specs.Binding.{and_then}
 use Rattle.plain_sql.specs.Lists.{in_order}
-use Rattle.plain_merge.specs.RootMerge.{MergedDatabase, SchemaConflict, either_table, or_by_rows, root3, step, unmerged}
-use Rattle.plain_merge.specs.RootMerge as roots
+use Rattle.schema_merge.specs.RootMerge.{MergedDatabase, SchemaConflict, either_table, or_by_rows, root3, step, unmerged}
+use Rattle.schema_merge.specs.RootMerge as roots
 use Rattle.plain_writes.specs.Violations.{breaks_not_null, violation, violations_in}
 use Rattle.plain_writes.specs.CheckTexts.{checks}
 use Rattle.plain_sessions.specs.CommitRule as rule

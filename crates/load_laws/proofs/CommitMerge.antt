@@ -17,8 +17,8 @@ use Rattle.schema_model.specs.Sameness.{is_same_schema, is_same_table}
 use Rattle.schema_merge.specs.Merging.{and_then, schema3}
 use Rattle.schema_merge.specs.Parts.{moved_place}
 use Rattle.schema_merge.specs.Projecting.{projected}
-use Rattle.plain_merge.specs.KeyByKey.{all_keys, before, gathered, kept, key_among, keys_with}
-use Rattle.plain_merge.specs.TableMerge.{Three, answer_at, conflict_at, conflict_if, keys_of, row_after, row_at, sides_at, table3, table_of, three_on}
+use Rattle.schema_merge.specs.KeyByKey.{all_keys, before, gathered, kept, key_among, keys_with}
+use Rattle.schema_merge.specs.TableMerge.{Three, answer_at, conflict_at, conflict_if, keys_of, row_after, row_at, sides_at, table3, table_of, three_on}
 use Rattle.table_merge.proofs.LookLemmas.{row3_kept}
 use Rattle.load_laws.specs.Loaded.{load_schema, load_table, row}
 use Rattle.load_laws.specs.Parts.{MeetsAt}

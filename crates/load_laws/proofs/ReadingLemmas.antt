@@ -13,10 +13,10 @@ use Rattle.sql_ast.specs.declared.statements.Write.TheVariants as write
 use Rattle.sql_grammar.specs.Expressions.{any, atom, called, column, comparison, conjunction, disjunction, expression, literal_ahead, negation, other_atom, plain_atom, product, sum, term, term_ahead, test_ahead, tested, unary}
 use Rattle.sql_grammar.specs.Pieces.{same_keyword, same_sign}
 use Rattle.sql_grammar.specs.Reading.{chain, chain_from, list, name, optional_name, sees, sees_keyword, sees_name, sees_word}
-use Rattle.sql_grammar.specs.declared.pieces.Piece.{Piece}
-use Rattle.sql_features.specs.Features.{has, step}
-use Rattle.sql_features.specs.declared.features.Feature.{Feature}
-use Rattle.sql_features.specs.declared.features.Feature.TheVariants as feature
+use Rattle.sql_ast.specs.declared.pieces.Piece.{Piece}
+use Rattle.sql_text.specs.Features.{has, step}
+use Rattle.sql_text.specs.declared.features.Feature.{Feature}
+use Rattle.sql_text.specs.declared.features.Feature.TheVariants as feature
 use Rattle.sql_parse.specs.Openings.{is_hopeless}
 use Rattle.sql_parse.specs.Parsing.{judged, placed, refused, statement_by, statement_in}
 use Rattle.sql_statements.specs.Selects.{filter}

@@ -15,16 +15,16 @@ use Rattle.sql_ast.specs.declared.tokens.TokenKind.{TokenKind}
 use Rattle.sql_ast.specs.declared.tokens.TokenKind.TheVariants as kind
 use Rattle.sql_ast.specs.declared.words.Keyword.{Keyword}
 use Rattle.sql_ast.specs.declared.words.Keyword.TheVariants as word
-use Rattle.sql_grammar.specs.declared.pieces.Piece.{Piece}
-use Rattle.sql_grammar.specs.declared.pieces.Piece.TheVariants as piece
-use Rattle.sql_pieces.specs.Values.{canonical_piece_of, canonical_pieces_of, canonical_value, canonical_word, lowered, pieces_of, value, word_by}
-use Rattle.sql_pieces.specs.Values as values
-use Rattle.grammar_laws.specs.Spelling.{key, mark}
-use Rattle.canonical_laws.specs.Written.{is_word}
-use Rattle.canonical_laws.proofs.Lexing.{Any, Lexes, joined, same_pieces}
-use Rattle.canonical_laws.proofs.Marks.{AfterExpr}
-use Rattle.canonical_laws.proofs.Numbers.{whole_lexes}
-use Rattle.canonical_laws.proofs.Words.{AfterWord, blank, close, comma, equal, open_, word_lexes}
+use Rattle.sql_ast.specs.declared.pieces.Piece.{Piece}
+use Rattle.sql_ast.specs.declared.pieces.Piece.TheVariants as piece
+use Rattle.sql_ast.specs.Values.{canonical_piece_of, canonical_pieces_of, canonical_value, canonical_word, lowered, pieces_of, value, word_by}
+use Rattle.sql_ast.specs.Values as values
+use Rattle.sql_laws.specs.Spelling.{key, mark}
+use Rattle.sql_laws.specs.Written.{is_word}
+use Rattle.sql_laws.proofs.Lexing.{Any, Lexes, joined, same_pieces}
+use Rattle.sql_laws.proofs.Marks.{AfterExpr}
+use Rattle.sql_laws.proofs.Numbers.{whole_lexes}
+use Rattle.sql_laws.proofs.Words.{AfterWord, blank, close, comma, equal, open_, word_lexes}
 use Rattle.workload.specs.Workload.{insert_text, update_text}
 
 -- ---- a canonical text without reserved words in lower case has the same pieces in any text

@@ -20,9 +20,9 @@ use Rattle.table_root.specs.declared.records.StoredTable.{StoredTable}
 use Rattle.table_root.specs.declared.records.TableEntry as entries
 use Rattle.table_root.specs.Kept.{HasKeptAt, IsKeptAt}
 use Rattle.plain_sessions.specs.Records.{Branch, BranchState, Shared, is_branch, state_of}
-use Rattle.session_laws.specs.Changes.{BranchStands, Paired, Parts, StateStands}
-use Rattle.session_laws.specs.Laws.{StatesFollow, head_in}
-use Rattle.session_laws.specs.Transactions.{IsLookOf}
+use Rattle.session_state.specs.Changes.{BranchStands, Paired, Parts, StateStands}
+use Rattle.session_state.specs.Laws.{StatesFollow, head_in}
+use Rattle.session_state.specs.Transactions.{IsLookOf}
 use Rattle.shared_db.specs.Shared.{is_line_of, record_at}
 use Rattle.load_run.specs.Loading.{is_load_table, is_main, load_rows_in, rows_in}
 

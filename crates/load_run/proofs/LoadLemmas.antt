@@ -10,7 +10,7 @@ use Rattle.plain_sessions.specs.Output.{shown}
 use Rattle.plain_sessions.specs.Runs.{State, plain_run}
 use Rattle.run_laws.specs.Laws.{shown_of}
 use Rattle.run_laws.specs.Replaying.{all_replies}
-use Rattle.session_laws.specs.Changes.{Parts}
+use Rattle.session_state.specs.Changes.{Parts}
 use Rattle.script_run.specs.Scripts.{IsSoundScript}
 use Rattle.script_run.specs.declared.players.Player.{Player}
 use Rattle.thread_run.specs.Ending.{HasEnded}

@@ -9,14 +9,14 @@ ghost use Rattle.chunk_store.specs.Stores.{all_chunks};
 ghost use Rattle.table_root.specs.Standing.{AreThere, IsTableAt};
 ghost use Rattle.table_root.specs.Kept.{HasKeptAt, IsKeptAt};
 ghost use Rattle.plain_sessions.specs.Records.{Shared};
-ghost use Rattle.session_laws.specs.Changes.{StateStands};
+ghost use Rattle.session_state.specs.Changes.{StateStands};
 ghost use Rattle.load_run.specs.Loading.{is_main, load_rows_in, rows_in};
 
 use crate::lines::main_in;
 use chunk_region::PagePool;
 use chunk_store::Draft;
 use prolly_tree::count;
-use session_laws::law_of_states;
+use session_state::law_of_states;
 use shared_db::SharedDb;
 use std::alloc::{AllocError, Global};
 use table_root::{

@@ -9,9 +9,9 @@ use crate::loading::Load;
 use crate::refusals::count_refusals;
 use crate::trouble::push_trouble;
 use script_text::{BranchLine, RunText};
+use sql_text::push_number;
 use std::alloc::{AllocError, Global};
 use tuple_codec::Blob;
-use value_text::push_number;
 
 /// The lines of the workload's run: six, and two more where a statement was refused.
 pub fn print_load(alloc: Global, load: &Load) -> Result<Blob, AllocError>

@@ -9,7 +9,7 @@ use Rattle.chunk_store.specs.Laws.{ChunksFollow, DraftsFollow, DraftsGrow}
 use Rattle.chunk_store.specs.declared.faults.PutFault.{PutFault}
 use Rattle.chunk_store.specs.declared.faults.PutFault.TheVariants.{Memory, Collision}
 use Rattle.expr_eval.specs.Binding.{Outcome, and_then}
-use Rattle.plain_merge.specs.RootMerge.{MergedDatabase}
+use Rattle.schema_merge.specs.RootMerge.{MergedDatabase}
 use Rattle.plain_sessions.specs.Merging.{Worked, Answers, Closes, Ending, Forwarding, base_root, is_clean, merge, merge_made, merged_with}
 use Rattle.plain_sessions.specs.Records.{BranchState, root_of}
 use Rattle.plain_sessions.specs.Sessions as plain
@@ -20,8 +20,8 @@ use Rattle.plain_sql.specs.Lists.{unless}
 use Rattle.root_merge.specs.Merging.{AreRoots}
 use Rattle.script_text.specs.Collisions.{IsFault}
 use Rattle.script_text.specs.declared.replies.Reply.{Reply}
-use Rattle.session_laws.specs.Commits.{HasNoCommit}
-use Rattle.session_laws.specs.Transactions.{StartStands}
+use Rattle.session_state.specs.Commits.{HasNoCommit}
+use Rattle.session_state.specs.Transactions.{StartStands}
 use Rattle.session_state.specs.Standing.{SessionStands}
 use Rattle.session_state.specs.declared.sessions.Session.{Session}
 use Rattle.sql_procedures.specs.declared.requests.MergeOf.{MergeOf}

@@ -15,7 +15,7 @@ use Rattle.expr_eval.specs.Binding.{Outcome, and_then}
 use Rattle.schema_model.specs.PlainTables.{PlainDatabase, PlainTable}
 use Rattle.schema_model.proofs.SizeLemmas.{few_tables}
 use Rattle.table_root.specs.Standing.{IsReadAt}
-use Rattle.plain_merge.specs.RootMerge.{MergedDatabase, SchemaConflict}
+use Rattle.schema_merge.specs.RootMerge.{MergedDatabase, SchemaConflict}
 use Rattle.plain_writes.specs.CheckTexts.{checks}
 use Rattle.plain_sessions.specs.CommitRule.{is_none}
 use Rattle.plain_sessions.specs.Merging.{if_within_limits, or_schema_conflict}

@@ -16,7 +16,7 @@ use Rattle.chunk_store.specs.declared.faults.PutFault.{PutFault}
 use Rattle.commit_graph.specs.Standing.{IsCommitThere}
 use Rattle.table_root.specs.Kept.{IsKeptAt}
 use Rattle.expr_eval.specs.Binding.{Outcome}
-use Rattle.plain_merge.specs.RootMerge.{MergedDatabase}
+use Rattle.schema_merge.specs.RootMerge.{MergedDatabase}
 use Rattle.schema_model.specs.PlainCommits.{Commits, IsGrown, PlainCommit, commit_address, is_known, plain_commit_bytes}
 use Rattle.schema_model.specs.PlainTables.{PlainDatabase}
 use Rattle.script_text.specs.declared.replies.Reply.{Reply}
@@ -28,10 +28,10 @@ use Rattle.plain_sessions.specs.Moments.{closed, forwarded, merged_as, unless_mo
 use Rattle.plain_sessions.specs.Records.{BranchState, Shared, commit_on, is_same_state, root_of, with_new_commit}
 use Rattle.plain_sessions.specs.Sessions as plain
 use Rattle.plain_sessions.specs.Sessions.{Transaction, own_root}
-use Rattle.session_laws.specs.Commits.{AreAmong, CommitsAreThere, HasNoCommit}
-use Rattle.session_laws.specs.Laws.{CommitsFollow, RecordsFollow}
-use Rattle.session_laws.specs.Records.{RecordStands}
-use Rattle.session_laws.specs.Transactions.{TransactionStands}
+use Rattle.session_state.specs.Commits.{AreAmong, CommitsAreThere, HasNoCommit}
+use Rattle.session_state.specs.Laws.{CommitsFollow, RecordsFollow}
+use Rattle.session_state.specs.Records.{RecordStands}
+use Rattle.session_state.specs.Transactions.{TransactionStands}
 use Rattle.session_state.specs.declared.sessions.Session.{Session}
 use Rattle.session_state.proofs.ChangeLemmas.{record_by, record_told, same_record}
 use Rattle.session_txn.specs.Answering.{Decides}

@@ -29,14 +29,14 @@ use Rattle.plain_sessions.specs.Records.{BranchState}
 use Rattle.plain_sessions.specs.Statements.{resolve_worked}
 use Rattle.root_merge.proofs.MergedLemmas.{within_named as all_within}
 use Rattle.script_text.specs.declared.replies.Reply.{Reply}
-use Rattle.session_laws.specs.Laws.{RecordsFollow}
-use Rattle.session_laws.specs.Records.{RecordStands}
+use Rattle.session_state.specs.Laws.{RecordsFollow}
+use Rattle.session_state.specs.Records.{RecordStands}
 use Rattle.session_txn.specs.Showing.{is_plain_reply}
 use Rattle.sql_procedures.specs.declared.requests.Resolution.{Resolution}
 use Rattle.sql_write.specs.Putting.{AreListed}
 use Rattle.sql_write.proofs.TableLemmas.{kept_read, kept_short}
-use Rattle.state_laws.proofs.ResolveLemmas.{resolved_kept}
-use Rattle.write_laws.specs.Laws.{IsKept}
+use Rattle.keep_laws.proofs.ResolveLemmas.{resolved_kept}
+use Rattle.plain_writes.specs.WriteLaws.{IsKept}
 use Rattle.branch_procs.specs.Calls.{status_reply}
 use Rattle.branch_procs.specs.Staging.{refusal_of}
 use Rattle.merge_procs.specs.Resolving.{CanJudge, CanResolve, CanSettleEach, first_absent, first_refusal, has_name}

@@ -11,7 +11,7 @@ use Rattle.chunk_store.specs.Drafts.{Drafting, DraftParts, IsSound, chunks_of}
 use Rattle.chunk_store.specs.Laws.{ChunksFollow, DraftsFollow}
 use Rattle.chunk_store.specs.Stores.{IsBrought, joined}
 use Rattle.expr_eval.specs.Binding.{Outcome, and_then}
-use Rattle.plain_merge.specs.RootMerge.{MergedDatabase}
+use Rattle.schema_merge.specs.RootMerge.{MergedDatabase}
 use Rattle.plain_sql.specs.Lists.{unless}
 use Rattle.script_text.specs.declared.replies.Reply.{Reply}
 use Rattle.sql_procedures.specs.Arguments.{begins_with_minus, is_message, is_name_byte, is_point}
@@ -27,7 +27,7 @@ use Rattle.plain_sessions.specs.Sessions as plain
 use Rattle.plain_sessions.specs.Sessions.{Transaction}
 use Rattle.plain_sessions.specs.Statements.{worked}
 use Rattle.plain_sessions.specs.declared.commands.Work.TheVariants as call
-use Rattle.session_laws.specs.Transactions.{StartStands}
+use Rattle.session_state.specs.Transactions.{StartStands}
 use Rattle.session_state.specs.declared.sessions.Session.{Session}
 use Rattle.session_txn.specs.Answering.{Decides}
 use Rattle.session_txn.proofs.CommitLemmas as decisions

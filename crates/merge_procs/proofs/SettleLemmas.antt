@@ -20,7 +20,7 @@ use Rattle.root_merge.specs.Merging.{are_within}
 use Rattle.sql_procedures.specs.declared.requests.Resolution.{Resolution}
 use Rattle.sql_procedures.specs.declared.requests.Side.{Side}
 use Rattle.sql_procedures.specs.declared.requests.Side.TheVariants as side
-use Rattle.write_laws.proofs.DatabaseLemmas.{limits_so}
+use Rattle.plain_writes.proofs.DatabaseLemmas.{limits_so}
 use Rattle.merge_procs.specs.Resolving.{CanSettle, CanSettleEach, CanSettleNamed, CanTake, CanTakeSide, settled, takes_flawed, without_conflicts}
 use Rattle.merge_procs.specs.declared.takings.Flaw.TheVariants as flaw
 

@@ -23,7 +23,7 @@ use Rattle.script_text.specs.declared.replies.Reply.{Reply}
 use Rattle.script_text.specs.declared.replies.Reply.TheVariants.{Refused, Collided}
 use Rattle.sql_procedures.specs.declared.requests.MergeOf.{MergeOf}
 use Rattle.sql_procedures.specs.declared.requests.MergeRequest.TheVariants as merging
-use Rattle.plain_merge.specs.RootMerge.{MergedDatabase}
+use Rattle.schema_merge.specs.RootMerge.{MergedDatabase}
 use Rattle.plain_sessions.specs.Merging.{Worked, Answers, Closes, Joining, base_root, in_progress, merge, merge_made, merge_message, merge_reply, merged_with}
 use Rattle.plain_sessions.specs.Moments.{is_in_transaction}
 use Rattle.plain_sessions.specs.Records.{BranchState, clean_at, root_of}
@@ -34,10 +34,10 @@ use Rattle.plain_sessions.specs.Statements.{worked}
 use Rattle.plain_sessions.specs.declared.commands.Command.TheVariants as command
 use Rattle.plain_sessions.specs.declared.commands.Work.{Work}
 use Rattle.root_merge.specs.Merging.{AreRoots}
-use Rattle.session_laws.specs.Commits.{CommitsAreThere, HasNoCommit}
-use Rattle.session_laws.specs.Laws.{RecordsFollow, TransactionsFollow}
-use Rattle.session_laws.specs.Records.{RecordStands}
-use Rattle.session_laws.specs.Transactions.{StartStands}
+use Rattle.session_state.specs.Commits.{CommitsAreThere, HasNoCommit}
+use Rattle.session_state.specs.Laws.{RecordsFollow, TransactionsFollow}
+use Rattle.session_state.specs.Records.{RecordStands}
+use Rattle.session_state.specs.Transactions.{StartStands}
 use Rattle.session_state.specs.Standing.{IsInTransaction, SessionStands}
 use Rattle.session_state.specs.declared.sessions.Session.{Session}
 use Rattle.session_txn.specs.Answering.{AnswersAlone}

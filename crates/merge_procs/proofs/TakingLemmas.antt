@@ -14,7 +14,7 @@ use Rattle.chunk_store.specs.Chunks.{Chunks}
 use Rattle.conflict_tables.specs.Conflicts.{theirs_edit, theirs_edits}
 use Rattle.table_root.specs.Standing.{IsTableOf}
 use Rattle.table_root.specs.declared.records.StoredTable.{StoredTable}
-use Rattle.table_rows.specs.Rows.{IsRowOf}
+use Rattle.table_root.specs.Rows.{IsRowOf}
 use Rattle.sql_write.proofs.PlaceLemmas.{schema_same}
 use Rattle.merge_procs.specs.Resolving.{AreTakings, IsTaking, theirs_of}
 

@@ -24,26 +24,26 @@ use Rattle.schema_model.specs.declared.schemas.Schema.{Schema}
 use Rattle.schema_model.proofs.FitLemmas.{key_types_fit, primary_key_fits}
 use Rattle.chunk_store.specs.Chunks.{Chunks}
 use Rattle.conflict_tables.specs.Conflicts.{theirs_edit, theirs_edits}
-use Rattle.edit_laws.specs.ByKey.{edit_at, over}
-use Rattle.edit_laws.proofs.Orders.{greater}
-use Rattle.edit_laws.proofs.Rising.{edited_all, edited_rise, edits_lower, rows_lower}
-use Rattle.edit_laws.proofs.Values.{edited_value, edits_above, same_rows}
+use Rattle.tuple_codec.specs.ByKey.{edit_at, over}
+use Rattle.tuple_codec.proofs.KeyOrders.{greater}
+use Rattle.tuple_codec.proofs.Rising.{edited_all, edited_rise, edits_lower, rows_lower}
+use Rattle.tuple_codec.proofs.EditedValues.{edited_value, edits_above, same_rows}
 use Rattle.index_keep.specs.Entries.{comes_before}
 use Rattle.index_keep.specs.Keeping.{CanEditTable}
 use Rattle.table_root.specs.declared.records.StoredTable.{StoredTable}
-use Rattle.table_rows.specs.Rows.{RowItemsFollow}
+use Rattle.table_root.specs.Rows.{RowItemsFollow}
 use Rattle.plain_sql.specs.Lists.{in_order, repeats}
 use Rattle.plain_writes.specs.Writes.{keyed_cmp}
 use Rattle.plain_sessions.specs.Merging.{is_conflicted, rows_after, their_rows}
 use Rattle.sql_procedures.specs.declared.requests.Side.TheVariants as side
-use Rattle.write_laws.proofs.DatabaseLemmas.{IsKeptTable}
-use Rattle.write_laws.proofs.OrderLemmas.{both_so, in_order_all, in_order_length, two}
-use Rattle.write_laws.proofs.RowLemmas.{all_left, all_right}
+use Rattle.plain_writes.proofs.DatabaseLemmas.{IsKeptTable}
+use Rattle.plain_writes.proofs.RowOrderLemmas.{both_so, in_order_all, in_order_length, two}
+use Rattle.plain_writes.proofs.RowLemmas.{all_left, all_right}
 use Rattle.sql_write.specs.Inserting.{edit_of, is_good}
 use Rattle.sql_write.proofs.InsertLemmas.{edited_is}
 use Rattle.sql_write.proofs.RiseLemmas.{are_leaves}
-use Rattle.state_laws.proofs.KeptLemmas.{few_rows}
-use Rattle.state_laws.proofs.ResolveLemmas.{both_good, both_once}
+use Rattle.keep_laws.proofs.KeptLemmas.{few_rows}
+use Rattle.keep_laws.proofs.ResolveLemmas.{both_good, both_once}
 use Rattle.merge_procs.specs.Resolving.{CanTake, theirs_of}
 use Rattle.merge_procs.proofs.TakingLemmas.{at_key}
 

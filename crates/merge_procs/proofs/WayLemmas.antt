@@ -30,10 +30,10 @@ use Rattle.plain_sessions.specs.Sessions as plain
 use Rattle.plain_sessions.specs.Sessions.{Transaction, own_root}
 use Rattle.sql_procedures.specs.declared.requests.MergeOf.{MergeOf}
 use Rattle.sql_procedures.specs.declared.requests.MergeRequest.TheVariants as merging
-use Rattle.session_laws.specs.Commits.{CommitsAreThere}
-use Rattle.session_laws.specs.Laws.{CommitsFollow}
-use Rattle.session_laws.specs.Records.{RecordStands}
-use Rattle.session_laws.specs.Transactions.{StartStands, TransactionStands, head_seen}
+use Rattle.session_state.specs.Commits.{CommitsAreThere}
+use Rattle.session_state.specs.Laws.{CommitsFollow}
+use Rattle.session_state.specs.Records.{RecordStands}
+use Rattle.session_state.specs.Transactions.{StartStands, TransactionStands, head_seen}
 use Rattle.session_state.specs.Standing.{SessionStands}
 use Rattle.session_state.specs.declared.sessions.Session.{Session}
 use Rattle.table_root.specs.declared.heads.BranchHead as seen

@@ -12,7 +12,7 @@ use Rattle.commit_graph.specs.Commits.{is_commit_found}
 use Rattle.plain_writes.proofs.InsertionLemmas.{two, clash, left_so, right_so}
 use Rattle.plain_sessions.specs.Branching.{commit_named, or_commit, resolved}
 use Rattle.plain_sessions.specs.Sessions.{Head}
-use Rattle.session_laws.specs.Commits.{CommitsAreThere}
+use Rattle.session_state.specs.Commits.{CommitsAreThere}
 use Rattle.merge_procs.specs.Ways.{head_at}
 use Rattle.shared_db.proofs.PointLemmas.{read_back}
 

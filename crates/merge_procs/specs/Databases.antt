@@ -7,7 +7,7 @@ use Rattle.constraint_scan.specs.Written.{written_in}
 use Rattle.constraint_scan.specs.declared.listing.ListedViolation.{ListedViolation}
 use Rattle.expr_eval.specs.Binding.{Outcome, and_then}
 use Rattle.schema_model.specs.PlainTables.{PlainDatabase}
-use Rattle.plain_merge.specs.RootMerge.{MergedDatabase, root3}
+use Rattle.schema_merge.specs.RootMerge.{MergedDatabase, root3}
 use Rattle.plain_writes.specs.CheckTexts.{checks}
 use Rattle.plain_sessions.specs.CommitRule.{recorded}
 use Rattle.plain_sessions.specs.Merging.{if_within_limits, is_clean, or_schema_conflict}

@@ -13,7 +13,7 @@ use Rattle.script_text.specs.declared.replies.Reply.{Reply}
 use Rattle.sql_procedures.specs.declared.requests.MergeOf.{MergeOf}
 use Rattle.plain_sessions.specs.Merging.{merge_reply}
 use Rattle.root_merge.specs.Merging.{AreRoots}
-use Rattle.session_laws.specs.Commits.{CommitsAreThere}
+use Rattle.session_state.specs.Commits.{CommitsAreThere}
 use Rattle.shared_db.specs.declared.changes.DecisionPlan.{DecisionPlan}
 use Rattle.branch_procs.specs.Committing.{IsCommitWritten, IsPlannedOf}
 use Rattle.merge_procs.specs.declared.ways.Three.{Three}

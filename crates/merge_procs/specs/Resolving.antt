@@ -22,7 +22,7 @@ use Rattle.plain_writes.specs.Violations.{first_violation}
 use Rattle.plain_sessions.specs.Merging.{breaks_index, breaks_null, is_theirs, may_settle, names_meant, resolve, rows_after, takes_bad_row, takes_theirs, their_rows, unless_violated}
 use Rattle.plain_sessions.specs.Records.{BranchState}
 use Rattle.root_merge.specs.Merging.{are_within}
-use Rattle.session_laws.specs.Records.{RecordStands}
+use Rattle.session_state.specs.Records.{RecordStands}
 use Rattle.sql_procedures.specs.declared.requests.Resolution.{Resolution}
 use Rattle.sql_procedures.specs.declared.requests.Side.{Side}
 use Rattle.branch_procs.specs.Staging.{refusal_of}

@@ -12,7 +12,7 @@ use Rattle.plain_sessions.specs.declared.commands.Work.{Work}
 use Rattle.plain_sessions.specs.declared.commands.Work.TheVariants as work
 use Rattle.script_text.specs.declared.replies.Reply.{Reply}
 use Rattle.script_text.specs.declared.replies.Reply.TheVariants.{Refused, Collided}
-use Rattle.session_laws.specs.Records.{RecordStands}
+use Rattle.session_state.specs.Records.{RecordStands}
 use Rattle.session_state.specs.declared.sessions.Session.{Session}
 use Rattle.session_txn.specs.Showing.{IsDue, is_plain_reply}
 use Rattle.merge_procs.specs.declared.steps.Made.{Made}

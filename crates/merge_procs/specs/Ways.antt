@@ -9,7 +9,7 @@ use Rattle.expr_eval.specs.Binding.{and_then}
 use Rattle.schema_model.specs.PlainCommits.{Commits, is_ancestor, is_known}
 use Rattle.schema_model.specs.PlainTables.{PlainDatabase}
 use Rattle.schema_model.specs.Sameness.{is_same_database}
-use Rattle.session_laws.specs.Commits.{CommitsAreThere}
+use Rattle.session_state.specs.Commits.{CommitsAreThere}
 use Rattle.sql_procedures.specs.declared.requests.MergeOf.{MergeOf}
 use Rattle.sql_procedures.specs.declared.requests.MergeRequest.TheVariants as merging
 use Rattle.plain_sessions.specs.Merging.{Answers, Closes, Forwarding, base_root, merge, merge_made, merge_reply, merged_with}

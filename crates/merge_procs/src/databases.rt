@@ -6,7 +6,7 @@ ghost use Rattle.chunk_store.specs.Drafts.{Grows, chunks_of};
 ghost use Rattle.chunk_store.specs.Kinds.{is_data};
 ghost use Rattle.table_root.specs.Kept.{HasKeptAt, IsKeptAt};
 ghost use Rattle.schema_model.specs.PlainTables.{PlainDatabase};
-ghost use Rattle.plain_merge.specs.RootMerge.{MergedDatabase};
+ghost use Rattle.schema_merge.specs.RootMerge.{MergedDatabase};
 ghost use Rattle.plain_writes.specs.CheckTexts.{checks};
 ghost use Rattle.plain_sessions.specs.CommitRule.{is_none, recorded};
 ghost use Rattle.plain_writes.specs.Violations.{violations};

@@ -11,7 +11,7 @@ ghost use Rattle.table_root.specs.Standing.{AreThere, IsTableAt};
 ghost use Rattle.plain_sessions.specs.Merging.{has_too_many_rows, names_meant, resolve};
 ghost use Rattle.plain_sessions.specs.Records.{BranchState};
 ghost use Rattle.plain_sessions.specs.Statements.{resolve_worked};
-ghost use Rattle.session_laws.specs.Records.{RecordStands};
+ghost use Rattle.session_state.specs.Records.{RecordStands};
 ghost use Rattle.merge_procs.specs.Resolving.{CanJudge, CanResolve, first_absent, first_refusal, has_name};
 ghost use Rattle.merge_procs.specs.Steps.{IsStep};
 
@@ -23,7 +23,7 @@ use chunk_store::{Draft, PutFault};
 use constraint_scan::first_violation;
 use prolly_tree::count;
 use schema_model::limits::MOST_ROWS;
-use session_laws::law_of_records;
+use session_state::law_of_records;
 use sql_procedures::{Resolution, Tables};
 use sql_write::{laws_of_growth, put_database, read_tables};
 use std::alloc::{AllocError, Global};

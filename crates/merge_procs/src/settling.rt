@@ -22,8 +22,7 @@ use node_chunker::build;
 use sql_procedures::{Resolution, Side};
 use sql_write::laws_of_growth;
 use std::alloc::Global;
-use table_root::{StoredTable, TableEntry, read_table};
-use table_rows::law_of_row_items;
+use table_root::{StoredTable, TableEntry, law_of_row_items, read_table};
 use tuple_codec::{Address, Digester, Sequence, Text, keys_are_one_spelling};
 
 /// The table with theirs' row, or none, at each conflict's key.

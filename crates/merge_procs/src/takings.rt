@@ -23,8 +23,7 @@ use schema_model::{Column, IndexDef, Schema};
 use sql_procedures::{Resolution, Side, Tables};
 use sql_write::laws_of_growth;
 use std::alloc::{AllocError, Global};
-use table_root::{TableEntry, read_table};
-use table_rows::row_of;
+use table_root::{TableEntry, read_table, row_of};
 use tuple_codec::{Address, Digester, Edit, Row, Sequence, Text, Value, key_of, key_size};
 
 /// What forbids to take a row.

@@ -13,7 +13,7 @@ ghost use Rattle.table_root.specs.Kept.{IsKeptAt};
 ghost use Rattle.plain_sessions.specs.Merging.{verified, verify};
 ghost use Rattle.plain_sessions.specs.Records.{BranchState};
 ghost use Rattle.plain_sessions.specs.Replies.{number_field, one_row};
-ghost use Rattle.session_laws.specs.Records.{RecordStands};
+ghost use Rattle.session_state.specs.Records.{RecordStands};
 ghost use Rattle.merge_procs.specs.Databases.{AreAllIn};
 ghost use Rattle.merge_procs.specs.Steps.{IsStep};
 

@@ -11,9 +11,9 @@ ghost use Rattle.plain_sessions.specs.Records.{BranchState};
 ghost use Rattle.plain_sessions.specs.Sessions as plain;
 ghost use Rattle.schema_model.specs.PlainCommits.{Commits, is_known};
 ghost use Rattle.schema_model.specs.PlainTables.{PlainDatabase};
-ghost use Rattle.session_laws.specs.Commits.{CommitsAreThere};
-ghost use Rattle.session_laws.specs.Records.{RecordStands};
-ghost use Rattle.session_laws.specs.Transactions.{head_seen};
+ghost use Rattle.session_state.specs.Commits.{CommitsAreThere};
+ghost use Rattle.session_state.specs.Records.{RecordStands};
+ghost use Rattle.session_state.specs.Transactions.{head_seen};
 ghost use Rattle.session_state.specs.Standing.{IsInTransaction, SessionStands};
 ghost use Rattle.tuple_codec.specs.AddressTexts.{IsAddress};
 ghost use Rattle.merge_procs.specs.Ways.{AreDatabases, IsOver, IsWay, Leads, head_at, is_changed};
@@ -172,7 +172,7 @@ pub(crate) fn find_way<D: Digester>(
     ensures { (p : plain.Session) (t : plain.Transaction) → SessionStands D.address session.now p → p.transaction ≡ Some t
         → IfOk result (λ way. IsWay D.address (chunks_of session.now.draft.chunks) t request.now way) }
 {
-    session_laws::law_of_standing_commits();
+    session_state::law_of_standing_commits();
     let Some(look) = &session.start else {
         unreachable!()
     };

@@ -9,8 +9,8 @@ use Rattle.std.proofs.Math.Seq.{drop-cons}
 use Rattle.node_chunker.proofs.ClimbLemmas.{drop_here, drop_set}
 use Rattle.tuple_codec.specs.Nodes.{Item, Rise, is_after}
 use Rattle.tuple_codec.specs.Trees.{bytes_of, cut_from, last_key, names, rows_in, tower, tree_chunks}
-use Rattle.tree_laws.proofs.Growing.{tree_later}
-use Rattle.tree_laws.proofs.StandingLists.{name_key}
+use Rattle.prolly_tree.proofs.Growing.{tree_later}
+use Rattle.prolly_tree.proofs.StandingLists.{name_key}
 use Rattle.chunk_store.specs.Chunks.{Chunks, Extends}
 use Rattle.chunk_store.specs.Standing.{AreHeld, IsTree}
 use Rattle.node_chunker.specs.Towers.{is_empty, is_single, first_of, is_root, after, chunks_after}

@@ -15,10 +15,10 @@ use Rattle.tuple_codec.specs.Trees.{AreRows, IsRow, bytes_of, closes, last_key, 
 use Rattle.node_format.proofs.BuildLemmas.{last_is}
 use Rattle.node_format.proofs.FieldLemmas.{wide16}
 use Rattle.node_format.proofs.EndLemmas as rule
-use Rattle.tree_laws.proofs.Cuts.{closes_none, closes_one, some_before}
-use Rattle.tree_laws.proofs.StandingNodes.{HasFit, fit_last_key, item_size, items_count, items_cons as items_first, items_one as items_more}
-use Rattle.tree_laws.proofs.StandingLists.{name_key}
-use Rattle.tree_laws.proofs.StandingReads.{all_map}
+use Rattle.prolly_tree.proofs.Cuts.{closes_none, closes_one, some_before}
+use Rattle.prolly_tree.proofs.StandingNodes.{HasFit, fit_last_key, item_size, items_count, items_cons as items_first, items_one as items_more}
+use Rattle.prolly_tree.proofs.StandingLists.{name_key}
+use Rattle.prolly_tree.proofs.StandingReads.{all_map}
 use Rattle.node_chunker.specs.Towers.{is_empty, pushes, ended_chunks}
 use Rattle.chunk_store.specs.Chunks.{Chunks, Extends}
 use Rattle.node_chunker.specs.Growth.{IsEntry, IsGrown, AreOpen, IsTopped, above_of, spread, last_after, IsWritable, FitsLevel, IsTower}

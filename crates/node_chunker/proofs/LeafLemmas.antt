@@ -6,9 +6,9 @@ use Rattle.std.proofs.lemmas.List.{append-nil}
 use Rattle.std.proofs.lemmas.Nat.{pow_pos}
 use Rattle.tuple_codec.specs.Nodes.{Item, Rise, is_after}
 use Rattle.tuple_codec.specs.Trees.{bytes_of, cut, cut_from, last_key, name, names, rows_in, tower, tree_chunks}
-use Rattle.tree_laws.proofs.Cuts.{names_short, top_enough, chunks_enough}
-use Rattle.tree_laws.proofs.Growing.{held_later}
-use Rattle.tree_laws.proofs.StandingLists.{name_key}
+use Rattle.prolly_tree.proofs.Cuts.{names_short, top_enough, chunks_enough}
+use Rattle.prolly_tree.proofs.Growing.{held_later}
+use Rattle.prolly_tree.proofs.StandingLists.{name_key}
 use Rattle.chunk_store.specs.Chunks.{Chunks, Extends}
 use Rattle.chunk_store.specs.Standing.{AreHeld, IsThere, IsTree}
 use Rattle.node_chunker.specs.Towers.{after, chunks_after, row_top, row_chunks}

@@ -4,8 +4,8 @@ use Rattle.std.specs.List.{AllByRecursion}
 use Rattle.std.proofs.lemmas.List.{append-nil, append_assoc}
 use Rattle.tuple_codec.specs.Nodes.{Item, Rise, RiseAfter, is_after}
 use Rattle.tuple_codec.specs.Trees.{bytes_of, closes, cut_from, last_key, name, rows_in}
-use Rattle.tree_laws.proofs.StandingLists.{name_key}
-use Rattle.tree_laws.proofs.StandingNodes.{fit_last_key}
+use Rattle.prolly_tree.proofs.StandingLists.{name_key}
+use Rattle.prolly_tree.proofs.StandingNodes.{fit_last_key}
 use Rattle.chunk_store.specs.Chunks.{Chunks}
 use Rattle.chunk_store.specs.Standing.{AreHeld}
 use Rattle.node_chunker.specs.Towers.{is_empty}

@@ -4,8 +4,8 @@ use Rattle.std.specs.List.{AllByRecursion}
 use Rattle.std.proofs.lemmas.List.{append-nil, append_assoc}
 use Rattle.tuple_codec.specs.Nodes.{Item, RiseAfter, is_after}
 use Rattle.tuple_codec.specs.Trees.{IsRow, bytes_of, closes, cut, cut_from, last_key, name, names, rows_in}
-use Rattle.tree_laws.specs.Found.{left, lift, Ended}
-use Rattle.tree_laws.proofs.StandingLists.{name_key}
+use Rattle.prolly_tree.specs.Found.{left, lift, Ended}
+use Rattle.prolly_tree.proofs.StandingLists.{name_key}
 use Rattle.chunk_store.specs.Chunks.{Chunks}
 use Rattle.chunk_store.specs.Standing.{AreHeld, IsThere}
 use Rattle.node_chunker.specs.Growth.{IsGrown, last_after}

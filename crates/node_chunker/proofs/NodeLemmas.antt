@@ -12,7 +12,7 @@ use Rattle.chunk_store.specs.Kinds.{is_node}
 use Rattle.node_chunker.specs.Growth.{IsWritable}
 use Rattle.node_format.proofs.BuildLemmas.{last_is}
 use Rattle.node_chunker.proofs.TowerLemmas.{all_split}
-use Rattle.tree_laws.proofs.StandingNodes.{items_one as items_more}
+use Rattle.prolly_tree.proofs.StandingNodes.{items_one as items_more}
 
 -- what is written is of the kind of nodes
 pub node_kind : (level : ℕ) (items : List Item) → is_node (bytes_of level items) ≡ true

@@ -2,8 +2,8 @@
 use Rattle.std.proofs.Common.{◌≡◌, ◌<◌, ◌+◌, ℕ, zero, suc, false, cond, List, [], ◌∷◌, ◌++◌, length, map, take, drop, replicate, sym, refl, ap, subst, ◌∙◌, arith}
 use Rattle.tuple_codec.specs.Nodes.{Item}
 use Rattle.tuple_codec.specs.Trees.{blank, bytes_of, cut, inner_chunks, names, top}
-use Rattle.tree_laws.specs.Found.{left, lift, Ended}
-use Rattle.tree_laws.proofs.Cuts.{closes_one, cut_apart, names_apart}
+use Rattle.prolly_tree.specs.Found.{left, lift, Ended}
+use Rattle.prolly_tree.proofs.Cuts.{closes_one, cut_apart, names_apart}
 use Rattle.std.proofs.lemmas.List.{append-nil, map-append}
 use Rattle.chunk_store.specs.Chunks.{Chunks}
 use Rattle.chunk_store.specs.Standing.{AreHeld, IsThere}

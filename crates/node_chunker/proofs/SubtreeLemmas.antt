@@ -6,8 +6,8 @@ use Rattle.std.proofs.lemmas.Bool.{and_parts}
 use Rattle.std.proofs.lemmas.List.{append-nil, append_assoc, length-append, nil_from_length}
 use Rattle.tuple_codec.specs.Nodes.{Item, Rise, is_after}
 use Rattle.tuple_codec.specs.Trees.{AreRows, IsRow, bytes_of, cut, inner_chunks, names, rows_in, top}
-use Rattle.tree_laws.proofs.Cuts.{closes_none, names_apart}
-use Rattle.tree_laws.proofs.Growing.{held_later}
+use Rattle.prolly_tree.proofs.Cuts.{closes_none, names_apart}
+use Rattle.prolly_tree.proofs.Growing.{held_later}
 use Rattle.chunk_store.specs.Chunks.{Chunks, Extends}
 use Rattle.chunk_store.specs.Standing.{AreHeld, IsThere}
 use Rattle.node_chunker.specs.Towers.{is_empty, after, chunks_after, row_top, row_chunks, chunks_after_rows, pushes, ended_chunks, Continues, KeepsNodes}

@@ -5,8 +5,8 @@ use Rattle.std.specs.List.{AllByRecursion}
 use Rattle.std.proofs.lemmas.List.{append_assoc}
 use Rattle.tuple_codec.specs.Nodes.{Item}
 use Rattle.tuple_codec.specs.Trees.{blank, bytes_of, closes, cut_from, inner_chunks, name, names, top}
-use Rattle.tree_laws.proofs.Cuts.{closes_one, some_before}
-use Rattle.tree_laws.proofs.Growing.{held_later}
+use Rattle.prolly_tree.proofs.Cuts.{closes_one, some_before}
+use Rattle.prolly_tree.proofs.Growing.{held_later}
 use Rattle.chunk_store.specs.Chunks.{Chunks, Extends}
 use Rattle.chunk_store.specs.Standing.{AreHeld, IsThere}
 use Rattle.node_chunker.specs.Towers.{is_empty, is_single, first_of, is_root, after, chunks_after, row_top, row_chunks, after_rows, chunks_after_rows, pushes, ended_chunks, Continues, KeepsNodes}

@@ -8,7 +8,7 @@ use Rattle.std.proofs.lemmas.Cmp.{nat_cmp_total, nat_list_cmp_total, tied_itself
 use Rattle.std.proofs.lemmas.Slice.Eq.{bytes_eq-Decides}
 use Rattle.tuple_codec.specs.Nodes.{Item}
 use Rattle.tuple_codec.specs.Edits.{added, changed, order, removed, replaced}
-use Rattle.tree_laws.specs.Found.{Nodes, each_of, items_of, rows_at}
+use Rattle.prolly_tree.specs.Found.{Nodes, each_of, items_of, rows_at}
 use Rattle.prolly_tree.specs.Heads.{item_of, level_of}
 use Rattle.prolly_tree.specs.declared.steps.WalkHead.{WalkHead}
 use Rattle.prolly_tree.specs.Fronts.{Front, nodes_of, rows_ahead, rows_of}

@@ -6,10 +6,10 @@ use Rattle.tuple_codec.specs.declared.edits.ItemChange.{ItemChange}
 use Rattle.chunk_store.specs.Chunks.{Chunks}
 use Rattle.chunk_store.specs.Drafts.{DraftParts, chunks_of}
 use Rattle.chunk_store.specs.Standing.{IsTree}
-use Rattle.tree_laws.specs.Found.{Nodes}
-use Rattle.tree_laws.specs.Standing.{IsStored, rows_below}
-use Rattle.tree_laws.proofs.Standing.{trees_lead}
-use Rattle.tree_laws.proofs.One.{one_node}
+use Rattle.prolly_tree.specs.Found.{Nodes}
+use Rattle.prolly_tree.specs.Standing.{IsStored, rows_below}
+use Rattle.prolly_tree.proofs.Standing.{trees_lead}
+use Rattle.prolly_tree.proofs.One.{one_node}
 use Rattle.prolly_tree.specs.Fronts.{Front, nodes_of, on_level, rows_ahead, rows_of}
 use Rattle.pair_walk.specs.Counts.{IsCount, counted}
 use Rattle.pair_walk.specs.Heads.{BeginsComparing}

@@ -4,7 +4,7 @@ use Rattle.std.specs.Str.{bytes_eq}
 use Rattle.tuple_codec.specs.Nodes.{Item}
 use Rattle.tuple_codec.specs.Edits.{added, changed, removed}
 use Rattle.tuple_codec.specs.declared.edits.ItemChange.{ItemChange}
-use Rattle.tree_laws.specs.Found.{Nodes, items_of, rows_at}
+use Rattle.prolly_tree.specs.Found.{Nodes, items_of, rows_at}
 use Rattle.prolly_tree.specs.Fronts.{Front, nodes_of, on_level, opened, rows_ahead, rows_of, sum_of, weight}
 use Rattle.prolly_tree.proofs.FrontLemmas.{rows_on}
 use Rattle.pair_walk.specs.Counts.{IsCount, counted}

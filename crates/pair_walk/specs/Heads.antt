@@ -3,7 +3,7 @@ use Rattle.std.specs.Prelude.{◌≡◌, ℕ, List, [], ◌∷◌, drop}
 use Rattle.tuple_codec.specs.Nodes.{Item, Node}
 use Rattle.chunk_store.specs.Drafts.{DraftParts, chunks_of}
 use Rattle.chunk_store.specs.Standing.{IsTree}
-use Rattle.tree_laws.specs.Standing.{IsStored}
+use Rattle.prolly_tree.specs.Standing.{IsStored}
 use Rattle.prolly_tree.specs.Fronts.{Front, Walking, nodes_of, on_level, opened, rows_of}
 use Rattle.prolly_tree.specs.Heads.{item_of, level_of}
 use Rattle.prolly_tree.specs.declared.steps.WalkHead.{WalkHead}

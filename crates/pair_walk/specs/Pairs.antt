@@ -1,7 +1,7 @@
 -- Two trees side by side: nodes at one place, and how many pairs of them differ.
 use Rattle.std.specs.Prelude.{◌≡◌, ℕ, zero, suc, ◌+◌, List, [], ◌∷◌, if◌then◌else◌, bytes_eq}
 use Rattle.tuple_codec.specs.Nodes.{Item, Node}
-use Rattle.tree_laws.specs.Found.{Nodes, items_of}
+use Rattle.prolly_tree.specs.Found.{Nodes, items_of}
 use Rattle.prolly_tree.specs.Fronts.{Front}
 
 -- there are as many in both lists, and it holds of each pair

@@ -3,7 +3,7 @@ use Rattle.std.specs.Prelude.{◌≡◌, ◌<◌, ◌≤◌, ◌+◌, ◌*◌, �
 use Rattle.tuple_codec.specs.Nodes.{Item}
 use Rattle.tuple_codec.specs.Edits.{changed}
 use Rattle.tuple_codec.specs.declared.edits.ItemChange.{ItemChange}
-use Rattle.tree_laws.specs.Found.{Nodes}
+use Rattle.prolly_tree.specs.Found.{Nodes}
 use Rattle.prolly_tree.specs.Fronts.{Front, Walking, nodes_of, rows_of, weight}
 use Rattle.pair_walk.specs.Counts.{IsCount, counted}
 use Rattle.pair_walk.specs.Pairs.{AreAligned, differing_ahead}

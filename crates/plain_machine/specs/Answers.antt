@@ -5,7 +5,7 @@ use Rattle.chunk_store.specs.Digests.{cut_address}
 use Rattle.chunk_store.specs.declared.faults.Clash.{Clash}
 use Rattle.script_text.specs.Collisions.{IsCollision}
 use Rattle.script_text.specs.Input.{most_bytes, script}
-use Rattle.program_ends.specs.Lines.{collision_line, fault_line}
+use Rattle.script_text.specs.Lines.{collision_line, fault_line}
 use Rattle.script_text.specs.declared.faults.BadScript.{BadScript}
 use Rattle.script_text.specs.declared.scripts.Moment.{Moment}
 use Rattle.script_text.specs.declared.scripts.Script.{Script}
@@ -13,8 +13,8 @@ use Rattle.run_laws.specs.Orders.{IsGivenOrder, IsTextOrder}
 use Rattle.plain_run.specs.Following.{IsPlainStop}
 use Rattle.plain_run.specs.Plain.{plain_text}
 use Rattle.plain_machine.specs.Words.{is_given}
-use Rattle.program_ends.specs.declared.status.Status.{Status}
-use Rattle.program_ends.specs.declared.status.Status.TheVariants as status
+use Rattle.script_text.specs.declared.status.Status.{Status}
+use Rattle.script_text.specs.declared.status.Status.TheVariants as status
 use Rattle.plain_machine.specs.declared.words.MomentOrder.{MomentOrder}
 use Rattle.plain_machine.specs.declared.words.MomentOrder.TheVariants.{Given, OfLines}
 

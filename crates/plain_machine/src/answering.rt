@@ -14,9 +14,8 @@ ghost use Rattle.plain_machine.specs.declared.words.MomentOrder.TheVariants.{Giv
 use crate::words::{MomentOrder, USAGE, order_asked};
 use chunk_store::PutFault;
 use plain_run::{Followed, plain_output_in_given_order, plain_output_in_text_order};
-use program_ends::{Status, collision_text, fault_text};
 use script_run::law_of_read_scripts;
-use script_text::{Script, ScriptFault, read_script};
+use script_text::{Script, ScriptFault, Status, collision_text, fault_text, read_script};
 use std::alloc::{AllocError, Global};
 use tuple_codec::Blob;
 use wire_io::{ReadStop, Source, read_up_to};

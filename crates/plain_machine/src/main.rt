@@ -13,7 +13,7 @@ ghost use Rattle.std.specs.Prelude.{◌≡◌, ◌≢◌};
 ghost use Rattle.std.specs.Io.KnownBytes.{Appends};
 
 use answering::{Answer, answer_words};
-use program_ends::{Status, given_words};
+use script_text::{Status, given_words};
 use std::process::ExitCode;
 use wire_io::{ReadStop, Sink, StdSink, StdSource, write_whole};
 

@@ -9,7 +9,7 @@ use Rattle.sql_parse.specs.Parsing.{parsed}
 use Rattle.sql_procedures.specs.Arguments.{procedure_of, request_of}
 use Rattle.sql_procedures.specs.declared.requests.Request.{Request}
 use Rattle.tuple_codec.specs.Texts.{is_utf8}
-use Rattle.sound_laws.specs.Laws.{ParsesSound}
+use Rattle.sql_laws.specs.SoundLaws.{ParsesSound}
 use Rattle.plain_sessions.specs.declared.commands.Command.{Command}
 use Rattle.plain_sessions.specs.Commands.{command, command_or_fault, requested, select_command, statement_command}
 use Rattle.plain_sessions.specs.Fitness.{IsFitCommand}

@@ -23,8 +23,8 @@ use Rattle.sql_procedures.specs.declared.requests.MergeRequest.TheVariants as me
 use Rattle.sql_procedures.specs.declared.requests.Side.TheVariants as side
 use Rattle.sql_procedures.specs.declared.requests.Staging.TheVariants as staging
 use Rattle.sql_procedures.specs.declared.requests.Tables.TheVariants as tables
-use Rattle.plain_merge.specs.RootMerge.{root3}
-use Rattle.plain_merge.specs.TableMerge.{table3}
+use Rattle.schema_merge.specs.RootMerge.{root3}
+use Rattle.schema_merge.specs.TableMerge.{table3}
 use Rattle.plain_schemas.specs.Statements.{write_effect}
 use Rattle.plain_sessions.specs.Records.{BranchState, Shared, clean_at, is_same_state, no_commits}
 use Rattle.plain_sessions.specs.Sessions.{Session, Transaction, first_variables, new_session, within}

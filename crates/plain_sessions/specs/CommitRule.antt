@@ -5,7 +5,7 @@ use Rattle.schema_model.specs.Limits.{is_database_within_limits}
 use Rattle.schema_model.specs.PlainTables.{NamedTable, PlainDatabase}
 use Rattle.expr_eval.specs.Binding.{Outcome, and_then}
 use Rattle.plain_sql.specs.Lists.{unless}
-use Rattle.plain_merge.specs.RootMerge.{MergedDatabase, SchemaConflict, root3}
+use Rattle.schema_merge.specs.RootMerge.{MergedDatabase, SchemaConflict, root3}
 use Rattle.plain_writes.specs.Violations.{violations_in}
 use Rattle.plain_writes.specs.CheckTexts.{checks}
 use Rattle.plain_sessions.specs.Records.{BranchState, is_same_state}

@@ -9,7 +9,7 @@ use Rattle.sql_procedures.specs.declared.requests.CheckoutRequest.TheVariants as
 use Rattle.sql_procedures.specs.declared.requests.MergeRequest.{MergeRequest}
 use Rattle.sql_procedures.specs.declared.requests.MergeRequest.TheVariants as merging
 use Rattle.sql_procedures.specs.declared.requests.NewBranch.{NewBranch}
-use Rattle.sound_laws.specs.Fit.{IsFit}
+use Rattle.sql_laws.specs.Fit.{IsFit}
 use Rattle.plain_sessions.specs.declared.commands.Command.{Command}
 use Rattle.plain_sessions.specs.declared.commands.Command.TheVariants.{Checkout, Data, OnBranches}
 use Rattle.plain_sessions.specs.declared.commands.Work.{Work}

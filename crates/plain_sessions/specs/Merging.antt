@@ -22,7 +22,7 @@ use Rattle.sql_procedures.specs.declared.requests.Verification.TheVariants as ve
 use Rattle.expr_eval.specs.Binding.{Outcome, and_then}
 use Rattle.plain_sql.specs.Answers.{is_null}
 use Rattle.plain_sql.specs.Lists.{each, in_order, or_refuse, unless}
-use Rattle.plain_merge.specs.RootMerge.{MergedDatabase, SchemaConflict, root3}
+use Rattle.schema_merge.specs.RootMerge.{MergedDatabase, SchemaConflict, root3}
 use Rattle.plain_writes.specs.Violations.{first_violation, violations}
 use Rattle.plain_writes.specs.Writes.{keyed_cmp}
 use Rattle.plain_sessions.specs.Records.{BranchState, clean_at, root_of}

@@ -10,8 +10,8 @@ use Rattle.sql_ast.specs.declared.selects.Select.TheVariants as select
 use Rattle.sql_ast.specs.declared.statements.Delete.{Delete}
 use Rattle.sql_ast.specs.declared.statements.Write.{Write}
 use Rattle.sql_ast.specs.declared.statements.Write.TheVariants as write
-use Rattle.sql_features.specs.Features.{has}
-use Rattle.sql_features.specs.declared.features.Feature.TheVariants as feature
+use Rattle.sql_text.specs.Features.{has}
+use Rattle.sql_text.specs.declared.features.Feature.TheVariants as feature
 use Rattle.sql_procedures.specs.declared.requests.CommitRequest.{CommitRequest}
 use Rattle.schema_model.specs.PlainTables.{PlainDatabase}
 use Rattle.expr_eval.specs.Binding.{Outcome, and_then}

@@ -21,8 +21,8 @@ use Rattle.plain_sql.specs.Lists.{all_of, or_refuse}
 use Rattle.plain_sql.specs.Plans.{scope_column}
 use Rattle.plain_sql.specs.declared.sources.Known.{Known}
 use Rattle.plain_sql.specs.declared.sources.NamedType.{NamedType}
-use Rattle.plain_merge.specs.KeyByKey.{all_keys}
-use Rattle.plain_merge.specs.RootMerge.{names_of}
+use Rattle.schema_merge.specs.KeyByKey.{all_keys}
+use Rattle.schema_merge.specs.RootMerge.{names_of}
 use Rattle.plain_writes.specs.Violations.{table_in}
 use Rattle.plain_writes.specs.Writes.{tests_of}
 use Rattle.plain_sessions.specs.Records.{BranchState}

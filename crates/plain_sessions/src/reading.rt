@@ -6,8 +6,8 @@ ghost use Rattle.plain_sessions.specs.Commands.{call_command, command, misused, 
 ghost use Rattle.plain_sessions.specs.Fitness.{IsFitCommand};
 
 use crate::commands::{Command, Work};
-use sound_laws::law_of_sound_statements;
 use sql_ast::{Call, ReadFault, Refusal, Select, Statement};
+use sql_laws::law_of_sound_statements;
 use sql_parse::parse;
 use sql_procedures::{Procedure, Request, arguments_of, procedure_named};
 use std::alloc::{AllocError, Global};

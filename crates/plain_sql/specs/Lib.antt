@@ -5,7 +5,6 @@ pub mod Gives
 pub mod Seen
 pub mod Nesting
 pub mod Levels
-pub mod Temporary
 pub mod Runs
 pub mod Distinct
 pub mod Passing

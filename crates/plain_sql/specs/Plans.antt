@@ -25,7 +25,7 @@ use Rattle.sql_ast.specs.declared.selects.Clauses.{Clauses}
 use Rattle.sql_ast.specs.declared.selects.ColumnName.{ColumnName}
 use Rattle.sql_ast.specs.declared.selects.ColumnName.TheVariants as column
 use Rattle.sql_ast.specs.declared.selects.OrderKey.{OrderKey}
-use Rattle.plain_sql.specs.Temporary.{is_call, is_item_named, source_name}
+use Rattle.sql_text.specs.SelectNames.{is_call, is_item_named, source_name}
 use Rattle.sql_text.specs.Canon.{text}
 use Rattle.expr_eval.specs.Binding.{Outcome, and_then, mismatch, bound, bound_condition, column_at}
 use Rattle.expr_eval.specs.Scopes.{place_named, place_qualified}

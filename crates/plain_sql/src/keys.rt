@@ -2,7 +2,7 @@
 
 ghost use Rattle.std.specs.Prelude.{◌≡◌, map};
 ghost use Rattle.sql_ast.specs.declared.expressions.Expr.{out-Expr};
-ghost use Rattle.plain_sql.specs.Temporary.{is_column_named, is_item_named, is_named_by};
+ghost use Rattle.sql_text.specs.SelectNames.{is_column_named, is_item_named, is_named_by};
 ghost use Rattle.plain_sql.specs.Gives.{GivesBy};
 ghost use Rattle.plain_sql.specs.Lists.{each};
 ghost use Rattle.plain_sql.specs.Plans.{expression_of, item_meant, item_meant_by, item_named, item_numbered, shown_by, sort_key};

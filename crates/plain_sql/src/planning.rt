@@ -2,7 +2,7 @@
 
 ghost use Rattle.std.specs.Prelude.{◌≡◌, [], map};
 ghost use Rattle.std.specs.List.{list_any};
-ghost use Rattle.plain_sql.specs.Temporary.{is_call};
+ghost use Rattle.sql_text.specs.SelectNames.{is_call};
 ghost use Rattle.plain_sql.specs.Gives.{Gives, GivesBy};
 ghost use Rattle.plain_sql.specs.Lists.{each};
 ghost use Rattle.plain_sql.specs.Plans.{calls_aggregate, condition, conditions, group_place, grouping_of, is_none, item_list, meaning, one_heading, place_meant, planned, planned_alone};
@@ -16,7 +16,7 @@ use crate::keys::sort_keys;
 use crate::ranking::Sorter;
 use expr_eval::{BoundExpr, ScopeColumn, place_named, place_qualified};
 use sql_ast::{ColumnName, Items, Limit, NamedExpr, Query, SelectItem};
-use sql_features::is_aggregate_node;
+use sql_text::is_aggregate_node;
 use std::alloc::Global;
 use tuple_codec::Sequence;
 

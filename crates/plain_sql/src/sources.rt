@@ -2,7 +2,7 @@
 
 ghost use Rattle.std.specs.Prelude.{◌≡◌, IfOk, OnOk, OnErr, ◌++◌, map};
 ghost use Rattle.std.specs.List.{flat_map};
-ghost use Rattle.plain_sql.specs.Temporary.{source_name};
+ghost use Rattle.sql_text.specs.SelectNames.{source_name};
 ghost use Rattle.plain_sql.specs.Gives.{Gives};
 ghost use Rattle.plain_sql.specs.Lists.{each};
 ghost use Rattle.plain_sql.specs.Plans.{read_as, scope_column, scope_of, source_read, sources_of};

@@ -1,8 +1,14 @@
-mod Vectors
-pub mod OrderLemmas
-pub mod ListingLemmas
-pub mod PlaceLemmas
+pub mod CellLemmas
+pub mod DatabaseLemmas
 pub mod EffectLemmas
 pub mod InsertionLemmas
-pub mod SortLemmas
+pub mod KeptEffects
+pub mod ListingLemmas
+pub mod OrderLemmas
+pub mod OutcomeLemmas
+pub mod PlaceLemmas
+pub mod RowLemmas
+pub mod RowOrderLemmas
 pub mod SearchLemmas
+pub mod SortLemmas
+mod Vectors

@@ -1,5 +1,5 @@
 -- The texts of CHECKs, as rows are judged by them.
-use Rattle.sql_pieces.specs.Checking.{canonical_expression}
+use Rattle.sql_grammar.specs.Checking.{canonical_expression}
 use Rattle.plain_writes.specs.Violations.{Checks, checks_by}
 
 -- a CHECK's text is judged by the expression whose canonical text it is

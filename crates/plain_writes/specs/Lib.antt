@@ -1,6 +1,7 @@
-pub mod Violations
 pub mod CheckTexts
-pub mod Writes
 pub mod Seen
-pub mod Typed
 pub mod Steps
+pub mod Typed
+pub mod Violations
+pub mod WriteLaws
+pub mod Writes

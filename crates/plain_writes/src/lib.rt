@@ -18,6 +18,7 @@ mod places;
 mod tables;
 mod updating;
 mod violating;
+mod write_laws;
 
 pub use assigning::{assigned, standard};
 pub use binding::{assignments, tests_of};
@@ -33,3 +34,4 @@ pub use listing::{Found, first_violation, violations};
 pub use parents::same_types;
 pub use tables::{Dispute, NamedTable, Table, table_in};
 pub use updating::{BoundAssignment, Later, all_chosen, all_turned};
+pub use write_laws::writes_keep;

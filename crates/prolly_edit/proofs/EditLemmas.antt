@@ -14,11 +14,11 @@ use Rattle.tuple_codec.specs.Nodes.{Item, RiseAfter}
 use Rattle.tuple_codec.specs.Trees.{AreRows, IsRow}
 use Rattle.tuple_codec.specs.Edits.{EditsRiseAfter, edited, edits_at, order, putting, puts}
 use Rattle.tuple_codec.specs.declared.edits.Edit.{Edit}
-use Rattle.tree_laws.specs.Found.{UpTo}
-use Rattle.tree_laws.proofs.StandingOrder.{le_lt}
+use Rattle.prolly_tree.specs.Found.{UpTo}
+use Rattle.prolly_tree.proofs.StandingOrder.{le_lt}
 use Rattle.prolly_edit.specs.Editing.{AreEdits, PutsRow}
 use Rattle.prolly_edit.specs.Stages.{is_past}
-use Rattle.edit_laws.proofs.Rising.{put_rise}
+use Rattle.tuple_codec.proofs.Rising.{put_rise}
 
 -- the other way round
 greater : (a b : List ℕ) → is_lt (order a b) ≡ true → order b a ≡ Greater

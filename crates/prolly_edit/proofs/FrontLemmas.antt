@@ -4,9 +4,9 @@ use Rattle.std.specs.List.{AllByRecursion}
 use Rattle.std.proofs.Math.Dec.{eqb-suc-zero}
 use Rattle.tuple_codec.specs.Nodes.{Item, Node}
 use Rattle.chunk_store.specs.Chunks.{Chunks}
-use Rattle.tree_laws.specs.Found.{ButLast, IsCanonical, IsEnded, IsOrdered, Nodes, each_of, nodes_in, rows_at}
-use Rattle.tree_laws.specs.Standing.{IsNodeFound}
-use Rattle.tree_laws.proofs.StandingReads.{items_there}
+use Rattle.prolly_tree.specs.Found.{ButLast, IsCanonical, IsEnded, IsOrdered, Nodes, each_of, nodes_in, rows_at}
+use Rattle.prolly_tree.specs.Standing.{IsNodeFound}
+use Rattle.prolly_tree.proofs.StandingReads.{items_there}
 use Rattle.prolly_edit.specs.Fronts.{AreParts, EndsBefore, HaveNames, IsPart, front_of, is_over, load, rest}
 use Rattle.prolly_tree.specs.Fronts.{Front, on_level, sum_of, weight}
 

@@ -3,12 +3,12 @@ use Rattle.std.proofs.Common.{◌≡◌, ◌+◌, ◌<◌, ◌≤◌, ℕ, zero,
 use Rattle.std.proofs.lemmas.Bool.{cases_Bool}
 use Rattle.tuple_codec.specs.Nodes.{Item, ends, item_bytes, items_bytes}
 use Rattle.tuple_codec.specs.Trees.{bytes_of, closes, cut, cut_from, last_key, names}
-use Rattle.tree_laws.proofs.StandingLists.{cut_some, names_length}
-use Rattle.tree_laws.proofs.StandingReads.{items_there}
-use Rattle.tree_laws.proofs.StandingNodes.{bytes_length, items_one as items_more}
-use Rattle.tree_laws.specs.Found.{IsCanonical, nodes_in}
-use Rattle.tree_laws.specs.Standing.{IsNodeFound}
-use Rattle.tree_laws.proofs.StandingCuts.{cut_open as goes_on}
+use Rattle.prolly_tree.proofs.StandingLists.{cut_some, names_length}
+use Rattle.prolly_tree.proofs.StandingReads.{items_there}
+use Rattle.prolly_tree.proofs.StandingNodes.{bytes_length, items_one as items_more}
+use Rattle.prolly_tree.specs.Found.{IsCanonical, nodes_in}
+use Rattle.prolly_tree.specs.Standing.{IsNodeFound}
+use Rattle.prolly_tree.proofs.StandingCuts.{cut_open as goes_on}
 use Rattle.std.specs.Prelude.{slice_get}
 use Rattle.std.proofs.lemmas.List.{length-append, length-take-le, take-append-drop}
 use Rattle.std.proofs.lemmas.Grind.{flat_map-append}

@@ -8,7 +8,7 @@ use Rattle.tuple_codec.specs.Nodes.{IsItem, IsNode, Item, Node, ends, header_byt
 use Rattle.tuple_codec.specs.Trees.{closes, last_key}
 use Rattle.node_format.specs.Reading.{items_from}
 use Rattle.node_format.proofs.BuildLemmas.{header_length, items_again, last_is}
-use Rattle.tree_laws.proofs.StandingNodes.{items_one}
+use Rattle.prolly_tree.proofs.StandingNodes.{items_one}
 use Rattle.prolly_edit.specs.Keeping.{StaysOpen}
 use Rattle.prolly_edit.specs.Names.{AreLeft, StaysFrom, names_from}
 

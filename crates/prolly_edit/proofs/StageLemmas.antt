@@ -7,7 +7,7 @@ use Rattle.tuple_codec.specs.Nodes.{Item}
 use Rattle.tuple_codec.specs.Trees.{AreRows, IsRow}
 use Rattle.chunk_store.specs.Chunks.{Chunks}
 use Rattle.node_chunker.specs.Growth.{IsTower}
-use Rattle.tree_laws.proofs.StandingOrder.{rise_left}
+use Rattle.prolly_tree.proofs.StandingOrder.{rise_left}
 use Rattle.prolly_tree.proofs.Descents.{drop_get}
 use Rattle.prolly_edit.specs.Stages.{Awaits}
 

@@ -9,11 +9,11 @@ use Rattle.node_chunker.specs.Subtrees.{IsSubtree, lift_chunks}
 use Rattle.node_chunker.proofs.GrowthLemmas.{name_body}
 use Rattle.node_chunker.proofs.RefLemmas.{level_held}
 use Rattle.node_chunker.proofs.TowerLemmas.{all_join, all_split}
-use Rattle.tree_laws.specs.Found.{ButLast, Ended, IsCanonical, IsEnded, each_of, lift, nodes_in, rows_at}
-use Rattle.tree_laws.specs.Standing.{IsNodeFound}
-use Rattle.tree_laws.proofs.Growing.{held_later}
-use Rattle.tree_laws.proofs.Lifts.{all_lift, ends, lifts}
-use Rattle.tree_laws.proofs.StandingReads.{items_there, rows_there}
+use Rattle.prolly_tree.specs.Found.{ButLast, Ended, IsCanonical, IsEnded, each_of, lift, nodes_in, rows_at}
+use Rattle.prolly_tree.specs.Standing.{IsNodeFound}
+use Rattle.prolly_tree.proofs.Growing.{held_later}
+use Rattle.prolly_tree.proofs.Lifts.{all_lift, ends, lifts}
+use Rattle.prolly_tree.proofs.StandingReads.{items_there, rows_there}
 use Rattle.tuple_codec.proofs.Options.{some_is}
 
 abbrev joined : List (List Item) → List Item

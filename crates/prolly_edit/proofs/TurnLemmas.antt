@@ -9,10 +9,10 @@ use Rattle.tuple_codec.specs.declared.edits.Edit.{Edit}
 use Rattle.chunk_store.specs.Chunks.{Chunks, Extends}
 use Rattle.node_chunker.specs.Growth.{IsTower}
 use Rattle.node_chunker.specs.Subtrees.{CanPushRef, IsSubtree, is_clear}
-use Rattle.tree_laws.specs.Found.{IsEnded, Nodes, each_of, items_of, nodes_in, rows_at}
-use Rattle.tree_laws.specs.Standing.{IsNodeFound, IsStored}
-use Rattle.tree_laws.proofs.Standing.{trees_have_roots, trees_lead}
-use Rattle.tree_laws.proofs.StandingReads.{all_map, items_there, reached, rows_there, some_rows}
+use Rattle.prolly_tree.specs.Found.{IsEnded, Nodes, each_of, items_of, nodes_in, rows_at}
+use Rattle.prolly_tree.specs.Standing.{IsNodeFound, IsStored}
+use Rattle.prolly_tree.proofs.Standing.{trees_have_roots, trees_lead}
+use Rattle.prolly_tree.proofs.StandingReads.{all_map, items_there, reached, rows_there, some_rows}
 use Rattle.prolly_edit.specs.Editing.{CanEdit}
 use Rattle.prolly_edit.specs.Fronts.{AreParts, EndsBefore, IsPart, is_over, load, load_below, rest}
 use Rattle.prolly_tree.specs.Fronts.{Front, on_level, sum_of, weight}

@@ -3,8 +3,8 @@ use Rattle.std.specs.Prelude.{◌<◌, ℕ, suc, ◌+◌, Bool, true, false, Lis
 use Rattle.std.specs.List.{AllByRecursion}
 use Rattle.tuple_codec.specs.Nodes.{Item, Node}
 use Rattle.chunk_store.specs.Chunks.{Chunks}
-use Rattle.tree_laws.specs.Found.{IsCanonical, IsEnded, IsOrdered, Nodes, items_of, nodes_in, rows_at}
-use Rattle.tree_laws.specs.Standing.{IsNodeFound}
+use Rattle.prolly_tree.specs.Found.{IsCanonical, IsEnded, IsOrdered, Nodes, items_of, nodes_in, rows_at}
+use Rattle.prolly_tree.specs.Standing.{IsNodeFound}
 use Rattle.prolly_tree.specs.Fronts.{Front, on_level, sum_of, weight}
 
 -- those of a path, whose steps each have names of nodes of a level, the last step first

@@ -7,8 +7,8 @@ use Rattle.tuple_codec.specs.Edits.{edited, order}
 use Rattle.tuple_codec.specs.declared.edits.Edit.{Edit}
 use Rattle.chunk_store.specs.Chunks.{Chunks, Extends}
 use Rattle.node_chunker.specs.Growth.{IsTower}
-use Rattle.tree_laws.specs.Found.{each_of, nodes_in, rows_at}
-use Rattle.tree_laws.specs.Standing.{IsStored}
+use Rattle.prolly_tree.specs.Found.{each_of, nodes_in, rows_at}
+use Rattle.prolly_tree.specs.Standing.{IsStored}
 use Rattle.prolly_edit.specs.Keeping.{StaysOpen}
 use Rattle.prolly_edit.specs.Fronts.{AreParts, load, load_below, rest}
 use Rattle.prolly_tree.specs.Fronts.{Front, on_level}

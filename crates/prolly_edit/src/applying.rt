@@ -10,7 +10,7 @@ ghost use Rattle.chunk_store.specs.Standing.{IsTree};
 ghost use Rattle.chunk_store.specs.Clashes.{IsReason};
 ghost use Rattle.node_chunker.specs.Subtrees.{is_clear};
 ghost use Rattle.prolly_edit.specs.Editing.{CanEdit};
-ghost use Rattle.tree_laws.specs.Standing.{IsStored};
+ghost use Rattle.prolly_tree.specs.Standing.{IsStored};
 ghost use Rattle.prolly_edit.specs.Fronts.{is_over};
 ghost use Rattle.prolly_tree.specs.Fronts.{on_level};
 ghost use Rattle.node_format.specs.Outlasting.{Outlasts};

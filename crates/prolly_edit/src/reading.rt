@@ -5,7 +5,7 @@ ghost use Rattle.tuple_codec.specs.Nodes.{Item, Node, items_bytes, node_bytes};
 ghost use Rattle.node_format.specs.Outlasting.{Outlasts};
 ghost use Rattle.prolly_edit.specs.Keeping.{StaysOpen};
 ghost use Rattle.chunk_store.specs.Drafts.{chunks_of};
-ghost use Rattle.tree_laws.specs.Standing.{IsStored};
+ghost use Rattle.prolly_tree.specs.Standing.{IsStored};
 
 use crate::paths::Step;
 use chunk_store::Draft;

@@ -6,10 +6,10 @@ use Rattle.std.specs.Ordering.{is_lt}
 use Rattle.tuple_codec.proofs.Options.{some_is}
 use Rattle.tuple_codec.specs.Nodes.{Item, Node, Rise}
 use Rattle.tuple_codec.specs.Trees.{rows_in}
-use Rattle.tree_laws.specs.Found.{UpTo, each_of, nodes_in, rows_at}
-use Rattle.tree_laws.specs.Standing.{IsNodeFound, IsOpen, Leads, rows_below}
-use Rattle.tree_laws.proofs.StandingReads.{IsReached, all_map, many_rows, reached, rows_there}
-use Rattle.tree_laws.proofs.StandingOrder.{order, rise_left, rise_right, upto_last}
+use Rattle.prolly_tree.specs.Found.{UpTo, each_of, nodes_in, rows_at}
+use Rattle.prolly_tree.specs.Standing.{IsNodeFound, IsOpen, Leads, rows_below}
+use Rattle.prolly_tree.proofs.StandingReads.{IsReached, all_map, many_rows, reached, rows_there}
+use Rattle.prolly_tree.proofs.StandingOrder.{order, rise_left, rise_right, upto_last}
 use Rattle.tuple_codec.specs.Edits.{value_at}
 use Rattle.chunk_store.specs.Chunks.{Chunks}
 use Rattle.prolly_tree.specs.Lists.{first_of, from_key, place_of}

@@ -2,9 +2,9 @@
 use Rattle.std.proofs.Common.{◌≡◌, ◌≤◌, ℕ, inl, inr, List, [], ◌∷◌, ◌++◌, drop, refl, sym, ap, ◌∙◌, subst, append_assoc, append-nil}
 use Rattle.tuple_codec.specs.Nodes.{Item, Node}
 use Rattle.chunk_store.specs.Chunks.{Chunks}
-use Rattle.tree_laws.specs.Found.{Nodes, each_of, items_of, nodes_in, rows_at}
-use Rattle.tree_laws.specs.Standing.{IsStored, Leads}
-use Rattle.tree_laws.proofs.StandingReads.{items_there}
+use Rattle.prolly_tree.specs.Found.{Nodes, each_of, items_of, nodes_in, rows_at}
+use Rattle.prolly_tree.specs.Standing.{IsStored, Leads}
+use Rattle.prolly_tree.proofs.StandingReads.{items_there}
 use Rattle.prolly_tree.specs.Walks.{IsAtNode, IsAtRow, IsEmptyAbove, Left, left_in}
 use Rattle.prolly_tree.specs.Fronts.{Front, IsReady, front_above, front_of, items_below, on_level, opened, rows_ahead}
 use Rattle.prolly_tree.proofs.WalkLemmas.{IsBelow, begin, begin_can, down_to, up_from}

@@ -11,8 +11,8 @@ use Rattle.std.proofs.lemmas.Map.Text.{is_eq-slice_cmp}
 use Rattle.tuple_codec.proofs.Options.{some_is as some_same}
 use Rattle.tuple_codec.specs.Nodes.{Item, Rise, RiseAfter}
 use Rattle.tuple_codec.specs.Trees.{last_key}
-use Rattle.tree_laws.specs.Found.{UpTo, each_of}
-use Rattle.tree_laws.proofs.StandingOrder.{order, le_lt, lt_trans, rise_any}
+use Rattle.prolly_tree.specs.Found.{UpTo, each_of}
+use Rattle.prolly_tree.proofs.StandingOrder.{order, le_lt, lt_trans, rise_any}
 use Rattle.tuple_codec.specs.Edits.{value_at}
 use Rattle.prolly_tree.specs.Lists.{first_of, from_key, place_of}
 

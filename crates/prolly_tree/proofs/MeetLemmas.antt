@@ -12,8 +12,8 @@ use Rattle.tuple_codec.specs.Edits.{EditsRiseAfter, value_at}
 use Rattle.tuple_codec.specs.Nodes.{Item, Node}
 use Rattle.tuple_codec.specs.declared.edits.Edit.{Edit}
 use Rattle.chunk_store.specs.Chunks.{Chunks}
-use Rattle.tree_laws.specs.Standing.{IsNodeFound, IsStored, Leads, rows_below}
-use Rattle.tree_laws.proofs.StandingOrder.{le_itself, le_lt, lt_is_le, lt_le, order}
+use Rattle.prolly_tree.specs.Standing.{IsNodeFound, IsStored, Leads, rows_below}
+use Rattle.prolly_tree.proofs.StandingOrder.{le_itself, le_lt, lt_is_le, lt_le, order}
 use Rattle.prolly_tree.specs.Lists.{has_any, place_of}
 use Rattle.prolly_tree.specs.Meets.{IsNamed, count_up_to, leaf_has_any}
 use Rattle.prolly_tree.proofs.Descents.{from_place, head_above, item_same, leaf_value, next, none_some, nothing_at_end}

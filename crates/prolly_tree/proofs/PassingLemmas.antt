@@ -10,8 +10,8 @@ use Rattle.std.specs.Int.{w64, to_be_bytes}
 use Rattle.node_format.proofs.FieldLemmas.{wide64}
 use Rattle.tuple_codec.specs.Nodes.{IsItem, Item, item_bytes, items_bytes, leaf_item, sized}
 use Rattle.tuple_codec.specs.Trees.{blank, rows_in}
-use Rattle.tree_laws.proofs.StandingNodes.{sized_length}
-use Rattle.tree_laws.proofs.StandingOrder.{order}
+use Rattle.prolly_tree.proofs.StandingNodes.{sized_length}
+use Rattle.prolly_tree.proofs.StandingOrder.{order}
 use Rattle.prolly_tree.specs.Lists.{place_of}
 use Rattle.prolly_tree.proofs.Descents.{all_at, drop_get}
 

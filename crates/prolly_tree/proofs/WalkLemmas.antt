@@ -6,10 +6,10 @@ use Rattle.std.specs.Option.{MatchOption, is_some}
 use Rattle.tuple_codec.specs.Nodes.{Item, Node, Rise}
 use Rattle.tuple_codec.specs.Trees.{last_key}
 use Rattle.chunk_store.specs.Chunks.{Chunks}
-use Rattle.tree_laws.specs.Found.{each_of, nodes_in, rows_at}
-use Rattle.tree_laws.specs.Standing.{IsNodeFound, IsStored, Leads, rows_below}
-use Rattle.tree_laws.proofs.StandingReads.{IsReached, all_map, last_row, reached, rows_there, some_rows}
-use Rattle.tree_laws.proofs.StandingOrder.{order, rise_left, rise_right}
+use Rattle.prolly_tree.specs.Found.{each_of, nodes_in, rows_at}
+use Rattle.prolly_tree.specs.Standing.{IsNodeFound, IsStored, Leads, rows_below}
+use Rattle.prolly_tree.proofs.StandingReads.{IsReached, all_map, last_row, reached, rows_there, some_rows}
+use Rattle.prolly_tree.proofs.StandingOrder.{order, rise_left, rise_right}
 use Rattle.prolly_tree.specs.Lists.{from_key, place_of}
 use Rattle.prolly_tree.specs.Walks.{CanWalk, HaveRoom, IsAtNode, IsAtRow, IsEmptyAbove, Left, LeadsOn, left_in, rows_above, rows_left}
 use Rattle.prolly_tree.proofs.Lookups.{drop_place, reach}

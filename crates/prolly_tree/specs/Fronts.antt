@@ -3,7 +3,7 @@ use Rattle.std.specs.Prelude.{ℕ, zero, suc, ◌+◌, List, [], ◌∷◌, ◌+
 use Rattle.tuple_codec.specs.Nodes.{Item, Node}
 use Rattle.chunk_store.specs.Chunks.{Chunks}
 use Rattle.chunk_store.specs.Drafts.{DraftParts, chunks_of}
-use Rattle.tree_laws.specs.Found.{Nodes, items_of, nodes_in, rows_at}
+use Rattle.prolly_tree.specs.Found.{Nodes, items_of, nodes_in, rows_at}
 use Rattle.prolly_tree.specs.Walks.{CanWalk, IsEmptyAbove, Left}
 
 abbrev pub Front : Type 0

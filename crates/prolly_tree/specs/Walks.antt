@@ -4,7 +4,7 @@ use Rattle.std.specs.List.{AllByRecursion}
 use Rattle.tuple_codec.specs.Nodes.{Item, Node}
 use Rattle.chunk_store.specs.Chunks.{Chunks}
 use Rattle.chunk_store.specs.Drafts.{DraftParts, chunks_of}
-use Rattle.tree_laws.specs.Standing.{IsNodeFound, rows_below}
+use Rattle.prolly_tree.specs.Standing.{IsNodeFound, rows_below}
 use Rattle.prolly_tree.specs.Lists.{pair_of}
 
 -- the items of a node from one on

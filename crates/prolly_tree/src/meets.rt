@@ -6,7 +6,7 @@ ghost use Rattle.tuple_codec.specs.Edits.{EditsRiseAfter, order};
 ghost use Rattle.tuple_codec.specs.Nodes.{Item, Node};
 ghost use Rattle.chunk_store.specs.Drafts.{chunks_of};
 ghost use Rattle.chunk_store.specs.Standing.{IsTree};
-ghost use Rattle.tree_laws.specs.Standing.{IsStored, Leads, rows_below};
+ghost use Rattle.prolly_tree.specs.Standing.{IsStored, Leads, rows_below};
 ghost use Rattle.prolly_tree.specs.Lists.{StandsForRows, has_any};
 ghost use Rattle.prolly_tree.specs.Meets.{IsNamed, count_up_to, leaf_has_any};
 

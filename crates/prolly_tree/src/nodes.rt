@@ -6,7 +6,7 @@ ghost use Rattle.std.specs.Cmp.Lexicographic.{slice_cmp};
 ghost use Rattle.tuple_codec.specs.Nodes.{Item, Node, IsNode};
 ghost use Rattle.chunk_store.specs.Drafts.{chunks_of};
 ghost use Rattle.chunk_store.specs.Standing.{IsTree};
-ghost use Rattle.tree_laws.specs.Standing.{IsOpen, IsStored, rows_below};
+ghost use Rattle.prolly_tree.specs.Standing.{IsOpen, IsStored, rows_below};
 ghost use Rattle.tuple_codec.specs.Edits.{value_at};
 ghost use Rattle.prolly_tree.specs.Lists.{StandsForRows, first_of, from_key, place_of};
 

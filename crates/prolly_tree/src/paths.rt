@@ -4,7 +4,7 @@ ghost use Rattle.std.specs.Prelude.{◌≡◌, ◌<◌, ◌≤◌, ◌∷◌, �
 ghost use Rattle.tuple_codec.specs.Nodes.{Item, Node, Rise};
 ghost use Rattle.chunk_store.specs.Chunks.{Chunks};
 ghost use Rattle.chunk_store.specs.Drafts.{chunks_of};
-ghost use Rattle.tree_laws.specs.Standing.{IsStored, Leads, rows_below};
+ghost use Rattle.prolly_tree.specs.Standing.{IsStored, Leads, rows_below};
 ghost use Rattle.prolly_tree.specs.Lists.{from_key};
 ghost use Rattle.prolly_tree.specs.Walks.{CanWalk, IsAtNode, IsAtRow, IsEmptyAbove, Left, left_in, rows_above, rows_left};
 ghost use Rattle.prolly_tree.specs.Fronts.{front_of};

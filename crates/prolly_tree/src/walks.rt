@@ -4,7 +4,7 @@ ghost use Rattle.std.specs.Prelude.{◌≡◌, ◌∷◌, [], List, IfOk, MatchO
 ghost use Rattle.tuple_codec.specs.Nodes.{Item, Node};
 ghost use Rattle.chunk_store.specs.Drafts.{chunks_of};
 ghost use Rattle.chunk_store.specs.Standing.{IsTree};
-ghost use Rattle.tree_laws.specs.Standing.{IsStored};
+ghost use Rattle.prolly_tree.specs.Standing.{IsStored};
 ghost use Rattle.prolly_tree.specs.Lists.{StandsForRows};
 ghost use Rattle.prolly_tree.specs.Fronts.{nodes_of, on_level, opened, rows_of};
 ghost use Rattle.prolly_tree.specs.Heads.{item_of, level_of};

@@ -16,8 +16,8 @@ use Rattle.schema_model.specs.Limits.{is_row_within_limits}
 use Rattle.schema_model.specs.PlainTables.{body_bytes, is_row, row_item}
 use Rattle.schema_model.specs.Schemas.{is_schema}
 use Rattle.schema_model.specs.declared.schemas.Schema.{Schema}
-use Rattle.edit_laws.proofs.Orders.{same_key}
-use Rattle.table_rows.specs.Rows.{IsRowOf, RowItemsFollow}
+use Rattle.tuple_codec.proofs.KeyOrders.{same_key}
+use Rattle.table_root.specs.Rows.{IsRowOf, RowItemsFollow}
 use Rattle.root_merge.specs.Changing.{AreBrought, IsBroughtRow, is_short_perhaps}
 
 -- ---- one change

@@ -5,7 +5,7 @@ use Rattle.schema_model.specs.Limits.{is_table_within_limits}
 use Rattle.schema_model.specs.PlainTables.{PlainTable}
 use Rattle.chunk_store.specs.Chunks.{Chunks}
 use Rattle.table_root.specs.declared.records.StoredTable.{StoredTable}
-use Rattle.plain_merge.specs.RootMerge.{MergedDatabase, MergedTable, SchemaConflict, merged, step, unmerged}
+use Rattle.schema_merge.specs.RootMerge.{MergedDatabase, MergedTable, SchemaConflict, merged, step, unmerged}
 use Rattle.table_merge.specs.Merging.{IsFaultOf, IsMergedTable, PlainSides, merged_contents}
 use Rattle.table_merge.specs.declared.faults.MergeFault.{MergeFault}
 use Rattle.table_merge.specs.declared.faults.MergeFault.TheVariants as fault

@@ -10,7 +10,7 @@ use Rattle.schema_model.specs.PlainTables.{PlainTable}
 use Rattle.schema_model.specs.Sameness.{is_same_table}
 use Rattle.chunk_store.specs.Chunks.{Chunks}
 use Rattle.table_root.specs.Standing.{TablesStand}
-use Rattle.plain_merge.specs.RootMerge.{by_rows, either_table, or_by_rows}
+use Rattle.schema_merge.specs.RootMerge.{by_rows, either_table, or_by_rows}
 use Rattle.root_merge.specs.Choosing.{LeadsTo, chosen, or_rows_of, rows_of, same_address}
 use Rattle.root_merge.specs.Kept.{IsKeptPerhaps}
 

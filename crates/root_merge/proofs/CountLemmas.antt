@@ -1,7 +1,7 @@
 -- Conflicts of several tables: there is one where the first has one or the others have.
 use Rattle.std.proofs.Common.{◌≡◌, sym, ap, ◌∙◌, ℕ, true, false, Bool, not, ◌==◌, List}
 use Rattle.chunk_store.specs.Chunks.{Chunks}
-use Rattle.plain_merge.specs.RootMerge.{MergedDatabase}
+use Rattle.schema_merge.specs.RootMerge.{MergedDatabase}
 use Rattle.root_merge.specs.declared.names.Named.{Named}
 use Rattle.root_merge.specs.Names.{Wanted}
 use Rattle.root_merge.proofs.NatLemmas.{none_sum, some_sum}

@@ -8,7 +8,7 @@ use Rattle.schema_model.proofs.SizeLemmas.{few_tables as few_kept}
 use Rattle.chunk_store.specs.Chunks.{Chunks, Extends}
 use Rattle.table_root.specs.Standing.{DatabasesStand, IsReadAt}
 use Rattle.expr_eval.specs.Binding.{Outcome, and_then}
-use Rattle.plain_merge.specs.RootMerge.{MergedDatabase, SchemaConflict}
+use Rattle.schema_merge.specs.RootMerge.{MergedDatabase, SchemaConflict}
 use Rattle.plain_sql.specs.Lists.{unless}
 use Rattle.table_merge.specs.declared.faults.MergeFault.{MergeFault}
 use Rattle.table_merge.specs.declared.faults.MergeFault.TheVariants as fault

@@ -11,12 +11,12 @@ use Rattle.schema_model.specs.Schemas.{is_schema}
 use Rattle.schema_model.specs.declared.schemas.Schema.{Schema}
 use Rattle.chunk_store.specs.Chunks.{Chunks}
 use Rattle.chunk_store.specs.Standing.{IsTree}
-use Rattle.edit_laws.specs.ByKey.{AreLeafRows, as_edits}
-use Rattle.edit_laws.proofs.Rising.{changed_rise}
-use Rattle.edit_laws.proofs.Values.{changes_back}
+use Rattle.tuple_codec.specs.ByKey.{AreLeafRows, as_edits}
+use Rattle.tuple_codec.proofs.Rising.{changed_rise}
+use Rattle.tuple_codec.proofs.EditedValues.{changes_back}
 use Rattle.table_root.specs.Standing.{IsTableOf, IsUnindexedOf}
 use Rattle.table_root.specs.declared.records.StoredTable.{StoredTable}
-use Rattle.table_rows.specs.Rows.{RowItemsFollow}
+use Rattle.table_root.specs.Rows.{RowItemsFollow}
 use Rattle.index_keep.specs.Keeping.{CanEditTable, with_rows}
 use Rattle.root_merge.specs.Changing.{AreBrought, CanKeep, is_short_perhaps}
 use Rattle.root_merge.specs.Merging.{IsMergeOf}

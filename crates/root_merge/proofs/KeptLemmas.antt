@@ -11,7 +11,7 @@ use Rattle.schema_model.specs.WrittenForms.{table_address}
 use Rattle.chunk_store.specs.Chunks.{Chunks, Extends}
 use Rattle.table_root.specs.Standing.{IsTableAt, TablesStand, named_tables}
 use Rattle.table_root.specs.declared.records.TableEntry.{TableEntry}
-use Rattle.plain_merge.specs.RootMerge.{table_in}
+use Rattle.schema_merge.specs.RootMerge.{table_in}
 use Rattle.table_merge.specs.Merging.{PlainSides}
 use Rattle.table_root.specs.Kept.{IsKeptAt}
 use Rattle.root_merge.specs.Choosing.{address_in}

@@ -13,7 +13,7 @@ use Rattle.chunk_store.specs.Chunks.{Chunks, Extends}
 use Rattle.table_root.specs.Standing.{AreThere, IsTableAt, TablesStand, named_tables}
 use Rattle.table_root.specs.declared.records.TableEntry.{TableEntry}
 use Rattle.table_root.proofs.ListingLemmas.{made_count}
-use Rattle.plain_merge.specs.RootMerge.{MergedDatabase, MergedTable, SchemaConflict, step, unmerged, with_table}
+use Rattle.schema_merge.specs.RootMerge.{MergedDatabase, MergedTable, SchemaConflict, step, unmerged, with_table}
 use Rattle.root_merge.specs.Choosing.{LeadsTo}
 use Rattle.root_merge.specs.Kept.{AreKept, IsKeptPerhaps, IsKeptTable}
 use Rattle.root_merge.specs.Merging.{AreMade, HaveTableNames, are_within, is_within_perhaps}

@@ -20,11 +20,11 @@ use Rattle.schema_model.specs.declared.schemas.Schema.{Schema}
 use Rattle.schema_model.proofs.SizeLemmas.{short_names}
 use Rattle.schema_merge.specs.Merging.{and_then, schema3}
 use Rattle.schema_merge.specs.Projecting.{projected}
-use Rattle.plain_merge.specs.KeyByKey.{all_keys, before, gathered, key_among, keys_with}
-use Rattle.plain_merge.specs.RootMerge.{MergedDatabase, MergedTable, SchemaConflict, names_of, step, with_table}
-use Rattle.plain_merge.specs.TableMerge.{Three, conflict_at, keys_of, rows_on, rows_on_or_none, table3, table_of, three_on}
-use Rattle.plain_merge.proofs.Keys.{KeysRise, with_rise}
-use Rattle.edit_laws.proofs.Rising.{after_less}
+use Rattle.schema_merge.specs.KeyByKey.{all_keys, before, gathered, key_among, keys_with}
+use Rattle.schema_merge.specs.RootMerge.{MergedDatabase, MergedTable, SchemaConflict, names_of, step, with_table}
+use Rattle.schema_merge.specs.TableMerge.{Three, conflict_at, keys_of, rows_on, rows_on_or_none, table3, table_of, three_on}
+use Rattle.schema_merge.proofs.Keys.{KeysRise, with_rise}
+use Rattle.tuple_codec.proofs.Rising.{after_less}
 use Rattle.table_merge.specs.Merging.{PlainSides, is_short_merged, keeps_limits, merged_contents}
 use Rattle.table_merge.proofs.KeptLemmas.{short_rows as rows_of_all}
 use Rattle.root_merge.specs.Merging.{HaveTableNames, are_within}

@@ -12,8 +12,8 @@ use Rattle.schema_model.specs.Sameness.{is_same_table}
 use Rattle.chunk_store.specs.Chunks.{Chunks}
 use Rattle.table_root.specs.Standing.{TablesStand, named_tables}
 use Rattle.table_root.specs.declared.records.TableEntry.{TableEntry}
-use Rattle.plain_merge.specs.KeyByKey.{all_keys, key_among, keys_with}
-use Rattle.plain_merge.specs.RootMerge.{names_of, over_names, root3, step, table_in}
+use Rattle.schema_merge.specs.KeyByKey.{all_keys, key_among, keys_with}
+use Rattle.schema_merge.specs.RootMerge.{names_of, over_names, root3, step, table_in}
 use Rattle.root_merge.specs.Choosing.{address_in}
 use Rattle.root_merge.specs.Kept.{AreKept}
 use Rattle.root_merge.specs.Names.{LeadTo, all_chosen, all_wanted, chosen_for, names_in, together, wanted_for}

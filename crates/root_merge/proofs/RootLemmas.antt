@@ -8,7 +8,7 @@ use Rattle.chunk_store.specs.Chunks.{Chunks, Extends}
 use Rattle.table_root.specs.Standing.{TablesStand, named_tables}
 use Rattle.table_root.specs.declared.records.TableEntry.{TableEntry}
 use Rattle.table_root.proofs.ListingLemmas.{made_count}
-use Rattle.plain_merge.specs.RootMerge.{MergedDatabase, MergedTable, SchemaConflict, root3, with_table}
+use Rattle.schema_merge.specs.RootMerge.{MergedDatabase, MergedTable, SchemaConflict, root3, with_table}
 use Rattle.table_merge.specs.Merging.{IsMergeReason}
 use Rattle.table_merge.specs.declared.faults.MergeFault.{MergeFault}
 use Rattle.table_merge.specs.declared.faults.MergeFault.TheVariants as fault

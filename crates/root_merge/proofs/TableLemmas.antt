@@ -15,8 +15,8 @@ use Rattle.chunk_store.specs.Kinds.{is_data, is_database, is_either, is_node, is
 use Rattle.chunk_store.specs.Laws.{DraftsGrow}
 use Rattle.chunk_store.specs.Standing.{IsTree}
 use Rattle.schema_merge.specs.Merging.{and_then, schema3}
-use Rattle.plain_merge.specs.TableMerge.{table3, table_of, three_on}
-use Rattle.table_rows.specs.Rows.{AreRowsAt}
+use Rattle.schema_merge.specs.TableMerge.{table3, table_of, three_on}
+use Rattle.table_root.specs.Rows.{AreRowsAt}
 use Rattle.table_root.specs.Standing.{IsTableOf, IsUnindexedOf}
 use Rattle.table_root.specs.declared.records.StoredTable.{StoredTable}
 use Rattle.index_keep.specs.Keeping.{AreIndexes, CanIndex, table_of_rows}

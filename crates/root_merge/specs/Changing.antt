@@ -8,10 +8,10 @@ use Rattle.schema_model.specs.Limits.{is_row_within_limits, is_table_within_limi
 use Rattle.schema_model.specs.PlainTables.{PlainTable, row_items}
 use Rattle.schema_model.specs.declared.schemas.Schema.{Schema}
 use Rattle.chunk_store.specs.Chunks.{Chunks}
-use Rattle.edit_laws.specs.ByKey.{as_edits}
+use Rattle.tuple_codec.specs.ByKey.{as_edits}
 use Rattle.table_root.specs.Standing.{IsTableOf}
 use Rattle.table_root.specs.declared.records.StoredTable.{StoredTable}
-use Rattle.table_rows.specs.Rows.{IsRowOf}
+use Rattle.table_root.specs.Rows.{IsRowOf}
 use Rattle.root_merge.specs.Merging.{IsTableMade}
 
 -- a row, if there is one, keeps the limits

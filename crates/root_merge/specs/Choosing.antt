@@ -5,7 +5,7 @@ use Rattle.tuple_codec.specs.declared.addresses.Address.{Address}
 use Rattle.schema_model.specs.PlainTables.{PlainTable}
 use Rattle.chunk_store.specs.Chunks.{Chunks}
 use Rattle.table_root.specs.declared.records.TableEntry.{TableEntry}
-use Rattle.plain_merge.specs.RootMerge.{MergedTable, merged, unmerged}
+use Rattle.schema_merge.specs.RootMerge.{MergedTable, merged, unmerged}
 use Rattle.table_merge.specs.Merging.{PlainSides, merged_contents}
 use Rattle.root_merge.specs.Kept.{AreKeptSides, IsKeptPerhaps}
 use Rattle.root_merge.specs.declared.choosing.Choice.{Choice}

@@ -4,7 +4,7 @@ use Rattle.schema_model.specs.Limits.{is_database_within_limits}
 use Rattle.chunk_store.specs.Chunks.{Chunks}
 use Rattle.schema_model.specs.PlainTables.{PlainDatabase}
 use Rattle.expr_eval.specs.Binding.{Outcome, and_then}
-use Rattle.plain_merge.specs.RootMerge.{MergedDatabase, SchemaConflict, root3}
+use Rattle.schema_merge.specs.RootMerge.{MergedDatabase, SchemaConflict, root3}
 use Rattle.table_root.specs.Kept.{IsKeptAt}
 use Rattle.plain_sessions.specs.CommitRule.{both_merged, is_unsettled, recorded, without_conflicts}
 use Rattle.plain_sessions.specs.Records.{BranchState}

@@ -14,7 +14,7 @@ use Rattle.table_root.specs.Standing.{AreThere, IsTableOf, IsUnindexedOf}
 use Rattle.table_root.specs.declared.records.StoredTable.{StoredTable}
 use Rattle.table_root.specs.declared.records.TableEntry.{TableEntry}
 use Rattle.schema_merge.specs.Merging.{schema3}
-use Rattle.plain_merge.specs.RootMerge.{MergedDatabase, MergedTable, SchemaConflict}
+use Rattle.schema_merge.specs.RootMerge.{MergedDatabase, MergedTable, SchemaConflict}
 use Rattle.table_merge.specs.Merging as merging
 use Rattle.table_merge.specs.Merging.{PlainSides, keeps_limits, merged_contents}
 use Rattle.table_merge.specs.declared.faults.MergeFault.{MergeFault}

@@ -5,8 +5,8 @@ use Rattle.tuple_codec.specs.declared.addresses.Address.{Address}
 use Rattle.schema_model.specs.PlainTables.{PlainDatabase}
 use Rattle.chunk_store.specs.Chunks.{Chunks}
 use Rattle.table_root.specs.declared.records.TableEntry.{TableEntry}
-use Rattle.plain_merge.specs.KeyByKey.{all_keys}
-use Rattle.plain_merge.specs.RootMerge.{MergedDatabase, MergedTable, SchemaConflict, either_table, names_of, step, table_in}
+use Rattle.schema_merge.specs.KeyByKey.{all_keys}
+use Rattle.schema_merge.specs.RootMerge.{MergedDatabase, MergedTable, SchemaConflict, either_table, names_of, step, table_in}
 use Rattle.root_merge.specs.Choosing.{LeadsTo, address_in, chosen}
 use Rattle.root_merge.specs.declared.names.Named.{Named}
 

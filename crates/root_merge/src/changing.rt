@@ -10,7 +10,7 @@ ghost use Rattle.schema_model.specs.Schemas.{is_schema};
 ghost use Rattle.chunk_store.specs.Clashes.{IsReason};
 ghost use Rattle.chunk_store.specs.Drafts.{Grows, chunks_of};
 ghost use Rattle.chunk_store.specs.Kinds.{is_data, is_node};
-ghost use Rattle.edit_laws.specs.ByKey.{as_edits};
+ghost use Rattle.tuple_codec.specs.ByKey.{as_edits};
 ghost use Rattle.table_root.specs.Standing.{IsTableOf};
 ghost use Rattle.table_merge.specs.Merging.{IsMergeReason};
 ghost use Rattle.root_merge.specs.Changing.{AreBrought, CanKeep, HasChanges, HasEdits, IsBroughtRow, is_short_perhaps};
@@ -25,8 +25,7 @@ use plain_writes::is_large;
 use schema_model::Schema;
 use std::alloc::{AllocError, Global};
 use table_merge::MergeFault;
-use table_root::StoredTable;
-use table_rows::{law_of_row_items, row_of};
+use table_root::{StoredTable, law_of_row_items, row_of};
 use tuple_codec::{Digester, Edit, ItemChange};
 
 /// Whether the row that a change brings keeps the limits, if it brings one.

@@ -3,7 +3,7 @@
 ghost use Rattle.std.specs.Prelude.{◌≡◌, ◌==◌, not, Ok, List, Result, length, IfOk};
 ghost use Rattle.schema_model.specs.PlainTables.{PlainDatabase, PlainTable};
 ghost use Rattle.chunk_store.specs.Drafts.{chunks_of};
-ghost use Rattle.plain_merge.specs.RootMerge.{MergedDatabase, MergedTable, root3};
+ghost use Rattle.schema_merge.specs.RootMerge.{MergedDatabase, MergedTable, root3};
 ghost use Rattle.table_merge.specs.Merging.{PlainSides};
 ghost use Rattle.table_root.specs.Kept.{HasKeptAt};
 ghost use Rattle.root_merge.specs.Choosing.{LeadsTo};

@@ -5,7 +5,7 @@ ghost use Rattle.schema_model.specs.PlainTables.{PlainDatabase};
 ghost use Rattle.chunk_store.specs.Clashes.{IsReason};
 ghost use Rattle.chunk_store.specs.Drafts.{Grows, chunks_of};
 ghost use Rattle.chunk_store.specs.Kinds.{is_data};
-ghost use Rattle.plain_merge.specs.RootMerge.{MergedDatabase, SchemaConflict, root3};
+ghost use Rattle.schema_merge.specs.RootMerge.{MergedDatabase, SchemaConflict, root3};
 ghost use Rattle.table_root.specs.Kept.{HasKeptAt, IsKeptAt};
 ghost use Rattle.plain_sessions.specs.CommitRule.{candidate, decide, is_none, judged, merged, recorded};
 ghost use Rattle.plain_sessions.specs.Records.{BranchState, is_same_state};

@@ -5,7 +5,7 @@ ghost use Rattle.std.specs.Option.{option_copied};
 ghost use Rattle.schema_model.specs.Limits.{is_within_limits};
 ghost use Rattle.chunk_store.specs.Drafts.{chunks_of};
 ghost use Rattle.schema_merge.specs.Merging.{schema3};
-ghost use Rattle.plain_merge.specs.RootMerge.{MergedTable};
+ghost use Rattle.schema_merge.specs.RootMerge.{MergedTable};
 ghost use Rattle.table_merge.specs.Merging.{PlainSides, merged_contents};
 ghost use Rattle.root_merge.specs.Choosing.{LeadsTo};
 ghost use Rattle.root_merge.specs.Kept.{AreKeptSides};

@@ -6,7 +6,7 @@ ghost use Rattle.schema_model.specs.PlainTables.{PlainDatabase};
 ghost use Rattle.chunk_store.specs.Clashes.{IsReason};
 ghost use Rattle.chunk_store.specs.Drafts.{Grows, chunks_of};
 ghost use Rattle.chunk_store.specs.Kinds.{is_data, is_database};
-ghost use Rattle.plain_merge.specs.RootMerge.{MergedDatabase, root3};
+ghost use Rattle.schema_merge.specs.RootMerge.{MergedDatabase, root3};
 ghost use Rattle.table_merge.specs.Merging.{IsMergeReason};
 ghost use Rattle.table_root.specs.Kept.{HasKeptAt, IsKeptAt};
 ghost use Rattle.root_merge.specs.Kept.{AreKept};

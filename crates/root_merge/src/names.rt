@@ -2,11 +2,11 @@
 
 ghost use Rattle.std.specs.Prelude.{◌≡◌, IfOk};
 ghost use Rattle.tuple_codec.specs.Edits.{order};
-ghost use Rattle.plain_merge.specs.KeyByKey.{all_keys};
+ghost use Rattle.schema_merge.specs.KeyByKey.{all_keys};
 ghost use Rattle.root_merge.specs.Names.{all_chosen, chosen_for, names_in};
 
 use crate::choosing::{Choice, address_in, chosen};
-use plain_merge::names_with;
+use schema_merge::names_with;
 use std::alloc::{AllocError, Global};
 use table_root::TableEntry;
 use tuple_codec::Text;

@@ -8,7 +8,7 @@ ghost use Rattle.chunk_store.specs.Clashes.{IsReason};
 ghost use Rattle.chunk_store.specs.Drafts.{Grows, chunks_of};
 ghost use Rattle.chunk_store.specs.Kinds.{is_data, is_node, is_table};
 ghost use Rattle.table_root.specs.Standing.{IsTableOf, IsUnindexedOf};
-ghost use Rattle.plain_merge.specs.RootMerge.{MergedTable};
+ghost use Rattle.schema_merge.specs.RootMerge.{MergedTable};
 ghost use Rattle.table_merge.specs.Merging.{IsMergeReason, PlainSides};
 ghost use Rattle.root_merge.specs.Choosing.{LeadsTo};
 ghost use Rattle.root_merge.specs.Kept.{IsKeptTable, MayBeKept};
@@ -25,8 +25,7 @@ use prolly_tree::count;
 use schema_model::{Schema, is_same_schema, law_of_sameness};
 use std::alloc::{AllocError, Global};
 use table_merge::{MergeFault, merge_kept_table};
-use table_root::{StoredTable, write_table};
-use table_rows::read_rows;
+use table_root::{StoredTable, read_rows, write_table};
 use tuple_codec::{Address, Digester, Row, Sequence};
 
 /// Where a table stands that others came to, if there is one, and how many conflicts its rows met.

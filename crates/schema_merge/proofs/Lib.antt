@@ -1,2 +1,5 @@
-mod Vectors
+pub mod Gathering
+pub mod Keys
 pub mod MergeLemmas
+mod Vectors
+mod WholeMergeVectors

@@ -1,4 +1,8 @@
-pub mod Parts
-pub mod Names
+pub mod Changes
+pub mod KeyByKey
 pub mod Merging
+pub mod Names
+pub mod Parts
 pub mod Projecting
+pub mod RootMerge
+pub mod TableMerge

@@ -8,6 +8,8 @@ mod copies;
 mod covering;
 mod faults;
 mod finding;
+mod merge_laws;
+mod merged_names;
 mod merging;
 mod names;
 mod parts;
@@ -15,5 +17,7 @@ mod projecting;
 mod same;
 
 pub use faults::SchemaFault;
+pub use merge_laws::changes_merge;
+pub use merged_names::names_with;
 pub use merging::merge;
 pub use projecting::project;

@@ -24,7 +24,7 @@ use Rattle.plain_sessions.specs.Sessions as plain
 use Rattle.run_laws.specs.Laws.{LinesAreRun, shown_by}
 use Rattle.run_laws.specs.Lines.{Spoken, replies_of}
 use Rattle.run_laws.specs.Orders.{IsTextOrder, is_within}
-use Rattle.session_laws.specs.Changes.{BranchStands, Paired}
+use Rattle.session_state.specs.Changes.{BranchStands, Paired}
 use Rattle.serving.specs.Serving.{is_sound_reply}
 use Rattle.script_run.specs.Running.{IsRunningAt, IsSpeaker}
 use Rattle.script_run.specs.Scripts.{IsSoundScript}

@@ -21,7 +21,7 @@ use Rattle.run_laws.specs.Laws.{OrdersAreFollowed}
 use Rattle.run_laws.specs.Orders.{asked_moment, asked_order}
 use Rattle.run_laws.specs.Replaying.{Along, dropped, reply_of}
 use Rattle.run_laws.proofs.ListLemmas.{get_put, get_put_other, put_same}
-use Rattle.session_laws.specs.Changes.{Parts, StateStands}
+use Rattle.session_state.specs.Changes.{Parts, StateStands}
 use Rattle.script_run.specs.Following.{ArePlayers, AreSettledTo, CantFollow, GoesOn, Stays, Answers, Drops, HasFollowed, IsFurther, IsPlayer, IsPlayingAt, StandsAt, Turns, Meets, Starts, Decides, is_next_at, is_settled, moments_left}
 use Rattle.script_run.specs.declared.players.Player.{Player}
 use Rattle.script_run.specs.declared.players.Playing.{Playing}

@@ -22,7 +22,7 @@ use Rattle.chunk_store.specs.Chunks.{Listed}
 use Rattle.chunk_store.specs.declared.faults.PutFault.TheVariants.{Memory}
 use Rattle.run_laws.specs.Replaying.{dropped, reply_of}
 use Rattle.run_laws.proofs.Steps.{alone_past, moment_past}
-use Rattle.session_laws.specs.Changes.{Parts, StateStands}
+use Rattle.session_state.specs.Changes.{Parts, StateStands}
 use Rattle.session_state.specs.Standing.{SessionStands}
 use Rattle.serving.specs.Serving.{is_sound_reply}
 use Rattle.serving.specs.Serving.{Awaits, Concludes, Drops, Fails, IsBefore, IsBetween, MeetsOnce, Passes, PassesAlone, Starts}

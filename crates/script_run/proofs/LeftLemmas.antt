@@ -8,7 +8,7 @@ use Rattle.plain_sessions.specs.Records.{Shared}
 use Rattle.plain_sessions.specs.Runs.{Runner}
 use Rattle.plain_sessions.specs.declared.commands.Command.{Command}
 use Rattle.run_laws.proofs.ListLemmas.{if_false}
-use Rattle.session_laws.specs.Changes.{Parts}
+use Rattle.session_state.specs.Changes.{Parts}
 use Rattle.serving.specs.Steps.{number_at}
 use Rattle.serving.specs.declared.meeting.Pending.{Pending}
 use Rattle.script_run.specs.Following as going

@@ -19,7 +19,7 @@ use Rattle.run_laws.specs.Lines.{IsRunTo, new_spoken}
 use Rattle.run_laws.specs.Orders.{count_of}
 use Rattle.run_laws.proofs.ListLemmas.{get_behind, get_front}
 use Rattle.run_laws.proofs.RunLemmas.{as_many as as_many_new}
-use Rattle.session_laws.specs.Changes.{Parts, StateStands}
+use Rattle.session_state.specs.Changes.{Parts, StateStands}
 use Rattle.script_run.specs.Opening.{AreNew, IsNew, counts}
 use Rattle.script_run.specs.Running.{AreSpeakers, IsRunningAt, IsSpeaker}
 use Rattle.script_run.specs.Scripts.{IsSoundScript}

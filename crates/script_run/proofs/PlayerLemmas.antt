@@ -19,7 +19,7 @@ use Rattle.run_laws.specs.Orders.{count_of}
 use Rattle.run_laws.specs.Replaying.{first_runners}
 use Rattle.run_laws.proofs.ListLemmas.{get_behind, get_front}
 use Rattle.run_laws.proofs.OrderLemmas.{count_fits as count_most}
-use Rattle.session_laws.specs.Changes.{Parts, StateStands}
+use Rattle.session_state.specs.Changes.{Parts, StateStands}
 use Rattle.script_run.specs.Following.{ArePlayers, IsPlayer, IsPlayingAt, StandsAt, moments_left, starts_made, texts_of}
 use Rattle.script_run.specs.Opening.{AreNewPlayers, IsNew, IsNewPlayer, counts}
 use Rattle.script_run.specs.Scripts.{IsSoundScript}

@@ -25,7 +25,7 @@ use Rattle.plain_sessions.specs.declared.commands.Command.{Command}
 use Rattle.run_laws.specs.Laws.{OrdersAreFollowed, shown_of}
 use Rattle.run_laws.specs.Orders.{asked_order}
 use Rattle.run_laws.specs.Replaying.{AreWaiting, CantGoOn, IsStopped, IsWaiting, WaitsAt, all_replies, is_at, is_next}
-use Rattle.session_laws.specs.Changes.{Parts}
+use Rattle.session_state.specs.Changes.{Parts}
 use Rattle.serving.specs.Serving.{is_sound_reply}
 use Rattle.serving.specs.Steps.{number_at}
 use Rattle.serving.specs.declared.meeting.Pending.TheVariants as pending

@@ -15,7 +15,7 @@ use Rattle.plain_sessions.specs.declared.commands.Command.{Command}
 use Rattle.run_laws.specs.Lines.{Spoken, answered_at}
 use Rattle.run_laws.specs.Orders.{count_of}
 use Rattle.run_laws.proofs.ListLemmas.{get_put, get_put_other}
-use Rattle.session_laws.specs.Changes.{Parts}
+use Rattle.session_state.specs.Changes.{Parts}
 use Rattle.serving.specs.Serving.{is_sound_reply}
 use Rattle.script_run.specs.Running.{AreSpeakers, IsSpeaker, Speaks}
 use Rattle.script_run.specs.declared.running.Speaker.{Speaker}

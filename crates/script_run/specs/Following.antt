@@ -23,7 +23,7 @@ use Rattle.plain_sessions.specs.declared.commands.Command.TheVariants.{Data}
 use Rattle.plain_sessions.specs.declared.commands.Work.{Work}
 use Rattle.run_laws.specs.Orders.{IsGivenOrder, asked_order}
 use Rattle.run_laws.specs.Replaying.{Along, IsStopped, dropped, reply_of}
-use Rattle.session_laws.specs.Changes.{Parts, StateStands}
+use Rattle.session_state.specs.Changes.{Parts, StateStands}
 use Rattle.session_state.specs.declared.sessions.Session.{Session}
 use Rattle.serving.specs.Serving.{is_sound_reply}
 use Rattle.serving.specs.Serving.{IsBefore, IsBetween, Passes}

@@ -11,7 +11,7 @@ use Rattle.plain_sessions.specs.Sessions as plain
 use Rattle.plain_sessions.specs.declared.commands.Command.{Command}
 use Rattle.run_laws.specs.Lines.{IsRunTo, Spoken}
 use Rattle.run_laws.specs.Orders.{count_of}
-use Rattle.session_laws.specs.Changes.{Parts, StateStands}
+use Rattle.session_state.specs.Changes.{Parts, StateStands}
 use Rattle.serving.specs.Serving.{is_sound_reply}
 use Rattle.serving.specs.Serving.{IsBefore, Serves}
 use Rattle.script_run.specs.declared.running.Running.{Running}

@@ -5,7 +5,7 @@ ghost use Rattle.chunk_store.specs.Chunks.{Lists};
 ghost use Rattle.chunk_store.specs.Stores.{all_chunks};
 ghost use Rattle.plain_sessions.specs.Records.{Shared};
 ghost use Rattle.plain_sessions.specs.Runs.{Runner};
-ghost use Rattle.session_laws.specs.Changes.{Parts};
+ghost use Rattle.session_state.specs.Changes.{Parts};
 ghost use Rattle.shared_db.specs.Shared.{KeepsRoom};
 ghost use Rattle.serving.specs.Planning.{PlansPending};
 ghost use Rattle.serving.specs.Steps.{HasRoomStill};

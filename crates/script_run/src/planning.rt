@@ -9,7 +9,7 @@ ghost use Rattle.plain_sessions.specs.Moments.{alone};
 ghost use Rattle.plain_sessions.specs.Records.{Shared};
 ghost use Rattle.plain_sessions.specs.Runs.{Runner};
 ghost use Rattle.plain_sessions.specs.Sessions as plain;
-ghost use Rattle.session_laws.specs.Changes.{Parts};
+ghost use Rattle.session_state.specs.Changes.{Parts};
 ghost use Rattle.serving.specs.Serving.{is_sound_reply};
 ghost use Rattle.shared_db.specs.Shared.{KeepsRoom};
 ghost use Rattle.serving.specs.Planning.{HasLooked, PlansPending};

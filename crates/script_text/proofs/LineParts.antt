@@ -11,7 +11,7 @@ use Rattle.tuple_codec.specs.declared.values.Value.TheVariants as cell
 use Rattle.script_text.specs.Output.{refusal_text}
 use Rattle.script_text.specs.Shown.{is_one_line}
 use Rattle.script_text.proofs.TextParts.{decimal_in_line, line_append}
-use Rattle.value_text.specs.Values.{byte_string, decimal_text, escaped_byte, padded, quoted, row_text, scale_of, scaled, truth, value_text, value_texts}
+use Rattle.sql_text.specs.Values.{byte_string, decimal_text, escaped_byte, padded, quoted, row_text, scale_of, scaled, truth, value_text, value_texts}
 
 chosen : (test : Bool) (a b : List ℕ) → (test ≡ true → is_one_line a ≡ true) → (test ≡ false → is_one_line b ≡ true) → is_one_line (if test then a else b) ≡ true
 chosen test a b one other = cond_both test a b (λ x. is_one_line x ≡ true) one other

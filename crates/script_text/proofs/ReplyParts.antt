@@ -14,7 +14,7 @@ use Rattle.script_text.specs.declared.replies.Reply.{Reply}
 use Rattle.script_text.specs.declared.replies.Reply.TheVariants.{Done, Count, Rows, Refused, Syntax, Collided}
 use Rattle.script_text.specs.Output.{Clashes, answer_text, clash_text, refusal_text, reply_text, row_lines, shortage, shortage_of}
 use Rattle.script_text.specs.Shown.{is_one_line, is_shown_reply}
-use Rattle.value_text.specs.Values.{row_text}
+use Rattle.sql_text.specs.Values.{row_text}
 use Rattle.script_text.proofs.ClashLemmas.{IsShownClash, clash_in_line, one_clash, shown_clash, told_clash}
 use Rattle.script_text.proofs.TextParts.{Stops, until, is_digit, decimal_in_digits, decimal_in_line, line_append}
 use Rattle.script_text.proofs.LineParts.{joined_in_line, refusal_in_line, refusal_in_range, row_in_line}

@@ -3,7 +3,7 @@ use Rattle.std.proofs.Common.{◌≡◌, ℕ, ◌≤◌, ◌⊎◌, inl, inr, Li
 use Rattle.std.proofs.lemmas.List.{drop_all}
 use Rattle.script_text.specs.Output.{all_refused, session_lines}
 use Rattle.script_text.specs.declared.replies.Reply.{Reply}
-use Rattle.value_text.proofs.CommaLemmas.{shorter}
+use Rattle.sql_text.proofs.CommaLemmas.{shorter}
 
 -- a text of sessions, which ends with either list
 record IsOfBoth (written : List (List ℕ) → List (List Reply) → List ℕ) : Type 0 where

@@ -1,7 +1,9 @@
+pub mod Collisions
 pub mod Input
 pub mod LineParts
+pub mod Lines
 pub mod Numerals
 pub mod Output
 pub mod Reading
 pub mod Shown
-pub mod Collisions
+pub mod Statuses

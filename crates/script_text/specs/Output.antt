@@ -16,7 +16,7 @@ use Rattle.script_text.specs.declared.outputs.StopText.{StopText}
 use Rattle.script_text.specs.declared.replies.Reply.{Reply}
 use Rattle.script_text.specs.declared.replies.Reply.TheVariants.{Done, Count, Rows, Refused, Syntax, Collided}
 use Rattle.script_text.specs.declared.scripts.Moment.{Moment}
-use Rattle.value_text.specs.Values.{row_text}
+use Rattle.sql_text.specs.Values.{row_text}
 
 abbrev pub newline : List ℕ
 newline = 10 ∷ []

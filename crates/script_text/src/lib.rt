@@ -9,6 +9,7 @@
 mod blanks;
 mod faults;
 mod law;
+mod lines;
 mod numerals;
 mod ordering;
 mod outputs;
@@ -18,10 +19,13 @@ mod reading;
 mod refusals;
 mod replies;
 mod scripts;
+mod status;
 mod stops;
+mod words;
 
 pub use faults::{BadScript, ScriptFault};
 pub use law::{one_reading, one_stop};
+pub use lines::{collision_text, fault_text};
 pub use numerals::number_in;
 pub use outputs::{BranchLine, RunText, StopText};
 pub use printing::{print_output, push_clash, push_order};
@@ -29,4 +33,6 @@ pub use reading::read_script;
 pub use refusals::refusal_words;
 pub use replies::Reply;
 pub use scripts::{Line, Moment, OrderItem, Script};
+pub use status::Status;
 pub use stops::{print_stop, push_all_refused};
+pub use words::given_words;

@@ -15,9 +15,9 @@ use crate::refusals::refusal_words;
 use crate::replies::Reply;
 use crate::scripts::Moment;
 use chunk_store::Clash;
+use sql_text::{push_number, push_row};
 use std::alloc::{AllocError, Global};
 use tuple_codec::{Address, Answer, Blob, Row, Sequence, SqlType, Text};
-use value_text::{push_number, push_row};
 
 /// The text of a run: for each session its name and its replies, then the order of the moments, and then a line for each branch.
 pub fn print_output(alloc: Global, run: &RunText) -> Result<Blob, AllocError>

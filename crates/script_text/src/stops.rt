@@ -10,9 +10,9 @@ use crate::outputs::StopText;
 use crate::printing::push_hex;
 use crate::replies::Reply;
 use chunk_store::Clash;
+use sql_text::push_number;
 use std::alloc::{AllocError, Global};
 use tuple_codec::{Blob, Sequence, Text};
-use value_text::push_number;
 
 /// The text of an order that can't be followed: the item, and the statements before it that were answered by a want of memory or by a
 /// collision.

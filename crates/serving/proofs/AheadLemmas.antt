@@ -8,7 +8,7 @@ use Rattle.tuple_codec.specs.declared.records.BranchRecord.{BranchRecord}
 use Rattle.script_text.specs.declared.outputs.BranchLine.{BranchLine}
 use Rattle.table_root.specs.Heads.{heads_rise}
 use Rattle.table_root.specs.declared.heads.BranchHead.{BranchHead}
-use Rattle.session_laws.specs.Laws.{head_in, with_record}
+use Rattle.session_state.specs.Laws.{head_in, with_record}
 use Rattle.shared_db.specs.Shared.{record_at}
 use Rattle.serving.specs.Ahead.{with_head}
 

@@ -17,7 +17,7 @@ use Rattle.plain_sessions.specs.declared.commands.Command.{Command}
 use Rattle.plain_sessions.specs.declared.commands.Command.TheVariants as command
 use Rattle.plain_sessions.specs.declared.commands.Work.{Work}
 use Rattle.run_laws.specs.Turns.{InOneTurn}
-use Rattle.session_laws.specs.Changes.{Parts}
+use Rattle.session_state.specs.Changes.{Parts}
 use Rattle.session_state.specs.Standing.{IsAt, SessionStands}
 use Rattle.session_state.specs.declared.sessions.Position.{Position}
 use Rattle.session_state.specs.declared.sessions.Position.TheVariants as place

@@ -20,9 +20,9 @@ use Rattle.plain_sessions.specs.Sessions as plain
 use Rattle.plain_sessions.specs.Sessions.{Transaction, is_changed, is_changed_since, over, taken, within}
 use Rattle.plain_sessions.specs.declared.commands.Command.TheVariants as command
 use Rattle.run_laws.specs.Turns.{InOneTurn}
-use Rattle.session_laws.specs.Changes.{Parts, StateStands}
-use Rattle.session_laws.specs.Laws.{StatesFollow, head_in, with_record}
-use Rattle.session_laws.specs.Transactions.{IsLookOf}
+use Rattle.session_state.specs.Changes.{Parts, StateStands}
+use Rattle.session_state.specs.Laws.{StatesFollow, head_in, with_record}
+use Rattle.session_state.specs.Transactions.{IsLookOf}
 use Rattle.session_state.specs.Standing.{SessionStands}
 use Rattle.session_state.specs.declared.sessions.Session.{Session}
 use Rattle.session_txn.specs.Answering.{Decides}

@@ -27,10 +27,10 @@ use Rattle.plain_sessions.specs.Sessions.{Transaction, own_root, within}
 use Rattle.plain_sessions.specs.Statements.{worked}
 use Rattle.plain_sessions.specs.declared.commands.Work.{Work}
 use Rattle.plain_sessions.specs.declared.commands.Work.TheVariants as work
-use Rattle.session_laws.specs.Changes.{Parts, StateStands}
-use Rattle.session_laws.specs.Commits.{AreAmong, HasNoCommit}
-use Rattle.session_laws.specs.Laws.{StatesFollow, with_record}
-use Rattle.session_laws.specs.Transactions.{IsLookOf, StartStands}
+use Rattle.session_state.specs.Changes.{Parts, StateStands}
+use Rattle.session_state.specs.Commits.{AreAmong, HasNoCommit}
+use Rattle.session_state.specs.Laws.{StatesFollow, with_record}
+use Rattle.session_state.specs.Transactions.{IsLookOf, StartStands}
 use Rattle.session_state.specs.Standing.{SessionStands}
 use Rattle.session_state.specs.declared.sessions.Session.{Session}
 use Rattle.session_txn.specs.Showing.{is_sound_reply}

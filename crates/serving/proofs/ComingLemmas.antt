@@ -18,7 +18,7 @@ use Rattle.plain_sessions.specs.declared.commands.Work.{Work}
 use Rattle.plain_sessions.specs.declared.commands.Work.TheVariants as work
 use Rattle.sql_procedures.specs.declared.requests.CheckoutRequest.{CheckoutRequest}
 use Rattle.sql_procedures.specs.declared.requests.MergeRequest.TheVariants as merging
-use Rattle.session_laws.specs.Changes.{Parts}
+use Rattle.session_state.specs.Changes.{Parts}
 use Rattle.session_state.specs.Standing.{IsInTransaction, SessionStands}
 use Rattle.session_state.specs.declared.sessions.Position.TheVariants as place
 use Rattle.session_state.specs.declared.sessions.Session.{Session}

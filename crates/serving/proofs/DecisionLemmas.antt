@@ -16,9 +16,9 @@ use Rattle.plain_sessions.specs.Moments.{ruled, with_change, without_commit}
 use Rattle.plain_sessions.specs.Records.{BranchState, Shared, state_of}
 use Rattle.plain_sessions.specs.Replies.{done}
 use Rattle.plain_sessions.specs.Sessions as plain
-use Rattle.session_laws.specs.Changes.{Parts, StateStands}
-use Rattle.session_laws.specs.Laws.{StatesFollow, with_record}
-use Rattle.session_laws.specs.Transactions.{IsLookOf}
+use Rattle.session_state.specs.Changes.{Parts, StateStands}
+use Rattle.session_state.specs.Laws.{StatesFollow, with_record}
+use Rattle.session_state.specs.Transactions.{IsLookOf}
 use Rattle.session_txn.specs.Showing.{is_sound_reply}
 use Rattle.shared_db.specs.Plans.{PlanIs, brought}
 use Rattle.shared_db.specs.Shared.{AreWith, IsSettled, changed_lines}

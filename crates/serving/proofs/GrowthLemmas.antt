@@ -22,10 +22,10 @@ use Rattle.plain_sessions.specs.Moments.{Change, closed, commit_of, commits_with
 use Rattle.plain_sessions.specs.Records.{Branch, BranchState, Shared, added_at, commit_on, is_branch, is_same_commit, is_same_state, state_of}
 use Rattle.plain_sessions.specs.Sessions as plain
 use Rattle.plain_sessions.specs.Sessions.{Transaction}
-use Rattle.session_laws.specs.Changes.{BranchStands, Paired, Parts, StateStands}
-use Rattle.session_laws.specs.Commits.{AreAmong}
-use Rattle.session_laws.specs.Laws.{CommitsFollow, RecordsFollow, StatesFollow}
-use Rattle.session_laws.specs.Records.{RecordStands}
+use Rattle.session_state.specs.Changes.{BranchStands, Paired, Parts, StateStands}
+use Rattle.session_state.specs.Commits.{AreAmong}
+use Rattle.session_state.specs.Laws.{CommitsFollow, RecordsFollow, StatesFollow}
+use Rattle.session_state.specs.Records.{RecordStands}
 use Rattle.table_root.specs.declared.heads.Look.{Look}
 use Rattle.session_state.specs.Standing.{SessionStands}
 use Rattle.session_state.specs.declared.sessions.Session.{Session}

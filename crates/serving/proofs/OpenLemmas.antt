@@ -14,7 +14,7 @@ use Rattle.plain_sessions.specs.Statements.{worked}
 use Rattle.plain_sessions.specs.declared.commands.Command.{Command}
 use Rattle.plain_sessions.specs.declared.commands.Command.TheVariants as command
 use Rattle.plain_sessions.specs.declared.commands.Work.{Work}
-use Rattle.session_laws.specs.Changes.{Parts}
+use Rattle.session_state.specs.Changes.{Parts}
 use Rattle.session_state.specs.Standing.{SessionStands}
 use Rattle.session_state.specs.declared.sessions.Session.{Session}
 use Rattle.shared_db.specs.declared.changes.DecisionPlan.{DecisionPlan}

@@ -13,8 +13,8 @@ use Rattle.plain_sessions.specs.Statements.{worked}
 use Rattle.plain_sessions.specs.declared.commands.Command.{Command}
 use Rattle.plain_sessions.specs.declared.commands.Command.TheVariants.{Data}
 use Rattle.plain_sessions.specs.declared.commands.Work.{Work}
-use Rattle.session_laws.specs.Changes.{Parts}
-use Rattle.session_laws.specs.Laws.{StatesFollow, head_in}
+use Rattle.session_state.specs.Changes.{Parts}
+use Rattle.session_state.specs.Laws.{StatesFollow, head_in}
 use Rattle.session_state.specs.Standing.{SessionStands}
 use Rattle.session_state.specs.declared.sessions.Session.{Session}
 use Rattle.shared_db.specs.Shared.{Db, KeepsRoom, record_at}

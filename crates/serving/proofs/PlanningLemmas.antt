@@ -13,8 +13,8 @@ use Rattle.script_text.specs.declared.replies.Reply.{Reply}
 use Rattle.table_root.specs.declared.heads.Look.{Look}
 use Rattle.plain_sessions.specs.Records.{Shared, state_of}
 use Rattle.plain_sessions.specs.Sessions as plain
-use Rattle.session_laws.specs.Changes.{Parts}
-use Rattle.session_laws.specs.Laws.{StatesFollow}
+use Rattle.session_state.specs.Changes.{Parts}
+use Rattle.session_state.specs.Laws.{StatesFollow}
 use Rattle.session_state.specs.Standing.{SessionStands}
 use Rattle.session_state.specs.declared.sessions.Session.{Session}
 use Rattle.session_txn.specs.Answering.{Decides}

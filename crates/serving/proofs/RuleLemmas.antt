@@ -3,7 +3,7 @@ use Rattle.std.proofs.Common.{◌≡◌, refl, subst, ℕ, Bool, true, false, no
 use Rattle.schema_model.specs.Limits.{is_database_within_limits}
 use Rattle.schema_model.specs.PlainTables.{PlainDatabase}
 use Rattle.expr_eval.specs.Binding.{Outcome, and_then}
-use Rattle.plain_merge.specs.RootMerge.{MergedDatabase, SchemaConflict, root3}
+use Rattle.schema_merge.specs.RootMerge.{MergedDatabase, SchemaConflict, root3}
 use Rattle.plain_sql.specs.Lists.{unless}
 use Rattle.script_text.specs.Output.{shortage}
 use Rattle.plain_sessions.specs.CommitRule.{both_merged, candidate, decide, is_in_conflict, is_in_violation, is_unsettled, judged, merged, recorded, without_conflicts}

@@ -15,7 +15,7 @@ use Rattle.plain_sessions.specs.declared.commands.Command.{Command}
 use Rattle.run_laws.specs.Replaying.{dropped, reply_of}
 use Rattle.run_laws.specs.Turns.{InOneTurn, InTwoTurns}
 use Rattle.run_laws.proofs.SeenLemmas.{start_short, start_waits}
-use Rattle.session_laws.specs.Changes.{Parts}
+use Rattle.session_state.specs.Changes.{Parts}
 use Rattle.session_state.specs.declared.sessions.Session.{Session}
 use Rattle.serving.specs.Serving.{Concludes, Drops, IsBefore, Meets, MeetsOnce, PassesAlone, Serves, Starts, turn_at}
 use Rattle.serving.specs.declared.meeting.Met.{Met}

@@ -30,8 +30,8 @@ use Rattle.plain_sessions.specs.declared.commands.Command.{Command}
 use Rattle.plain_sessions.specs.declared.commands.Command.TheVariants.{Data}
 use Rattle.plain_sessions.specs.declared.commands.Work.{Work}
 use Rattle.run_laws.specs.Turns.{InOneTurn}
-use Rattle.session_laws.specs.Changes.{Parts}
-use Rattle.session_laws.specs.Transactions.{StartStands}
+use Rattle.session_state.specs.Changes.{Parts}
+use Rattle.session_state.specs.Transactions.{StartStands}
 use Rattle.session_state.specs.Standing.{SessionStands}
 use Rattle.session_state.specs.declared.sessions.Session.{Session}
 use Rattle.session_txn.specs.Showing.{IsDue, is_sound_reply}

@@ -12,9 +12,9 @@ use Rattle.table_root.specs.declared.heads.Look.{Look}
 use Rattle.plain_sessions.specs.Branching.{is_branch_there}
 use Rattle.plain_sessions.specs.Records.{Branch, BranchState, Shared, is_branch, state_of}
 use Rattle.plain_sessions.specs.Sessions as plain
-use Rattle.session_laws.specs.Changes.{BranchStands, Paired, Parts, StateStands}
-use Rattle.session_laws.specs.Laws.{StatesFollow, head_in}
-use Rattle.session_laws.specs.Transactions.{IsLookOf}
+use Rattle.session_state.specs.Changes.{BranchStands, Paired, Parts, StateStands}
+use Rattle.session_state.specs.Laws.{StatesFollow, head_in}
+use Rattle.session_state.specs.Transactions.{IsLookOf}
 use Rattle.session_state.specs.declared.sessions.Session.{Session}
 use Rattle.shared_db.specs.Shared.{is_line_of, noted, record_at}
 use Rattle.serving.specs.Serving.{IsBefore, IsHere}

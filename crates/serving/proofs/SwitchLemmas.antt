@@ -11,7 +11,7 @@ use Rattle.plain_sessions.specs.Replies.{done}
 use Rattle.plain_sessions.specs.Sessions as plain
 use Rattle.plain_sessions.specs.Sessions.{Transaction, Variables, is_autocommit, is_changed, over, with_variable}
 use Rattle.plain_sessions.specs.declared.commands.Command.TheVariants as command
-use Rattle.session_laws.specs.Changes.{Parts}
+use Rattle.session_state.specs.Changes.{Parts}
 use Rattle.session_state.specs.Standing.{SessionStands}
 use Rattle.session_state.specs.declared.sessions.Session.{Session}
 use Rattle.serving.specs.Serving.{IsBefore}

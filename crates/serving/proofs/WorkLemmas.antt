@@ -18,7 +18,7 @@ use Rattle.sql_rules.specs.Writes.{is_below}
 use Rattle.sql_ast.specs.declared.statements.Delete.{Delete}
 use Rattle.sql_ast.specs.declared.statements.Write.TheVariants as write
 use Rattle.sql_ast.specs.declared.statements.Write.{Write}
-use Rattle.plain_merge.specs.RootMerge.{MergedDatabase}
+use Rattle.schema_merge.specs.RootMerge.{MergedDatabase}
 use Rattle.schema_model.specs.PlainCommits.{is_ancestor}
 use Rattle.sql_procedures.specs.declared.requests.CommitRequest.{CommitRequest}
 use Rattle.sql_procedures.specs.declared.requests.MergeOf.{MergeOf}

@@ -12,7 +12,7 @@ use Rattle.plain_sessions.specs.declared.commands.Command.{Command}
 use Rattle.plain_sessions.specs.declared.commands.Command.TheVariants.{Data}
 use Rattle.plain_sessions.specs.declared.commands.Work.{Work}
 use Rattle.run_laws.specs.Turns.{InOneTurn}
-use Rattle.session_laws.specs.Changes.{Parts, StateStands}
+use Rattle.session_state.specs.Changes.{Parts, StateStands}
 use Rattle.session_state.specs.Standing.{SessionStands}
 use Rattle.session_state.specs.declared.sessions.Position.{Position}
 use Rattle.session_state.specs.declared.sessions.Position.TheVariants as place

@@ -10,7 +10,7 @@ use Rattle.plain_sessions.specs.Records.{BranchState, Shared, state_of}
 use Rattle.plain_sessions.specs.Replies.{refused}
 use Rattle.plain_sessions.specs.Sessions as plain
 use Rattle.plain_sessions.specs.declared.commands.Work.{Work}
-use Rattle.session_laws.specs.Changes.{Parts, StateStands}
+use Rattle.session_state.specs.Changes.{Parts, StateStands}
 use Rattle.merge_procs.specs.Closing.{is_closing}
 use Rattle.merge_procs.specs.Steps.{merges}
 use Rattle.serving.specs.declared.courses.Course.{Course}

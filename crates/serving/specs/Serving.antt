@@ -17,7 +17,7 @@ use Rattle.plain_sessions.specs.declared.commands.Command.TheVariants.{Data}
 use Rattle.plain_sessions.specs.declared.commands.Work.{Work}
 use Rattle.run_laws.specs.Replaying.{dropped, reply_of}
 use Rattle.run_laws.specs.Turns.{InOneTurn, ServedIn, Turn, TurnsFollow, moments_of}
-use Rattle.session_laws.specs.Changes.{Parts, StateStands}
+use Rattle.session_state.specs.Changes.{Parts, StateStands}
 use Rattle.session_state.specs.Standing.{SessionStands}
 use Rattle.session_state.specs.declared.sessions.Session.{Session}
 pub use Rattle.session_txn.specs.Showing.{is_sound_reply}

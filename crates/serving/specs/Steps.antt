@@ -11,7 +11,7 @@ use Rattle.plain_sessions.specs.CommitRule.{decide}
 use Rattle.plain_sessions.specs.Records.{BranchState, Shared, state_of, with_branch}
 use Rattle.plain_sessions.specs.Replies.{done, refused}
 use Rattle.plain_sessions.specs.Sessions as plain
-use Rattle.session_laws.specs.Changes.{Parts, StateStands}
+use Rattle.session_state.specs.Changes.{Parts, StateStands}
 use Rattle.session_state.specs.declared.sessions.Position.{Position}
 use Rattle.session_state.specs.declared.sessions.Position.TheVariants as place
 use Rattle.session_state.specs.declared.sessions.Session.{Session}

@@ -6,7 +6,7 @@ ghost use Rattle.std.specs.Option.{option_map, option_map_or};
 ghost use Rattle.chunk_store.specs.Chunks.{IsSingle, chunk_bytes};
 ghost use Rattle.chunk_store.specs.Clashes.{IsCause};
 ghost use Rattle.chunk_store.specs.Stores.{all_chunks};
-ghost use Rattle.session_laws.specs.Laws.{head_in};
+ghost use Rattle.session_state.specs.Laws.{head_in};
 ghost use Rattle.shared_db.specs.Shared.{AreWith, record_at};
 ghost use Rattle.serving.specs.Ahead.{with_head};
 

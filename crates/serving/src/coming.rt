@@ -9,7 +9,7 @@ ghost use Rattle.plain_sessions.specs.Sessions as plain;
 ghost use Rattle.plain_sessions.specs.Sessions.{is_changed};
 ghost use Rattle.script_text.specs.declared.replies.Reply.TheVariants.{Refused};
 ghost use Rattle.plain_sessions.specs.declared.commands.Command.TheVariants as command;
-ghost use Rattle.session_laws.specs.Changes.{Parts};
+ghost use Rattle.session_state.specs.Changes.{Parts};
 ghost use Rattle.session_state.specs.Standing.{SessionStands};
 ghost use Rattle.session_txn.specs.Answering.{AnswersAlone};
 ghost use Rattle.session_txn.specs.Showing.{is_sound_reply};

@@ -6,7 +6,7 @@ ghost use Rattle.chunk_store.specs.Stores.{all_chunks};
 ghost use Rattle.plain_sessions.specs.Records.{Shared};
 ghost use Rattle.plain_sessions.specs.Sessions as plain;
 ghost use Rattle.plain_sessions.specs.Sessions.{taken, within};
-ghost use Rattle.session_laws.specs.Transactions.{IsLookOf};
+ghost use Rattle.session_state.specs.Transactions.{IsLookOf};
 ghost use Rattle.session_state.specs.Pages.{with_free};
 ghost use Rattle.session_state.specs.Standing.{SessionStands};
 

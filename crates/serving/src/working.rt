@@ -4,7 +4,7 @@ ghost use Rattle.std.specs.Prelude.{◌≡◌, ◌<◌, ◌+◌, ◌^◌, ℤ};
 ghost use Rattle.plain_sessions.specs.Fitness.{IsFitCommand};
 ghost use Rattle.plain_sessions.specs.Records.{Shared};
 ghost use Rattle.plain_sessions.specs.Sessions as plain;
-ghost use Rattle.session_laws.specs.Changes.{Parts};
+ghost use Rattle.session_state.specs.Changes.{Parts};
 ghost use Rattle.serving.specs.Answering.{HasMet, place_after};
 ghost use Rattle.serving.specs.Kinds.{may_close};
 ghost use Rattle.serving.specs.Serving.{IsSoundMet, MetTellsTruly, Meets};

@@ -11,9 +11,9 @@ use Rattle.table_root.specs.declared.heads.Look.{Look}
 use Rattle.chunk_store.specs.Drafts.{DraftParts, chunks_of}
 use Rattle.plain_sessions.specs.Records.{BranchState, is_same_state}
 use Rattle.plain_sessions.specs.Sessions.{Transaction, is_changed_since}
-use Rattle.session_laws.specs.Laws.{RecordsFollow}
-use Rattle.session_laws.specs.Records.{RecordStands}
-use Rattle.session_laws.specs.Transactions.{StartStands, TransactionStands}
+use Rattle.session_state.specs.Laws.{RecordsFollow}
+use Rattle.session_state.specs.Records.{RecordStands}
+use Rattle.session_state.specs.Transactions.{StartStands, TransactionStands}
 
 abbrev pub same_record : BranchRecord → BranchRecord → Bool
 same_record a b =

@@ -4,8 +4,8 @@ use Rattle.chunk_store.specs.Drafts.{IsNamed}
 use Rattle.plain_sessions.specs.Sessions as plain
 use Rattle.plain_sessions.specs.Sessions.{Before, is_before_statement}
 use Rattle.plain_sessions.specs.StateLimits.{is_committer}
-use Rattle.session_laws.specs.Commits.{HasNoCommit}
-use Rattle.session_laws.specs.Transactions.{StartStands}
+use Rattle.session_state.specs.Commits.{HasNoCommit}
+use Rattle.session_state.specs.Transactions.{StartStands}
 use Rattle.session_state.specs.declared.sessions.Position.{Position}
 use Rattle.session_state.specs.declared.sessions.Position.TheVariants as place
 use Rattle.session_state.specs.declared.sessions.Session.{Session}

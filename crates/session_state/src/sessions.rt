@@ -6,9 +6,9 @@ ghost use Rattle.plain_sessions.specs.Sessions as plain;
 ghost use Rattle.session_state.specs.Pages.{with_free};
 ghost use Rattle.session_state.specs.Standing.{SessionStands};
 
+use crate::law_of_records;
 use chunk_region::PagePool;
 use chunk_store::{Draft, Store};
-use session_laws::law_of_records;
 use std::alloc::{AllocError, Global};
 use table_root::{BranchName, Look};
 use tuple_codec::{Address, BranchRecord, Digester, Text};

@@ -16,7 +16,7 @@ use Rattle.chunk_store.specs.declared.faults.PutFault.TheVariants.{Memory, Colli
 use Rattle.chunk_store.proofs.ChunkLemmas.{at_join, either_some, listed_either, single_fewer}
 use Rattle.expr_eval.specs.Binding.{Outcome, and_then}
 use Rattle.plain_sql.specs.Lists.{unless}
-use Rattle.plain_merge.specs.RootMerge.{root3}
+use Rattle.schema_merge.specs.RootMerge.{root3}
 use Rattle.schema_model.specs.Limits.{is_database_within_limits}
 use Rattle.schema_model.specs.PlainCommits.{Commits, PlainCommit, is_known}
 use Rattle.schema_model.specs.PlainTables.{PlainDatabase}
@@ -32,10 +32,10 @@ use Rattle.root_merge.specs.Deciding.{AreStates, set}
 use Rattle.root_merge.specs.States.{BranchStateStands, IsCandidate}
 use Rattle.root_merge.specs.declared.candidates.Candidate.{Candidate}
 use Rattle.root_merge.specs.declared.candidates.Candidate.TheVariants as made
-use Rattle.session_laws.specs.Commits.{AreAmong, CommitsAreThere, HasNoCommit}
-use Rattle.session_laws.specs.Laws.{CommitsFollow, RecordsFollow}
-use Rattle.session_laws.specs.Records.{RecordStands}
-use Rattle.session_laws.specs.Transactions.{StartStands, TransactionStands}
+use Rattle.session_state.specs.Commits.{AreAmong, CommitsAreThere, HasNoCommit}
+use Rattle.session_state.specs.Laws.{CommitsFollow, RecordsFollow}
+use Rattle.session_state.specs.Records.{RecordStands}
+use Rattle.session_state.specs.Transactions.{StartStands, TransactionStands}
 use Rattle.session_state.specs.Standing.{SessionStands}
 use Rattle.session_state.specs.declared.sessions.Session.{Session}
 use Rattle.shared_db.specs.Plans.{IsRefusedBy, PlanIs, brought}

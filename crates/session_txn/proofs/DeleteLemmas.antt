@@ -7,7 +7,7 @@ use Rattle.tuple_codec.proofs.ByteLemmas.{bytes_itself as itself}
 use Rattle.tuple_codec.proofs.Orderings.{less_is}
 use Rattle.tuple_codec.proofs.Truths.{not_true}
 use Rattle.conflict_tables.specs.Conflicts.{is_among}
-use Rattle.edit_laws.proofs.Orders.{apart, less_trans}
+use Rattle.tuple_codec.proofs.KeyOrders.{apart, less_trans}
 use Rattle.expr_eval.specs.Binding.{Outcome, and_then}
 use Rattle.plain_sessions.specs.SystemTables.{entries_left, entry_if, entry_left}
 use Rattle.plain_sql.specs.Answers.{Meaning, passes}
@@ -15,7 +15,7 @@ use Rattle.plain_sql.specs.Lists.{all_of}
 use Rattle.system_tables.specs.declared.entries.ListEntry.{ListEntry}
 use Rattle.tuple_codec.specs.Edits.{order}
 use Rattle.tuple_codec.specs.Nodes.{Item, RiseAfter}
-use Rattle.write_laws.proofs.OrderLemmas.{two}
+use Rattle.plain_writes.proofs.RowOrderLemmas.{two}
 use Rattle.session_txn.specs.Deleting.{chosen_key, chosen_keys, key_if}
 
 -- ---- keys that rise are apart

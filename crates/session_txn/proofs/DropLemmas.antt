@@ -11,7 +11,7 @@ use Rattle.conflict_tables.proofs.DropLemmas.{edited_drops, left_rise}
 use Rattle.schema_model.specs.Limits.{is_conflict_within_limits, is_table_within_limits, is_violation_within_limits, is_within_limits}
 use Rattle.schema_model.specs.PlainTables.{IsTable, PlainTable, Violation, is_violation, violation_cmp, violation_item, violation_items}
 use Rattle.schema_model.specs.declared.schemas.Schema.{Schema}
-use Rattle.write_laws.proofs.OrderLemmas.{violation_total}
+use Rattle.plain_writes.proofs.RowOrderLemmas.{violation_total}
 use Rattle.system_tables.specs.declared.entries.Listed.{Listed}
 use Rattle.system_tables.specs.declared.entries.Listed.TheVariants as listed
 use Rattle.table_root.specs.Standing.{IsTableOf, TableValuesStand}

@@ -9,8 +9,8 @@ use Rattle.sql_write.specs.declared.finding.Found.{Found}
 use Rattle.sql_write.proofs.TableLemmas.{kept_listed, listed_later}
 use Rattle.table_root.specs.Standing.{IsTableOf, TablesStand}
 use Rattle.table_root.specs.declared.records.StoredTable.{StoredTable}
-use Rattle.write_laws.specs.Laws.{IsKept}
-use Rattle.write_laws.proofs.DatabaseLemmas.{found_kept, replaced_kept}
+use Rattle.plain_writes.specs.WriteLaws.{IsKept}
+use Rattle.plain_writes.proofs.DatabaseLemmas.{found_kept, replaced_kept}
 use Rattle.plain_writes.specs.Writes.{replaced}
 use Rattle.system_tables.specs.declared.entries.Listed.{Listed}
 use Rattle.session_txn.specs.Deleting.{without_entries}

@@ -9,7 +9,7 @@ use Rattle.tuple_codec.proofs.Orderings.{less_is}
 use Rattle.chunk_store.specs.Chunks.{Chunks}
 use Rattle.conflict_tables.specs.Conflicts as conflicts
 use Rattle.table_root.specs.Kept.{IsKeptAt}
-use Rattle.edit_laws.proofs.Orders.{apart, greater}
+use Rattle.tuple_codec.proofs.KeyOrders.{apart, greater}
 use Rattle.expr_eval.specs.Binding.{Outcome, and_then}
 use Rattle.plain_sessions.specs.Branching.{put_table, table_cmp}
 use Rattle.plain_sessions.specs.Merging.{Worked, Answers}
@@ -33,12 +33,12 @@ use Rattle.system_tables.specs.declared.entries.Listed.{Listed}
 use Rattle.system_tables.specs.declared.entries.Listed.TheVariants as listed
 use Rattle.table_root.specs.Standing.{IsTableAt}
 use Rattle.tuple_codec.specs.Edits.{order}
-use Rattle.write_laws.proofs.OrderLemmas.{placed_past, placed_stop, two}
-use Rattle.write_laws.proofs.OutcomeLemmas.{ok_same, then_so}
+use Rattle.plain_writes.proofs.RowOrderLemmas.{placed_past, placed_stop, two}
+use Rattle.plain_writes.proofs.OutcomeLemmas.{ok_same, then_so}
 use Rattle.session_txn.specs.Deleting.{chosen_keys, delete_effect, effect_on, emptied, keys_chosen, list_named, stays, turn_effect, without_violations}
 use Rattle.session_txn.specs.Writing.{written_reply}
 use Rattle.session_txn.proofs.CountLemmas.{reply_told}
-use Rattle.tree_laws.proofs.StandingOrder.{lt_trans}
+use Rattle.prolly_tree.proofs.StandingOrder.{lt_trans}
 use Rattle.plain_schemas.specs.Effects.{without_table}
 use Rattle.session_txn.proofs.DeleteLemmas.{AreApart, are_apart, key_of, Chosen, choice}
 

@@ -22,9 +22,9 @@ use Rattle.plain_sessions.specs.Sessions as plain
 use Rattle.plain_sessions.specs.Sessions.{Said, Transaction, is_changed, over, started_at, taken, with_variable, within}
 use Rattle.plain_sessions.specs.declared.commands.Command.{Command}
 use Rattle.plain_sessions.specs.declared.commands.Command.TheVariants as command
-use Rattle.session_laws.specs.Commits.{HasNoCommit}
-use Rattle.session_laws.specs.Laws.{TransactionsFollow}
-use Rattle.session_laws.specs.Transactions.{IsLookOf, StartStands, TransactionStands}
+use Rattle.session_state.specs.Commits.{HasNoCommit}
+use Rattle.session_state.specs.Laws.{TransactionsFollow}
+use Rattle.session_state.specs.Transactions.{IsLookOf, StartStands, TransactionStands}
 use Rattle.session_state.specs.Standing.{IsInTransaction, SessionStands}
 use Rattle.session_state.specs.declared.sessions.Session.{Session}
 use Rattle.session_txn.specs.Answering.{AnswersAlone, is_local}

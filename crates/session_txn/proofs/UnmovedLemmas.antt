@@ -22,9 +22,9 @@ use Rattle.root_merge.specs.Deciding.{set}
 use Rattle.root_merge.specs.States.{BranchStateStands, IsCandidate}
 use Rattle.root_merge.specs.declared.candidates.Candidate.{Candidate}
 use Rattle.root_merge.specs.declared.candidates.Candidate.TheVariants as made
-use Rattle.session_laws.specs.Laws.{CommitsFollow, RecordsFollow}
-use Rattle.session_laws.specs.Records.{RecordStands}
-use Rattle.session_laws.specs.Transactions.{StartStands, TransactionStands}
+use Rattle.session_state.specs.Laws.{CommitsFollow, RecordsFollow}
+use Rattle.session_state.specs.Records.{RecordStands}
+use Rattle.session_state.specs.Transactions.{StartStands, TransactionStands}
 use Rattle.session_state.specs.Standing.{SessionStands}
 use Rattle.session_state.specs.declared.sessions.Session.{Session}
 use Rattle.shared_db.specs.Plans.{PlanIs}

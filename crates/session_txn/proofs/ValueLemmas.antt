@@ -12,11 +12,11 @@ use Rattle.sql_ast.specs.declared.selects.Select.{Select}
 use Rattle.sql_ast.specs.declared.selects.Select.TheVariants as select
 use Rattle.sql_ast.proofs.expressions.Expr.TheLaws.{the_size}
 use Rattle.sql_ast.proofs.ListNodes.{fold_in, fold_not_in, fold_or, fold_and, fold_factors, fold_terms}
-use Rattle.sql_features.specs.Features.{any_of, has, step}
-use Rattle.sql_features.specs.declared.features.Feature.TheVariants as feature
-use Rattle.sql_features.proofs.ListParts.{Listed}
+use Rattle.sql_text.specs.Features.{any_of, has, step}
+use Rattle.sql_text.specs.declared.features.Feature.TheVariants as feature
+use Rattle.sql_text.proofs.ListParts.{Listed}
 use Rattle.sql_text.proofs.PartDepths.{chain_deep, contained_deep, deepest}
-use Rattle.canonical_laws.proofs.Layers.{Parts, by_layers}
+use Rattle.sql_laws.proofs.Layers.{Parts, by_layers}
 use Rattle.plain_sql.specs.Plans.{shown_name}
 use Rattle.plain_sessions.specs.Sessions as plain
 use Rattle.plain_sessions.specs.Sessions.{Variables, new_session}

@@ -31,10 +31,10 @@ use Rattle.plain_sessions.specs.Sessions as plain
 use Rattle.plain_sessions.specs.Sessions.{Said, Transaction, with_own, within}
 use Rattle.plain_sessions.specs.declared.commands.Command.TheVariants as command
 use Rattle.plain_sessions.specs.declared.commands.Work.TheVariants as work
-use Rattle.session_laws.specs.Commits.{HasNoCommit}
-use Rattle.session_laws.specs.Laws.{RecordsFollow, TransactionsFollow}
-use Rattle.session_laws.specs.Records.{RecordStands}
-use Rattle.session_laws.specs.Transactions.{StartStands, TransactionStands}
+use Rattle.session_state.specs.Commits.{HasNoCommit}
+use Rattle.session_state.specs.Laws.{RecordsFollow, TransactionsFollow}
+use Rattle.session_state.specs.Records.{RecordStands}
+use Rattle.session_state.specs.Transactions.{StartStands, TransactionStands}
 use Rattle.session_state.specs.Standing.{SessionStands}
 use Rattle.session_state.specs.declared.sessions.Session.{Session}
 use Rattle.session_txn.specs.Answering.{AnswersAlone}

@@ -12,7 +12,7 @@ use Rattle.plain_sessions.specs.Moments.{alone_by, ends_by_set, is_in_transactio
 use Rattle.plain_sessions.specs.declared.commands.Command.{Command}
 use Rattle.plain_sessions.specs.declared.commands.Command.TheVariants as command
 use Rattle.plain_sessions.specs.declared.commands.Work.TheVariants as work
-use Rattle.session_laws.specs.Transactions.{IsLookOf}
+use Rattle.session_state.specs.Transactions.{IsLookOf}
 use Rattle.session_state.specs.Standing.{SessionStands}
 use Rattle.session_state.specs.declared.sessions.Session.{Session}
 

@@ -5,8 +5,8 @@ use Rattle.sql_ast.specs.declared.expressions.Expr.TheOpen.{Expr-F}
 use Rattle.sql_ast.specs.declared.expressions.Expr.TheVariants as expr
 use Rattle.sql_ast.specs.declared.selects.NamedExpr.{NamedExpr}
 use Rattle.sql_ast.specs.declared.selects.Select.{Select}
-use Rattle.sql_features.specs.Features.{has}
-use Rattle.sql_features.specs.declared.features.Feature.TheVariants as feature
+use Rattle.sql_text.specs.Features.{has}
+use Rattle.sql_text.specs.declared.features.Feature.TheVariants as feature
 use Rattle.plain_sql.specs.Plans.{shown_name}
 use Rattle.plain_sessions.specs.Sessions as plain
 use Rattle.plain_sessions.specs.Sessions.{new_session}

@@ -6,14 +6,13 @@ ghost use Rattle.chunk_store.specs.Stores.{all_chunks};
 ghost use Rattle.plain_sessions.specs.Records.{Shared};
 ghost use Rattle.plain_sessions.specs.Sessions as plain;
 ghost use Rattle.plain_sessions.specs.Sessions.{taken, within};
-ghost use Rattle.session_laws.specs.Transactions.{IsLookOf};
+ghost use Rattle.session_state.specs.Transactions.{IsLookOf};
 ghost use Rattle.session_state.specs.Standing.{SessionStands};
 ghost use Rattle.session_txn.specs.Planning.{IsFinal, IsFinished};
 
 use chunk_store::Store;
 use script_text::Reply;
-use session_laws::law_of_transactions;
-use session_state::Session;
+use session_state::{Session, law_of_transactions};
 use shared_db::{DecisionPlan, Settled};
 use std::alloc::Global;
 use table_root::Look;

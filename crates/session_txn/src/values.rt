@@ -14,8 +14,7 @@ ghost use Rattle.session_txn.specs.Values.{AreValuesOf, asked_of, kept_name, wit
 
 use session_state::Session;
 use sql_ast::{Comparison, Expr, Literal, NamedExpr, Select, Term};
-use sql_features::{Feature, has_feature};
-use sql_text::canonical_text;
+use sql_text::{Feature, canonical_text, has_feature};
 use std::alloc::{AllocError, Global};
 use tuple_codec::{Boxed, Digester, Sequence, Text};
 

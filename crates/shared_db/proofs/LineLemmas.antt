@@ -6,9 +6,9 @@ use Rattle.std.specs.Cmp.Lexicographic.{slice_cmp}
 use Rattle.tuple_codec.specs.declared.records.BranchRecord.{BranchRecord}
 use Rattle.script_text.specs.declared.outputs.BranchLine.{BranchLine}
 use Rattle.table_root.specs.Heads.{heads_rise}
-use Rattle.session_laws.specs.Changes.{lines_rise}
-use Rattle.session_laws.specs.Laws.{head_in, with_record}
-use Rattle.session_laws.proofs.StateLemmas.{lines_still_rise as still_rise}
+use Rattle.session_state.specs.Changes.{lines_rise}
+use Rattle.session_state.specs.Laws.{head_in, with_record}
+use Rattle.session_state.proofs.StateLemmas.{lines_still_rise as still_rise}
 use Rattle.shared_db.specs.declared.branches.NamedBranch.{NamedBranch}
 use Rattle.shared_db.specs.declared.changes.RecordChange.{RecordChange}
 use Rattle.shared_db.specs.declared.changes.RecordChange.TheVariants as change

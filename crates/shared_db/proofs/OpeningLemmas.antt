@@ -20,8 +20,8 @@ use Rattle.plain_sessions.specs.Records.{first_commit, opening}
 use Rattle.plain_sessions.specs.StateLimits.{is_date}
 use Rattle.schema_model.specs.PlainCommits.{commit_address, commit_parts, plain_commit_bytes}
 use Rattle.schema_model.specs.WrittenForms.{CommitParts, commit_bytes, database_address, database_bytes}
-use Rattle.session_laws.specs.Changes.{Parts, StateStands}
-use Rattle.session_laws.specs.Laws.{StatesFollow}
+use Rattle.session_state.specs.Changes.{Parts, StateStands}
+use Rattle.session_state.specs.Laws.{StatesFollow}
 use Rattle.shared_db.specs.Opening.{HasJust, IsOpened, IsOpeningFault, both_alone, empty_alone}
 
 -- what a put was refused for is that other bytes are held at the address of those that were brought

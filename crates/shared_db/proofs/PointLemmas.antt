@@ -18,9 +18,9 @@ use Rattle.plain_sessions.specs.Branching.{commit_named, heads_in, or_commit, re
 use Rattle.plain_sessions.specs.Records.{Branch, clean_at, database_in, root_of}
 use Rattle.plain_sessions.specs.Sessions.{Head, Session, new_session}
 use Rattle.script_text.specs.declared.outputs.BranchLine.{BranchLine}
-use Rattle.session_laws.specs.Changes.{BranchStands, Paired}
-use Rattle.session_laws.specs.Commits.{CommitsAreThere}
-use Rattle.session_laws.specs.Records.{RecordStands}
+use Rattle.session_state.specs.Changes.{BranchStands, Paired}
+use Rattle.session_state.specs.Commits.{CommitsAreThere}
+use Rattle.session_state.specs.Records.{RecordStands}
 use Rattle.shared_db.specs.Stepping.{IsCleanAt}
 use Rattle.tuple_codec.specs.declared.records.BranchRecord.{BranchRecord}
 

@@ -24,8 +24,8 @@ use Rattle.plain_sessions.specs.Records.{Branch, BranchState, Shared, branch_cmp
 use Rattle.plain_sessions.specs.Sessions.{Head, Session}
 use Rattle.sql_procedures.specs.declared.requests.CheckoutRequest.TheVariants as checkout
 use Rattle.table_root.specs.Names.{is_branch_name}
-use Rattle.session_laws.specs.Changes.{BranchStands, Paired, Parts, StateStands, lines_rise}
-use Rattle.session_laws.specs.Records.{RecordStands}
+use Rattle.session_state.specs.Changes.{BranchStands, Paired, Parts, StateStands, lines_rise}
+use Rattle.session_state.specs.Records.{RecordStands}
 use Rattle.shared_db.specs.Shared.{is_line_of, record_at}
 use Rattle.shared_db.specs.Stepping.{Ends, IsCleanAt, head_or_named, line_cmp, making, number_of, removing, without_line}
 use Rattle.shared_db.specs.declared.changes.BranchReply.{BranchReply}

@@ -10,7 +10,7 @@ use Rattle.schema_model.specs.PlainCommits.{Commits}
 use Rattle.script_text.specs.declared.replies.Reply.TheVariants.{Refused}
 use Rattle.table_root.specs.declared.heads.Look.{Look}
 use Rattle.plain_sessions.specs.Moments as plain
-use Rattle.session_laws.specs.Changes.{ChangeStands}
+use Rattle.session_state.specs.Changes.{ChangeStands}
 use Rattle.shared_db.specs.declared.changes.DecisionPlan.{DecisionPlan}
 use Rattle.shared_db.specs.declared.changes.RecordChange.TheVariants.{Nothing, Record}
 

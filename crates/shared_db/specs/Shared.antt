@@ -8,8 +8,8 @@ use Rattle.chunk_store.specs.Stores.{IsUnion}
 use Rattle.chunk_store.specs.declared.faults.Clash.{Clash}
 use Rattle.script_text.specs.declared.outputs.BranchLine.{BranchLine}
 use Rattle.script_text.specs.declared.scripts.Moment.{Moment}
-use Rattle.session_laws.specs.Changes.{Parts}
-use Rattle.session_laws.specs.Laws.{with_record}
+use Rattle.session_state.specs.Changes.{Parts}
+use Rattle.session_state.specs.Laws.{with_record}
 use Rattle.shared_db.specs.declared.changes.RecordChange.{RecordChange}
 use Rattle.shared_db.specs.declared.changes.RecordChange.TheVariants as change
 use Rattle.shared_db.specs.declared.changes.Settled.{Settled}

@@ -21,8 +21,8 @@ use Rattle.plain_sessions.specs.Sessions.{Session}
 use Rattle.plain_sql.specs.Lists.{placed}
 use Rattle.chunk_store.specs.Chunks.{Chunks}
 use Rattle.tuple_codec.specs.declared.records.BranchRecord.{BranchRecord}
-use Rattle.session_laws.specs.Changes.{Parts, StateStands}
-use Rattle.session_laws.specs.Records.{RecordStands}
+use Rattle.session_state.specs.Changes.{Parts, StateStands}
+use Rattle.session_state.specs.Records.{RecordStands}
 use Rattle.shared_db.specs.Shared.{Db, is_line_of, moment, noted, record_at}
 use Rattle.shared_db.specs.declared.changes.BranchReply.{BranchReply}
 use Rattle.shared_db.specs.declared.changes.BranchReply.TheVariants as reply

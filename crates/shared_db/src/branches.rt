@@ -3,8 +3,8 @@
 ghost use Rattle.std.specs.Prelude.{◌≡◌, ◌<◌, ◌≤◌, ◌++◌, ◌∷◌, [], true, map, codes, Some, None, IfOk, if◌then◌else◌, bytes_eq, vec_len};
 ghost use Rattle.std.specs.Vec.{vec_capacity};
 ghost use Rattle.schema_model.specs.Limits.{most_branches};
-ghost use Rattle.session_laws.specs.Changes.{lines_rise};
-ghost use Rattle.session_laws.specs.Laws.{head_in, with_record};
+ghost use Rattle.session_state.specs.Changes.{lines_rise};
+ghost use Rattle.session_state.specs.Laws.{head_in, with_record};
 ghost use Rattle.shared_db.specs.Members.{line_of, lines_of, numbers_of, places_of, with_rec};
 ghost use Rattle.shared_db.specs.Shared.{changed_lines, record_at};
 

@@ -10,8 +10,8 @@ ghost use Rattle.plain_sessions.specs.Branching.{checkout_step, create_branch, d
 ghost use Rattle.plain_sessions.specs.Records.{Shared, opening};
 ghost use Rattle.plain_sessions.specs.Sessions.{Session};
 ghost use Rattle.schema_model.specs.Limits.{most_branches};
-ghost use Rattle.session_laws.specs.Changes.{StateStands, lines_rise};
-ghost use Rattle.session_laws.specs.Laws.{head_in};
+ghost use Rattle.session_state.specs.Changes.{StateStands, lines_rise};
+ghost use Rattle.session_state.specs.Laws.{head_in};
 ghost use Rattle.shared_db.specs.Opening.{IsOpeningFault};
 ghost use Rattle.shared_db.specs.Shared.{IfCollided, IfMoved, IsSettled, KeepsRoom, noted, record_at};
 ghost use Rattle.shared_db.specs.Stepping.{HasState, IsCleanAt, IsPlaced, IsPlainStep, IsStepped, KeepsRest, new_asked, places_after, plain_step};
@@ -28,7 +28,7 @@ use crate::segments::append_sealed;
 use crate::steps::{clean_at, commit_at, is_there, make_branch, move_to, place_in, remove_branch};
 use chunk_store::{PutFault, Segment, Store};
 use script_text::{BranchLine, Moment};
-use session_laws::law_of_states;
+use session_state::law_of_states;
 use std::alloc::{AllocError, Global};
 use std::marker::Model;
 use std::sync::Arc;
@@ -51,7 +51,7 @@ impl Model for SharedDb {
     ghost use Rattle.std.specs.Vec.{vec_capacity};
     ghost use Rattle.chunk_store.specs.Stores.{all_chunks};
     ghost use Rattle.schema_model.specs.Limits.{most_branches};
-    ghost use Rattle.session_laws.specs.Changes.{lines_rise};
+    ghost use Rattle.session_state.specs.Changes.{lines_rise};
     ghost use Rattle.shared_db.specs.Members.{lines_of, numbers_of, places_of};
     ghost use Rattle.shared_db.specs.Shared.{Db};
 

@@ -8,7 +8,7 @@ use Rattle.std.proofs.lemmas.List.Elements.{filter-append}
 use Rattle.std.proofs.lemmas.Bool.Decides.{nat_tests}
 use Rattle.script_text.specs.declared.scripts.Moment.{Moment}
 use Rattle.plain_sessions.specs.Records.{Shared}
-use Rattle.session_laws.specs.Changes.{Parts, StateStands}
+use Rattle.session_state.specs.Changes.{Parts, StateStands}
 use Rattle.seat_gate.specs.History.{Spelling, Entry, StartsWith, entry, entries_of}
 use Rattle.seat_gate.specs.Told.{left_last}
 use Rattle.shared_db.specs.Shared.{Db, KeepsRoom}

@@ -8,8 +8,8 @@ use Rattle.chunk_store.specs.Chunks.{Chunk}
 use Rattle.script_text.specs.declared.outputs.BranchLine.{BranchLine}
 use Rattle.script_text.specs.declared.scripts.Moment.{Moment}
 use Rattle.plain_sessions.specs.Records.{Shared}
-use Rattle.session_laws.specs.Changes.{Parts, StateStands}
-use Rattle.session_laws.specs.Laws.{StatesFollow}
+use Rattle.session_state.specs.Changes.{Parts, StateStands}
+use Rattle.session_state.specs.Laws.{StatesFollow}
 use Rattle.shared_history.specs.Spelling.{SpellsState, spelled_branches, spelled_chunks, spelled_merging, spelled_moment, spelling_of}
 
 -- two lists that begin with equally many items are the same before and behind these

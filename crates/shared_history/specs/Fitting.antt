@@ -3,7 +3,7 @@ use Rattle.std.specs.Prelude.{◌≡◌, ◌≢◌, ℕ, ◌+◌, ◌-◌, ◌*�
 use Rattle.chunk_store.specs.Chunks.{Lists}
 use Rattle.script_text.specs.declared.scripts.Moment.{Moment}
 use Rattle.plain_sessions.specs.Records.{Shared}
-use Rattle.session_laws.specs.Changes.{Parts, StateStands}
+use Rattle.session_state.specs.Changes.{Parts, StateStands}
 use Rattle.shared_db.specs.Shared.{Db}
 use Rattle.seat_gate.specs.History.{Spelling, Entry, entries_of}
 use Rattle.shared_history.specs.Spelling.{spelling_of}

@@ -5,7 +5,7 @@ use Rattle.chunk_store.specs.Chunks.{Chunk}
 use Rattle.script_text.specs.declared.outputs.BranchLine.{BranchLine}
 use Rattle.script_text.specs.declared.scripts.Moment.{Moment}
 use Rattle.plain_sessions.specs.Records.{Shared}
-use Rattle.session_laws.specs.Changes.{Parts, StateStands}
+use Rattle.session_state.specs.Changes.{Parts, StateStands}
 
 -- an address, or none
 abbrev pub spelled_merging : Option Address → List ℕ

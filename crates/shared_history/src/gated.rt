@@ -2,7 +2,7 @@
 
 ghost use Rattle.std.specs.Prelude.{◌≡◌, ◌≤ℤ◌, ℕ, List, [], length, pos, IfErr, IfOk};
 ghost use Rattle.plain_sessions.specs.Records.{opening};
-ghost use Rattle.session_laws.specs.Changes.{StateStands};
+ghost use Rattle.session_state.specs.Changes.{StateStands};
 ghost use Rattle.shared_db.specs.Opening.{IsOpeningFault};
 ghost use Rattle.shared_history.specs.Fitting.{Fits};
 ghost use Rattle.shared_history.specs.Spelling.{spelling_of};

@@ -1,3 +1,4 @@
 pub mod ListNodes
+mod PieceVectors
 mod SliceLemmas
 mod Vectors

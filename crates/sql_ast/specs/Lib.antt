@@ -1,6 +1,7 @@
 pub mod Bytes
-pub mod Words
-pub mod Tokens
 pub mod Lexing
-pub mod Slices
 pub mod Limits
+pub mod Slices
+pub mod Tokens
+pub mod Values
+pub mod Words

@@ -4,6 +4,7 @@
 //! order. Parentheses leave no trace. Names are in lower case.
 #![tactic(auto)]
 
+mod byte_strings;
 mod bytes;
 mod expressions;
 mod faults;
@@ -11,12 +12,18 @@ mod held;
 mod keywords;
 mod lexer;
 mod limits;
+mod lower_words;
 mod marks;
+mod numbers;
+mod pieces;
 mod places;
+mod reading;
 mod selects;
 mod signing;
 mod signs;
+mod slices;
 mod statements;
+mod strings;
 mod tables;
 mod token_lists;
 mod tokens;
@@ -28,6 +35,8 @@ pub use faults::{ReadFault, Refusal};
 pub use keywords::keyword_of;
 pub use lexer::lex;
 pub use limits::{MOST_NAME_BYTES, MOST_OPEN};
+pub use pieces::Piece;
+pub use reading::{Pieces, canonical_pieces_of, pieces_of};
 pub use selects::{
     Clauses, ColumnName, Direction, FromClause, Items, Join, Limit, NamedExpr, OrderKey, Query,
     Select, SelectItem, Sorting, TableSource,

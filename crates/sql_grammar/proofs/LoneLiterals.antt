@@ -4,8 +4,8 @@ use Rattle.sql_ast.specs.declared.expressions.Expr.TheVariants as e
 use Rattle.sql_ast.specs.declared.expressions.Literal.{Literal}
 use Rattle.sql_ast.specs.declared.signs.Sign.TheVariants as sign
 use Rattle.sql_ast.specs.declared.words.Keyword.TheVariants as word
-use Rattle.sql_grammar.specs.declared.pieces.Piece.{Piece}
-use Rattle.sql_grammar.specs.declared.pieces.Piece.TheVariants as piece
+use Rattle.sql_ast.specs.declared.pieces.Piece.{Piece}
+use Rattle.sql_ast.specs.declared.pieces.Piece.TheVariants as piece
 use Rattle.sql_grammar.specs.Pieces.{ends_expression, is_lone_literal, literal_of, same_keyword, same_sign}
 use Rattle.sql_grammar.specs.Reading.{Outcome, ◌<$>◌, and_then, chain, chain_from, literal, pure, sees, sees_keyword}
 use Rattle.sql_grammar.specs.Expressions.{any, atom, called, comparison, conjunction, disjunction, expression, literal_ahead, negation, plain_atom, product, sum, term, term_ahead, test_ahead, tested, unary}

@@ -7,8 +7,8 @@ use Rattle.sql_ast.specs.declared.expressions.Literal.TheVariants as literal
 use Rattle.sql_ast.specs.declared.expressions.Term.TheVariants as term
 use Rattle.sql_ast.specs.declared.signs.Sign.TheVariants as sign
 use Rattle.sql_ast.specs.declared.words.Keyword.TheVariants as word
-use Rattle.sql_grammar.specs.declared.pieces.Piece.{Piece}
-use Rattle.sql_grammar.specs.declared.pieces.Piece.TheVariants.{Keyword, Word, Quoted, Whole, Sign}
+use Rattle.sql_ast.specs.declared.pieces.Piece.{Piece}
+use Rattle.sql_ast.specs.declared.pieces.Piece.TheVariants.{Keyword, Word, Quoted, Whole, Sign}
 use Rattle.sql_grammar.specs.Pieces.{same_sign, same_keyword}
 use Rattle.sql_grammar.specs.Reading.{sees, sees_keyword, sees_name, name, list, chain, chain_from}
 use Rattle.sql_grammar.specs.Expressions.{column, called, test_ahead, term_ahead, literal_ahead, enclosed, count, call, other_atom, plain_atom, atom, unary, product, term, sum, listed, limits, negated, tested, comparison as comparison_rule, negation, conjunction, disjunction, expression}

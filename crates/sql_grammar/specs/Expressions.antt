@@ -19,7 +19,7 @@ use Rattle.sql_grammar.specs.declared.heads.Test.{Test}
 use Rattle.sql_grammar.specs.declared.heads.Test.TheVariants as test
 use Rattle.sql_grammar.specs.declared.heads.Function.{Function}
 use Rattle.sql_grammar.specs.declared.heads.Function.TheVariants as function
-use Rattle.sql_grammar.specs.declared.pieces.Piece.{Piece}
+use Rattle.sql_ast.specs.declared.pieces.Piece.{Piece}
 use Rattle.sql_grammar.specs.Pieces.{test_of, term_of, function_of, literal_of, is_sign}
 use Rattle.sql_grammar.specs.Reading.{Reader, ◌>>=◌, ◌>>◌, ◌<$>◌, pure, stop, skip, seen, eat, eat_keyword, expect, expect_keyword, name, behind, chain, list}
 

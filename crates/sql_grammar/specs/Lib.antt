@@ -1,4 +1,5 @@
-pub mod Pieces
-pub mod Reading
+pub mod Checking
 pub mod Expressions
 pub mod Nests
+pub mod Pieces
+pub mod Reading

@@ -3,7 +3,7 @@ use Rattle.std.specs.Prelude.{ℕ, List, Result}
 use Rattle.std.specs.declared.alloc.Global.{Global}
 use denote.Ref.{MutBor}
 use Rattle.sql_ast.specs.declared.expressions.Expr.{Expr}
-use Rattle.sql_grammar.specs.declared.pieces.Piece.{Piece}
+use Rattle.sql_ast.specs.declared.pieces.Piece.{Piece}
 use Rattle.sql_grammar.specs.declared.stops.Stop.{Stop}
 use Rattle.sql_grammar.specs.Reading.{Reads}
 use Rattle.sql_grammar.specs.Expressions.{expression}

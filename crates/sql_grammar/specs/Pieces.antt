@@ -13,8 +13,8 @@ use Rattle.sql_ast.specs.declared.expressions.Literal.{Literal}
 use Rattle.sql_ast.specs.declared.expressions.Literal.TheVariants as literal
 use Rattle.sql_ast.specs.declared.expressions.Term.{Term}
 use Rattle.sql_ast.specs.declared.expressions.Term.TheVariants as term
-use Rattle.sql_grammar.specs.declared.pieces.Piece.{Piece}
-use Rattle.sql_grammar.specs.declared.pieces.Piece.TheVariants as piece
+use Rattle.sql_ast.specs.declared.pieces.Piece.{Piece}
+use Rattle.sql_ast.specs.declared.pieces.Piece.TheVariants as piece
 use Rattle.sql_grammar.specs.declared.heads.Test.{Test}
 use Rattle.sql_grammar.specs.declared.heads.Test.TheVariants as test
 use Rattle.sql_grammar.specs.declared.heads.Function.{Function}

@@ -4,7 +4,7 @@ use Rattle.sql_ast.specs.declared.expressions.Literal.{Literal}
 use Rattle.sql_ast.specs.declared.signs.Sign.{Sign}
 use Rattle.sql_ast.specs.declared.signs.Sign.TheVariants as sign
 use Rattle.sql_ast.specs.declared.words.Keyword.{Keyword}
-use Rattle.sql_grammar.specs.declared.pieces.Piece.{Piece}
+use Rattle.sql_ast.specs.declared.pieces.Piece.{Piece}
 use Rattle.sql_grammar.specs.declared.stops.Stop.{Stop}
 use Rattle.sql_grammar.specs.declared.stops.Stop.TheVariants.{Memory, At}
 use Rattle.sql_grammar.specs.Pieces.{is_sign, is_keyword, is_word, is_named, name_of, whole_of, string_of, literal_of}

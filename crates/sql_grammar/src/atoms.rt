@@ -9,9 +9,8 @@ use crate::cursors::Cursor;
 use crate::grammars::Grammar;
 use crate::heads::{Function, function_of, is_sign};
 use crate::nodes::{count_of, max_of, min_of, sum_of};
-use crate::pieces::Piece;
 use crate::stops::Stop;
-use sql_ast::{Expr, Sign};
+use sql_ast::{Expr, Piece, Sign};
 use std::alloc::Global;
 use tuple_codec::Boxed;
 

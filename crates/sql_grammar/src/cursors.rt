@@ -8,9 +8,8 @@ ghost use Rattle.sql_grammar.specs.Pieces.{literal_of};
 use crate::heads::{
     is_keyword, is_literal, is_named, is_sign, is_word, literal_of, name_of, string_of, whole_of,
 };
-use crate::pieces::Piece;
 use crate::stops::Stop;
-use sql_ast::{Keyword, Literal, Sign};
+use sql_ast::{Keyword, Literal, Piece, Sign};
 use std::alloc::Global;
 use std::marker::Model;
 use std::mem::take;
@@ -24,7 +23,7 @@ pub struct Cursor<'a> {
 
 impl<'a> Model for Cursor<'a> {
     ghost use Rattle.std.specs.Prelude.{List};
-    ghost use Rattle.sql_grammar.specs.declared.pieces.Piece.{Piece};
+    ghost use Rattle.sql_ast.specs.declared.pieces.Piece.{Piece};
 
     ghost Value = { List Piece };
 

@@ -3,8 +3,7 @@
 ghost use Rattle.std.specs.Prelude.{◌≡◌, is_some};
 ghost use Rattle.sql_grammar.specs.Pieces as spec;
 
-use crate::pieces::Piece;
-use sql_ast::{Comparison, Keyword, Literal, Sign, Term};
+use sql_ast::{Comparison, Keyword, Literal, Piece, Sign, Term};
 use std::alloc::Global;
 use std::mem::replace;
 use tuple_codec::{Sequence, Text};

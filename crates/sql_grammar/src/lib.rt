@@ -10,12 +10,10 @@ mod cursors;
 mod grammars;
 mod heads;
 mod nodes;
-mod pieces;
 mod rules;
 mod stops;
 
 pub use cursors::Cursor;
 pub use grammars::read_any;
 pub use heads::{is_named, is_sign, is_word};
-pub use pieces::Piece;
 pub use stops::Stop;

@@ -5,7 +5,7 @@ use Rattle.sql_ast.specs.declared.faults.Refusal.{Refusal}
 use Rattle.sql_ast.specs.declared.signs.Sign.TheVariants as sign
 use Rattle.sql_ast.specs.declared.statements.Statement.{Statement}
 use Rattle.sql_ast.specs.declared.statements.Statement.TheVariants as statement
-use Rattle.sql_grammar.specs.declared.pieces.Piece.TheVariants as piece
+use Rattle.sql_ast.specs.declared.pieces.Piece.TheVariants as piece
 use Rattle.sql_grammar.specs.Pieces.{same_sign, same_keyword}
 use Rattle.sql_grammar.specs.Reading.{sees, sees_keyword, sees_word, name, string, list, chain, chain_from}
 use Rattle.sql_parse.specs.Openings.{opens_too_many}

@@ -2,8 +2,8 @@
 use Rattle.std.specs.Prelude.{ℕ, Bool, true, false, ◌+◌, ◌-◌, ◌||◌, nat_lt, not, is_some, if◌then◌else◌, List, [], ◌∷◌}
 use Rattle.sql_ast.specs.Limits.{most_open}
 use Rattle.sql_ast.specs.declared.signs.Sign.TheVariants as sign
-use Rattle.sql_grammar.specs.declared.pieces.Piece.{Piece}
-use Rattle.sql_grammar.specs.declared.pieces.Piece.TheVariants as piece
+use Rattle.sql_ast.specs.declared.pieces.Piece.{Piece}
+use Rattle.sql_ast.specs.declared.pieces.Piece.TheVariants as piece
 use Rattle.sql_grammar.specs.Pieces.{is_sign}
 use Rattle.sql_statements.specs.Heads.{keyword_opening, word_opening}
 

@@ -11,9 +11,9 @@ use Rattle.sql_ast.specs.declared.faults.Refusal.{Refusal}
 use Rattle.sql_ast.specs.declared.statements.Statement.{Statement}
 use Rattle.sql_ast.specs.declared.statements.Statement.TheVariants as statement
 use Rattle.sql_ast.specs.declared.tokens.Token.{Token}
-use Rattle.sql_grammar.specs.declared.pieces.Piece.{Piece}
+use Rattle.sql_ast.specs.declared.pieces.Piece.{Piece}
 use Rattle.sql_parse.specs.Openings.{is_hopeless}
-use Rattle.sql_pieces.specs.Values.{pieces_of}
+use Rattle.sql_ast.specs.Values.{pieces_of}
 use Rattle.sql_rules.specs.Arguments.{misused}
 use Rattle.sql_rules.specs.Outside.{outside}
 use Rattle.sql_statements.specs.Statements.{statement_of}

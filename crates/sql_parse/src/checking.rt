@@ -2,11 +2,10 @@
 
 ghost use Rattle.std.specs.Prelude.{◌≡◌, ◌<◌, ◌^◌, length, is_some, true, Some, IfOk};
 ghost use Rattle.sql_grammar.specs.Expressions.{any};
-ghost use Rattle.sql_pieces.specs.Checking as spec;
+ghost use Rattle.sql_grammar.specs.Checking as spec;
 
-use sql_ast::{Expr, ReadFault, Token, lex};
-use sql_grammar::{Cursor, Piece, Stop, read_any};
-use sql_pieces::canonical_pieces_of;
+use sql_ast::{Expr, Piece, ReadFault, Token, canonical_pieces_of, lex};
+use sql_grammar::{Cursor, Stop, read_any};
 use std::alloc::{AllocError, Global};
 
 /// The expression whose canonical text this is, as a CHECK is stored. It needn't be the tree that the text was made of:

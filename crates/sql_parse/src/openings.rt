@@ -4,8 +4,8 @@ ghost use Rattle.std.specs.Prelude.{◌≡◌, ◌+◌, ◌-◌, ◌≤◌, ℕ,
 ghost use Rattle.sql_ast.specs.Limits.{most_open};
 ghost use Rattle.sql_parse.specs.Openings.{begins_nothing, counted, is_hopeless, is_other_word, opens_too_many};
 
-use sql_ast::{MOST_OPEN, Sign};
-use sql_grammar::{Piece, is_sign};
+use sql_ast::{MOST_OPEN, Piece, Sign};
+use sql_grammar::is_sign;
 use sql_statements::opening_of;
 
 /// Whether pieces are outside the language whatever the grammar says of them.

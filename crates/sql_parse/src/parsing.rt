@@ -9,9 +9,8 @@ use crate::faults::{misplaced, refused};
 use crate::judging::judge;
 use crate::openings::is_beyond_grammar;
 use crate::places::place;
-use sql_ast::{ReadFault, Statement, Token, lex};
-use sql_grammar::{Piece, Stop};
-use sql_pieces::pieces_of;
+use sql_ast::{Piece, ReadFault, Statement, Token, lex, pieces_of};
+use sql_grammar::Stop;
 use sql_statements::read_statement;
 use std::alloc::Global;
 

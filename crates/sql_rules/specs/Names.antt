@@ -33,8 +33,8 @@ use Rattle.sql_ast.specs.declared.tables.CreateTable.{CreateTable}
 use Rattle.sql_ast.specs.declared.tables.Element.{Element}
 use Rattle.sql_ast.specs.declared.tables.Element.TheVariants as element
 use Rattle.sql_ast.specs.declared.tables.ForeignKeyElement.{ForeignKeyElement}
-use Rattle.sql_features.specs.Features.{is_long, has}
-use Rattle.sql_features.specs.declared.features.Feature.TheVariants as feature
+use Rattle.sql_text.specs.Features.{is_long, has}
+use Rattle.sql_text.specs.declared.features.Feature.TheVariants as feature
 
 -- the tables that the program itself keeps
 abbrev pub is_system_name : List ℕ → Bool

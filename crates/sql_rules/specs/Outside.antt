@@ -13,7 +13,7 @@ use Rattle.sql_ast.specs.declared.tables.Element.{Element}
 use Rattle.sql_procedures.specs.Arguments.{procedure_of}
 use Rattle.sql_rules.specs.Constraints.{makes_long}
 use Rattle.sql_rules.specs.Defaults.{altered_column, has_outside_default}
-use Rattle.sql_features.specs.Features.{is_variable}
+use Rattle.sql_text.specs.Features.{is_variable}
 use Rattle.sql_rules.specs.Names.{is_long_worded, is_system_name}
 use Rattle.sql_rules.specs.Selects.{select_outside}
 use Rattle.sql_rules.specs.Tables.{elements_outside}

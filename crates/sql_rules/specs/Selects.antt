@@ -16,29 +16,22 @@ use Rattle.sql_ast.specs.declared.selects.Items.TheVariants as items
 use Rattle.sql_ast.specs.declared.selects.SelectItem.{SelectItem}
 use Rattle.sql_ast.specs.declared.selects.SelectItem.TheVariants as item
 use Rattle.sql_ast.specs.declared.selects.FromClause.{FromClause}
-use Rattle.sql_ast.specs.declared.selects.TableSource.{TableSource}
 use Rattle.sql_ast.specs.declared.selects.Join.{Join}
 use Rattle.sql_ast.specs.declared.selects.ColumnName.{ColumnName}
 use Rattle.sql_ast.specs.declared.selects.ColumnName.TheVariants as column
 use Rattle.sql_ast.specs.declared.selects.OrderKey.{OrderKey}
-use Rattle.sql_features.specs.Features.{has, is_aggregate}
+use Rattle.sql_text.specs.Features.{has}
 use Rattle.sql_rules.specs.Names.{in_given, repeats_by}
-use Rattle.sql_features.specs.Nesting.{nests}
+use Rattle.sql_text.specs.Nesting.{nests}
+use Rattle.sql_text.specs.SelectNames.{is_call, is_item_named, source_name}
 use Rattle.sql_rules.specs.Writes.{is_misplaced, is_misplaced_if}
-use Rattle.sql_features.specs.declared.features.Feature.TheVariants as feature
+use Rattle.sql_text.specs.declared.features.Feature.TheVariants as feature
 use Rattle.sql_rules.specs.declared.order_keys.Key.{Key}
 use Rattle.sql_rules.specs.declared.order_keys.Key.TheVariants.{AtItem, OverSources}
 use Rattle.sql_rules.specs.declared.selects.GroupItem.{GroupItem}
 use Rattle.sql_rules.specs.declared.selects.GroupItem.TheVariants.{AggregateCall, GroupColumn}
 
 -- The sources.
-
-abbrev pub name_or : List ℕ → Option (List ℕ) → List ℕ
-name_or table (Some alias) = alias
-name_or table None = table
-
-abbrev pub source_name : TableSource → List ℕ
-source_name source = name_or source.table source.alias
 
 abbrev pub joined_name : Join → List ℕ
 joined_name join = source_name join.source
@@ -57,10 +50,6 @@ in_item test (item.One named) = test named.expr
 abbrev pub in_items : (Expr → Bool) → Items → Bool
 in_items test items.All = false
 in_items test (items.Listed list) = list_any (in_item test) list
-
--- the expression is an aggregate's call as a whole
-abbrev pub is_call : Expr → Bool
-is_call expr = is_aggregate (out-Expr expr)
 
 -- the expression is this column, written alike
 abbrev pub is_written_as : Expr-F Expr → ColumnName → Bool
@@ -107,21 +96,6 @@ one_numbered list n = if nat_le 1 n && in_given is_one (slice_get list (n - 1)) 
 abbrev pub numbered : Items → ℕ → Option Key
 numbered items.All n = None
 numbered (items.Listed list) n = one_numbered list n
-
--- a column's own name
-abbrev pub is_column_named : List ℕ → Expr-F Expr → Bool
-is_column_named name (Expr-F.Name own) = bytes_eq name own
-is_column_named name (Expr-F.Qualified source own) = bytes_eq name own
-is_column_named name node = false
-
--- by AS, else by its column's name; the canonical text of any other expression is no word, so no name
-abbrev pub is_named_by : List ℕ → Option (List ℕ) → Expr → Bool
-is_named_by name (Some alias) expr = bytes_eq name alias
-is_named_by name None expr = is_column_named name (out-Expr expr)
-
-abbrev pub is_item_named : List ℕ → SelectItem → Bool
-is_item_named name (item.AllOf source) = false
-is_item_named name (item.One named) = is_named_by name named.name named.expr
 
 -- the place of the first item of this name
 abbrev pub item_named : Items → List ℕ → Option ℕ

@@ -11,7 +11,7 @@ use Rattle.sql_ast.specs.declared.tables.TypeName.{TypeName}
 use Rattle.sql_ast.specs.declared.tables.TypeName.TheVariants as type
 use Rattle.tuple_codec.specs.declared.values.SqlType.{SqlType}
 use Rattle.tuple_codec.specs.declared.values.SqlType.TheVariants as kind
-use Rattle.sql_features.specs.Depths.{is_deep}
+use Rattle.sql_text.specs.Depths.{is_deep}
 use Rattle.sql_rules.specs.Names.{contains, in_given, repeats}
 use Rattle.sql_rules.specs.Writes.{is_misplaced}
 

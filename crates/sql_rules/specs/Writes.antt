@@ -7,9 +7,9 @@ use Rattle.sql_ast.specs.declared.statements.InsertCell.{InsertCell}
 use Rattle.sql_ast.specs.declared.statements.InsertCell.TheVariants as entry
 use Rattle.sql_ast.specs.declared.statements.Update.{Update}
 use Rattle.sql_ast.specs.declared.statements.Delete.{Delete}
-use Rattle.sql_features.specs.Features.{has}
+use Rattle.sql_text.specs.Features.{has}
 use Rattle.sql_rules.specs.Names.{in_given, is_system_name, repeats, repeats_by}
-use Rattle.sql_features.specs.declared.features.Feature.TheVariants as feature
+use Rattle.sql_text.specs.declared.features.Feature.TheVariants as feature
 
 -- an aggregate, `@@` and a name, or `active_branch()`, where none of them may stand
 abbrev pub is_misplaced : Expr → Bool

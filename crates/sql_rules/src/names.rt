@@ -9,7 +9,7 @@ use sql_ast::{
     FromClause, Insert, InsertCell, Items, Join, NamedExpr, OrderKey, Query, Select, SelectItem,
     Statement, TableSource, Tuple, Update, Write,
 };
-use sql_features::{Feature, has_feature, is_long_name};
+use sql_text::{Feature, has_feature, is_long_name};
 use tuple_codec::{Sequence, Text};
 
 /// Whether the program itself keeps the tables of such names.

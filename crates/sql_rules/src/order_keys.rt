@@ -4,7 +4,8 @@ ghost use Rattle.std.specs.Prelude.{◌≡◌, slice_get};
 ghost use Rattle.std.specs.List.{position};
 ghost use Rattle.sql_ast.specs.declared.expressions.Expr.{out-Expr};
 ghost use Rattle.sql_rules.specs.Selects as spec;
-ghost use Rattle.sql_rules.specs.Selects.{is_column_named, is_item_named, is_named_by, is_one, key_of, key_outside, literal_key, numbered};
+ghost use Rattle.sql_rules.specs.Selects.{is_one, key_of, key_outside, literal_key, numbered};
+ghost use Rattle.sql_text.specs.SelectNames.{is_column_named, is_item_named, is_named_by};
 ghost use Rattle.sql_rules.specs.Names.{in_given};
 
 use crate::writes::is_out_of_place;

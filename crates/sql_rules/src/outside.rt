@@ -14,8 +14,8 @@ use crate::tables::{
 };
 use crate::writes::{is_outside_delete, is_outside_insert, is_outside_update};
 use sql_ast::{Alter, AlterAction, Call, CreateTable, Element, Statement, Write};
-use sql_features::is_variable_name;
 use sql_procedures::procedure_named;
+use sql_text::is_variable_name;
 use std::alloc::{AllocError, Global};
 use tuple_codec::Text;
 

@@ -5,11 +5,13 @@ ghost use Rattle.std.specs.List.{list_all, list_any, position};
 ghost use Rattle.std.specs.Str.{bytes_eq};
 ghost use Rattle.sql_ast.specs.declared.expressions.Expr.{out-Expr};
 ghost use Rattle.sql_ast.specs.declared.selects.ColumnName.TheVariants.{Name, Qualified};
-ghost use Rattle.sql_features.specs.Features.{has};
+ghost use Rattle.sql_text.specs.Features.{has};
 ghost use Rattle.sql_rules.specs.Names.{repeats_by};
-ghost use Rattle.sql_features.specs.Nesting.{nests};
+ghost use Rattle.sql_text.specs.Nesting.{nests};
 ghost use Rattle.sql_rules.specs.Selects as spec;
-ghost use Rattle.sql_rules.specs.Selects.{alone_outside, are_of_groups, from_outside, grouped_as, in_item, in_items, is_call, is_filled, is_grouped, is_of_groups, is_open_to_sources, is_ungrouped_item_shown, is_written_as, items_outside, joined_name, key_outside, keys_outside, mixes_aggregates, name_or, query_outside, repeats_source, select_outside};
+ghost use Rattle.sql_rules.specs.Selects.{alone_outside, are_of_groups, from_outside, grouped_as, in_item, in_items, is_filled, is_grouped, is_of_groups, is_open_to_sources, is_ungrouped_item_shown, is_written_as, items_outside, joined_name, key_outside, keys_outside, mixes_aggregates, query_outside, repeats_source, select_outside};
+ghost use Rattle.sql_text.specs.SelectNames as names;
+ghost use Rattle.sql_text.specs.SelectNames.{is_call, name_or};
 ghost use Rattle.sql_rules.specs.Writes.{is_misplaced};
 
 use crate::order_keys::is_outside_key;
@@ -18,7 +20,7 @@ use sql_ast::{
     ColumnName, Expr, FromClause, Items, Join, NamedExpr, OrderKey, Query, Select, SelectItem,
     TableSource,
 };
-use sql_features::{Feature, has_feature, is_aggregate_node, nests_aggregates};
+use sql_text::{Feature, has_feature, is_aggregate_node, nests_aggregates};
 use tuple_codec::Text;
 
 /// What a grouped SELECT shows in an item.
@@ -90,7 +92,7 @@ fn joins_named(joins: &[Join], name: &Text) -> bool
 
 /// The name that a source goes by.
 pub fn source_name(source: &TableSource) -> &Text
-    ensures { result.now ≡ spec.source_name source.now }
+    ensures { result.now ≡ names.source_name source.now }
 {
     match &source.alias {
         Some(alias) => alias,

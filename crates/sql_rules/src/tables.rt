@@ -11,7 +11,7 @@ ghost use Rattle.sql_rules.specs.Tables.{check_outside, column_name, decimal_typ
 use crate::names::repeats_name;
 use crate::writes::is_out_of_place;
 use sql_ast::{Attribute, Element, Expr, TypeName};
-use sql_features::is_too_deep;
+use sql_text::is_too_deep;
 use std::alloc::AllocError;
 use tuple_codec::{SqlType, Text};
 

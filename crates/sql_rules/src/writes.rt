@@ -8,7 +8,7 @@ ghost use Rattle.sql_rules.specs.Writes.{delete_outside, entry_outside, insert_o
 
 use crate::names::{is_kept_by_system, repeats_name};
 use sql_ast::{Assignment, Delete, Expr, Insert, InsertCell, Tuple, Update};
-use sql_features::{Feature, has_feature};
+use sql_text::{Feature, has_feature};
 use tuple_codec::{Sequence, Text};
 
 /// Whether an expression has a part that only a SELECT's items may have.

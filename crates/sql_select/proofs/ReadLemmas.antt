@@ -12,7 +12,7 @@ use Rattle.sql_ast.specs.declared.selects.TableSource.{TableSource}
 use Rattle.expr_eval.specs.Binding.{Outcome, and_then}
 use Rattle.plain_sql.specs.Lists.{each, or_refuse}
 use Rattle.plain_sql.specs.Plans.{is_known_as, query_on, read_as, source_read, sources_of}
-use Rattle.plain_sql.specs.Temporary.{source_name}
+use Rattle.sql_text.specs.SelectNames.{source_name}
 use Rattle.plain_sql.specs.declared.sources.Known.{Known}
 use Rattle.plain_sql.specs.declared.sources.Read.{Read}
 use Rattle.sql_select.specs.Sources.{ReadsSuffice, is_read, known, known_read, known_system, known_table}

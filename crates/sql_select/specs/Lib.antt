@@ -1,3 +1,8 @@
+pub mod Choosing
+pub mod Entries
 pub mod Gives
-pub mod Sources
+pub mod Parts
+pub mod Seeking
 pub mod Seeks
+pub mod Sources
+pub mod Spans

@@ -9,9 +9,9 @@ use Rattle.sql_ast.specs.declared.selects.TableSource.{TableSource}
 use Rattle.expr_eval.specs.declared.bound.BoundExpr.{BoundExpr}
 use Rattle.expr_eval.specs.declared.scopes.ScopeColumn.{ScopeColumn}
 use Rattle.plain_sql.specs.Plans.{condition, meaning, query_on, read_as, scope_column}
-use Rattle.plain_sql.specs.Temporary.{source_name}
+use Rattle.sql_text.specs.SelectNames.{source_name}
 use Rattle.plain_sql.specs.declared.sources.Known.{Known}
-use Rattle.key_seek.specs.Seeking as seeking
+use Rattle.sql_select.specs.Seeking as seeking
 use Rattle.sql_select.specs.Sources.{typed_column}
 
 -- the columns that an expression of the source may name

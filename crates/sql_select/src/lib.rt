@@ -5,13 +5,23 @@
 #![tactic(auto)]
 
 mod answering;
+mod choosing;
+mod entries;
 mod faults;
 mod laws;
+mod naming;
 mod reading;
 mod seeking;
 mod sources;
+mod span_reading;
+mod spans;
+mod steady;
+mod test_seeking;
 
 pub use answering::answer;
+pub use choosing::{Seek, rows_sought, sought};
+pub use entries::Entries;
 pub use faults::AskFault;
 pub use laws::law_of_reading;
 pub use sources::{NamedAnswer, Sources};
+pub use spans::{End, KeySpan};

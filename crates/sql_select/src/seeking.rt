@@ -5,21 +5,20 @@ ghost use Rattle.chunk_store.specs.Drafts.{chunks_of};
 ghost use Rattle.schema_model.specs.PlainTables.{PlainTable};
 ghost use Rattle.table_root.specs.Standing.{IsTableOf};
 ghost use Rattle.plain_sql.specs.Plans.{scope_column};
-ghost use Rattle.plain_sql.specs.Temporary.{source_name};
-ghost use Rattle.key_seek.specs.Choosing.{IsSeekOf, is_wanted};
-ghost use Rattle.key_seek.specs.declared.choosing.Seek as seeks;
+ghost use Rattle.sql_text.specs.SelectNames.{source_name};
+ghost use Rattle.sql_select.specs.Choosing.{IsSeekOf, is_wanted};
+ghost use Rattle.sql_select.specs.declared.choosing.Seek as seeks;
 ghost use Rattle.sql_select.specs.Seeks.{AreNeeded, SeeksBy, SeeksSource};
 ghost use Rattle.sql_select.specs.Sources.{typed_column};
 
+use crate::{Seek, rows_sought, sought};
 use chunk_store::Draft;
 use expr_eval::ScopeColumn;
-use key_seek::{Seek, rows_sought, sought};
 use plain_sql::{Refused, condition};
 use schema_model::{Column, Schema};
 use sql_ast::{Expr, Query, TableSource};
 use std::alloc::{AllocError, Global};
-use table_root::StoredTable;
-use table_rows::read_rows;
+use table_root::{StoredTable, read_rows};
 use tuple_codec::{Digester, Row, Sequence, Text};
 
 /// The rows of a table that the query needs.

@@ -10,7 +10,7 @@ use Rattle.sql_ast.specs.declared.statements.Write.TheVariants as write
 use Rattle.sql_ast.specs.declared.tables.Attribute.TheVariants as attribute
 use Rattle.sql_ast.specs.declared.tables.TypeName.TheVariants as type
 use Rattle.sql_ast.specs.declared.words.Keyword.TheVariants as word
-use Rattle.sql_grammar.specs.declared.pieces.Piece.TheVariants.{Keyword, Word, Text, Whole, Sign}
+use Rattle.sql_ast.specs.declared.pieces.Piece.TheVariants.{Keyword, Word, Text, Whole, Sign}
 use Rattle.sql_grammar.specs.Pieces.{same_sign, same_keyword}
 use Rattle.sql_grammar.specs.Reading as reading
 use Rattle.sql_grammar.specs.Reading.{sees, sees_keyword, sees_word, sees_name, name, optional_name, string, list, chain, chain_from}

@@ -4,8 +4,8 @@ use Rattle.std.specs.Str.{bytes_eq}
 use Rattle.sql_ast.specs.declared.signs.Sign.TheVariants as sign
 use Rattle.sql_ast.specs.declared.words.Keyword.{Keyword}
 use Rattle.sql_ast.specs.declared.words.Keyword.TheVariants as word
-use Rattle.sql_grammar.specs.declared.pieces.Piece.{Piece}
-use Rattle.sql_grammar.specs.declared.pieces.Piece.TheVariants as piece
+use Rattle.sql_ast.specs.declared.pieces.Piece.{Piece}
+use Rattle.sql_ast.specs.declared.pieces.Piece.TheVariants as piece
 use Rattle.sql_grammar.specs.Pieces.{is_sign, is_word}
 use Rattle.sql_statements.specs.declared.heads.Opening.{Opening}
 use Rattle.sql_statements.specs.declared.heads.Opening.TheVariants as opening

@@ -30,7 +30,7 @@ use Rattle.sql_ast.specs.declared.selects.Sorting.{Sorting}
 use Rattle.sql_ast.specs.declared.selects.TableSource.{TableSource}
 use Rattle.sql_ast.specs.declared.signs.Sign.TheVariants as sign
 use Rattle.sql_ast.specs.declared.words.Keyword.TheVariants as word
-use Rattle.sql_grammar.specs.declared.pieces.Piece.{Piece}
+use Rattle.sql_ast.specs.declared.pieces.Piece.{Piece}
 use Rattle.sql_grammar.specs.Pieces.{is_named, is_sign}
 use Rattle.sql_grammar.specs.Expressions.{any}
 use Rattle.sql_grammar.specs.Reading.{Reader, ◌>>=◌, ◌>>◌, ◌<$>◌, pure, stop, skip, eat, eat_keyword, eat_word, expect_keyword, name, optional_name, whole, list, turns}

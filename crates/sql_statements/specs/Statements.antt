@@ -22,7 +22,7 @@ use Rattle.sql_ast.specs.declared.statements.Statement.TheVariants as statement
 use Rattle.sql_ast.specs.declared.statements.Update.{Update}
 use Rattle.sql_ast.specs.declared.statements.Write.TheVariants as write
 use Rattle.sql_ast.specs.declared.words.Keyword.TheVariants as word
-use Rattle.sql_grammar.specs.declared.pieces.Piece.{Piece}
+use Rattle.sql_ast.specs.declared.pieces.Piece.{Piece}
 use Rattle.sql_grammar.specs.declared.stops.Stop.{Stop}
 use Rattle.sql_grammar.specs.declared.stops.Stop.TheVariants.{Memory, At}
 use Rattle.sql_grammar.specs.Expressions.{any}

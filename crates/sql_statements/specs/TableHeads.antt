@@ -3,8 +3,8 @@ use Rattle.std.specs.Prelude.{ℕ, ◌==◌, if◌then◌else◌, List, Option, 
 use Rattle.std.specs.Str.{bytes_eq}
 use Rattle.sql_ast.specs.declared.words.Keyword.{Keyword}
 use Rattle.sql_ast.specs.declared.words.Keyword.TheVariants as word
-use Rattle.sql_grammar.specs.declared.pieces.Piece.{Piece}
-use Rattle.sql_grammar.specs.declared.pieces.Piece.TheVariants as piece
+use Rattle.sql_ast.specs.declared.pieces.Piece.{Piece}
+use Rattle.sql_ast.specs.declared.pieces.Piece.TheVariants as piece
 use Rattle.sql_statements.specs.declared.table_heads.ActionHead.{ActionHead}
 use Rattle.sql_statements.specs.declared.table_heads.ActionHead.TheVariants as action
 use Rattle.sql_statements.specs.declared.table_heads.Definer.{Definer}

@@ -23,7 +23,7 @@ use Rattle.sql_ast.specs.declared.tables.Element.TheVariants as element
 use Rattle.sql_ast.specs.declared.tables.TypeName.{TypeName}
 use Rattle.sql_ast.specs.declared.tables.TypeName.TheVariants as type
 use Rattle.sql_ast.specs.declared.words.Keyword.TheVariants as word
-use Rattle.sql_grammar.specs.declared.pieces.Piece.{Piece}
+use Rattle.sql_ast.specs.declared.pieces.Piece.{Piece}
 use Rattle.sql_grammar.specs.Expressions.{any}
 use Rattle.sql_grammar.specs.Reading.{Reader, ◌>>=◌, ◌>>◌, ◌<$>◌, pure, skip, seen, one, eat, eat_keyword, expect, expect_keyword, name, optional_name, whole, literal, list, turns}
 use Rattle.sql_statements.specs.TableHeads.{element_of, attribute_of, type_of, one_of}

@@ -3,8 +3,8 @@
 ghost use Rattle.std.specs.Prelude.{◌≡◌};
 ghost use Rattle.sql_statements.specs.Heads as spec;
 
-use sql_ast::{Keyword, Sign};
-use sql_grammar::{Cursor, Piece, is_sign, is_word};
+use sql_ast::{Keyword, Piece, Sign};
+use sql_grammar::{Cursor, is_sign, is_word};
 use tuple_codec::Text;
 
 /// The words that begin statements.

@@ -12,8 +12,8 @@ use crate::rows::{delete, insert, update};
 use crate::selection::read_select;
 use crate::settings::{call, setting};
 use crate::tables::{read_create, read_drop};
-use sql_ast::{Statement, Write};
-use sql_grammar::{Cursor, Piece, Stop};
+use sql_ast::{Piece, Statement, Write};
+use sql_grammar::{Cursor, Stop};
 use std::alloc::Global;
 
 fn created(alloc: Global, cursor: &mut Cursor<'_>) -> Result<Statement, Stop>

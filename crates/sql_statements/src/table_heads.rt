@@ -3,8 +3,7 @@
 ghost use Rattle.std.specs.Prelude.{◌≡◌};
 ghost use Rattle.sql_statements.specs.TableHeads as spec;
 
-use sql_ast::Keyword;
-use sql_grammar::Piece;
+use sql_ast::{Keyword, Piece};
 use tuple_codec::Text;
 
 /// The words that begin the elements of a table, but for columns.

@@ -7,7 +7,7 @@ use Rattle.sql_ast.specs.declared.expressions.Literal.{Literal}
 use Rattle.sql_ast.specs.declared.expressions.Literal.TheVariants as literal
 use Rattle.sql_ast.specs.declared.expressions.Term.TheVariants.{Plus, Minus}
 use Rattle.sql_text.specs.Canon.{step}
-use Rattle.value_text.specs.Values.{byte_string}
+use Rattle.sql_text.specs.Values.{byte_string}
 
 abbrev says : Expr-F (List ℕ) → List ℕ
 says node = step node

@@ -9,7 +9,7 @@ use Rattle.sql_ast.specs.declared.expressions.Literal.{Literal}
 use Rattle.sql_ast.specs.declared.expressions.Literal.TheVariants as literal
 use Rattle.sql_ast.specs.declared.expressions.Term.{Term}
 use Rattle.sql_ast.specs.declared.expressions.Term.TheVariants.{Plus, Minus}
-use Rattle.value_text.specs.Values.{byte_string, quoted, scaled}
+use Rattle.sql_text.specs.Values.{byte_string, quoted, scaled}
 
 abbrev pub truth_word : Bool → List ℕ
 truth_word true = codes "TRUE"

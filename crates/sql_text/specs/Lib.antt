@@ -1,2 +1,7 @@
 pub mod Canon
+pub mod Depths
+pub mod Features
+pub mod Nesting
+pub mod SelectNames
 pub mod Sizes
+pub mod Values

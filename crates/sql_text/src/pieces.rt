@@ -4,10 +4,10 @@ ghost use Rattle.std.specs.Prelude.{◌≡◌, ◌++◌, OnOk, codes};
 ghost use Rattle.sql_ast.specs.declared.expressions.Expr.{out-Expr};
 ghost use Rattle.sql_text.specs.Canon.{back, comparison_word, front, literal_text, opened, operator, term_word, truth_word};
 
+use crate::{push_byte_string, push_number, push_quoted, push_scaled};
 use sql_ast::{Comparison, Expr, Literal, Term};
 use std::alloc::{AllocError, Global};
 use tuple_codec::Text;
-use value_text::{push_byte_string, push_number, push_quoted, push_scaled};
 
 /// Writes the bytes as they are, without quotes or escapes.
 pub fn write(out: &mut Vec<u8>, piece: &[u8]) -> Result<(), AllocError>

@@ -21,7 +21,7 @@ use Rattle.chunk_store.specs.Clashes.{IsReason}
 use Rattle.chunk_store.specs.declared.faults.PutFault.{PutFault}
 use Rattle.chunk_store.specs.declared.faults.PutFault.TheVariants as put
 use Rattle.chunk_store.specs.Standing.{IsTree}
-use Rattle.table_rows.specs.Rows.{AreRowsAt}
+use Rattle.table_root.specs.Rows.{AreRowsAt}
 use Rattle.table_root.specs.Standing.{IsTableOf, TablesStand, named_tables}
 use Rattle.table_root.specs.declared.records.StoredTable.{StoredTable}
 use Rattle.table_root.specs.declared.records.TableEntry.{TableEntry}
@@ -33,10 +33,10 @@ use Rattle.plain_schemas.specs.declared.changing.ColumnChange.{ColumnChange}
 use Rattle.plain_schemas.specs.Effects.{changed_to}
 use Rattle.table_root.specs.Kept.{IsKeptAt}
 use Rattle.index_keep.specs.Keeping.{table_of_rows}
-use Rattle.write_laws.specs.Laws.{IsKept}
-use Rattle.write_laws.proofs.DatabaseLemmas.{found_kept}
-use Rattle.schema_laws.specs.Laws.{SchemasKeep}
-use Rattle.sound_laws.specs.Fit.{IsFit}
+use Rattle.plain_writes.specs.WriteLaws.{IsKept}
+use Rattle.plain_writes.proofs.DatabaseLemmas.{found_kept}
+use Rattle.keep_laws.specs.SchemaLaws.{SchemasKeep}
+use Rattle.sql_laws.specs.Fit.{IsFit}
 use Rattle.sql_write.specs.Altering.{CanRebuild}
 use Rattle.sql_write.specs.Finding.{Finds}
 use Rattle.sql_write.specs.Making.{Makes, of_put}
@@ -44,7 +44,7 @@ use Rattle.sql_write.specs.declared.faults.SqlFault.{SqlFault}
 use Rattle.sql_write.specs.declared.finding.Found.{Found}
 use Rattle.sql_write.specs.declared.writing.Written.{Written}
 use Rattle.sql_write.proofs.TableLemmas.{kept_listed, stand_later}
-use Rattle.write_laws.proofs.OutcomeLemmas.{ok_same, then_so, unless_so}
+use Rattle.plain_writes.proofs.OutcomeLemmas.{ok_same, then_so, unless_so}
 use Rattle.sql_write.specs.Putting.{AreListed}
 use Rattle.sql_write.specs.Skeletons.{SchemasSuffice, table_altered, with_altered}
 

@@ -9,7 +9,7 @@ use Rattle.schema_model.specs.PlainTables.{row_item}
 use Rattle.schema_model.specs.declared.schemas.Schema.{Schema}
 use Rattle.chunk_store.specs.Chunks.{Chunks}
 use Rattle.chunk_store.specs.Standing.{IsTree}
-use Rattle.table_rows.specs.Rows.{RowItemsFollow}
+use Rattle.table_root.specs.Rows.{RowItemsFollow}
 use Rattle.table_root.specs.Standing.{IsTableOf}
 use Rattle.index_keep.specs.Keeping.{AreIndexes, CanIndex, table_of_rows}
 use Rattle.index_keep.proofs.StandLemmas.{rows_are}

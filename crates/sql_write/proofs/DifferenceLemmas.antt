@@ -16,8 +16,8 @@ use Rattle.tuple_codec.specs.Edits.{added, against, changed, order, removed, rep
 use Rattle.tuple_codec.specs.Nodes.{Item, Rise, RiseAfter}
 use Rattle.tuple_codec.specs.declared.edits.Edit.{Edit}
 use Rattle.tuple_codec.specs.declared.edits.ItemChange.{ItemChange}
-use Rattle.edit_laws.specs.ByKey.{as_edit, as_edits}
-use Rattle.edit_laws.proofs.Orders.{greater, less_trans}
+use Rattle.tuple_codec.specs.ByKey.{as_edit, as_edits}
+use Rattle.tuple_codec.proofs.KeyOrders.{greater, less_trans}
 use Rattle.sql_write.specs.Differences.{meeting, row_edits}
 use Rattle.sql_write.specs.Weaving.{Fate, Stays, Leaves, Comes, after, before, come, gone}
 use Rattle.sql_write.specs.declared.differences.Meeting.{Meeting}

@@ -19,17 +19,17 @@ use Rattle.tuple_codec.specs.declared.edits.Edit.{Edit}
 use Rattle.schema_model.specs.PlainTables.{body_bytes, is_row, primary_key, rises, row_item}
 use Rattle.schema_model.specs.Schemas.{is_schema}
 use Rattle.schema_model.specs.declared.schemas.Schema.{Schema}
-use Rattle.table_rows.specs.Rows.{RowItemsFollow}
-use Rattle.edit_laws.specs.ByKey.{edit_at, over}
-use Rattle.edit_laws.proofs.Rising.{edited_all, edited_rise}
-use Rattle.edit_laws.proofs.Values.{above, edited_value, edits_above, same_rows}
+use Rattle.table_root.specs.Rows.{RowItemsFollow}
+use Rattle.tuple_codec.specs.ByKey.{edit_at, over}
+use Rattle.tuple_codec.proofs.Rising.{edited_all, edited_rise}
+use Rattle.tuple_codec.proofs.EditedValues.{above, edited_value, edits_above, same_rows}
 use Rattle.index_keep.specs.Entries.{AreSorted, comes_before, put_entry}
 use Rattle.index_keep.specs.Steps.{AreApart}
 use Rattle.index_keep.proofs.SortLemmas.{AreFew, AtMostOne, all_back, all_edits_sorted, all_filter, edit_tied, few_apart, few_tail, rise_sorted, same_edits, tied}
 use Rattle.plain_sql.specs.Lists.{has, in_order, placed, repeats}
 use Rattle.plain_writes.specs.Writes.{keyed_cmp}
-use Rattle.write_laws.proofs.DatabaseLemmas.{keyed_total}
-use Rattle.write_laws.proofs.OrderLemmas.{apart_next, both_so, clash, either_way, in_order_all, in_order_rises, left_not, left_so, neither_so, none_held, placed_all, placed_past, placed_stop, right_not, right_so, two}
+use Rattle.plain_writes.proofs.DatabaseLemmas.{keyed_total}
+use Rattle.plain_writes.proofs.RowOrderLemmas.{apart_next, both_so, clash, either_way, in_order_all, in_order_rises, left_not, left_so, neither_so, none_held, placed_all, placed_past, placed_stop, right_not, right_so, two}
 use Rattle.sql_write.proofs.RiseLemmas.{are_leaves, items_rise}
 use Rattle.sql_write.specs.Inserting.{edit_of, edit_order, meet_rows, repeats_key}
 

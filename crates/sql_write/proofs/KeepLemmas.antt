@@ -3,7 +3,7 @@ use Rattle.std.proofs.Common.{ℕ, List, Result, Ok, Err, IfOk}
 use Rattle.chunk_store.specs.Chunks.{Chunks}
 use Rattle.expr_eval.specs.Binding.{Outcome}
 use Rattle.plain_writes.specs.Writes.{Effect}
-use Rattle.write_laws.specs.Laws.{IsKept}
+use Rattle.plain_writes.specs.WriteLaws.{IsKept}
 use Rattle.sql_write.specs.Making.{Makes}
 use Rattle.sql_write.specs.Writing.{Writes}
 use Rattle.sql_write.specs.declared.faults.SqlFault.{SqlFault}

@@ -13,7 +13,7 @@ use Rattle.table_root.specs.Standing.{named_tables}
 use Rattle.table_root.specs.declared.records.TableEntry.{TableEntry}
 use Rattle.plain_writes.specs.Violations.{is_called, table_in}
 use Rattle.plain_schemas.specs.Effects.{is_there, placed_in, without_table}
-use Rattle.write_laws.proofs.OrderLemmas.{left_not, right_not}
+use Rattle.plain_writes.proofs.RowOrderLemmas.{left_not, right_not}
 use Rattle.sql_write.specs.Listing.{count_before, placed, without}
 
 -- ---- placing

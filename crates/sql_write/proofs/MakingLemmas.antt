@@ -16,7 +16,7 @@ use Rattle.table_root.specs.declared.records.TableEntry.{TableEntry}
 use Rattle.plain_writes.specs.Writes.{Effect}
 use Rattle.plain_schemas.specs.Effects.{changed_to, empty_table, with_table}
 use Rattle.table_root.specs.Kept.{IsKeptAt}
-use Rattle.write_laws.proofs.DatabaseLemmas.{IsKeptTable}
+use Rattle.plain_writes.proofs.DatabaseLemmas.{IsKeptTable}
 use Rattle.sql_write.specs.Adding.{CanAdd}
 use Rattle.sql_write.specs.Building.{CanBuild}
 use Rattle.sql_write.specs.Listing.{placed}

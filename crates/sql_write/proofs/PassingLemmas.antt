@@ -19,9 +19,9 @@ use Rattle.plain_sql.specs.Lists.{each, unless}
 use Rattle.plain_writes.specs.Writes.{Assign, assigned, assigns, if_changed, if_small_turned, is_large, keeps_null, keyed_cmp, rest_of, row_after, stays, turned, turned_if, turned_small, untouched}
 use Rattle.plain_writes.specs.declared.updating.Later.{Later}
 use Rattle.plain_writes.proofs.SortLemmas.{risen_rows}
-use Rattle.write_laws.proofs.DatabaseLemmas.{keyed_total}
-use Rattle.write_laws.proofs.OrderLemmas.{both_so, left_not, left_so, neither_so, right_not, right_so, two}
-use Rattle.write_laws.proofs.OutcomeLemmas.{ok_same, then_so, unless_so}
+use Rattle.plain_writes.proofs.DatabaseLemmas.{keyed_total}
+use Rattle.plain_writes.proofs.RowOrderLemmas.{both_so, left_not, left_so, neither_so, right_not, right_so, two}
+use Rattle.plain_writes.proofs.OutcomeLemmas.{ok_same, then_so, unless_so}
 use Rattle.sql_write.specs.Passing.{ArePassed, AreRead, sets_key}
 use Rattle.sql_write.specs.Turning.{rows_deleted_by, rows_turned_by, turned_rows}
 use Rattle.sql_write.specs.declared.turning.Turned.{Turned}

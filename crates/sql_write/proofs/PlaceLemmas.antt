@@ -14,7 +14,7 @@ use Rattle.chunk_store.specs.Chunks.{Chunks}
 use Rattle.chunk_store.specs.Standing.{IsTree}
 use Rattle.table_root.specs.Standing.{IsTableOf}
 use Rattle.table_root.specs.declared.records.StoredTable.{StoredTable}
-use Rattle.table_rows.specs.Rows.{RowItemsFollow}
+use Rattle.table_root.specs.Rows.{RowItemsFollow}
 use Rattle.index_keep.specs.Entries.{AreSorted}
 use Rattle.sql_ast.specs.declared.statements.Insert.{Insert}
 use Rattle.expr_eval.specs.Binding.{Outcome, and_then}
@@ -25,10 +25,10 @@ use Rattle.plain_sql.specs.declared.faults.Refused.TheVariants.{Memory, By}
 use Rattle.plain_writes.specs.Violations.{Checks}
 use Rattle.plain_writes.specs.Writes.{Effect, filled, inserted, keyed_cmp, new_row, places_named, result_of, tuple_said}
 use Rattle.table_root.specs.Kept.{IsKeptAt}
-use Rattle.write_laws.proofs.DatabaseLemmas.{IsKeptTable, found_kept, limits_so, rows_good}
-use Rattle.write_laws.proofs.OrderLemmas.{in_order_all, in_order_length}
-use Rattle.write_laws.proofs.RowLemmas.{all_left, all_right}
-use Rattle.write_laws.specs.Laws.{IsKept}
+use Rattle.plain_writes.proofs.DatabaseLemmas.{IsKeptTable, found_kept, limits_so, rows_good}
+use Rattle.plain_writes.proofs.RowOrderLemmas.{in_order_all, in_order_length}
+use Rattle.plain_writes.proofs.RowLemmas.{all_left, all_right}
+use Rattle.plain_writes.specs.WriteLaws.{IsKept}
 use Rattle.sql_write.specs.Finding.{Finds, IsFound}
 use Rattle.sql_write.specs.Inserting.{MayInsert, edit_of, is_good, repeats_key, rows_said}
 use Rattle.sql_write.specs.Making.{Makes, of_refused}

@@ -10,7 +10,7 @@ use Rattle.expr_eval.specs.Binding.{Outcome, and_then}
 use Rattle.expr_eval.specs.declared.bound.BoundExpr.{BoundExpr}
 use Rattle.plain_sql.specs.Answers.{Meaning, is_true}
 use Rattle.plain_sql.specs.Plans.{meaning}
-use Rattle.key_seek.specs.Seeking.{Seeks}
+use Rattle.sql_select.specs.Seeking.{Seeks}
 use Rattle.sql_write.specs.Changes.{AreToTurn, Turning}
 use Rattle.sql_write.specs.Passing.{ArePassed, AreRead, LeavesOthers, sets_key}
 

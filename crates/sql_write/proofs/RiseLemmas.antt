@@ -9,8 +9,8 @@ use Rattle.tuple_codec.specs.Rows.{Cells, key_cmp}
 use Rattle.schema_model.specs.PlainTables.{is_row, primary_key, rises, row_item}
 use Rattle.schema_model.specs.Schemas.{is_schema}
 use Rattle.schema_model.specs.declared.schemas.Schema.{Schema}
-use Rattle.table_rows.specs.Rows.{RowItemsFollow}
-use Rattle.edit_laws.specs.ByKey.{AreLeafRows}
+use Rattle.table_root.specs.Rows.{RowItemsFollow}
+use Rattle.tuple_codec.specs.ByKey.{AreLeafRows}
 
 rise_from : RowItemsFollow → (schema : Schema) (before : Cells) (rows : List Cells) → is_schema schema ≡ true → is_row schema before ≡ true → list_all (is_row schema) rows ≡ true
     → rises (λ a b. key_cmp (primary_key schema a) (primary_key schema b)) (before ∷ rows) ≡ true

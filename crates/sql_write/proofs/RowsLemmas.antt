@@ -9,7 +9,7 @@ use Rattle.schema_model.specs.PlainTables.{PlainDatabase, PlainTable, is_row}
 use Rattle.schema_model.specs.declared.schemas.Schema.{Schema}
 use Rattle.chunk_store.specs.Chunks.{Chunks}
 use Rattle.index_keep.specs.Entries.{comes_before}
-use Rattle.write_laws.proofs.RowLemmas.{all_left}
+use Rattle.plain_writes.proofs.RowLemmas.{all_left}
 use Rattle.sql_write.specs.Finding.{IsFound}
 use Rattle.sql_write.specs.Inserting.{MayInsert, MayInsertSorted, MayPut, edit_of, is_good}
 use Rattle.sql_write.specs.declared.finding.Found.{Found}

@@ -13,8 +13,8 @@ use Rattle.plain_sql.specs.Lists.{each}
 use Rattle.plain_writes.specs.Writes.{Said, new_row, tuple_said}
 use Rattle.plain_sql.specs.Gives.{GivesBy}
 use Rattle.plain_sql.specs.declared.faults.Refused.{Refused}
-use Rattle.write_laws.proofs.OrderLemmas.{both_so, left_so, right_so}
-use Rattle.write_laws.proofs.RowLemmas.{new_rows_good}
+use Rattle.plain_writes.proofs.RowOrderLemmas.{both_so, left_so, right_so}
+use Rattle.plain_writes.proofs.RowLemmas.{new_rows_good}
 use Rattle.sql_write.specs.Inserting.{is_good, listed_rows}
 
 types_in : (columns : List Column) → list_all is_column columns ≡ true → list_all (λ (column : Column). is_type column.kind) columns ≡ true

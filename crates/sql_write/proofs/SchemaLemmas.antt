@@ -20,11 +20,11 @@ use Rattle.plain_schemas.specs.Effects.{changed_to, check_allowed, create_effect
 use Rattle.plain_schemas.specs.Lists.{all_allowed}
 use Rattle.plain_schemas.specs.Made.{columns_made, schema_of}
 use Rattle.table_root.specs.Kept.{IsKeptAt}
-use Rattle.write_laws.specs.Laws.{IsKept}
-use Rattle.write_laws.proofs.DatabaseLemmas.{IsKeptTable, found_kept}
-use Rattle.write_laws.proofs.OutcomeLemmas.{then_so, unless_so}
-use Rattle.schema_laws.specs.Laws.{SchemasKeep}
-use Rattle.sound_laws.specs.Fit.{IsFit}
+use Rattle.plain_writes.specs.WriteLaws.{IsKept}
+use Rattle.plain_writes.proofs.DatabaseLemmas.{IsKeptTable, found_kept}
+use Rattle.plain_writes.proofs.OutcomeLemmas.{then_so, unless_so}
+use Rattle.keep_laws.specs.SchemaLaws.{SchemasKeep}
+use Rattle.sql_laws.specs.Fit.{IsFit}
 use Rattle.sql_ast.specs.declared.statements.Write.TheVariants as write
 use Rattle.sql_write.specs.Adding.{CanAdd}
 use Rattle.sql_write.specs.Listing.{without}

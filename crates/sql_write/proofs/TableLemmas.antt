@@ -17,8 +17,8 @@ use Rattle.table_root.specs.declared.records.TableEntry.{TableEntry}
 use Rattle.plain_writes.specs.Violations.{is_called, table_in}
 use Rattle.plain_writes.specs.Writes.{replaced, replaced_in}
 use Rattle.table_root.specs.Kept.{IsKeptAt}
-use Rattle.write_laws.proofs.DatabaseLemmas.{length_same, names_by, names_rise, tables_are}
-use Rattle.write_laws.proofs.OrderLemmas.{right_so, two}
+use Rattle.plain_writes.proofs.DatabaseLemmas.{length_same, names_by, names_rise, tables_are}
+use Rattle.plain_writes.proofs.RowOrderLemmas.{right_so, two}
 use Rattle.constraint_scan.specs.Scanning.{constrained_beside, has_constraints, has_constraints_beside, is_constrained}
 use Rattle.sql_write.specs.Putting.{AreListed, AreListedAt, address_in, readdress, readdressed}
 

@@ -13,7 +13,7 @@ use Rattle.schema_model.specs.declared.schemas.Schema.{Schema}
 use Rattle.sql_ast.specs.declared.statements.Delete.{Delete}
 use Rattle.sql_ast.specs.declared.statements.Update.{Update}
 use Rattle.chunk_store.specs.Chunks.{Chunks}
-use Rattle.edit_laws.specs.ByKey.{ChangesFollow}
+use Rattle.tuple_codec.specs.ByKey.{ChangesFollow}
 use Rattle.expr_eval.specs.Binding.{Outcome, and_then}
 use Rattle.plain_sql.specs.Answers.{Meaning}
 use Rattle.plain_sql.specs.Gives.{Gives, GivesBy}
@@ -24,12 +24,12 @@ use Rattle.plain_writes.specs.Violations.{Checks, own_scope}
 use Rattle.plain_writes.specs.Writes.{Assign, Effect, bound_assignment, by_key, deleted, filled, keyed_cmp, rest_of, stays, tests_of, turned_small, updated}
 use Rattle.plain_writes.specs.declared.updating.Later.{Later}
 use Rattle.table_root.specs.Standing.{IsTableOf}
-use Rattle.table_rows.specs.Rows.{AreRowsAt, RowItemsFollow}
+use Rattle.table_root.specs.Rows.{AreRowsAt, RowItemsFollow}
 use Rattle.table_root.specs.declared.records.StoredTable.{StoredTable}
-use Rattle.write_laws.proofs.DatabaseLemmas.{IsKeptTable, by_key_so, keyed_total, limits_so, rows_good}
-use Rattle.write_laws.proofs.OrderLemmas.{left_so, right_so, two}
-use Rattle.write_laws.proofs.OutcomeLemmas.{each_have, ok_same, then_so}
-use Rattle.write_laws.proofs.RowLemmas.{IsPlaced, all_left, all_rest, all_right, all_rows, assignment_placed, stay_all_good, turned_all_good}
+use Rattle.plain_writes.proofs.DatabaseLemmas.{IsKeptTable, by_key_so, keyed_total, limits_so, rows_good}
+use Rattle.plain_writes.proofs.RowOrderLemmas.{left_so, right_so, two}
+use Rattle.plain_writes.proofs.OutcomeLemmas.{each_have, ok_same, then_so}
+use Rattle.plain_writes.proofs.RowLemmas.{IsPlaced, all_left, all_rest, all_right, all_rows, assignment_placed, stay_all_good, turned_all_good}
 use Rattle.sql_write.specs.Changes.{AreToTurn, Turning, change_of, change_with}
 use Rattle.sql_write.specs.Differences.{row_edits}
 use Rattle.sql_write.specs.Finding.{IsFound}

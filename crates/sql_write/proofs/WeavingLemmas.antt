@@ -2,7 +2,7 @@
 use Rattle.std.proofs.Common.{◌≡◌, refl, ap, ℕ, suc, ◌+◌, ◌≤◌, Bool, true, List, [], ◌∷◌, length, arith}
 use Rattle.std.specs.List.{list_all}
 use Rattle.tuple_codec.specs.Rows.{Cells}
-use Rattle.write_laws.proofs.OrderLemmas.{both_so, left_so, right_so}
+use Rattle.plain_writes.proofs.RowOrderLemmas.{both_so, left_so, right_so}
 use Rattle.sql_write.specs.Weaving.{Fate, Stays, Leaves, Comes, IsWoven, after, before, come, gone}
 
 pub none_woven : IsWoven [] [] [] []

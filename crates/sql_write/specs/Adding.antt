@@ -5,7 +5,7 @@ use Rattle.schema_model.specs.declared.schemas.Schema.{Schema}
 use Rattle.chunk_store.specs.Chunks.{Chunks}
 use Rattle.table_root.specs.declared.records.TableEntry.{TableEntry}
 use Rattle.plain_schemas.specs.Effects.{is_there, with_table}
-use Rattle.write_laws.specs.Laws.{IsKept}
+use Rattle.plain_writes.specs.WriteLaws.{IsKept}
 use Rattle.sql_write.specs.Putting.{AreListed}
 
 -- no table has this name, and with an empty table under it the database keeps the limits

@@ -7,7 +7,7 @@ use Rattle.tuple_codec.specs.Rows.{Cells}
 use Rattle.tuple_codec.specs.declared.edits.Edit.{Edit}
 use Rattle.schema_model.specs.PlainTables.{row_item}
 use Rattle.schema_model.specs.declared.schemas.Schema.{Schema}
-use Rattle.edit_laws.specs.ByKey.{as_edit, as_edits}
+use Rattle.tuple_codec.specs.ByKey.{as_edit, as_edits}
 use Rattle.sql_write.specs.declared.differences.Meeting.{Meeting}
 use Rattle.sql_write.specs.declared.differences.Meeting.TheVariants as meet
 

@@ -16,7 +16,7 @@ ghost use Rattle.plain_schemas.specs.Altered.{alter_effect, has_type, is_open, t
 ghost use Rattle.plain_writes.specs.CheckTexts.{checks};
 ghost use Rattle.table_root.specs.Kept.{HasKeptAt, IsKeptAt};
 ghost use Rattle.index_keep.specs.Keeping.{table_of_rows};
-ghost use Rattle.sound_laws.specs.Fit.{IsFit};
+ghost use Rattle.sql_laws.specs.Fit.{IsFit};
 ghost use Rattle.sql_write.specs.Altering.{CanRebuild};
 ghost use Rattle.sql_write.specs.Making.{Makes};
 ghost use Rattle.sql_write.specs.Skeletons.{table_altered};
@@ -30,16 +30,15 @@ use crate::tables::put_table;
 use crate::writing::Written;
 use chunk_store::{Draft, PutFault};
 use constraint_scan::{CanonicalChecks, read_schemas};
+use keep_laws::schemas_keep;
 use plain_schemas::{ColumnChange, change_of, table_after};
 use plain_sql::Refused;
 use plain_writes::copy_schema;
 use prolly_tree::count;
-use schema_laws::schemas_keep;
 use schema_model::Schema;
 use sql_ast::Alter;
 use std::alloc::Global;
-use table_root::{StoredTable, TableEntry};
-use table_rows::read_rows;
+use table_root::{StoredTable, TableEntry, read_rows};
 use tuple_codec::{Address, Digester, Row, Sequence};
 
 /// Whether a tree has rows.

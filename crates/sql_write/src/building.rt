@@ -14,8 +14,7 @@ use index_keep::indexes_of;
 use node_chunker::build;
 use schema_model::Schema;
 use std::alloc::Global;
-use table_root::StoredTable;
-use table_rows::{law_of_row_items, row_items};
+use table_root::{StoredTable, law_of_row_items, row_items};
 use tuple_codec::{Digester, Row, Sequence};
 
 /// Builds the trees of a new table: of its rows, of each index, and two empty ones for conflicts and violations.

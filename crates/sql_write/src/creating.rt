@@ -9,7 +9,7 @@ ghost use Rattle.chunk_store.specs.Kinds.{is_data};
 ghost use Rattle.table_root.specs.Standing.{IsReadAt};
 ghost use Rattle.plain_schemas.specs.Effects.{create_effect, with_table};
 ghost use Rattle.table_root.specs.Kept.{HasKeptAt, IsKeptAt};
-ghost use Rattle.sound_laws.specs.Fit.{IsFit};
+ghost use Rattle.sql_laws.specs.Fit.{IsFit};
 ghost use Rattle.sql_write.specs.Adding.{CanAdd};
 ghost use Rattle.sql_write.specs.Making.{Makes};
 
@@ -22,7 +22,7 @@ use crate::tables::{put_database, read_tables};
 use crate::writing::Written;
 use chunk_store::{Draft, PutFault};
 use constraint_scan::{keep_table, read_schemas};
-use schema_laws::schemas_keep;
+use keep_laws::schemas_keep;
 use schema_model::Schema;
 use sql_ast::CreateTable;
 use std::alloc::Global;

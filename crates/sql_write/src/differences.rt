@@ -7,16 +7,15 @@ ghost use Rattle.tuple_codec.specs.Edits.{EditsRiseAfter, added, edited, removed
 ghost use Rattle.tuple_codec.specs.Rows.{key_cmp};
 ghost use Rattle.schema_model.specs.PlainTables.{is_row, primary_key, rises, row_item};
 ghost use Rattle.schema_model.specs.Schemas.{is_schema};
-ghost use Rattle.edit_laws.specs.ByKey.{as_edit};
+ghost use Rattle.tuple_codec.specs.ByKey.{as_edit};
 ghost use Rattle.sql_write.specs.Differences.{meeting, row_edits};
 
-use edit_laws::edits_by_key;
 use node_format::LeafItem;
 use schema_model::Schema;
 use std::alloc::{AllocError, Global};
 use std::cmp::Ordering;
-use table_rows::{law_of_row_items, row_item};
-use tuple_codec::{Edit, Row, same_cells, same_cells_are_one};
+use table_root::{law_of_row_items, row_item};
+use tuple_codec::{Edit, Row, edits_by_key, same_cells, same_cells_are_one};
 
 /// What two rows say of two lists by rising key that they stand first in.
 #[derive(Drop)]

@@ -15,7 +15,7 @@ use crate::tables::{put_database, read_tables};
 use crate::writing::Written;
 use chunk_store::Draft;
 use constraint_scan::read_schemas;
-use schema_laws::schemas_keep;
+use keep_laws::schemas_keep;
 use sql_ast::DropTable;
 use std::alloc::Global;
 use tuple_codec::{Address, Digester};

@@ -16,7 +16,7 @@ use chunk_store::Draft;
 use prolly_tree::has_any;
 use schema_model::Schema;
 use std::alloc::{AllocError, Global};
-use table_rows::row_item;
+use table_root::row_item;
 use tuple_codec::{Address, Digester, Edit, Row};
 
 /// The edit that puts a row.

@@ -31,7 +31,7 @@ use prolly_tree::count;
 use schema_model::Schema;
 use sql_ast::{Insert, Tuple};
 use std::alloc::{AllocError, Global};
-use table_rows::law_of_row_items;
+use table_root::law_of_row_items;
 use tuple_codec::{Address, Digester, Edit, Row, Sequence};
 
 /// The rows that an INSERT brings. One alone takes no list.

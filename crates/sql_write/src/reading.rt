@@ -5,8 +5,8 @@ ghost use Rattle.schema_model.specs.PlainTables.{PlainTable};
 ghost use Rattle.chunk_store.specs.Drafts.{chunks_of};
 ghost use Rattle.table_root.specs.Standing.{IsTableOf};
 ghost use Rattle.plain_sql.specs.Plans.{meaning};
-ghost use Rattle.key_seek.specs.Choosing.{IsSeekOf, is_wanted};
-ghost use Rattle.key_seek.specs.declared.choosing.Seek as seeks;
+ghost use Rattle.sql_select.specs.Choosing.{IsSeekOf, is_wanted};
+ghost use Rattle.sql_select.specs.declared.choosing.Seek as seeks;
 ghost use Rattle.sql_write.specs.Changes.{AreToTurn, change_seen};
 ghost use Rattle.sql_write.specs.Passing.{AreRead, LeavesOthers};
 
@@ -14,10 +14,10 @@ use crate::finding::Found;
 use crate::turning::{BoundUpdate, sets_key};
 use chunk_store::Draft;
 use expr_eval::BoundExpr;
-use key_seek::{Seek, rows_sought, sought};
 use schema_model::Schema;
+use sql_select::{Seek, rows_sought, sought};
 use std::alloc::{AllocError, Global};
-use table_rows::read_rows;
+use table_root::read_rows;
 use tuple_codec::{Digester, Row, Sequence};
 
 /// What the tests seek, where they leave out every other row.

@@ -20,12 +20,11 @@ use crate::reading::{rows_to_test, rows_to_turn};
 use crate::turning::{Turned, change_of, delete_tests, deleted_by, rows_come_first, updated_by};
 use crate::writing::Written;
 use chunk_store::Draft;
-use edit_laws::edits_by_key;
 use prolly_tree::count;
 use sql_ast::{Delete, Update};
 use std::alloc::Global;
-use table_rows::law_of_row_items;
-use tuple_codec::{Address, Digester, Row};
+use table_root::law_of_row_items;
+use tuple_codec::{Address, Digester, Row, edits_by_key};
 
 /// How many rows the table that was found has with new rows in place of old ones of its own.
 fn rows_then<D: Digester>(draft: &Draft<D>, found: &Found, old: &[Row], new: &[Row]) -> u64

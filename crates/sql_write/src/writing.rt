@@ -5,7 +5,7 @@ ghost use Rattle.chunk_store.specs.Drafts.{Grows, Longer, chunks_of};
 ghost use Rattle.chunk_store.specs.Kinds.{is_data};
 ghost use Rattle.table_root.specs.Kept.{HasKeptAt, IsKeptAt};
 ghost use Rattle.plain_schemas.specs.Statements.{write_effect};
-ghost use Rattle.sound_laws.specs.Fit.{IsFit};
+ghost use Rattle.sql_laws.specs.Fit.{IsFit};
 ghost use Rattle.sql_write.specs.Making.{Makes};
 ghost use Rattle.sql_write.specs.Writing.{Writes};
 
@@ -17,7 +17,7 @@ use crate::inserting::insert;
 use crate::laws::laws_of_growth;
 use crate::updating::{delete, update};
 use chunk_store::Draft;
-use schema_laws::all_keep;
+use keep_laws::all_keep;
 use sql_ast::Write;
 use std::alloc::Global;
 use tuple_codec::{Address, Digester};

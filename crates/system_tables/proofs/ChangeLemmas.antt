@@ -6,8 +6,8 @@ use Rattle.std.specs.Option.{option_map}
 use Rattle.std.specs.Cmp.Lexicographic.{bytes_decides}
 use Rattle.chunk_store.specs.Chunks.{Chunks}
 use Rattle.table_root.specs.Kept.{IsKeptAt}
-use Rattle.plain_merge.specs.KeyByKey.{all_keys}
-use Rattle.plain_merge.specs.RootMerge.{names_of}
+use Rattle.schema_merge.specs.KeyByKey.{all_keys}
+use Rattle.schema_merge.specs.RootMerge.{names_of}
 use Rattle.plain_sessions.specs.Sessions.{Transaction, own_root}
 use Rattle.plain_sessions.specs.SystemTables as plain
 use Rattle.plain_sessions.specs.SystemTables.{change_of, row_if, status_row, status_rows}

@@ -7,7 +7,7 @@ use Rattle.plain_sessions.specs.Sessions as plain
 use Rattle.plain_sessions.specs.Sessions.{Transaction}
 use Rattle.plain_sessions.specs.SystemTables.{branch_row}
 use Rattle.schema_model.specs.PlainCommits.{Commits, is_known}
-use Rattle.session_laws.specs.Transactions.{head_seen}
+use Rattle.session_state.specs.Transactions.{head_seen}
 use Rattle.table_root.specs.declared.heads.BranchHead.{BranchHead}
 use Rattle.tuple_codec.specs.Rows.{Cells}
 use Rattle.system_tables.specs.Rows.{AreHeadsOf, AreKnown, branch_rows, heads_of}

@@ -15,8 +15,8 @@ use Rattle.schema_model.proofs.FitLemmas.{key_types_fit}
 use Rattle.schema_model.proofs.TellingLemmas.{violation_is}
 use Rattle.table_root.specs.Standing.{IsTableOf}
 use Rattle.table_root.specs.declared.records.StoredTable.{StoredTable}
-use Rattle.table_rows.specs.Rows.{IsRowOf}
-use Rattle.table_rows.proofs.ReadingLemmas.{from_first}
+use Rattle.table_root.specs.Rows.{IsRowOf}
+use Rattle.table_root.proofs.ReadingLemmas.{from_first}
 use Rattle.tuple_codec.specs.KeyBytes.{key_bytes, key_cell}
 use Rattle.tuple_codec.specs.Limits.{are_types}
 use Rattle.tuple_codec.specs.Nodes.{Item}

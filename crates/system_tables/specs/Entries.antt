@@ -13,7 +13,7 @@ use Rattle.schema_model.specs.PlainTables.{Conflict, PlainDatabase, PlainTable, 
 use Rattle.schema_model.specs.declared.schemas.Column.{Column}
 use Rattle.schema_model.specs.declared.schemas.Schema.{Schema}
 use Rattle.table_root.specs.Standing.{IsTableAt}
-use Rattle.table_rows.specs.Rows.{IsRowOf}
+use Rattle.table_root.specs.Rows.{IsRowOf}
 use Rattle.tuple_codec.specs.KeyBytes.{key_bytes, key_cell}
 use Rattle.tuple_codec.specs.Rows.{Cells, fits_all}
 use Rattle.tuple_codec.specs.declared.values.SqlType.{SqlType}

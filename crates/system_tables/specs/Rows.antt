@@ -6,7 +6,7 @@ use Rattle.commit_graph.specs.Standing.{CommitsStand}
 use Rattle.plain_sessions.specs.Sessions.{Transaction}
 use Rattle.plain_sessions.specs.SystemTables.{branch_row, committed, hash, parent_rows}
 use Rattle.schema_model.specs.PlainCommits.{Commits, is_known}
-use Rattle.session_laws.specs.Transactions.{head_seen}
+use Rattle.session_state.specs.Transactions.{head_seen}
 use Rattle.table_root.specs.declared.heads.BranchHead.{BranchHead}
 use Rattle.tuple_codec.specs.Rows.{Cells}
 use Rattle.tuple_codec.specs.declared.addresses.Address.{Address}

@@ -3,7 +3,7 @@
 ghost use Rattle.std.specs.Prelude.{◌≡◌, ◌++◌, ◌∷◌, [], IfOk, OnOk, Some};
 ghost use Rattle.chunk_store.specs.Drafts.{chunks_of};
 ghost use Rattle.table_root.specs.Kept.{HasKeptAt, IsKeptAt};
-ghost use Rattle.plain_merge.specs.KeyByKey.{all_keys};
+ghost use Rattle.schema_merge.specs.KeyByKey.{all_keys};
 ghost use Rattle.plain_sessions.specs.Sessions.{Transaction, own_root};
 ghost use Rattle.plain_sessions.specs.SystemTables as plain;
 ghost use Rattle.plain_sessions.specs.SystemTables.{row_if};

@@ -19,8 +19,7 @@ use chunk_store::Draft;
 use conflict_tables::{ConflictEntry, conflicts};
 use schema_model::{Column, Schema};
 use std::alloc::{AllocError, Global};
-use table_root::StoredTable;
-use table_rows::row_of;
+use table_root::{StoredTable, row_of};
 use tuple_codec::{Blob, Digester, Row, Sequence, Text, Value, same_cells_are_one};
 
 /// Adds NULL for each column.

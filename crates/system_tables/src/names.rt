@@ -2,10 +2,10 @@
 
 ghost use Rattle.std.specs.Prelude.{◌≡◌, IfOk};
 ghost use Rattle.tuple_codec.specs.Edits.{order};
-ghost use Rattle.plain_merge.specs.KeyByKey.{all_keys};
+ghost use Rattle.schema_merge.specs.KeyByKey.{all_keys};
 ghost use Rattle.system_tables.specs.Changes.{names_in};
 
-use plain_merge::names_with;
+use schema_merge::names_with;
 use std::alloc::{AllocError, Global};
 use table_root::TableEntry;
 use tuple_codec::Text;

@@ -20,8 +20,7 @@ use chunk_store::Draft;
 use prolly_tree::scan_from;
 use schema_model::Schema;
 use std::alloc::{AllocError, Global};
-use table_root::StoredTable;
-use table_rows::row_of;
+use table_root::{StoredTable, row_of};
 use tuple_codec::{
     Digester, Row, Sequence, SqlType, Text, Value, cell_at, decode_key, key_cell_size,
     keys_are_one_spelling, same_cells_are_one,

@@ -8,9 +8,9 @@ use Rattle.tuple_codec.specs.Edits.{EditsRiseAfter, edited, putting, value_at}
 use Rattle.tuple_codec.specs.Nodes.{Item, Rise, leaf_item}
 use Rattle.tuple_codec.specs.Trees.{IsRow}
 use Rattle.tuple_codec.specs.declared.edits.ItemChange.{ItemChange}
-use Rattle.edit_laws.specs.ByKey.{AreLeafRows, as_edits, between, change_at, edit_at, over}
-use Rattle.edit_laws.proofs.Rising.{edited_all, edited_rise}
-use Rattle.edit_laws.proofs.Values.{edited_value, edits_above, same_rows}
+use Rattle.tuple_codec.specs.ByKey.{AreLeafRows, as_edits, between, change_at, edit_at, over}
+use Rattle.tuple_codec.proofs.Rising.{edited_all, edited_rise}
+use Rattle.tuple_codec.proofs.EditedValues.{edited_value, edits_above, same_rows}
 use Rattle.prolly_edit.specs.Editing.{PutsRow}
 use Rattle.table_merge.specs.Skipping.{edits_to}
 

@@ -16,9 +16,9 @@ use Rattle.schema_model.specs.PlainTables.{body_bytes, conflict_items, is_row, k
 use Rattle.schema_model.specs.declared.schemas.Schema.{Schema}
 use Rattle.node_format.specs.Views.{leaf_of}
 use Rattle.chunk_store.specs.Chunks.{Chunks}
-use Rattle.plain_merge.specs.KeyByKey.{kept}
-use Rattle.plain_merge.specs.TableMerge.{Three, conflict_if, row_at, table_of}
-use Rattle.table_rows.specs.Rows.{IsRowOf}
+use Rattle.schema_merge.specs.KeyByKey.{kept}
+use Rattle.schema_merge.specs.TableMerge.{Three, conflict_if, row_at, table_of}
+use Rattle.table_root.specs.Rows.{IsRowOf}
 use Rattle.table_merge.specs.Rising.{IsAt}
 use Rattle.table_merge.specs.Skipping.{AreDecided, AreShortAt, AreThreeKept, CanDecide, CanDecideAll, DecidesAt, IsChangeOf, IsKeyOf, IsShortAt, IsValueOf, edit_to, edits_to}
 use Rattle.table_merge.specs.Walking.{DecidesRow, is_row_perhaps, sides_of}

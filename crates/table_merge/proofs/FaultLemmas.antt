@@ -7,7 +7,7 @@ use Rattle.chunk_store.specs.declared.faults.PutFault.{PutFault}
 use Rattle.chunk_store.specs.declared.faults.PutFault.TheVariants as put
 use Rattle.schema_model.specs.PlainTables.{PlainTable}
 use Rattle.schema_model.specs.declared.schemas.Schema.{Schema}
-use Rattle.plain_merge.specs.TableMerge.{table_of}
+use Rattle.schema_merge.specs.TableMerge.{table_of}
 use Rattle.table_root.specs.declared.records.StoredTable.{StoredTable}
 use Rattle.table_merge.specs.Merging.{AreSides, IsFaultOf, IsMergeReason, PlainSides, fault_of_put, fault_of_stop, merged_contents}
 use Rattle.table_merge.specs.Steps.{AnswersSchema, AreListsWithin, wanted_schema}

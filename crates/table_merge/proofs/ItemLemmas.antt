@@ -11,7 +11,7 @@ use Rattle.schema_model.specs.PlainTables.{Conflict, body_bytes, conflict_item, 
 use Rattle.schema_model.specs.Schemas.{is_schema}
 use Rattle.schema_model.specs.declared.schemas.Schema.{Schema}
 use Rattle.schema_model.proofs.FitLemmas.{key_types_fit, primary_key_fits}
-use Rattle.plain_merge.specs.TableMerge.{Three, table_of}
+use Rattle.schema_merge.specs.TableMerge.{Three, table_of}
 use Rattle.table_merge.specs.Merging.{is_short_merged}
 use Rattle.table_merge.specs.Steps.{AreTreeRows}
 use Rattle.table_merge.proofs.MergeLemmas.{AreThree, conflicts_fit, conflicts_rise, rows_fit, rows_rise}

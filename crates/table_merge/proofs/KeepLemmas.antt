@@ -11,7 +11,7 @@ use Rattle.schema_model.specs.Limits.{is_conflict_within_limits, is_within_limit
 use Rattle.schema_model.specs.PlainTables as plain
 use Rattle.schema_model.specs.PlainTables.{IsTable, PlainTable, conflict_items, row_item, row_items}
 use Rattle.schema_model.specs.declared.schemas.Schema.{Schema}
-use Rattle.plain_merge.specs.TableMerge.{table_of}
+use Rattle.schema_merge.specs.TableMerge.{table_of}
 use Rattle.node_format.specs.Views.{leaf_of}
 use Rattle.node_format.specs.declared.items.LeafItem.{LeafItem}
 use Rattle.table_root.specs.Standing.{IsUnindexedOf}

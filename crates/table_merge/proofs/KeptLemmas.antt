@@ -24,8 +24,8 @@ use Rattle.schema_model.specs.declared.schemas.Schema.{Schema}
 use Rattle.schema_model.proofs.FitLemmas.{row_length}
 use Rattle.schema_merge.specs.Projecting.{cell_or_default, projected, projected_cell}
 use Rattle.prolly_edit.specs.Editing.{CanEdit}
-use Rattle.plain_merge.specs.KeyByKey.{before, gathered, key_among, keys_with}
-use Rattle.plain_merge.specs.TableMerge.{Three, keys_of, row_after, rows_on, rows_on_or_none, table_of}
+use Rattle.schema_merge.specs.KeyByKey.{before, gathered, key_among, keys_with}
+use Rattle.schema_merge.specs.TableMerge.{Three, keys_of, row_after, rows_on, rows_on_or_none, table_of}
 use Rattle.table_root.specs.declared.records.StoredTable.{StoredTable}
 use Rattle.table_merge.specs.Merging.{AreKeptSides, IsFaultOf, IsMergedTable, IsSide, IsSidePerhaps, PassesTableLimit, PlainSides, fault_of_stop, is_short_merged, merged_contents}
 use Rattle.table_merge.specs.Skipping.{AreKeptRows, AreMerged, AreThreeKept, CanSkip, HaveSchema, Merges}

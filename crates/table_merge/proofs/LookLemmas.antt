@@ -22,8 +22,8 @@ use Rattle.schema_model.specs.PlainTables.{body_bytes, is_row, key_types, primar
 use Rattle.schema_model.specs.Schemas.{is_schema}
 use Rattle.schema_model.specs.declared.schemas.Schema.{Schema}
 use Rattle.schema_model.proofs.FitLemmas.{key_types_fit, primary_key_fits}
-use Rattle.plain_merge.specs.KeyByKey.{before, gathered, kept, key_among, keys_with}
-use Rattle.plain_merge.specs.TableMerge.{Three, conflict_at, conflict_if, keys_of, row_after, row_at, sides_at}
+use Rattle.schema_merge.specs.KeyByKey.{before, gathered, kept, key_among, keys_with}
+use Rattle.schema_merge.specs.TableMerge.{Three, conflict_at, conflict_if, keys_of, row_after, row_at, sides_at}
 use Rattle.table_merge.proofs.RiseLemmas.{cells_equal}
 
 -- ---- keys

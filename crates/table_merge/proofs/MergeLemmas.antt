@@ -14,8 +14,8 @@ use Rattle.schema_model.specs.PlainTables.{Conflict, IsTable, is_conflict, is_ro
 use Rattle.schema_model.specs.Schemas.{is_schema}
 use Rattle.schema_model.specs.declared.schemas.Schema.{Schema}
 use Rattle.schema_model.proofs.FitLemmas.{primary_key_fits}
-use Rattle.plain_merge.specs.KeyByKey.{kept}
-use Rattle.plain_merge.specs.TableMerge.{Three, answer_at, conflict_at, conflict_if, keys_of, row_after, row_at, sides_at, table_of}
+use Rattle.schema_merge.specs.KeyByKey.{kept}
+use Rattle.schema_merge.specs.TableMerge.{Three, answer_at, conflict_at, conflict_if, keys_of, row_after, row_at, sides_at, table_of}
 use Rattle.table_merge.specs.Rising.{IsAt, RiseFrom}
 use Rattle.table_merge.proofs.PartLemmas.{three_gives}
 use Rattle.table_merge.proofs.RiseLemmas.{gathered_all, gathered_rise, rises_of, with_all, with_rise}

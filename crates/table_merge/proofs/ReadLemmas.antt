@@ -2,7 +2,7 @@
 use Rattle.std.proofs.Common.{◌≡◌, true, List, ◌∙◌}
 use Rattle.schema_model.specs.Schemas.{is_schema}
 use Rattle.schema_model.specs.declared.schemas.Schema.{Schema}
-use Rattle.plain_merge.specs.TableMerge.{rows_on, rows_on_or_none}
+use Rattle.schema_merge.specs.TableMerge.{rows_on, rows_on_or_none}
 use Rattle.table_merge.specs.Merging.{PlainSides}
 use Rattle.table_merge.specs.Steps.{AreRead}
 use Rattle.table_merge.specs.Walking.{AreKeyed, three_in}

@@ -15,7 +15,7 @@ use Rattle.tuple_codec.specs.declared.values.SqlType.{SqlType}
 use Rattle.tuple_codec.proofs.OrderLemmas.{key_order_whole}
 use Rattle.tuple_codec.proofs.Orders.{cells_told, key_cmp_total}
 use Rattle.schema_model.specs.PlainTables.{rises}
-use Rattle.plain_merge.specs.KeyByKey.{before, gathered, key_among, keys_with}
+use Rattle.schema_merge.specs.KeyByKey.{before, gathered, key_among, keys_with}
 use Rattle.table_merge.specs.Rising.{RiseFrom, is_above}
 
 -- ---- the order

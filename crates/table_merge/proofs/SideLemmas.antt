@@ -9,9 +9,9 @@ use Rattle.schema_model.specs.Schemas.{is_schema}
 use Rattle.schema_model.specs.declared.schemas.Schema.{Schema}
 use Rattle.schema_merge.specs.Merging.{and_then, schema3}
 use Rattle.schema_merge.specs.Projecting.{projected}
-use Rattle.plain_merge.specs.TableMerge.{Three, rows_on, rows_on_or_none, table3, table_of, three_on}
+use Rattle.schema_merge.specs.TableMerge.{Three, rows_on, rows_on_or_none, table3, table_of, three_on}
 use Rattle.table_root.specs.declared.records.StoredTable.{StoredTable}
-use Rattle.table_rows.specs.Rows.{AreRowsAt}
+use Rattle.table_root.specs.Rows.{AreRowsAt}
 use Rattle.table_merge.specs.Laws.{IsTablePerhaps}
 use Rattle.table_merge.specs.Merging.{AreSides, IsSide, IsSidePerhaps, PlainSides, merged_contents}
 use Rattle.table_merge.specs.Steps.{schema_perhaps, wanted_schema}

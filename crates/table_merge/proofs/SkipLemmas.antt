@@ -18,11 +18,11 @@ use Rattle.schema_model.specs.PlainTables.{Conflict, body_bytes, conflict_item, 
 use Rattle.schema_model.specs.declared.schemas.Schema.{Schema}
 use Rattle.schema_model.proofs.FitLemmas.{key_types_fit}
 use Rattle.schema_model.proofs.TellingLemmas.{row_by_item}
-use Rattle.edit_laws.specs.ByKey.{as_edits, between, change_at}
-use Rattle.edit_laws.proofs.Rising.{changed_rise}
-use Rattle.edit_laws.proofs.Values.{changed_value}
+use Rattle.tuple_codec.specs.ByKey.{as_edits, between, change_at}
+use Rattle.tuple_codec.proofs.Rising.{changed_rise}
+use Rattle.tuple_codec.proofs.EditedValues.{changed_value}
 use Rattle.prolly_edit.specs.Editing.{PutsRow}
-use Rattle.plain_merge.specs.TableMerge.{Three, answer_at, conflict_at, keys_of, row_after, row_at, sides_at, table_of}
+use Rattle.schema_merge.specs.TableMerge.{Three, answer_at, conflict_at, keys_of, row_after, row_at, sides_at, table_of}
 use Rattle.table_merge.specs.Merging.{is_short_merged}
 use Rattle.table_merge.specs.Rising.{IsAt}
 use Rattle.table_merge.specs.Skipping.{AreDecided, AreKeptRows, AreMerged, AreShortAt, AreThreeKept, DecidesAt, IsChangeOf, IsKeyOf, IsShortAt}

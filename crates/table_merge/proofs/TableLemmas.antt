@@ -9,7 +9,7 @@ use Rattle.schema_model.specs.Sameness.{SamenessIsEquality, is_same_column}
 use Rattle.schema_model.specs.declared.schemas.Schema.{Schema}
 use Rattle.schema_merge.specs.Merging.{and_then, schema3}
 use Rattle.schema_merge.specs.Projecting.{projected}
-use Rattle.plain_merge.specs.TableMerge.{rows_on, rows_on_or_none, table3, table_of, three_on}
+use Rattle.schema_merge.specs.TableMerge.{rows_on, rows_on_or_none, table3, table_of, three_on}
 use Rattle.table_merge.specs.Laws.{AreSchemas, IsBase, IsOneOf, IsOurs, IsSchemaPerhaps, IsTablePerhaps, IsTheirs, MergedSchemasFollow, MergesAreTables}
 use Rattle.table_merge.specs.Rising.{RiseFrom}
 use Rattle.table_merge.proofs.MergedLemmas.{merged_is, side_row}

@@ -4,7 +4,7 @@ use Rattle.std.specs.List.{list_all}
 use Rattle.std.specs.Option.{option_map_or}
 use Rattle.tuple_codec.specs.Nodes.{Item}
 use Rattle.tuple_codec.specs.Rows.{Cells}
-use Rattle.plain_merge.specs.KeyByKey.{before, gathered}
+use Rattle.schema_merge.specs.KeyByKey.{before, gathered}
 
 -- items were made of what is gathered for some keys; these are left
 pub record Underway {A : Type 0} (find : Cells → Option A) (item : A → Item) (test : A → Bool) (keys left : List Cells) (done : List Item) : Type 0 where

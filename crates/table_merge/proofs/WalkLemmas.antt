@@ -16,8 +16,8 @@ use Rattle.schema_model.specs.Limits.{is_conflict_within_limits}
 use Rattle.schema_model.specs.PlainTables.{Conflict, conflict_item, is_row, key_types, primary_key, row_item}
 use Rattle.schema_model.specs.Schemas.{is_schema}
 use Rattle.schema_model.specs.declared.schemas.Schema.{Schema}
-use Rattle.plain_merge.specs.KeyByKey.{all_keys, before, gathered, kept, keys_with}
-use Rattle.plain_merge.specs.TableMerge.{Three, answer_at, conflict_at, conflict_if, keys_of, row_after, row_at, sides_at, table_of}
+use Rattle.schema_merge.specs.KeyByKey.{all_keys, before, gathered, kept, keys_with}
+use Rattle.schema_merge.specs.TableMerge.{Three, answer_at, conflict_at, conflict_if, keys_of, row_after, row_at, sides_at, table_of}
 use Rattle.table_merge.specs.Merging.{is_short_merged}
 use Rattle.table_merge.specs.Rising.{IsAt, RiseFrom}
 use Rattle.table_merge.specs.Walking.{AreKeyed, AreListsOf, DecidesRow, are_short, are_short_at, found, is_row_perhaps, keyed_rows, keys_in, conflicts_of, rows_in, three_in}

@@ -7,7 +7,7 @@ use Rattle.schema_model.specs.Schemas.{is_schema}
 use Rattle.schema_model.specs.declared.schemas.Schema.{Schema}
 use Rattle.schema_merge.specs.Merging.{schema3}
 use Rattle.schema_merge.specs.Projecting.{projected}
-use Rattle.plain_merge.specs.TableMerge.{table3}
+use Rattle.schema_merge.specs.TableMerge.{table3}
 
 -- ---- schemas
 

@@ -10,7 +10,7 @@ use Rattle.chunk_store.specs.Chunks.{Chunks}
 use Rattle.chunk_store.specs.Clashes.{IsMet}
 use Rattle.chunk_store.specs.declared.faults.PutFault.{PutFault}
 use Rattle.chunk_store.specs.declared.faults.PutFault.TheVariants as put
-use Rattle.plain_merge.specs.TableMerge.{table3}
+use Rattle.schema_merge.specs.TableMerge.{table3}
 use Rattle.table_root.specs.Standing.{IsTableOf, IsUnindexedOf}
 use Rattle.table_root.specs.declared.records.StoredTable.{StoredTable}
 use Rattle.table_merge.specs.declared.faults.MergeFault.{MergeFault}

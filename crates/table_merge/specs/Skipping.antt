@@ -16,7 +16,7 @@ use Rattle.node_format.specs.Views.{leaf_of}
 use Rattle.chunk_store.specs.Chunks.{Chunks}
 use Rattle.chunk_store.specs.Standing.{IsTree}
 use Rattle.prolly_edit.specs.Editing.{AreEdits}
-use Rattle.plain_merge.specs.TableMerge.{Three, conflict_at, row_after, table_of}
+use Rattle.schema_merge.specs.TableMerge.{Three, conflict_at, row_after, table_of}
 use Rattle.table_root.specs.declared.records.StoredTable.{StoredTable}
 use Rattle.table_merge.specs.Merging.{is_short_merged}
 use Rattle.table_merge.specs.Rising.{RiseFrom}

@@ -11,7 +11,7 @@ use Rattle.node_format.specs.Views.{leaf_of}
 use Rattle.schema_merge.specs.Merging.{schema3}
 use Rattle.chunk_store.specs.Chunks.{Chunks}
 use Rattle.chunk_store.specs.Standing.{IsTree}
-use Rattle.plain_merge.specs.TableMerge.{rows_on, rows_on_or_none}
+use Rattle.schema_merge.specs.TableMerge.{rows_on, rows_on_or_none}
 use Rattle.table_root.specs.declared.records.StoredTable.{StoredTable}
 use Rattle.table_merge.specs.Merging.{PlainSides, keeps_limits}
 use Rattle.table_merge.specs.Walking.{keyed_rows}

@@ -9,7 +9,7 @@ use Rattle.schema_model.specs.PlainTables.{Conflict, PlainTable, conflict_item, 
 use Rattle.schema_model.specs.declared.schemas.Schema.{Schema}
 use Rattle.node_format.specs.Views.{leaf_of}
 use Rattle.node_format.specs.declared.items.LeafItem.{LeafItem}
-use Rattle.plain_merge.specs.TableMerge.{Three}
+use Rattle.schema_merge.specs.TableMerge.{Three}
 use Rattle.table_merge.specs.Merging.{is_short_merged}
 use Rattle.table_merge.specs.declared.deciding.Decided.{Decided}
 use Rattle.table_merge.specs.declared.faults.Stop.{Stop}

@@ -7,7 +7,7 @@ ghost use Rattle.schema_model.specs.Schemas.{is_schema};
 ghost use Rattle.chunk_store.specs.Drafts.{chunks_of};
 ghost use Rattle.node_format.specs.Views.{leaf_of};
 ghost use Rattle.tuple_codec.specs.Nodes.{leaf_item};
-ghost use Rattle.plain_merge.specs.TableMerge.{Three, row_at};
+ghost use Rattle.schema_merge.specs.TableMerge.{Three, row_at};
 ghost use Rattle.table_merge.specs.Skipping.{AreDecided, AreMerged, CanDecide, CanDecideAll, CanSkip, DecidesAt, IsKeyOf, IsValueOf};
 
 use crate::deciding::{Decided, decide, key_types};
@@ -19,7 +19,7 @@ use pair_walk::{ReadCount, changes};
 use prolly_tree::get;
 use schema_model::Schema;
 use std::alloc::{AllocError, Global};
-use table_rows::row_of;
+use table_root::row_of;
 use tuple_codec::{
     Address, Blob, Digester, Edit, ItemChange, Row, Sequence, decode_key, keys_are_one_spelling,
 };

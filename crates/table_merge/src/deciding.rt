@@ -8,8 +8,8 @@ ghost use Rattle.schema_model.specs.Limits.{is_conflict_within_limits, most_key_
 ghost use Rattle.schema_model.specs.PlainTables.{conflict_item, is_row, key_types, row_item};
 ghost use Rattle.schema_model.specs.Schemas.{is_schema};
 ghost use Rattle.cell_merge.specs.Outcomes.{row_in};
-ghost use Rattle.plain_merge.specs.KeyByKey.{kept};
-ghost use Rattle.plain_merge.specs.TableMerge.{conflict_if};
+ghost use Rattle.schema_merge.specs.KeyByKey.{kept};
+ghost use Rattle.schema_merge.specs.TableMerge.{conflict_if};
 ghost use Rattle.table_merge.specs.Merging.{is_short_merged};
 ghost use Rattle.table_merge.specs.Rising.{IsAt};
 ghost use Rattle.table_merge.specs.Walking.{AddsSide, DecidesRow, IsItemOf, IsItemPerhaps, is_row_perhaps, sides_of};
@@ -20,7 +20,7 @@ use node_format::LeafItem;
 use schema_model::Schema;
 use schema_model::limits::{MOST_KEY_BYTES, MOST_ROW_BYTES};
 use std::alloc::{AllocError, Global};
-use table_rows::row_item;
+use table_root::row_item;
 use tuple_codec::{Row, Sequence, SqlType, encode_key, push_long};
 
 /// The items of what a merge leaves at a key.

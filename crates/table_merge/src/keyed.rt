@@ -3,7 +3,7 @@
 ghost use Rattle.std.specs.Prelude.{◌≡◌, ◌++◌, None, IfOk, OnOk, map};
 ghost use Rattle.std.specs.Option.{option_copied, option_map};
 ghost use Rattle.tuple_codec.specs.Rows.{key_cmp};
-ghost use Rattle.plain_merge.specs.KeyByKey.{keys_with};
+ghost use Rattle.schema_merge.specs.KeyByKey.{keys_with};
 ghost use Rattle.schema_merge.specs.Projecting.{projected};
 ghost use Rattle.table_merge.specs.Rising.{RiseFrom};
 ghost use Rattle.table_merge.specs.Walking.{found, keyed_rows, keys_in};

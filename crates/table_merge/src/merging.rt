@@ -8,7 +8,7 @@ ghost use Rattle.chunk_store.specs.Drafts.{Grows, chunks_of};
 ghost use Rattle.chunk_store.specs.Kinds.{is_node};
 ghost use Rattle.schema_model.specs.Limits.{is_within_limits};
 ghost use Rattle.schema_model.specs.PlainTables.{PlainTable};
-ghost use Rattle.plain_merge.specs.TableMerge.{table_of, three_on};
+ghost use Rattle.schema_merge.specs.TableMerge.{table_of, three_on};
 ghost use Rattle.table_merge.specs.Merging.{AreSides, IsFaultOf, IsMergeReason, IsMergedTable, PlainSides, merged_contents};
 ghost use Rattle.table_merge.specs.Steps.{AnswersSchema, AreFew, AreListsWithin, AreTreeRows, HasItemTrees, schema_perhaps, wanted_schema};
 ghost use Rattle.table_merge.specs.Walking.{AreListsOf};

@@ -4,7 +4,7 @@ ghost use Rattle.std.specs.Prelude.{◌≡◌, IfOk, Option};
 ghost use Rattle.std.specs.Option.{option_copied};
 ghost use Rattle.chunk_store.specs.Drafts.{chunks_of};
 ghost use Rattle.schema_model.specs.PlainTables.{PlainTable};
-ghost use Rattle.plain_merge.specs.TableMerge.{rows_on, rows_on_or_none};
+ghost use Rattle.schema_merge.specs.TableMerge.{rows_on, rows_on_or_none};
 ghost use Rattle.table_merge.specs.Merging.{AreSides, IsSide, IsSidePerhaps, PlainSides};
 ghost use Rattle.table_merge.specs.Steps.{AreRead};
 ghost use Rattle.table_merge.specs.Walking.{keyed_rows};
@@ -13,8 +13,7 @@ use crate::keyed::{KeyedRow, keyed_rows};
 use chunk_store::Draft;
 use schema_model::Schema;
 use std::alloc::{AllocError, Global};
-use table_root::StoredTable;
-use table_rows::read_rows;
+use table_root::{StoredTable, read_rows};
 use tuple_codec::Digester;
 
 /// Rows of base, ours and theirs on one schema.

@@ -6,8 +6,8 @@ ghost use Rattle.tuple_codec.specs.RowRule.{row3};
 ghost use Rattle.tuple_codec.specs.Rows.{key_cmp};
 ghost use Rattle.schema_model.specs.Schemas.{is_schema};
 ghost use Rattle.node_format.specs.Views.{leaf_of};
-ghost use Rattle.plain_merge.specs.KeyByKey.{all_keys};
-ghost use Rattle.plain_merge.specs.TableMerge.{table_of};
+ghost use Rattle.schema_merge.specs.KeyByKey.{all_keys};
+ghost use Rattle.schema_merge.specs.TableMerge.{table_of};
 ghost use Rattle.table_merge.specs.Walking.{AreKeyed, AreListsOf, conflicts_of, keys_in, three_in};
 
 use crate::deciding::decide;

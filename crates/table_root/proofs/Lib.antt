@@ -1,6 +1,11 @@
 mod FormLemmas
+pub mod ListingLemmas
 mod NameLemmas
+pub mod PlaceLemmas
 mod ReadLemmas
+pub mod ReadingLemmas
+pub mod RowLemmas
+mod RowVectors
 mod StandingLemmas
 mod WriteLemmas
-pub mod ListingLemmas
+pub mod WritingLemmas

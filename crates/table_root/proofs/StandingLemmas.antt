@@ -20,10 +20,10 @@ use Rattle.schema_model.specs.WrittenForms as written
 use Rattle.schema_model.specs.declared.schemas.IndexDef.{IndexDef}
 use Rattle.chunk_store.specs.Chunks.{Chunks, Extends, IsHeld}
 use Rattle.chunk_store.specs.Standing.{IsTree}
-use Rattle.tree_laws.specs.Standing.{Exactly}
-use Rattle.tree_laws.proofs.Growing.{there_later, tree_later}
-use Rattle.tree_laws.proofs.One.{one_tree}
-use Rattle.tree_laws.proofs.Standing.{trees_lead}
+use Rattle.prolly_tree.specs.Standing.{Exactly}
+use Rattle.prolly_tree.proofs.Growing.{there_later, tree_later}
+use Rattle.prolly_tree.proofs.One.{one_tree}
+use Rattle.prolly_tree.proofs.Standing.{trees_lead}
 use Rattle.table_root.specs.Databases.{IsDatabaseFound, entry_of, fits_name, has_address, names_rise, written_database}
 use Rattle.table_root.specs.Standing.{DatabasesStand, HasOwnTrees, HasTrees, IsDatabaseAt, IsTableAt, IsTableOf, IsUnindexedOf, TableValuesStand, TablesStand, named_tables, table_of_lists, without_indexes}
 use Rattle.table_root.specs.Tables.{IsTableFound, is_address, written_table}

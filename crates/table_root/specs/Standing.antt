@@ -7,7 +7,7 @@ use Rattle.schema_model.specs.PlainTables.{PlainDatabase, PlainTable, conflict_i
 use Rattle.schema_model.specs.WrittenForms.{database_address, database_bytes, table_address, table_bytes}
 use Rattle.chunk_store.specs.Chunks.{Chunks, Extends, IsHeld}
 use Rattle.chunk_store.specs.Standing.{IsThere, IsTree}
-use Rattle.tree_laws.specs.Standing.{Exactly}
+use Rattle.prolly_tree.specs.Standing.{Exactly}
 use Rattle.table_root.specs.Databases.{IsDatabaseFound, written_database}
 use Rattle.table_root.specs.Tables.{IsTableFound, written_table}
 use Rattle.table_root.specs.declared.records.StoredTable.{StoredTable}

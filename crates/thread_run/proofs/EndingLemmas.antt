@@ -26,8 +26,8 @@ use Rattle.run_laws.specs.Histories.{ToldTurn, Way, moment_of_entry}
 use Rattle.run_laws.proofs.HistoryLemmas.{ways_run}
 use Rattle.run_laws.specs.Replaying.{all_replies}
 use Rattle.run_laws.proofs.ReplayLemmas.{shown_by_machine}
-use Rattle.session_laws.specs.Changes.{Parts, StateStands}
-use Rattle.session_laws.specs.Laws.{StatesFollow}
+use Rattle.session_state.specs.Changes.{Parts, StateStands}
+use Rattle.session_state.specs.Laws.{StatesFollow}
 use Rattle.shared_db.specs.Shared.{Db}
 use Rattle.seat_gate.specs.History.{Entry, HasMade, Spelling, View, first_view, gathered, having_seen, newcomer}
 use Rattle.seat_gate.specs.Told.{left_last, told_by}

@@ -10,7 +10,7 @@ use Rattle.plain_sessions.specs.Runs.{commands_of}
 use Rattle.plain_sessions.specs.Sessions.{new_session}
 use Rattle.run_laws.specs.Orders.{count_of}
 use Rattle.run_laws.proofs.ThreadLemmas.{way_first}
-use Rattle.session_laws.specs.Changes.{Parts, StateStands}
+use Rattle.session_state.specs.Changes.{Parts, StateStands}
 use Rattle.seat_gate.specs.History.{View, first_view, newcomer}
 use Rattle.seat_gate.specs.Words.{GateId, gate_id, gate_of, seat_view}
 use Rattle.seat_gate.specs.Working.{AreNewcomers, IsNewcomer, giving_out, view_in}

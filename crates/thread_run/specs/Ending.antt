@@ -5,7 +5,7 @@ use Rattle.script_text.specs.declared.scripts.Script.{Script}
 use Rattle.plain_sessions.specs.Commands.{command}
 use Rattle.plain_sessions.specs.Runs.{plain_run}
 use Rattle.run_laws.specs.Replaying.{all_replies}
-use Rattle.session_laws.specs.Changes.{Parts}
+use Rattle.session_state.specs.Changes.{Parts}
 use Rattle.seat_gate.specs.Words.{GateId}
 use Rattle.seat_gate.specs.declared.workers.Worker.{Worker}
 use Rattle.script_run.specs.Following.{AreAlong}

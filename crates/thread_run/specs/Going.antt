@@ -8,7 +8,7 @@ use Rattle.plain_sessions.specs.Runs.{Runner}
 use Rattle.plain_sessions.specs.Sessions as plain
 use Rattle.plain_sessions.specs.declared.commands.Command.{Command}
 use Rattle.run_laws.specs.Histories.{ToldTurn, Way}
-use Rattle.session_laws.specs.Changes.{Parts}
+use Rattle.session_state.specs.Changes.{Parts}
 use Rattle.shared_db.specs.Shared.{Db}
 use Rattle.serving.specs.Planning.{HasLooked}
 use Rattle.serving.specs.declared.planned.Planned.{Planned}

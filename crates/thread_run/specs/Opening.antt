@@ -5,7 +5,7 @@ use Rattle.plain_sessions.specs.Commands.{command}
 use Rattle.plain_sessions.specs.Records.{opening}
 use Rattle.plain_sessions.specs.Runs.{commands_of}
 use Rattle.plain_sessions.specs.Sessions.{new_session}
-use Rattle.session_laws.specs.Changes.{Parts, StateStands}
+use Rattle.session_state.specs.Changes.{Parts, StateStands}
 use Rattle.seat_gate.specs.History.{first_view}
 use Rattle.seat_gate.specs.Words.{gate_id, gate_of, seat_view}
 use Rattle.seat_gate.specs.Working.{AreNewcomers, giving_out, view_in}

@@ -19,7 +19,7 @@ use chunk_store::PutFault;
 use script_run::Player;
 use script_text::{Reply, RunText, Script};
 use seat_gate::{Gate, Worker};
-use session_laws::law_of_states;
+use session_state::law_of_states;
 use shared_db::SharedDb;
 use shared_history::GatedDb;
 use std::alloc::{AllocError, Global};

@@ -7,7 +7,7 @@ ghost use Rattle.plain_sessions.specs.Records.{Shared};
 ghost use Rattle.plain_sessions.specs.Runs.{Runner};
 ghost use Rattle.plain_sessions.specs.Sessions as plain;
 ghost use Rattle.plain_sessions.specs.declared.commands.Command.{Command};
-ghost use Rattle.session_laws.specs.Changes.{Parts};
+ghost use Rattle.session_state.specs.Changes.{Parts};
 ghost use Rattle.seat_gate.specs.History.{HasMade, View};
 ghost use Rattle.seat_gate.specs.Words.{IsTaken, gate_id, gate_of, held_at, held_value, held_view, seat_view};
 ghost use Rattle.seat_gate.specs.Working.{KeepsPlace};

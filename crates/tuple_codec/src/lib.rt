@@ -12,6 +12,7 @@ mod boxed;
 mod bytes;
 mod cells;
 mod copies;
+mod edit_laws;
 mod edits;
 mod fields;
 mod forms;
@@ -31,6 +32,7 @@ pub use answers::Answer;
 pub use boxed::Boxed;
 pub use bytes::Text;
 pub use copies::{copy_row, copy_value};
+pub use edit_laws::edits_by_key;
 pub use edits::{Edit, ItemChange};
 pub use fields::{bytes_at, long_at, push_long, short_at};
 pub use key_codec::{

@@ -3,7 +3,7 @@ use Rattle.std.specs.List.{list_any}
 use Rattle.expr_eval.specs.declared.scopes.ScopeColumn.{ScopeColumn}
 use Rattle.plain_sql.specs.Answers.{Meaning}
 use Rattle.plain_writes.specs.Violations.{breaks_check, own_scope, said_of}
-use Rattle.sql_pieces.specs.Checking.{canonical_expression}
+use Rattle.sql_grammar.specs.Checking.{canonical_expression}
 use Rattle.constraint_scan.proofs.changing.has_failed_by.Goals as goal
 
 pub returns : goal.returns

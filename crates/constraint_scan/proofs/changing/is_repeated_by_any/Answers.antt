@@ -3,7 +3,7 @@ use Rattle.std.specs.List.{list_any}
 use Rattle.chunk_store.specs.Drafts.{chunks_of}
 use Rattle.schema_model.specs.declared.schemas.Schema.{Schema}
 use Rattle.plain_writes.specs.Violations.{breaks_unique}
-use Rattle.write_laws.proofs.OrderLemmas.{both_so}
+use Rattle.plain_writes.proofs.RowOrderLemmas.{both_so}
 use Rattle.constraint_scan.specs.Changed.{repeats_by}
 use Rattle.constraint_scan.proofs.LoopLemmas.{found_at, got_at, past_at}
 use Rattle.constraint_scan.proofs.PairLemmas.{schema_at}

@@ -5,7 +5,7 @@ use Rattle.tuple_codec.specs.Rows.{same_cells}
 use Rattle.tuple_codec.proofs.Orders.{cells_told}
 use Rattle.schema_model.specs.PlainTables.{is_row, primary_key, row_item}
 use Rattle.schema_model.specs.Schemas.{is_schema}
-use Rattle.write_laws.proofs.OrderLemmas.{right_so}
+use Rattle.plain_writes.proofs.RowOrderLemmas.{right_so}
 use Rattle.constraint_scan.proofs.listing.written.Goals as goal
 
 pub returns : goal.returns

@@ -2,7 +2,7 @@ use Rattle.std.proofs.Common.{◌≡◌, ◌<◌, ◌+◌, ◌++◌, ◌∷◌, 
 use Rattle.std.specs.Prelude.{None}
 use Rattle.std.proofs.lemmas.List.{drop_all}
 use Rattle.tuple_codec.specs.Rows.{Cells}
-use Rattle.table_rows.proofs.ReadingLemmas.{IsReading, first, over}
+use Rattle.table_root.proofs.ReadingLemmas.{IsReading, first, over}
 use Rattle.constraint_scan.specs.Pairs.{come_pairs}
 use Rattle.constraint_scan.proofs.ComeLemmas.{comes_at, goes_at}
 use Rattle.constraint_scan.proofs.pairing.rows_of_changes.Goals as goal

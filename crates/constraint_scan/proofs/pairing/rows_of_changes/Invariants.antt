@@ -2,7 +2,7 @@ use Rattle.std.proofs.Common.{◌≡◌, true, List, drop}
 use Rattle.std.specs.List.{list_all}
 use Rattle.tuple_codec.specs.Rows.{Cells}
 use Rattle.schema_model.specs.PlainTables.{is_row}
-use Rattle.table_rows.proofs.ReadingLemmas.{IsReading}
+use Rattle.table_root.proofs.ReadingLemmas.{IsReading}
 use Rattle.constraint_scan.specs.Pairs.{come_pairs, row_pairs}
 use Rattle.constraint_scan.proofs.pairing.rows_of_changes.Given as goal
 

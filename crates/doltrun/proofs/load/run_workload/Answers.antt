@@ -2,7 +2,7 @@ use Rattle.std.proofs.Common.{ℤ, refl, subst, w64}
 use Rattle.std.proofs.lemmas.Int.{to_z-of_z}
 use Rattle.chunk_store.specs.declared.faults.PutFault.{PutFault}
 use Rattle.shared_db.specs.Opening.{IsOpeningClash, IsOpeningFault}
-use Rattle.program_ends.specs.Lines.{collision_line}
+use Rattle.script_text.specs.Lines.{collision_line}
 use Rattle.doltrun.specs.Loads.{Clashes}
 use Rattle.doltrun.proofs.EpochLemmas.{date_fits}
 use Rattle.doltrun.proofs.load.run_workload.Goals as goal

@@ -2,7 +2,7 @@ use Rattle.std.proofs.Common.{◌≡◌, ◌∙◌, Err, Some, ℕ, List, length
 use Rattle.std.specs.Io.KnownBytes.{Appends}
 use Rattle.script_text.specs.Input.{script}
 use Rattle.script_text.specs.declared.faults.BadScript.{BadScript}
-use Rattle.program_ends.specs.Lines.{fault_line}
+use Rattle.script_text.specs.Lines.{fault_line}
 use Rattle.doltrun.specs.Stops.{AnswersAll, AnswersPart, WritesCollision, WritesStop}
 use Rattle.doltrun.specs.Words.{is_given}
 use Rattle.doltrun.proofs.TopLemmas.{IsRead, answers_whole, collides_whole, falls_whole, faults_whole, stops_told, stops_whole}

@@ -1,9 +1,9 @@
 use Rattle.std.proofs.Common.{◌≡◌, ◌∙◌, Err, refl, subst, sym}
-use Rattle.program_ends.specs.Lines.{collision_line, fault_line}
+use Rattle.script_text.specs.Lines.{collision_line, fault_line}
 use Rattle.doltrun.specs.Stops.{Collision, Comes, Fault}
 use Rattle.doltrun.specs.declared.answering.NoAnswer.{NoAnswer}
 use Rattle.doltrun.specs.declared.answering.NoAnswer.TheVariants as fault
-use Rattle.program_ends.specs.declared.status.Status.TheVariants as status
+use Rattle.script_text.specs.declared.status.Status.TheVariants as status
 use Rattle.doltrun.proofs.AnswerLemmas.{stop_part, stop_written}
 use Rattle.doltrun.proofs.writing.write_answer.Goals as goal
 

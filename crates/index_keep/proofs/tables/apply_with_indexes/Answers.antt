@@ -3,7 +3,7 @@ use Rattle.chunk_store.specs.Drafts.{chunks_of}
 use Rattle.schema_model.specs.PlainTables.{row_items}
 use Rattle.tuple_codec.specs.Edits.{edited}
 use Rattle.tuple_codec.specs.declared.addresses.Address.{Address}
-use Rattle.tree_laws.proofs.Growing.{tree_later}
+use Rattle.prolly_tree.proofs.Growing.{tree_later}
 use Rattle.index_keep.specs.Entries.{changes_at, keys_of}
 use Rattle.index_keep.specs.Steps.{CanEditIndexes}
 use Rattle.index_keep.proofs.MakingLemmas.{grown}

@@ -2,7 +2,7 @@ use Rattle.std.proofs.Common.{sym, subst, Ok}
 use Rattle.std.proofs.lemmas.Result.{IfOk-weaker}
 use Rattle.expr_eval.specs.Binding.{Outcome}
 use Rattle.chunk_store.specs.Drafts.{chunks_of}
-use Rattle.plain_merge.specs.RootMerge.{MergedDatabase, root3}
+use Rattle.schema_merge.specs.RootMerge.{MergedDatabase, root3}
 use Rattle.merge_procs.specs.Databases.{IsMet, merged_of}
 use Rattle.merge_procs.proofs.DatabasesLemmas.{limit_refused, schema_refused, within_merged}
 use Rattle.merge_procs.proofs.databases.meet.Goals as goal

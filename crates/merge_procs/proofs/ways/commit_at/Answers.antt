@@ -1,5 +1,5 @@
 use Rattle.std.proofs.Common.{map, ◌∙◌, sym}
-use Rattle.session_laws.specs.Transactions.{head_seen}
+use Rattle.session_state.specs.Transactions.{head_seen}
 use Rattle.merge_procs.proofs.WayNames.{resolved_branch, resolved_commit}
 use Rattle.merge_procs.proofs.ways.commit_at.Goals as goal
 

@@ -1,5 +1,5 @@
 use Rattle.std.proofs.Common.{◌≡◌, drop, map}
-use Rattle.session_laws.specs.Transactions.{head_seen}
+use Rattle.session_state.specs.Transactions.{head_seen}
 use Rattle.merge_procs.specs.Ways.{head_at}
 use Rattle.merge_procs.proofs.ways.head_at.Given as goal
 

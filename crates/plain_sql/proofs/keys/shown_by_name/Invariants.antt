@@ -1,6 +1,6 @@
 use Rattle.std.proofs.Common.{◌≡◌, drop}
 use Rattle.std.specs.List.{find}
-use Rattle.plain_sql.specs.Temporary.{is_item_named}
+use Rattle.sql_text.specs.SelectNames.{is_item_named}
 use Rattle.plain_sql.proofs.keys.shown_by_name.Given as goal
 
 abbrev pub invariant-loop-item : goal.invariant-loop-item

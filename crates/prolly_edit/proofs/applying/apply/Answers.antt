@@ -8,9 +8,9 @@ use Rattle.tuple_codec.specs.Edits.{edited}
 use Rattle.chunk_store.specs.Drafts.{chunks_of}
 use Rattle.chunk_store.specs.Kinds.{is_node}
 use Rattle.chunk_store.proofs.GrowthLemmas.{drafts_grow}
-use Rattle.tree_laws.specs.Found.{nodes_in}
-use Rattle.tree_laws.proofs.Standing.{trees_lead}
-use Rattle.tree_laws.proofs.One.{one_tree as same_rows}
+use Rattle.prolly_tree.specs.Found.{nodes_in}
+use Rattle.prolly_tree.proofs.Standing.{trees_lead}
+use Rattle.prolly_tree.proofs.One.{one_tree as same_rows}
 use Rattle.prolly_edit.specs.Editing.{CanEdit}
 use Rattle.prolly_edit.specs.Fronts.{load, rest}
 use Rattle.prolly_tree.specs.Fronts.{Front}

@@ -3,7 +3,7 @@ use Rattle.tuple_codec.specs.Nodes.{Item}
 use Rattle.tuple_codec.specs.Edits.{edited}
 use Rattle.chunk_store.specs.Drafts.{Grows, chunks_of}
 use Rattle.chunk_store.specs.Kinds.{is_node}
-use Rattle.tree_laws.specs.Found.{nodes_in}
+use Rattle.prolly_tree.specs.Found.{nodes_in}
 use Rattle.prolly_edit.specs.Editing.{CanEdit}
 use Rattle.prolly_edit.specs.Fronts.{load}
 use Rattle.prolly_edit.specs.Stages.{IsGoing}

@@ -3,7 +3,7 @@ use Rattle.tuple_codec.proofs.Lists.{next_at}
 use Rattle.tuple_codec.specs.Edits.{EditsRiseAfter}
 use Rattle.tuple_codec.specs.declared.edits.Edit.{Edit}
 use Rattle.chunk_store.specs.Drafts.{chunks_of}
-use Rattle.tree_laws.specs.Standing.{rows_below}
+use Rattle.prolly_tree.specs.Standing.{rows_below}
 use Rattle.prolly_tree.specs.Lists.{has_any, place_of}
 use Rattle.prolly_tree.proofs.MeetLemmas.{from_first, leaf_is, none_behind, turn, turn_found, turn_past}
 use Rattle.prolly_tree.proofs.meets.+node_has_any.Goals as goal

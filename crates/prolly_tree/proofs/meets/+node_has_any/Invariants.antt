@@ -1,6 +1,6 @@
 use Rattle.std.proofs.Common.{◌≡◌, None, length}
 use Rattle.chunk_store.specs.Drafts.{chunks_of}
-use Rattle.tree_laws.specs.Standing.{rows_below}
+use Rattle.prolly_tree.specs.Standing.{rows_below}
 use Rattle.tuple_codec.specs.Edits.{EditsRiseAfter}
 use Rattle.prolly_tree.specs.Lists.{has_any}
 use Rattle.prolly_tree.proofs.meets.+node_has_any.Given as goal

@@ -1,7 +1,7 @@
 use Rattle.std.proofs.Common.{sym, ap, ◌∙◌, subst}
 use Rattle.chunk_store.specs.Drafts.{chunks_of}
-use Rattle.tree_laws.proofs.Standing.{trees_lead}
-use Rattle.tree_laws.specs.Standing.{Leads, rows_below}
+use Rattle.prolly_tree.proofs.Standing.{trees_lead}
+use Rattle.prolly_tree.specs.Standing.{Leads, rows_below}
 use Rattle.tuple_codec.specs.Nodes.{Node}
 use Rattle.prolly_tree.specs.Lists.{has_any}
 use Rattle.prolly_tree.proofs.meets.has_any.Goals as goal

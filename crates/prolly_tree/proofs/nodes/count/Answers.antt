@@ -2,7 +2,7 @@ use Rattle.std.proofs.Common.{◌≡◌, ◌<◌, ◌^◌, List, length, sym, ap
 use Rattle.tuple_codec.specs.Nodes.{IsNode, Item, Node}
 use Rattle.tuple_codec.specs.Trees.{rows_in}
 use Rattle.chunk_store.specs.Drafts.{chunks_of}
-use Rattle.tree_laws.proofs.Standing.{trees_lead}
+use Rattle.prolly_tree.proofs.Standing.{trees_lead}
 use Rattle.prolly_tree.proofs.Descents.{rows_counted}
 use Rattle.prolly_tree.proofs.nodes.count.Goals as goal
 

@@ -1,6 +1,6 @@
 use Rattle.std.proofs.Common.{ap, ◌∙◌}
 use Rattle.chunk_store.specs.Drafts.{chunks_of}
-use Rattle.tree_laws.proofs.Standing.{trees_lead}
+use Rattle.prolly_tree.proofs.Standing.{trees_lead}
 use Rattle.tuple_codec.specs.Edits.{value_at}
 use Rattle.prolly_tree.proofs.nodes.get.Goals as goal
 

@@ -1,7 +1,7 @@
 use Rattle.std.proofs.Common.{◌≡◌, ◌<◌, ℕ, List, sym, ap, ◌∙◌, subst, refl, arith}
 use Rattle.tuple_codec.specs.Nodes.{Node}
 use Rattle.chunk_store.specs.Drafts.{chunks_of}
-use Rattle.tree_laws.specs.Standing.{Leads, rows_below}
+use Rattle.prolly_tree.specs.Standing.{Leads, rows_below}
 use Rattle.tuple_codec.specs.Edits.{value_at}
 use Rattle.prolly_tree.specs.Lists.{place_of}
 use Rattle.prolly_tree.proofs.Descents.{IsNext, leaf_value, next, nothing_at_end}

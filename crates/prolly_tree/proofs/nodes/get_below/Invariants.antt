@@ -1,6 +1,6 @@
 use Rattle.std.proofs.Common.{◌≡◌}
 use Rattle.chunk_store.specs.Drafts.{chunks_of}
-use Rattle.tree_laws.specs.Standing.{Leads, rows_below}
+use Rattle.prolly_tree.specs.Standing.{Leads, rows_below}
 use Rattle.tuple_codec.specs.Edits.{value_at}
 use Rattle.prolly_tree.proofs.nodes.get_below.Given as goal
 

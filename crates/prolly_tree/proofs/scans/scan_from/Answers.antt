@@ -1,8 +1,8 @@
 use Rattle.std.proofs.Common.{◌≡◌, ◌≤◌, ◌++◌, List, map, ap, sym, ◌∙◌, subst, append-nil, arith}
 use Rattle.tuple_codec.specs.Nodes.{Item, Node, Rise}
 use Rattle.chunk_store.specs.Drafts.{chunks_of}
-use Rattle.tree_laws.specs.Standing.{Leads, rows_below}
-use Rattle.tree_laws.proofs.Standing.{trees_lead}
+use Rattle.prolly_tree.specs.Standing.{Leads, rows_below}
+use Rattle.prolly_tree.proofs.Standing.{trees_lead}
 use Rattle.prolly_tree.specs.Lists.{from_key, pair_of}
 use Rattle.prolly_tree.specs.Walks.{CanWalk, Left, left_in, rows_above}
 use Rattle.prolly_tree.proofs.WalkLemmas.{begin, begin_can, begin_from, begin_rest, begin_rise}

@@ -1,5 +1,5 @@
 use Rattle.std.proofs.Common.{◌≡◌, ◌++◌}
-use Rattle.edit_laws.specs.ByKey.{as_edits}
+use Rattle.tuple_codec.specs.ByKey.{as_edits}
 use Rattle.root_merge.proofs.changing.edits_of.Given as goal
 
 abbrev pub invariant-loop-change : goal.invariant-loop-change

@@ -1,6 +1,6 @@
 use Rattle.std.proofs.Common.{◌∙◌, ap, sym}
 use Rattle.chunk_store.specs.Drafts.{chunks_of}
-use Rattle.edit_laws.specs.ByKey.{as_edits}
+use Rattle.tuple_codec.specs.ByKey.{as_edits}
 use Rattle.root_merge.specs.Changing.{HasChanges}
 use Rattle.root_merge.proofs.MergedLemmas.{rows_pass, table_within}
 use Rattle.root_merge.proofs.changing.keep_changes.Goals as goal

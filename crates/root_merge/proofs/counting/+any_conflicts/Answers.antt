@@ -1,7 +1,7 @@
 use Rattle.std.proofs.Common.{◌≡◌, ◌==◌, ◌-◌, not, ap, sym, drop, length, take}
 use Rattle.std.proofs.lemmas.Result.{IfOk-weaker}
 use Rattle.chunk_store.specs.Drafts.{chunks_of}
-use Rattle.plain_merge.specs.RootMerge.{MergedDatabase}
+use Rattle.schema_merge.specs.RootMerge.{MergedDatabase}
 use Rattle.root_merge.proofs.CountLemmas.{first_some, later_some}
 use Rattle.root_merge.proofs.KeptLemmas.{by_first}
 use Rattle.root_merge.proofs.RootLemmas.{first_step, none_step}

@@ -1,6 +1,6 @@
 use Rattle.std.proofs.Common.{◌≡◌, ◌==◌, not, IfOk, sym, subst}
 use Rattle.chunk_store.specs.Drafts.{chunks_of}
-use Rattle.plain_merge.specs.RootMerge.{MergedTable}
+use Rattle.schema_merge.specs.RootMerge.{MergedTable}
 use Rattle.root_merge.proofs.ChoiceLemmas.{rows_for}
 use Rattle.root_merge.proofs.counting.choice_conflicts.Goals as goal
 

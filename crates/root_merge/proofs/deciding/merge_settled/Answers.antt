@@ -1,7 +1,7 @@
 use Rattle.chunk_store.specs.Chunks.{Extends}
 use Rattle.chunk_store.specs.Drafts.{chunks_of}
 use Rattle.chunk_store.specs.Kinds.{is_data}
-use Rattle.plain_merge.specs.RootMerge.{root3}
+use Rattle.schema_merge.specs.RootMerge.{root3}
 use Rattle.root_merge.proofs.DecideLemmas.{side_later, staged_roots, working_roots}
 use Rattle.root_merge.proofs.SettlingLemmas.{settled_later}
 use Rattle.root_merge.proofs.StateLemmas.{root_later, roots_later}

@@ -1,7 +1,7 @@
 use Rattle.chunk_store.specs.Chunks.{Extends}
 use Rattle.chunk_store.specs.Drafts.{chunks_of}
 use Rattle.chunk_store.specs.Kinds.{is_data}
-use Rattle.plain_merge.specs.RootMerge.{root3}
+use Rattle.schema_merge.specs.RootMerge.{root3}
 use Rattle.root_merge.specs.Deciding.{PassesAt}
 use Rattle.root_merge.specs.Merging.{AreRoots}
 use Rattle.root_merge.proofs.DecideLemmas.{clean_side, limit_passes, schema_side}

@@ -1,5 +1,5 @@
 use Rattle.chunk_store.specs.Drafts.{chunks_of}
-use Rattle.plain_merge.specs.RootMerge.{root3}
+use Rattle.schema_merge.specs.RootMerge.{root3}
 use Rattle.root_merge.proofs.DecideLemmas.{limit_conflict, limit_side}
 use Rattle.root_merge.proofs.deciding.over_limit.Goals as goal
 

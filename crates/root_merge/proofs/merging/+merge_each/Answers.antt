@@ -3,7 +3,7 @@ use Rattle.schema_model.specs.PlainTables.{PlainDatabase}
 use Rattle.chunk_store.specs.Chunks.{Extends}
 use Rattle.chunk_store.specs.Drafts.{chunks_of}
 use Rattle.chunk_store.specs.Kinds.{is_data}
-use Rattle.plain_merge.specs.RootMerge.{with_table}
+use Rattle.schema_merge.specs.RootMerge.{with_table}
 use Rattle.root_merge.specs.Merging.{AreMade, IsLimitFault, are_within}
 use Rattle.root_merge.proofs.KeptLemmas.{by_first}
 use Rattle.root_merge.proofs.MadeLemmas.{lead_later}

@@ -2,7 +2,7 @@ use Rattle.std.proofs.Common.{List, subst, sym}
 use Rattle.std.proofs.lemmas.Result.{IfErr-weaker, IfOk-weaker}
 use Rattle.schema_model.specs.Limits.{is_database_within_limits}
 use Rattle.chunk_store.specs.Drafts.{chunks_of}
-use Rattle.plain_merge.specs.RootMerge.{root3}
+use Rattle.schema_merge.specs.RootMerge.{root3}
 use Rattle.table_merge.specs.Merging.{IsMergeReason}
 use Rattle.root_merge.specs.Merging.{AreRoots, IsFaultOf, IsLimitFault, IsMadeOf, IsMergedDatabase}
 use Rattle.root_merge.specs.Names.{LeadTo, all_wanted, together}

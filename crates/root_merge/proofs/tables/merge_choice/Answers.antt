@@ -1,6 +1,6 @@
 use Rattle.std.proofs.Common.{IfErr, IfOk, sym, subst}
 use Rattle.chunk_store.specs.Drafts.{chunks_of}
-use Rattle.plain_merge.specs.RootMerge.{MergedTable}
+use Rattle.schema_merge.specs.RootMerge.{MergedTable}
 use Rattle.root_merge.specs.Merging.{IsBecome, IsLimitFault, is_within_perhaps}
 use Rattle.root_merge.proofs.ChoiceLemmas.{rows_for}
 use Rattle.root_merge.proofs.tables.merge_choice.Goals as goal

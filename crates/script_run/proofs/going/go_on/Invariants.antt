@@ -1,7 +1,7 @@
 use Rattle.std.proofs.Common.{◌≡◌, ◌≤◌, ◌-◌, ℕ, length, true}
 use Rattle.plain_sessions.specs.Records.{Shared}
 use Rattle.plain_sessions.specs.Runs.{Runner}
-use Rattle.session_laws.specs.Changes.{Parts}
+use Rattle.session_state.specs.Changes.{Parts}
 use Rattle.script_run.specs.Following.{IsFurther, IsPlayer, is_settled, moments_left}
 use Rattle.script_run.proofs.going.go_on.Given as goal
 

@@ -2,7 +2,7 @@ use Rattle.std.proofs.Common.{◌≡◌, ◌∙◌, sym, ap, subst, List, ℕ, �
 use Rattle.std.proofs.lemmas.Int.{to_z-of_z}
 use Rattle.script_text.specs.declared.scripts.Line.{Line}
 use Rattle.plain_sessions.specs.Records.{opening}
-use Rattle.session_laws.specs.Changes.{StateStands}
+use Rattle.session_state.specs.Changes.{StateStands}
 use Rattle.script_run.specs.Opening.{AreNewPlayers, counts}
 use Rattle.script_run.proofs.CountLemmas.{as_many}
 use Rattle.script_run.proofs.PlayerLemmas.{play_opened}

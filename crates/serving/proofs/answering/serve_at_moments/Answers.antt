@@ -1,7 +1,7 @@
 use Rattle.std.proofs.Common.{◌≡◌, ℤ, ℕ, ◌+◌, ◌^◌, ◌<◌, ◌⊎◌, subst, sym, w64}
 use Rattle.std.proofs.lemmas.Int.{to_z-of_z}
 use Rattle.plain_sessions.specs.Runs.{awaiting}
-use Rattle.session_laws.specs.Changes.{Parts}
+use Rattle.session_state.specs.Changes.{Parts}
 use Rattle.session_state.specs.declared.sessions.Session.{Session}
 use Rattle.serving.specs.Serving.{Concludes, Drops, IsBefore, Serves}
 use Rattle.serving.specs.Steps.{number_at}

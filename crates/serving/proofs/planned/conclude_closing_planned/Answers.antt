@@ -1,6 +1,6 @@
 use Rattle.std.proofs.Common.{None, arith, refl, subst, sym, w64}
 use Rattle.std.proofs.lemmas.Int.{to_z-of_z}
-use Rattle.session_laws.specs.Changes.{Parts}
+use Rattle.session_state.specs.Changes.{Parts}
 use Rattle.serving.specs.Serving.{IsBetween}
 use Rattle.serving.specs.declared.meeting.Pending.TheVariants as pending
 use Rattle.serving.proofs.SettlingLemmas.{closes_between, concluded}

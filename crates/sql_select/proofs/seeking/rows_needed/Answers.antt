@@ -1,8 +1,8 @@
 use Rattle.std.proofs.Common.{◌≡◌, inl, inr, filter}
 use Rattle.std.proofs.lemmas.Result.{IfOk-weaker}
 use Rattle.chunk_store.specs.Drafts.{chunks_of}
-use Rattle.key_seek.proofs.TableLemmas.{has_rows}
-use Rattle.key_seek.specs.Choosing.{is_wanted}
+use Rattle.sql_select.proofs.TableLemmas.{has_rows}
+use Rattle.sql_select.specs.Choosing.{is_wanted}
 use Rattle.sql_select.specs.Seeks.{AreNeeded}
 use Rattle.sql_select.proofs.seeking.rows_needed.Goals as goal
 

@@ -1,8 +1,8 @@
 use Rattle.std.proofs.Common.{◌≡◌, ◌∙◌, ap, subst, map, Some, Ok}
 use Rattle.plain_sql.specs.Plans.{condition, meaning, scope_column}
-use Rattle.plain_sql.specs.Temporary.{source_name}
-use Rattle.key_seek.specs.Choosing.{IsSeekOf, is_wanted}
-use Rattle.key_seek.specs.Seeking as seeking
+use Rattle.sql_text.specs.SelectNames.{source_name}
+use Rattle.sql_select.specs.Choosing.{IsSeekOf, is_wanted}
+use Rattle.sql_select.specs.Seeking as seeking
 use Rattle.sql_select.specs.Seeks.{SeeksBy, scope_in}
 use Rattle.sql_select.specs.Sources.{typed_column}
 use Rattle.sql_select.proofs.SeekLemmas.{both_ok}

@@ -1,6 +1,6 @@
 use Rattle.std.proofs.Common.{◌≡◌, ◌∙◌, [], sym, Some}
 use Rattle.std.proofs.lemmas.Result.{IfOk-weaker}
-use Rattle.key_seek.specs.Choosing.{IsSeekOf, is_wanted}
+use Rattle.sql_select.specs.Choosing.{IsSeekOf, is_wanted}
 use Rattle.sql_select.specs.Seeks.{SeeksBy, SeeksSource}
 use Rattle.sql_select.proofs.SeekLemmas.{no_items}
 use Rattle.sql_select.proofs.seeking.seek_of.Goals as goal

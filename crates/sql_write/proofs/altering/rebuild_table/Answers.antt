@@ -3,7 +3,7 @@ use Rattle.chunk_store.specs.Drafts.{chunks_of}
 use Rattle.chunk_store.specs.Kinds.{is_data, is_database, is_either, is_node, is_table}
 use Rattle.index_keep.specs.Keeping.{table_of_rows}
 use Rattle.sql_write.proofs.AlteringLemmas.{listed_later}
-use Rattle.write_laws.proofs.DatabaseLemmas.{limits_so}
+use Rattle.plain_writes.proofs.DatabaseLemmas.{limits_so}
 use Rattle.sql_write.proofs.altering.rebuild_table.Goals as goal
 
 pub put_table-requires-after_bounds : goal.put_table-requires-after_bounds

@@ -8,7 +8,7 @@ use Rattle.chunk_store.specs.Chunks.{Extends}
 use Rattle.chunk_store.specs.Drafts.{chunks_of}
 use Rattle.chunk_store.specs.Kinds.{is_node}
 use Rattle.chunk_store.specs.Standing.{IsTree}
-use Rattle.tree_laws.proofs.Growing.{tree_later}
+use Rattle.prolly_tree.proofs.Growing.{tree_later}
 use Rattle.table_root.specs.Standing.{IsTableOf}
 use Rattle.index_keep.specs.Keeping.{table_of_rows}
 use Rattle.sql_write.proofs.BuildingLemmas.{built_rows, can_index, table_stands}

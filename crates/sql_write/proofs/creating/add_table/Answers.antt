@@ -8,7 +8,7 @@ use Rattle.index_keep.specs.Keeping.{table_of_rows}
 use Rattle.sql_write.specs.Putting.{AreListed}
 use Rattle.sql_write.proofs.MakingLemmas.{added_listed, can_build_empty}
 use Rattle.sql_write.proofs.SchemaLemmas.{new_kept}
-use Rattle.write_laws.proofs.DatabaseLemmas.{limits_so}
+use Rattle.plain_writes.proofs.DatabaseLemmas.{limits_so}
 use Rattle.sql_write.proofs.creating.add_table.Goals as goal
 
 pub new_table-requires-after_bounds : goal.new_table-requires-after_bounds

@@ -2,7 +2,7 @@ use Rattle.std.proofs.Common.{◌≡◌, filter, map}
 use Rattle.std.proofs.lemmas.Result.{IfOk-weaker}
 use Rattle.chunk_store.specs.Drafts.{chunks_of}
 use Rattle.plain_sql.specs.Plans.{meaning}
-use Rattle.key_seek.specs.Choosing.{is_wanted}
+use Rattle.sql_select.specs.Choosing.{is_wanted}
 use Rattle.sql_write.specs.Passing.{AreRead}
 use Rattle.sql_write.proofs.PlaceLemmas.{schema_same}
 use Rattle.sql_write.proofs.ReadingLemmas.{wanted_read, whole_read}

@@ -2,8 +2,8 @@ use Rattle.std.proofs.Common.{◌≡◌, List, Some, map, sym, subst}
 use Rattle.std.proofs.lemmas.Result.{IfOk-weaker}
 use Rattle.expr_eval.specs.declared.bound.BoundExpr.{BoundExpr}
 use Rattle.plain_sql.specs.Plans.{meaning}
-use Rattle.key_seek.specs.Choosing.{is_wanted}
-use Rattle.key_seek.specs.Seeking.{Seeks}
+use Rattle.sql_select.specs.Choosing.{is_wanted}
+use Rattle.sql_select.specs.Seeking.{Seeks}
 use Rattle.sql_write.specs.Passing.{LeavesOthers}
 use Rattle.sql_write.proofs.ReadingLemmas.{leaves_others, only_one}
 use Rattle.sql_write.proofs.reading.seek_named.Goals as goal

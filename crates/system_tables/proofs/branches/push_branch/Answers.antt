@@ -1,6 +1,6 @@
 use Rattle.std.proofs.Common.{◌≡◌, ◌∙◌, ◌++◌, ◌∷◌, [], ap}
 use Rattle.plain_sessions.specs.SystemTables.{branch_row, committed, hash}
-use Rattle.session_laws.specs.Transactions.{head_seen}
+use Rattle.session_state.specs.Transactions.{head_seen}
 use Rattle.tuple_codec.specs.Rows.{Cells}
 use Rattle.tuple_codec.specs.declared.values.Value.{Value}
 use Rattle.tuple_codec.specs.declared.values.Value.TheVariants as cell

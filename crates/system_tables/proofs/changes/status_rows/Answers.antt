@@ -1,7 +1,7 @@
 use Rattle.std.proofs.Common.{◌≡◌, ◌∙◌, List}
 use Rattle.std.proofs.lemmas.Result.{IfOk-weaker}
 use Rattle.chunk_store.specs.Drafts.{chunks_of}
-use Rattle.plain_merge.specs.KeyByKey.{all_keys}
+use Rattle.schema_merge.specs.KeyByKey.{all_keys}
 use Rattle.plain_sessions.specs.Sessions.{own_root}
 use Rattle.plain_sessions.specs.SystemTables as plain
 use Rattle.tuple_codec.specs.Edits.{order}

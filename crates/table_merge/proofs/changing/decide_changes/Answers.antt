@@ -1,7 +1,7 @@
 use Rattle.chunk_store.specs.Drafts.{chunks_of}
 use Rattle.tuple_codec.specs.Edits.{value_at}
 use Rattle.schema_model.specs.PlainTables.{row_items}
-use Rattle.plain_merge.specs.TableMerge.{table_of}
+use Rattle.schema_merge.specs.TableMerge.{table_of}
 use Rattle.table_merge.proofs.DecideLemmas.{can_decide, decided_on, decided_stops}
 use Rattle.table_merge.proofs.changing.decide_changes.Goals as goal
 

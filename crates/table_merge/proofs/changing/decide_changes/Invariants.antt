@@ -1,7 +1,7 @@
 use Rattle.std.proofs.Common.{drop, map}
 use Rattle.chunk_store.specs.Drafts.{chunks_of}
 use Rattle.node_format.specs.Views.{leaf_of}
-use Rattle.plain_merge.specs.TableMerge.{Three}
+use Rattle.schema_merge.specs.TableMerge.{Three}
 use Rattle.table_merge.specs.Skipping.{CanDecideAll}
 use Rattle.table_merge.proofs.DecideLemmas.{Deciding}
 use Rattle.table_merge.proofs.changing.decide_changes.Given as goal

@@ -1,6 +1,6 @@
 use Rattle.std.proofs.Common.{◌≡◌, ◌+◌, ◌++◌, length}
 use Rattle.tuple_codec.specs.Rows.{key_cmp}
-use Rattle.plain_merge.specs.KeyByKey.{keys_with}
+use Rattle.schema_merge.specs.KeyByKey.{keys_with}
 use Rattle.table_merge.proofs.keyed.keys_with.Given as goal
 
 abbrev pub invariant-heads : goal.invariant-heads

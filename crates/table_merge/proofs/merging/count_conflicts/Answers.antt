@@ -2,7 +2,7 @@ use Rattle.std.proofs.Common.{◌≡◌, ◌∙◌, length, IfOk, sym, subst}
 use Rattle.std.specs.Option.{option_copied}
 use Rattle.schema_model.specs.PlainTables.{PlainTable}
 use Rattle.chunk_store.specs.Drafts.{chunks_of}
-use Rattle.plain_merge.specs.TableMerge.{table_of}
+use Rattle.schema_merge.specs.TableMerge.{table_of}
 use Rattle.table_merge.proofs.SideLemmas.{known, side_within, three_of}
 use Rattle.table_merge.proofs.TableLemmas.{table_is}
 use Rattle.table_merge.proofs.merging.count_conflicts.Goals as goal

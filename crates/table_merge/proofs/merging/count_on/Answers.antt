@@ -1,6 +1,6 @@
 use Rattle.std.proofs.Common.{◌≡◌, length, IfOk, subst}
 use Rattle.chunk_store.specs.Drafts.{chunks_of}
-use Rattle.plain_merge.specs.TableMerge.{Three, table_of}
+use Rattle.schema_merge.specs.TableMerge.{Three, table_of}
 use Rattle.std.specs.Option.{option_copied}
 use Rattle.table_merge.proofs.ReadLemmas.{base_keyed, ours_keyed, theirs_keyed, three_is}
 use Rattle.table_merge.proofs.SideLemmas.{known}

@@ -5,7 +5,7 @@ use Rattle.chunk_store.specs.Chunks.{Extends}
 use Rattle.chunk_store.specs.Drafts.{chunks_of}
 use Rattle.chunk_store.specs.Kinds.{is_node}
 use Rattle.chunk_store.specs.Standing.{IsTree}
-use Rattle.tree_laws.proofs.Growing.{tree_later}
+use Rattle.prolly_tree.proofs.Growing.{tree_later}
 use Rattle.table_merge.proofs.KeepLemmas.{tree_rows}
 use Rattle.table_merge.proofs.merging.keep.Goals as goal
 

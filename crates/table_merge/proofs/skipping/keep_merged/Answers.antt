@@ -7,7 +7,7 @@ use Rattle.chunk_store.specs.Chunks.{Extends}
 use Rattle.chunk_store.specs.Drafts.{chunks_of}
 use Rattle.chunk_store.specs.Kinds.{is_node}
 use Rattle.chunk_store.specs.Standing.{IsTree}
-use Rattle.tree_laws.proofs.Growing.{tree_later}
+use Rattle.prolly_tree.proofs.Growing.{tree_later}
 use Rattle.prolly_edit.specs.Editing.{CanEdit}
 use Rattle.table_merge.proofs.KeepLemmas.{tree_rows}
 use Rattle.table_merge.proofs.skipping.keep_merged.Goals as goal

@@ -1,7 +1,7 @@
 use Rattle.std.proofs.Common.{◌≡◌, ◌≤◌, ◌∙◌, arith, subst, sym}
 use Rattle.std.specs.Option.{option_copied}
 use Rattle.tuple_codec.specs.RowRule.{row3}
-use Rattle.plain_merge.specs.TableMerge.{answer_at}
+use Rattle.schema_merge.specs.TableMerge.{answer_at}
 use Rattle.table_merge.specs.Walking.{conflicts_of, three_in}
 use Rattle.table_merge.proofs.WalkLemmas.{all_keys_are, at_key, count_on, counted_all, counting, one_at_most}
 use Rattle.table_merge.proofs.walking.count_conflicts_in.Goals as goal

@@ -1,8 +1,8 @@
 use Rattle.std.proofs.Common.{◌∙◌, Ok, Err, map, ap}
 use Rattle.std.specs.Option.{option_copied}
 use Rattle.node_format.specs.Views.{leaf_of}
-use Rattle.plain_merge.specs.TableMerge.{conflict_if}
-use Rattle.plain_merge.specs.KeyByKey.{kept}
+use Rattle.schema_merge.specs.TableMerge.{conflict_if}
+use Rattle.schema_merge.specs.KeyByKey.{kept}
 use Rattle.tuple_codec.specs.RowRule.{row3}
 use Rattle.table_merge.specs.Walking.{DecidesRow, sides_of, three_in}
 use Rattle.table_merge.proofs.WalkLemmas.{at_key, base_fits, key_fits, merged_fits, ours_fits, theirs_fits, walk_begun, walk_stops, stops_with, walked_all, walked_on}

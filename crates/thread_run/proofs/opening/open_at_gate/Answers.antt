@@ -2,7 +2,7 @@ use Rattle.std.proofs.Common.{◌≡◌, ◌∙◌, ◌+◌, ◌<◌, ◌≤◌,
 use Rattle.std.proofs.lemmas.Int.{to_z-of_z}
 use Rattle.script_text.specs.declared.scripts.Line.{Line}
 use Rattle.plain_sessions.specs.Records.{opening}
-use Rattle.session_laws.specs.Changes.{StateStands}
+use Rattle.session_state.specs.Changes.{StateStands}
 use Rattle.seat_gate.specs.History.{View, first_view}
 use Rattle.seat_gate.specs.Words.{gate_id}
 use Rattle.seat_gate.specs.Working.{AreNewcomers, giving_out}

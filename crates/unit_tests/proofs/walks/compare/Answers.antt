@@ -3,7 +3,7 @@ use Rattle.chunk_store.specs.Digests.{cut_address}
 use Rattle.chunk_store.specs.Drafts.{DraftParts, Longer, chunks_of}
 use Rattle.chunk_store.proofs.FollowLemmas.{drafts_follow}
 use Rattle.prolly_tree.specs.Lists.{StandsForRows}
-use Rattle.tree_laws.proofs.Growing.{tree_later}
+use Rattle.prolly_tree.proofs.Growing.{tree_later}
 use Rattle.unit_tests.proofs.walks.compare.Goals as goal
 
 stands_later : (old new : DraftParts) (k : List ℕ) → Longer old new → StandsForRows cut_address (chunks_of old) k → StandsForRows cut_address (chunks_of new) k

@@ -1,7 +1,7 @@
 use Rattle.std.proofs.Common.{◌≡◌, ◌<◌, ◌++◌, ◌∙◌, ap, subst, sym, arith}
 use Rattle.tuple_codec.specs.Nodes.{Node, Rise}
 use Rattle.chunk_store.specs.Drafts.{chunks_of}
-use Rattle.tree_laws.specs.Standing.{rows_below}
+use Rattle.prolly_tree.specs.Standing.{rows_below}
 use Rattle.prolly_tree.specs.Lists.{from_key, place_of}
 use Rattle.prolly_tree.specs.Walks.{CanWalk, Left, rows_above}
 use Rattle.prolly_tree.proofs.WalkLemmas.{below, down_can, down_to, seek_down, seek_over}

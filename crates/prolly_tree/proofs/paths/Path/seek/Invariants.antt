@@ -1,7 +1,7 @@
 use Rattle.std.proofs.Common.{◌≡◌, ◌++◌}
 use Rattle.tuple_codec.specs.Nodes.{Rise}
 use Rattle.chunk_store.specs.Drafts.{chunks_of}
-use Rattle.tree_laws.specs.Standing.{rows_below}
+use Rattle.prolly_tree.specs.Standing.{rows_below}
 use Rattle.prolly_tree.specs.Lists.{from_key}
 use Rattle.prolly_tree.specs.Walks.{CanWalk, rows_above}
 use Rattle.prolly_tree.proofs.paths.Path.seek.Given as goal

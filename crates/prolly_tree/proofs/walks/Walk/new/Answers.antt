@@ -1,9 +1,9 @@
 use Rattle.std.proofs.Common.{◌≡◌, ◌≤◌, List, ap, sym, ◌∙◌, subst, arith}
 use Rattle.tuple_codec.specs.Nodes.{Node}
 use Rattle.chunk_store.specs.Drafts.{chunks_of}
-use Rattle.tree_laws.specs.Found.{nodes_in}
-use Rattle.tree_laws.specs.Standing.{Leads}
-use Rattle.tree_laws.proofs.Standing.{trees_lead}
+use Rattle.prolly_tree.specs.Found.{nodes_in}
+use Rattle.prolly_tree.specs.Standing.{Leads}
+use Rattle.prolly_tree.proofs.Standing.{trees_lead}
 use Rattle.prolly_tree.specs.Walks.{left_in}
 use Rattle.prolly_tree.specs.Fronts.{IsReady, front_of, on_level, rows_ahead}
 use Rattle.prolly_tree.proofs.WalkLemmas.{begin}

@@ -1,5 +1,5 @@
 use Rattle.std.proofs.Common.{ap}
-use Rattle.session_laws.specs.Changes.{Parts}
+use Rattle.session_state.specs.Changes.{Parts}
 use Rattle.shared_db.specs.Stepping.{plain_step}
 use Rattle.shared_db.proofs.StandLemmas.{ends_restated}
 use Rattle.shared_db.proofs.shared.SharedDb.branch_step.Goals as goal

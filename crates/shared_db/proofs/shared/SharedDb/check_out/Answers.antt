@@ -1,5 +1,5 @@
 use Rattle.std.proofs.Common.{◌≡◌, ◌∙◌, ap, refl, sym, subst, cond, true, false, is_some}
-use Rattle.session_laws.specs.Changes.{StateStands}
+use Rattle.session_state.specs.Changes.{StateStands}
 use Rattle.shared_db.specs.Members.{lines_of}
 use Rattle.shared_db.specs.Shared.{Db, record_at}
 use Rattle.shared_db.specs.declared.changes.BranchReply.TheVariants as reply

@@ -2,8 +2,8 @@ use Rattle.std.proofs.Common.{◌∙◌, ap, refl, sym, subst, Option, option_ma
 use Rattle.tuple_codec.specs.declared.addresses.Address.{Address}
 use Rattle.chunk_store.specs.Chunks.{chunk_bytes}
 use Rattle.chunk_store.specs.Stores.{all_chunks}
-use Rattle.session_laws.specs.Changes.{StateStands}
-use Rattle.session_laws.specs.Records.{RecordStands}
+use Rattle.session_state.specs.Changes.{StateStands}
+use Rattle.session_state.specs.Records.{RecordStands}
 use Rattle.plain_sessions.specs.Records.{clean_at, root_of}
 use Rattle.shared_db.specs.Shared.{Db}
 use Rattle.shared_db.specs.Stepping.{point_asked}

@@ -1,5 +1,5 @@
 use Rattle.std.proofs.Common.{◌∙◌, ap, sym, subst}
-use Rattle.session_laws.specs.Changes.{StateStands}
+use Rattle.session_state.specs.Changes.{StateStands}
 use Rattle.shared_db.specs.Members.{lines_of}
 use Rattle.shared_db.specs.Shared.{Db}
 use Rattle.shared_db.specs.Stepping.{commit_at}

@@ -2,7 +2,7 @@ use Rattle.std.proofs.Common.{arith, refl, sym, subst, Option, Some}
 use Rattle.tuple_codec.specs.declared.records.BranchRecord.{BranchRecord}
 use Rattle.chunk_store.specs.Chunks.{chunk_bytes}
 use Rattle.plain_sessions.specs.Branching.{point_in}
-use Rattle.session_laws.specs.Changes.{StateStands}
+use Rattle.session_state.specs.Changes.{StateStands}
 use Rattle.shared_db.specs.Members.{lines_of}
 use Rattle.shared_db.specs.Shared.{Db}
 use Rattle.shared_db.specs.Stepping.{IsCleanAt, new_asked}

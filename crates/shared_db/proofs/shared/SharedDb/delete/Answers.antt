@@ -1,6 +1,6 @@
 use Rattle.std.proofs.Common.{◌≤◌, ◌∙◌, ap, refl, sym, subst}
 use Rattle.schema_model.specs.Limits.{most_branches}
-use Rattle.session_laws.specs.Changes.{StateStands}
+use Rattle.session_state.specs.Changes.{StateStands}
 use Rattle.shared_db.specs.Members.{lines_of, places_of}
 use Rattle.shared_db.specs.Shared.{Db}
 use Rattle.shared_db.specs.Stepping.{removing}

@@ -1,6 +1,6 @@
 use Rattle.std.proofs.Common.{◌≤◌, ◌∙◌, ap, sym, subst}
 use Rattle.schema_model.specs.Limits.{most_branches}
-use Rattle.session_laws.specs.Changes.{lines_rise}
+use Rattle.session_state.specs.Changes.{lines_rise}
 use Rattle.shared_db.specs.Members.{lines_of}
 use Rattle.shared_db.proofs.LineLemmas.{changed_rise}
 use Rattle.shared_db.proofs.shared.SharedDb.settle.Goals as goal

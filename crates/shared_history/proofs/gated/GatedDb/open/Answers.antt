@@ -3,7 +3,7 @@ use Rattle.std.specs.Prelude.{sum}
 use Rattle.std.proofs.lemmas.Int.{to_z-of_z}
 use Rattle.std.proofs.lemmas.List.{length-map}
 use Rattle.plain_sessions.specs.Records.{opening}
-use Rattle.session_laws.specs.Changes.{StateStands}
+use Rattle.session_state.specs.Changes.{StateStands}
 use Rattle.shared_history.proofs.FittingLemmas.{fits_first}
 use Rattle.shared_history.proofs.gated.GatedDb.open.Goals as goal
 

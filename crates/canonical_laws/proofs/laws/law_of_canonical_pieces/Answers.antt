@@ -1,7 +1,0 @@
-use Rattle.sql_grammar.specs.Expressions.{any}
-use Rattle.canonical_laws.proofs.Pieces.{reads_pieces_at}
-use Rattle.canonical_laws.proofs.laws.law_of_canonical_pieces.Goals as goal
-
-pub returns : goal.returns
-unfolding any
-returns c = record { any = λ x rest tree few ends. reads_pieces_at 64 x rest tree few ends; at_each_limit = reads_pieces_at }

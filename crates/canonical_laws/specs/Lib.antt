@@ -1,4 +1,0 @@
-pub mod Canonical
-pub mod Written
-pub mod Sound
-pub mod Laws

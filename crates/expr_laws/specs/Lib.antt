@@ -1,0 +1,3 @@
+pub mod CheckLaws
+pub mod KindLaws
+pub mod Kinds

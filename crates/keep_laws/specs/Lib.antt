@@ -1,0 +1,2 @@
+pub mod SchemaLaws
+pub mod StateLaws

@@ -1,5 +1,0 @@
-pub mod Operations
-pub mod Bound
-pub mod Cells
-pub mod Values
-mod Vectors

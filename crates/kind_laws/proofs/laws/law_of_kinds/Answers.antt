@@ -1,9 +1,0 @@
-use Rattle.kind_laws.proofs.Bound.{worths_have_kinds}
-use Rattle.kind_laws.proofs.Values.{values_have_kinds}
-use Rattle.kind_laws.proofs.laws.law_of_kinds.Goals as goal
-
-pub returns-clause-worths : goal.returns-clause-worths
-returns-clause-worths c = worths_have_kinds
-
-pub returns-clause-values : goal.returns-clause-values
-returns-clause-values c = values_have_kinds

@@ -1,4 +1,0 @@
-pub mod KeyByKey
-pub mod TableMerge
-pub mod RootMerge
-pub mod Changes

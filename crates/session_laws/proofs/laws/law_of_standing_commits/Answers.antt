@@ -1,5 +1,0 @@
-use Rattle.session_laws.proofs.CommitLemmas.{commits_follow}
-use Rattle.session_laws.proofs.laws.law_of_standing_commits.Goals as goal
-
-pub returns : goal.returns
-returns c = commits_follow c.law_of_chunks.ensures c.law_of_standing_commits.ensures c.law_of_sameness.ensures

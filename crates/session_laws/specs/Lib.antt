@@ -1,5 +1,0 @@
-pub mod Records
-pub mod Commits
-pub mod Transactions
-pub mod Changes
-pub mod Laws

@@ -1,8 +1,0 @@
-//! Laws of statements: whatever statement a text is, it is sound.
-//!
-//! Each law stands on a function that does nothing; proofs above call it, or import its lemma.
-#![tactic(auto)]
-
-mod laws;
-
-pub use laws::{law_of_kept_tables, law_of_sound_statements, law_of_statement_stops};

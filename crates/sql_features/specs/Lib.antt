@@ -1,3 +1,0 @@
-pub mod Features
-pub mod Nesting
-pub mod Depths

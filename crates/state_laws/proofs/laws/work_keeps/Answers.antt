@@ -1,5 +1,0 @@
-use Rattle.state_laws.proofs.StatementLemmas as statements
-use Rattle.state_laws.proofs.laws.work_keeps.Goals as goal
-
-pub returns : goal.returns
-returns c = statements.work_keeps c.all_keep.ensures c.law_of_merged_tables.ensures

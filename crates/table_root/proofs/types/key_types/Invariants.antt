@@ -1,0 +1,9 @@
+use Rattle.std.proofs.Common.{◌≡◌, ◌++◌, drop}
+use Rattle.std.specs.List.{flat_map, slice_get}
+use Rattle.schema_model.specs.PlainTables.{kinds}
+use Rattle.table_root.proofs.types.key_types.Given as goal
+
+abbrev pub invariant-loop-position : goal.invariant-loop-position
+invariant-loop-position l =
+    l.types.items ++ flat_map (λ position. kinds (slice_get l.columns position)) (drop l.position-index l.position-items)
+    ≡ flat_map (λ position. kinds (slice_get l.columns position)) l.position-items

@@ -1,5 +1,0 @@
-pub mod PlaceLemmas
-pub mod RowLemmas
-pub mod WritingLemmas
-pub mod ReadingLemmas
-mod Vectors

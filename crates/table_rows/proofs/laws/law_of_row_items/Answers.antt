@@ -1,5 +1,0 @@
-use Rattle.table_rows.proofs.RowLemmas.{items_follow}
-use Rattle.table_rows.proofs.laws.law_of_row_items.Goals as goal
-
-pub returns : goal.returns
-returns c = items_follow c.keys_keep_order.ensures.whole

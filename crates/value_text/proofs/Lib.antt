@@ -1,3 +1,0 @@
-pub mod CommaLemmas
-pub mod ScaleLemmas
-mod Vectors

@@ -1,6 +1,0 @@
-pub mod OrderLemmas
-pub mod OutcomeLemmas
-pub mod CellLemmas
-pub mod RowLemmas
-pub mod DatabaseLemmas
-pub mod Effects

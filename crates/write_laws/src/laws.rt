@@ -1,8 +1,0 @@
-//! What a statement that writes keeps of a database.
-
-ghost use Rattle.write_laws.specs.Laws.{WritesKeep};
-
-/// A database that keeps the limits on data is one after each INSERT, UPDATE and DELETE that isn't refused.
-pub fn writes_keep()
-    ensures { WritesKeep }
-{}
