@@ -28,6 +28,6 @@ BindAlike (Err n) (Ok b) = ⊥
 abbrev pub KeepsValues : Type 0
 KeepsValues = (scope : List ScopeColumn) (x : Expr) → is_tree x ≡ true → BindAlike (bound scope (paired x)) (bound scope x)
 
--- So of an expression that a text can give, where `sql_features` doesn't find it too deep: its canonical text is read, and what is read binds alike over every scope.
+-- So of an expression that a text can give, where `sql_text` doesn't find it too deep: its canonical text is read, and what is read binds alike over every scope.
 abbrev pub KeepsChecks : Type 0
 KeepsChecks = (x : Expr) → is_expr x ≡ true → is_deep x ≡ false → (y : Expr) × ((canonical_expression (text x) ≡ Some y) × ((scope : List ScopeColumn) → BindAlike (bound scope y) (bound scope x)))

@@ -1,4 +1,6 @@
 //! Writes on one database and its violations, as plain as they are defined.
+//!
+//! By the law of [`writes_keep`] a database within the limits on data stays one.
 #![tactic(auto)]
 
 mod assigning;

@@ -1,4 +1,7 @@
-//! Trees that are read: an address stands for a list of rows by rising key.
+//! What a tree is, and reading it: an address stands for a list of rows by rising key.
+//!
+//! The crates that build, edit and compare trees use the laws too: how lists are cut into nodes, and that the nodes of a tree that
+//! stands lead back to its rows.
 #![tactic(auto)]
 
 mod meets;

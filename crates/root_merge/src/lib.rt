@@ -1,6 +1,6 @@
 //! Databases that two sides have each taken on from one base, merged table by table in a draft, and the commit rule on branch records.
 //!
-//! The crates above use the clauses of [`merge_roots`], over the definitions of `plain_merge`, and of [`candidate`] and [`unmoved_candidate`], over those of `plain_sessions`.
+//! The crates above use the clauses of [`merge_roots`], over the definitions of `schema_merge`, and of [`candidate`] and [`unmoved_candidate`], over those of `plain_sessions`.
 #![tactic(auto)]
 
 mod candidates;

@@ -1,6 +1,8 @@
-//! Schemas that two sides have each taken on from one base, merged by the names of their parts, and rows of one schema as rows of another.
+//! What two sides that have each gone on from one base come to: schemas merged by the names of their parts, rows of one schema as rows
+//! of another, and tables and databases merged whole, as definitions.
 //!
-//! The crates above use the clauses of [`merge`] and [`project`].
+//! The crates above use the clauses of [`merge`], [`project`] and [`names_with`], the definitions `TableMerge.table3` and `RootMerge.root3`,
+//! and the law of [`changes_merge`], that merging by what changed is merging over all keys.
 #![tactic(auto)]
 
 mod choosing;

@@ -1,9 +1,10 @@
-//! The script that the program reads and the text that it writes.
+//! The script that a program reads, and what it writes: the text of a run, or the line that tells why there is none, and its status.
 //!
 //! The crates above use two definitions: `Input.script`, the script that bytes hold or the first line that breaks a
 //! rule, and `Output.text`, the bytes that a run's replies, order and branches are printed as; `read_script` and
 //! `print_output` are these, and `one_reading` says that a text shows one run alone. `Output.stop_text`, `print_stop` and `one_stop`
-//! are the same of an order that can't be followed.
+//! are the same of an order that can't be followed. `Statuses.number_of` has the number that the process ends with, `Lines` the lines of a
+//! broken rule and of a collision.
 #![tactic(auto)]
 
 mod blanks;

@@ -1,5 +1,6 @@
-//! The SQL text as tokens and as trees.
+//! The SQL text as tokens, as pieces, and as trees.
 //!
+//! A piece is a token with its value; the grammar reads pieces.
 //! A tree has one variant for each alternative of the grammar and one field for each of its parts, in the grammar's
 //! order. Parentheses leave no trace. Names are in lower case.
 #![tactic(auto)]

@@ -1,4 +1,4 @@
--- As many parentheses are open at one place of a canonical text's pieces as `sql_features` counts, up to 65.
+-- As many parentheses are open at one place of a canonical text's pieces as `sql_text` counts, up to 65.
 use Rattle.std.proofs.Common.{◌≡◌, ◌+◌, ◌∙◌, sym, ap, refl, subst, ℕ, max, min, List, [], ◌∷◌, ◌++◌, map, codes, arith}
 use Rattle.std.specs.List.{AllByRecursion}
 use Rattle.std.proofs.lemmas.List.{append-nil}

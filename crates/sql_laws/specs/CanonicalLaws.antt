@@ -42,7 +42,7 @@ KeepsText = (x : Expr) → text (paired x) ≡ text x
 abbrev pub SaysOneThing : Type 0
 SaysOneThing = (x y : Expr) → is_tree x ≡ true → is_tree y ≡ true → is_written x ≡ true → is_written y ≡ true → text x ≡ text y → paired x ≡ paired y
 
--- so many parentheses are open at one place as `sql_features` counts, up to 65
+-- so many parentheses are open at one place as `sql_text` counts, up to 65
 abbrev pub CountsOpen : Type 0
 CountsOpen = (x : Expr) → min (deepest 0 (canonical x)) 65 ≡ depth x
 
@@ -54,6 +54,6 @@ ReadsWritten = (depth : ℕ) (pieces rest : List Piece) (x : Expr) → are_given
 abbrev pub GivesPieces : Type 0
 GivesPieces = (statement : List ℕ) (found : List Token) → is_utf8 statement ≡ true → tokens statement ≡ Ok found → are_given Other (pieces_of statement found) ≡ true
 
--- the text of an expression that a text can give is UTF-8, and read as what it says, where `sql_features` doesn't find it too deep
+-- the text of an expression that a text can give is UTF-8, and read as what it says, where `sql_text` doesn't find it too deep
 abbrev pub StoresText : Type 0
 StoresText = (x : Expr) → is_expr x ≡ true → is_deep x ≡ false → (canonical_expression (text x) ≡ Some (paired x)) × (is_utf8 (text x) ≡ true)

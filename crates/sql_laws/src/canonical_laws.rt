@@ -26,7 +26,7 @@ pub fn law_of_one_text()
     ensures one { SaysOneThing }
 {}
 
-/// As many parentheses are open at one place of the pieces as `sql_features` counts, up to 65.
+/// As many parentheses are open at one place of the pieces as `sql_text` counts, up to 65.
 pub fn law_of_open_parentheses()
     ensures { CountsOpen }
 {}

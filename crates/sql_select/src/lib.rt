@@ -1,7 +1,7 @@
 //! What a SELECT shows of a database that a draft keeps as trees: the tables that it names are read, and answered
-//! as the definition of queries has it.
+//! as the definition of queries has it; and what a test seeks there, by primary keys or by the columns of an index.
 //!
-//! The crates above use `specs/Sources.antt`: what a SELECT knows.
+//! The crates above use `specs/Sources.antt`, what a SELECT knows, and [`sought`] and [`rows_sought`], with which UPDATE and DELETE seek, too.
 #![tactic(auto)]
 
 mod answering;

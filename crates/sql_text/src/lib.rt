@@ -1,6 +1,8 @@
-//! The canonical text of an expression: operations in parentheses with single spaces, words in capitals, names in lower case.
+//! The texts of values and expressions, and what an expression shows by its text.
 //!
-//! The crates above use `Canon.text`, a fold over the expression, which `canonical_text` gives.
+//! A canonical text has operations in parentheses with single spaces, words in capitals, names in lower case. The crates above use
+//! `Values.value_text`, the text of a value as replies print it; `Canon.text`, a fold over the expression, which `canonical_text` gives;
+//! and the folds of `Features`, `Nesting` and `Depths`, by which a statement is judged by its text alone.
 #![tactic(auto)]
 
 mod canon;

@@ -1,4 +1,4 @@
-//! Tables, databases and branch records as chunks: written into drafts, and read back.
+//! Tables, databases and branch records as chunks, and a table's rows as items of a tree: written into drafts, and read back.
 //!
 //! The crates above use the clauses of the calls, over the written forms of `schema_model`, and the words of `specs/`:
 //! what may be written, what is found at an address, and which plain table or database an address stands for.

@@ -1,8 +1,8 @@
 //! Rows and what they are made of: types, values, texts, addresses, and the records that name them.
 //!
 //! The crates above use the definitions of `specs/` (which value fits a type, how cells and keys are ordered, which
-//! bytes a key, a row and an address have), the clauses that tie the calls to them, and the laws that key bytes keep
-//! the order of keys and that bytes are one row's alone.
+//! bytes a key, a row and an address have, what edits make of lists of rows), the clauses that tie the calls to them, and the
+//! laws: that key bytes keep the order of keys, that bytes are one row's alone, and what edits and changes come to at each key.
 #![tactic(auto)]
 
 mod address_text;
