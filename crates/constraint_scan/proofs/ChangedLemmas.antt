@@ -20,11 +20,11 @@ use Rattle.schema_model.specs.Schemas.{are_distinct, are_foreign}
 use Rattle.plain_writes.specs.Violations.{Checks, Found, breaks_check, breaks_unique, first_of, first_violation, had_in, had_row, is_twin, is_whole, number_of, numbers_of, same_violation, table_in, violations}
 use Rattle.plain_writes.proofs.RowOrderLemmas.{both_so, clash, left_so, right_so, two}
 use Rattle.constraint_scan.specs.Changed.{AreAlike, has_just, is_failed, is_left, is_orphan, is_orphan_by, is_repeated, some_changed, some_kept, told_by_rows}
-use Rattle.constraint_scan.specs.Scanning.{empty_named}
+use Rattle.violation_lists.specs.Scanning.{empty_named}
 use Rattle.constraint_scan.proofs.CauseLemmas.{Cause, ByCheck, ByColumn, ByForeign, ByIndex, cause_of, found, of_failed, of_orphan, of_repeated, row_of}
 use Rattle.constraint_scan.proofs.MemberLemmas.{Stands, all_at, any_filtered, any_mapped, at_map, at_some, map_at, some_at}
-use Rattle.constraint_scan.proofs.NameLemmas.{Finds, Rise, each_found}
-use Rattle.constraint_scan.proofs.RefusalLemmas.{cells_itself, same_itself}
+use Rattle.violation_lists.proofs.NameLemmas.{Finds, Rise, each_found}
+use Rattle.violation_lists.proofs.RefusalLemmas.{cells_itself, same_itself}
 
 -- ---- the table that a table was
 

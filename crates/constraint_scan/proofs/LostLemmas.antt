@@ -12,10 +12,10 @@ use Rattle.schema_model.specs.PlainTables.{NamedTable, PlainDatabase, PlainTable
 use Rattle.plain_writes.specs.Violations.{Checks, first_violation, is_called, is_whole, keys_at, keys_of_parent, parent_keys, places_of, same_types, table_in, types_at}
 use Rattle.plain_writes.proofs.RowOrderLemmas.{both_so, clash, left_so, right_so, two}
 use Rattle.constraint_scan.specs.Changed.{AreAlike, has_just, is_deserted, is_failed, is_left, is_missed, is_missed_row, is_orphan, is_orphan_by, is_repeated, some_changed, some_deserted, some_kept, told_by_changes, told_by_rows, with_row}
-use Rattle.constraint_scan.specs.Scanning.{empty_named, empty_table, skeleton}
+use Rattle.violation_lists.specs.Scanning.{empty_named, empty_table, skeleton}
 use Rattle.constraint_scan.proofs.ChangedLemmas.{changed_there, kept_at, kept_there, rows_tell}
 use Rattle.constraint_scan.proofs.MemberLemmas.{Stands, any_mapped, at_some, some_at}
-use Rattle.constraint_scan.proofs.RefusalLemmas.{cells_itself}
+use Rattle.violation_lists.proofs.RefusalLemmas.{cells_itself}
 
 -- ---- schemas by names
 

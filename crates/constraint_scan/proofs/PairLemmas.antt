@@ -20,11 +20,11 @@ use Rattle.table_root.specs.declared.records.TableEntry as entries
 use Rattle.table_root.specs.Rows.{AreRowsAt}
 use Rattle.constraint_scan.specs.Changed.{ChangesTell, has_just, is_failed, is_missed, is_missed_row, is_orphan, is_orphan_by, is_repeated, repeats_by, some_changed, some_deserted}
 use Rattle.constraint_scan.specs.Pairs.{ArePairs, HasRoot, IsPair, come_of, deserts, some_come, some_deserts, told_by_pairs}
-use Rattle.constraint_scan.specs.Scanning.{skeleton}
+use Rattle.violation_lists.specs.Scanning.{skeleton}
 use Rattle.constraint_scan.specs.declared.pairing.Pair.{Pair}
 use Rattle.constraint_scan.proofs.LostLemmas.{keys_alike}
 use Rattle.constraint_scan.proofs.MemberLemmas.{any_filtered}
-use Rattle.constraint_scan.proofs.NameLemmas.{Finds, each_found}
+use Rattle.violation_lists.proofs.NameLemmas.{Finds, each_found}
 
 -- what the first of some pairs and the others are of
 pub record PairParts (address : List ℕ → List ℕ) (chunks : Chunks) (before after : PlainDatabase) (first : Pair) (rest : List Pair) : Type 0 where

@@ -8,7 +8,7 @@ use Rattle.schema_model.specs.declared.schemas.IndexDef.{IndexDef}
 use Rattle.schema_model.specs.declared.schemas.Schema.{Schema}
 use Rattle.schema_model.specs.PlainTables.{IsDatabase, NamedTable, PlainDatabase, PlainTable}
 use Rattle.plain_writes.specs.Violations.{Checks, breaks_check, breaks_foreign, breaks_unique, first_violation, is_whole, keys_of_parent, parent_keys, table_in}
-use Rattle.constraint_scan.specs.Scanning.{skeleton}
+use Rattle.violation_lists.specs.Scanning.{skeleton}
 
 -- ---- what a row breaks
 

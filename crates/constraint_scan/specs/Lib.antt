@@ -1,10 +1,3 @@
-pub mod Scanning
 pub mod Refusals
-pub mod Written
-pub mod Recording
-pub mod Recorded
-pub mod Seeking
-pub mod Roots
 pub mod Changed
-pub mod Thinned
 pub mod Pairs

@@ -2,7 +2,7 @@
 use Rattle.std.specs.Prelude.{◌≡◌, false, None}
 use Rattle.schema_model.specs.PlainTables.{PlainDatabase}
 use Rattle.plain_writes.specs.Violations.{Checks, first_violation}
-use Rattle.constraint_scan.specs.Scanning.{bare, has_constraints}
+use Rattle.violation_lists.specs.Scanning.{bare, has_constraints}
 
 -- it is told by schemas and rows alone; nothing is refused that leaves the database as it is, or that leaves it without a
 -- unique index, a CHECK or a foreign key

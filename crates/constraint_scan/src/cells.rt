@@ -6,7 +6,7 @@ ghost use Rattle.std.specs.Option.{option_to_list};
 ghost use Rattle.tuple_codec.specs.Rows.{cell_at, fits_all, key_cmp, key_of, same_cells, value_cmp};
 ghost use Rattle.schema_model.specs.Schemas.{is_schema};
 ghost use Rattle.plain_writes.specs.Violations.{is_whole, places_of, types_at};
-ghost use Rattle.constraint_scan.specs.Seeking.{can_seek, sought};
+ghost use Rattle.violation_lists.specs.Seeking.{can_seek, sought};
 
 use plain_sql::{append, is_null};
 use plain_writes::column_place;

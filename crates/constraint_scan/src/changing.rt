@@ -14,7 +14,6 @@ ghost use Rattle.table_root.specs.Standing.{IsTableOf};
 ghost use Rattle.constraint_scan.specs.Changed.{is_failed, is_missed, is_missed_row, is_orphan, is_orphan_by, is_repeated, repeats_by};
 ghost use Rattle.constraint_scan.specs.Pairs.{ArePairs, HavePairs, IsPair, come_of, deserts, some_come, some_deserts, told_by_pairs};
 
-use crate::canonical::CanonicalChecks;
 use crate::cells::{is_whole, places_of, types_at, widened};
 use crate::pairing::{Pair, rows_that_came};
 use crate::seeking::{has_child, has_parent_key, is_repeated};
@@ -26,6 +25,7 @@ use schema_model::{CheckDef, ForeignKey, Schema};
 use std::alloc::{AllocError, Global};
 use table_root::StoredTable;
 use tuple_codec::{Digester, Row, Value, key_of};
+use violation_lists::CanonicalChecks;
 
 /// Whether the table that a foreign key names is there and has this key. There are few tables, so the calls don't go deep.
 fn leads_to<D: Digester>(

@@ -1,39 +1,23 @@
 //! The refusal of a statement, by the rows that it changed.
 
 ghost use Rattle.std.specs.Prelude.{◌≡◌, IfOk};
-ghost use Rattle.std.specs.List.{list_any};
 ghost use Rattle.schema_model.specs.PlainTables.{PlainDatabase, PlainTable};
 ghost use Rattle.chunk_store.specs.Drafts.{chunks_of};
 ghost use Rattle.plain_writes.specs.Violations.{first_violation};
 ghost use Rattle.plain_writes.specs.CheckTexts.{checks};
 ghost use Rattle.table_root.specs.Standing.{AreThere, CanRead, IsReadAt, IsTableAt};
-ghost use Rattle.constraint_scan.specs.Scanning.{constrained_beside, has_constraints, has_constraints_beside, is_constrained};
+ghost use Rattle.violation_lists.specs.Scanning.{constrained_beside, has_constraints, has_constraints_beside, is_constrained};
 
-use crate::canonical::CanonicalChecks;
 use crate::changing::told_by_pairs;
 use crate::laws::{law_of_changes, law_of_refusals};
 use crate::pairing::read_pairs;
-use crate::reading::read_tables;
 use chunk_store::Draft;
 use plain_writes::first_violation as first_of_tables;
-use schema_model::{IndexDef, Schema};
+use schema_model::Schema;
 use std::alloc::{AllocError, Global};
 use table_root::{TableEntry, law_of_databases, law_of_tables, read_database, read_table};
 use tuple_codec::{Address, Digester};
-
-fn is_any_unique(indexes: &[IndexDef]) -> bool
-    ensures { result ≡ list_any (λ index. index.unique) indexes.now }
-{
-    indexes.iter().any(|index| index.unique)
-}
-
-/// Whether the schema has a unique index, a CHECK or a foreign key.
-pub(crate) fn is_constrained(schema: &Schema) -> bool
-    ensures { result ≡ is_constrained schema.now }
-{
-    is_any_unique(schema.indexes.as_slice())
-        || (!schema.checks.as_slice().is_empty() || !schema.foreign.as_slice().is_empty())
-}
+use violation_lists::{CanonicalChecks, is_constrained, read_tables};
 
 /// Whether the table at an address has a constraint beside NOT NULL.
 fn is_table_constrained<D: Digester>(

@@ -9,7 +9,7 @@ ghost use Rattle.chunk_store.specs.Drafts.{chunks_of};
 ghost use Rattle.table_root.specs.Standing.{AreThere, CanRead, IsReadAt, IsTableAt, IsTableOf};
 ghost use Rattle.table_root.specs.Rows.{AreRowsAt, HasRowsAt};
 ghost use Rattle.constraint_scan.specs.Pairs.{ArePairs, HasRoot, IsPair, come_of, come_pairs, row_pairs};
-ghost use Rattle.constraint_scan.specs.Recording.{IsEntryOf};
+ghost use Rattle.violation_lists.specs.Recording.{IsEntryOf};
 
 use chunk_store::Draft;
 use pair_walk::{ReadCount, changes};

@@ -8,17 +8,17 @@ ghost use Rattle.schema_model.specs.declared.schemas.IndexDef as defs;
 ghost use Rattle.chunk_store.specs.Drafts.{chunks_of};
 ghost use Rattle.plain_writes.specs.Violations.{breaks_unique, is_whole, keys_at, keys_of_parent};
 ghost use Rattle.table_root.specs.Standing.{IsTableOf};
-ghost use Rattle.constraint_scan.specs.Seeking.{sought};
-ghost use Rattle.constraint_scan.specs.Roots.{IsIndexedAt};
+ghost use Rattle.violation_lists.specs.Seeking.{sought};
+ghost use Rattle.violation_lists.specs.Roots.{IsIndexedAt};
 
 use crate::cells::{has_any, has_other, is_whole, places_of, sought, sought_of, types_at, widened};
-use crate::entries::{begins_another, begins_any, root_for, starts};
 use chunk_store::Draft;
 use plain_writes::same_types;
 use schema_model::{ForeignKey, IndexDef, Schema};
 use std::alloc::{AllocError, Global};
 use table_root::{StoredTable, read_rows};
 use tuple_codec::{Address, Digester, Row, Sequence, Value, copy_row, key_of};
+use violation_lists::{begins_another, begins_any, root_for, starts};
 
 /// All rows of a table.
 fn rows_of<D: Digester>(
@@ -180,7 +180,7 @@ fn is_repeated_in_index<D: Digester>(
 
 /// Whether a row breaks the table's unique index at this place: whether a row of another primary key has the cells of this one in the
 /// index's columns, none of which is NULL.
-pub fn is_repeated<D: Digester>(
+pub(crate) fn is_repeated<D: Digester>(
     alloc: Global,
     draft: &Draft<D>,
     table: &StoredTable,
@@ -251,26 +251,8 @@ pub(crate) fn has_parent_key<D: Digester>(
     }
 }
 
-/// Whether the parent table has the key of this row of a table of the schema that has the foreign key. It has none where a column isn't there, or
-/// is of another type.
-pub fn has_parent<D: Digester>(
-    alloc: Global,
-    draft: &Draft<D>,
-    parent: &StoredTable,
-    schema: &Schema,
-    foreign: &ForeignKey,
-    row: &[Value],
-) -> Result<bool, AllocError>
-    requires { (contents : PlainTable) × IsTableOf D.address (chunks_of draft.now.chunks) parent.now contents }
-    ensures { (contents : PlainTable) → IsTableOf D.address (chunks_of draft.now.chunks) parent.now contents
-        → IfOk result (λ found. found ≡ list_any (same_cells (key_of foreign.now.columns row.now)) (keys_of_parent schema.now foreign.now contents)) }
-{
-    let key = key_of(alloc, foreign.columns.as_slice(), row)?;
-    has_parent_key(alloc, draft, parent, schema, foreign, &key)
-}
-
 /// Whether a row of the table that has the foreign key has this key in its columns.
-pub fn has_child<D: Digester>(
+pub(crate) fn has_child<D: Digester>(
     alloc: Global,
     draft: &Draft<D>,
     child: &StoredTable,

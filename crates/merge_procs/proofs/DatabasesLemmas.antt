@@ -5,12 +5,12 @@ use Rattle.std.specs.Option.{option_map_or}
 use Rattle.std.proofs.lemmas.Bool.{and_parts}
 use Rattle.std.proofs.lemmas.Bool.Decides.{nat_tests}
 use Rattle.chunk_store.specs.Chunks.{Chunks}
-use Rattle.constraint_scan.specs.Recorded.{AllAreRecorded}
-use Rattle.constraint_scan.specs.Recording as recording
-use Rattle.constraint_scan.specs.Recording.{may_stand, may_stand_in}
+use Rattle.violation_lists.specs.Recorded.{AllAreRecorded}
+use Rattle.violation_lists.specs.Recording as recording
+use Rattle.violation_lists.specs.Recording.{may_stand, may_stand_in}
 use Rattle.table_root.specs.Kept.{IsKeptAt}
-use Rattle.constraint_scan.specs.Written.{written, written_in}
-use Rattle.constraint_scan.specs.declared.listing.ListedViolation.{ListedViolation}
+use Rattle.violation_lists.specs.Written.{written, written_in}
+use Rattle.violation_lists.specs.declared.listing.ListedViolation.{ListedViolation}
 use Rattle.expr_eval.specs.Binding.{Outcome, and_then}
 use Rattle.schema_model.specs.PlainTables.{PlainDatabase, PlainTable}
 use Rattle.schema_model.proofs.SizeLemmas.{few_tables}

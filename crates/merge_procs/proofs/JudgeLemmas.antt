@@ -16,7 +16,7 @@ use Rattle.schema_model.specs.WrittenForms.{table_address}
 use Rattle.schema_model.proofs.SizeLemmas.{kept_few}
 use Rattle.chunk_store.specs.Chunks.{Chunks, Extends}
 use Rattle.table_root.specs.Kept.{IsKeptAt}
-use Rattle.constraint_scan.proofs.RecordLemmas.{there_later}
+use Rattle.violation_lists.proofs.RecordLemmas.{there_later}
 use Rattle.expr_eval.specs.Binding.{Outcome, and_then}
 use Rattle.table_root.specs.Standing.{AreThere, IsReadAt, IsTableAt, TablesStand, named_tables}
 use Rattle.table_root.specs.declared.records.TableEntry as entries

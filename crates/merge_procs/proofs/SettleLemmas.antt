@@ -8,9 +8,9 @@ use Rattle.schema_model.specs.PlainTables as plain
 use Rattle.schema_model.specs.PlainTables.{PlainDatabase, PlainTable}
 use Rattle.chunk_store.specs.Chunks.{Chunks, Extends}
 use Rattle.chunk_store.specs.Standing.{IsTree}
-use Rattle.constraint_scan.specs.Recording.{IsEntryOf, MayStand}
-use Rattle.constraint_scan.proofs.RecordLemmas.{there_later}
-use Rattle.constraint_scan.proofs.StandLemmas.{Parts}
+use Rattle.violation_lists.specs.Recording.{IsEntryOf, MayStand}
+use Rattle.violation_lists.proofs.RecordLemmas.{there_later}
+use Rattle.violation_lists.proofs.StandLemmas.{Parts}
 use Rattle.table_root.specs.Standing.{AreThere, IsTableAt, IsTableOf, TableValuesStand, TablesStand}
 use Rattle.table_root.specs.Tables.{IsTableFound}
 use Rattle.table_root.specs.declared.records.StoredTable.{StoredTable}

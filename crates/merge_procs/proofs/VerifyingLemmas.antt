@@ -4,7 +4,7 @@ use Rattle.tuple_codec.specs.declared.addresses.Address.{Address}
 use Rattle.tuple_codec.specs.declared.records.BranchRecord.{BranchRecord}
 use Rattle.chunk_store.specs.Chunks.{Chunks, Extends}
 use Rattle.table_root.specs.Kept.{IsKeptAt}
-use Rattle.constraint_scan.specs.declared.listing.ListedViolation.{ListedViolation}
+use Rattle.violation_lists.specs.declared.listing.ListedViolation.{ListedViolation}
 use Rattle.expr_eval.specs.Binding.{Outcome}
 use Rattle.schema_model.specs.PlainCommits.{Commits}
 use Rattle.schema_model.specs.PlainTables.{PlainDatabase}

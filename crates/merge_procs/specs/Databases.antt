@@ -3,8 +3,8 @@ use Rattle.std.specs.Prelude.{◌≡◌, ℕ, Bool, true, false, List, Ok, Err}
 use Rattle.std.specs.List.{flat_map}
 use Rattle.chunk_store.specs.Chunks.{Chunks}
 use Rattle.table_root.specs.Kept.{IsKeptAt}
-use Rattle.constraint_scan.specs.Written.{written_in}
-use Rattle.constraint_scan.specs.declared.listing.ListedViolation.{ListedViolation}
+use Rattle.violation_lists.specs.Written.{written_in}
+use Rattle.violation_lists.specs.declared.listing.ListedViolation.{ListedViolation}
 use Rattle.expr_eval.specs.Binding.{Outcome, and_then}
 use Rattle.schema_model.specs.PlainTables.{PlainDatabase}
 use Rattle.schema_merge.specs.RootMerge.{MergedDatabase, root3}

@@ -14,12 +14,12 @@ ghost use Rattle.root_merge.specs.Merging.{AreRoots, IsMadeOf};
 ghost use Rattle.merge_procs.specs.Databases.{AreAllIn, IsMet, merged_of};
 
 use chunk_store::{Draft, PutFault};
-use constraint_scan::{ListedViolation, law_of_recording, record_violations, violations};
 use root_merge::{Merged, merge_roots};
 use sql_write::laws_of_growth;
 use std::alloc::{AllocError, Global};
 use table_merge::MergeFault;
 use tuple_codec::{Address, Digester};
+use violation_lists::{ListedViolation, law_of_recording, record_violations, violations};
 
 /// What three databases come to.
 #[derive(Drop)]

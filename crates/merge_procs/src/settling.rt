@@ -6,7 +6,7 @@ ghost use Rattle.schema_model.specs.PlainTables.{PlainDatabase, PlainTable};
 ghost use Rattle.chunk_store.specs.Clashes.{IsReason};
 ghost use Rattle.chunk_store.specs.Drafts.{Grows, chunks_of};
 ghost use Rattle.chunk_store.specs.Kinds.{is_data, is_node};
-ghost use Rattle.constraint_scan.specs.Recording.{IsEntryOf};
+ghost use Rattle.violation_lists.specs.Recording.{IsEntryOf};
 ghost use Rattle.index_keep.specs.Keeping.{with_rows};
 ghost use Rattle.table_root.specs.Standing.{AreThere, IsTableAt, IsTableOf};
 ghost use Rattle.plain_sessions.specs.Merging.{database_after, rows_after, table_after};
@@ -16,7 +16,6 @@ ghost use Rattle.merge_procs.specs.Resolving.{CanSettle, CanSettleEach, CanSettl
 use crate::takings::is_meant;
 use chunk_store::{Draft, PutFault, law_of_growth};
 use conflict_tables::theirs_edits;
-use constraint_scan::keep_table;
 use index_keep::apply_with_indexes;
 use node_chunker::build;
 use sql_procedures::{Resolution, Side};
@@ -24,6 +23,7 @@ use sql_write::laws_of_growth;
 use std::alloc::Global;
 use table_root::{StoredTable, TableEntry, law_of_row_items, read_table};
 use tuple_codec::{Address, Digester, Sequence, Text, keys_are_one_spelling};
+use violation_lists::keep_table;
 
 /// The table with theirs' row, or none, at each conflict's key.
 fn with_theirs<D: Digester>(

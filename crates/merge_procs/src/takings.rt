@@ -9,7 +9,7 @@ ghost use Rattle.schema_model.specs.PlainTables as plain;
 ghost use Rattle.schema_model.specs.PlainTables.{Conflict, PlainDatabase, PlainTable};
 ghost use Rattle.schema_model.specs.Schemas.{is_schema};
 ghost use Rattle.chunk_store.specs.Drafts.{chunks_of};
-ghost use Rattle.constraint_scan.specs.Recording.{IsEntryOf};
+ghost use Rattle.violation_lists.specs.Recording.{IsEntryOf};
 ghost use Rattle.table_root.specs.Standing.{AreThere, IsTableAt};
 ghost use Rattle.plain_sql.specs.Answers.{is_null};
 ghost use Rattle.plain_sessions.specs.Merging.{breaks_index, breaks_null, has_null_at, is_meant, is_theirs, takes_bad_row, their_rows};

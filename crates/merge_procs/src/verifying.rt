@@ -20,12 +20,12 @@ ghost use Rattle.merge_procs.specs.Steps.{IsStep};
 use crate::databases::{all_violations, record_all};
 use crate::steps::{Made, Step};
 use chunk_store::{Draft, PutFault, law_of_drafts, law_of_growth};
-use constraint_scan::ListedViolation;
 use script_text::Reply;
 use sql_procedures::Verification;
 use std::alloc::{AllocError, Global};
 use table_root::law_of_databases;
 use tuple_codec::{Address, Answer, BranchRecord, Digester, Row, Sequence, SqlType, Text, Value};
+use violation_lists::ListedViolation;
 
 /// A row with the column `violations`, and whether there are any.
 fn found_reply(alloc: Global, found: bool) -> Result<Reply, AllocError>

@@ -19,11 +19,11 @@ use Rattle.tuple_codec.proofs.Lists.{none_below}
 use Rattle.tuple_codec.proofs.Truths.{not_true as bool_false, not_false as bool_true}
 use Rattle.plain_writes.specs.Violations.{Found, table_in, violations}
 use Rattle.plain_writes.specs.CheckTexts.{checks}
-use Rattle.constraint_scan.specs.Recorded.{AllAreRecorded}
-use Rattle.constraint_scan.specs.Recording as recording
+use Rattle.violation_lists.specs.Recorded.{AllAreRecorded}
+use Rattle.violation_lists.specs.Recording as recording
 use Rattle.table_root.specs.Kept.{IsKeptAt}
-use Rattle.constraint_scan.specs.Written.{written, written_in}
-use Rattle.constraint_scan.specs.declared.listing.ListedViolation.{ListedViolation}
+use Rattle.violation_lists.specs.Written.{written, written_in}
+use Rattle.violation_lists.specs.declared.listing.ListedViolation.{ListedViolation}
 use Rattle.plain_sessions.specs.CommitRule.{both_merged, candidate, decide, has_violations, is_in_conflict, is_in_violation, is_none, judged, merged, recorded, without_conflicts}
 use Rattle.plain_sessions.specs.Records.{BranchState, is_same_state}
 use Rattle.plain_sessions.specs.Sessions.{Variables}

@@ -20,10 +20,10 @@ use crate::laws::{laws_of_growth, laws_of_states};
 use crate::merging::merge_roots;
 use crate::settling::{Left, Settled, is_unsettled, left_in_database, left_in_record};
 use chunk_store::{Draft, PutFault};
-use constraint_scan::{ListedViolation, record_violations, violations};
 use std::alloc::{AllocError, Global};
 use table_merge::MergeFault;
 use tuple_codec::{Address, BranchRecord, Digester};
+use violation_lists::{ListedViolation, record_violations, violations};
 
 /// What databases come to where they are merged.
 #[derive(Clone, Copy, PartialEq, Eq)]

@@ -19,9 +19,9 @@ use Rattle.schema_model.specs.declared.schemas.Schema.{Schema}
 use Rattle.schema_model.proofs.FitLemmas.{key_types_fit, primary_key_fits}
 use Rattle.plain_writes.specs.Violations.{types_at}
 use Rattle.tuple_codec.proofs.FieldLemmas.{key_bytes_joined as bytes_joined}
-use Rattle.constraint_scan.specs.Seeking.{begins}
-use Rattle.constraint_scan.proofs.PrefixLemmas.{below_not, past, still}
-use Rattle.constraint_scan.proofs.SeekLemmas.{begins_joined, cells_fit, types_fit}
+use Rattle.violation_lists.specs.Seeking.{begins}
+use Rattle.violation_lists.proofs.PrefixLemmas.{below_not, past, still}
+use Rattle.violation_lists.proofs.SeekLemmas.{begins_joined, cells_fit, types_fit}
 use Rattle.sql_select.specs.Entries.{IsUnder, behind, has_cells}
 use Rattle.sql_select.specs.Seeking.{row_with}
 use Rattle.sql_select.proofs.SpanLemmas.{Rises, next_less, rest_rises}

@@ -9,7 +9,7 @@ use Rattle.schema_model.specs.PlainTables.{PlainTable, index_item, index_items, 
 use Rattle.schema_model.specs.Schemas.{is_schema}
 use Rattle.schema_model.specs.declared.schemas.IndexDef.{IndexDef}
 use Rattle.schema_model.specs.declared.schemas.Schema.{Schema}
-use Rattle.constraint_scan.specs.Roots.{IsIndexedAt}
+use Rattle.violation_lists.specs.Roots.{IsIndexedAt}
 use Rattle.table_root.specs.Standing.{IsTableOf}
 use Rattle.table_root.specs.declared.records.StoredTable.{StoredTable}
 use Rattle.tuple_codec.proofs.Options.{some_is}
@@ -17,7 +17,7 @@ use Rattle.tuple_codec.specs.Trees.{root}
 use Rattle.tuple_codec.specs.Rows.{Cells, fits_all}
 use Rattle.tuple_codec.specs.declared.addresses.Address.{Address}
 use Rattle.plain_writes.specs.Violations.{types_at}
-use Rattle.constraint_scan.proofs.TreeLemmas.{indexed_at}
+use Rattle.violation_lists.proofs.TreeLemmas.{indexed_at}
 use Rattle.sql_select.specs.Entries.{AreEntriesOf, has_cells, has_cells_in, is_entered}
 use Rattle.sql_select.specs.declared.entries.Entries.{Entries}
 use Rattle.sql_select.proofs.EntryLemmas.{places_within}

@@ -6,7 +6,7 @@ use Rattle.schema_model.specs.PlainTables.{is_row, primary_key}
 use Rattle.schema_model.specs.declared.schemas.IndexDef.{IndexDef}
 use Rattle.schema_model.specs.declared.schemas.Schema.{Schema}
 use Rattle.plain_writes.specs.Violations.{types_at}
-use Rattle.constraint_scan.specs.Seeking.{begins}
+use Rattle.violation_lists.specs.Seeking.{begins}
 use Rattle.sql_select.specs.Seeking.{row_with}
 use Rattle.sql_select.specs.declared.entries.Entries.{Entries}
 

@@ -11,7 +11,7 @@ ghost use Rattle.schema_model.specs.Schemas.{is_schema};
 ghost use Rattle.schema_model.specs.declared.schemas.IndexDef as defs;
 ghost use Rattle.plain_writes.specs.Violations.{types_at};
 ghost use Rattle.table_root.specs.Standing.{IsTableOf};
-ghost use Rattle.constraint_scan.specs.Roots.{IsIndexedAt};
+ghost use Rattle.violation_lists.specs.Roots.{IsIndexedAt};
 ghost use Rattle.sql_select.specs.Entries.{AreEntriesOf, IsUnder, behind, has_cells, is_entered};
 ghost use Rattle.sql_select.specs.Parts.{AreEntriesIn, IsFixed};
 ghost use Rattle.sql_select.specs.Seeking.{Seeks};

@@ -26,7 +26,7 @@ use Rattle.plain_schemas.specs.Effects.{changed_to, check_allowed, create_effect
 use Rattle.plain_schemas.specs.Lists.{all_allowed, kinds_at, places}
 use Rattle.plain_schemas.specs.Made.{columns_made, schema_of}
 use Rattle.plain_schemas.specs.declared.changing.ColumnChange.TheVariants as change
-use Rattle.constraint_scan.specs.Scanning.{empty_named, empty_table, skeleton}
+use Rattle.violation_lists.specs.Scanning.{empty_named, empty_table, skeleton}
 use Rattle.sql_write.specs.Skeletons.{SchemasSuffice, schema_created, schema_judged, schema_within, table_altered, table_goes, with_altered, with_schema, without_if}
 use Rattle.sql_write.proofs.TurningLemmas.{under}
 

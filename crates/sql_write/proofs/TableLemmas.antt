@@ -19,7 +19,7 @@ use Rattle.plain_writes.specs.Writes.{replaced, replaced_in}
 use Rattle.table_root.specs.Kept.{IsKeptAt}
 use Rattle.plain_writes.proofs.DatabaseLemmas.{length_same, names_by, names_rise, tables_are}
 use Rattle.plain_writes.proofs.RowOrderLemmas.{right_so, two}
-use Rattle.constraint_scan.specs.Scanning.{constrained_beside, has_constraints, has_constraints_beside, is_constrained}
+use Rattle.violation_lists.specs.Scanning.{constrained_beside, has_constraints, has_constraints_beside, is_constrained}
 use Rattle.sql_write.specs.Putting.{AreListed, AreListedAt, address_in, readdress, readdressed}
 
 -- ---- a database that keeps the limits

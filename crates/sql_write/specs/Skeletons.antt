@@ -16,7 +16,7 @@ use Rattle.plain_schemas.specs.Altered.{altered, change_of, is_open, table_after
 use Rattle.plain_schemas.specs.Effects.{changed_to, check_allowed, create_effect, drop_effect, foreign_allowed, is_child, is_there, key_lists, with_table, without_table}
 use Rattle.plain_schemas.specs.Lists.{all_allowed}
 use Rattle.plain_schemas.specs.Made.{columns_made, schema_of}
-use Rattle.constraint_scan.specs.Scanning.{skeleton}
+use Rattle.violation_lists.specs.Scanning.{skeleton}
 
 -- ---- CREATE
 

@@ -29,7 +29,6 @@ use crate::schemas::schemas_suffice;
 use crate::tables::put_table;
 use crate::writing::Written;
 use chunk_store::{Draft, PutFault};
-use constraint_scan::{CanonicalChecks, read_schemas};
 use keep_laws::schemas_keep;
 use plain_schemas::{ColumnChange, change_of, table_after};
 use plain_sql::Refused;
@@ -40,6 +39,7 @@ use sql_ast::Alter;
 use std::alloc::Global;
 use table_root::{StoredTable, TableEntry, read_rows};
 use tuple_codec::{Address, Digester, Row, Sequence};
+use violation_lists::{CanonicalChecks, read_schemas};
 
 /// Whether a tree has rows.
 fn has_rows<D: Digester>(draft: &Draft<D>, root: &Address) -> bool

@@ -21,13 +21,13 @@ use crate::schemas::{schema_created, schemas_suffice};
 use crate::tables::{put_database, read_tables};
 use crate::writing::Written;
 use chunk_store::{Draft, PutFault};
-use constraint_scan::{keep_table, read_schemas};
 use keep_laws::schemas_keep;
 use schema_model::Schema;
 use sql_ast::CreateTable;
 use std::alloc::Global;
 use table_root::TableEntry;
 use tuple_codec::{Address, Digester, Text};
+use violation_lists::{keep_table, read_schemas};
 
 /// Puts an empty table of this schema into a database: the new database's address.
 fn add_table<D: Digester>(

@@ -14,11 +14,11 @@ use crate::schemas::{schemas_suffice, table_goes};
 use crate::tables::{put_database, read_tables};
 use crate::writing::Written;
 use chunk_store::Draft;
-use constraint_scan::read_schemas;
 use keep_laws::schemas_keep;
 use sql_ast::DropTable;
 use std::alloc::Global;
 use tuple_codec::{Address, Digester};
+use violation_lists::read_schemas;
 
 /// Takes a table out of the database at an address.
 pub(crate) fn drop_table<D: Digester>(

@@ -11,7 +11,7 @@ ghost use Rattle.table_root.specs.Standing.{CanRead, IsReadAt};
 ghost use Rattle.plain_writes.specs.Violations.{first_violation};
 ghost use Rattle.plain_writes.specs.Writes.{effect_if, filled, replaced, with_rows};
 ghost use Rattle.plain_writes.specs.CheckTexts.{checks};
-ghost use Rattle.constraint_scan.specs.Scanning.{has_constraints};
+ghost use Rattle.violation_lists.specs.Scanning.{has_constraints};
 ghost use Rattle.sql_write.specs.Making.{Makes};
 ghost use Rattle.sql_write.specs.Putting.{CanFill, CanPut};
 

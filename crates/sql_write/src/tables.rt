@@ -12,10 +12,10 @@ ghost use Rattle.sql_write.specs.Putting.{AreListed, AreListedAt, MayReplace, ad
 
 use crate::laws::laws_of_growth;
 use chunk_store::{Draft, PutFault};
-use constraint_scan::keep_table;
 use std::alloc::{AllocError, Global};
 use table_root::{StoredTable, TableEntry, read_database, read_table, write_database};
 use tuple_codec::{Address, Digester};
+use violation_lists::keep_table;
 
 /// The names and addresses of the tables of the database at an address, by rising name. None of the tables is read.
 pub fn read_tables<D: Digester>(

@@ -2,7 +2,7 @@ use Rattle.std.proofs.Common.{◌≡◌, sym, ap}
 use Rattle.std.proofs.lemmas.Result.{IfOk-weaker}
 use Rattle.tuple_codec.proofs.Lists.{none_below}
 use Rattle.chunk_store.specs.Drafts.{chunks_of}
-use Rattle.constraint_scan.proofs.StandLemmas.{parts_of, there_none}
+use Rattle.violation_lists.proofs.StandLemmas.{parts_of, there_none}
 use Rattle.plain_sessions.specs.Branching.{is_open}
 use Rattle.branch_procs.proofs.OpenLemmas.{any_first, any_later}
 use Rattle.branch_procs.proofs.opening.+any_is_open.Goals as goal

@@ -1,6 +1,6 @@
 use Rattle.std.proofs.Common.{◌∙◌, ap}
 use Rattle.tuple_codec.specs.Limits.{are_types}
-use Rattle.constraint_scan.proofs.SeekLemmas.{types_fit}
+use Rattle.violation_lists.proofs.SeekLemmas.{types_fit}
 use Rattle.constraint_scan.proofs.cells.sought.Goals as goal
 
 pub encode_key-requires-clause-types : goal.encode_key-requires-clause-types

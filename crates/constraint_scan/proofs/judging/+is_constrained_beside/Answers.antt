@@ -3,8 +3,8 @@ use Rattle.std.proofs.lemmas.Result.{IfOk-weaker}
 use Rattle.tuple_codec.proofs.Lists.{any_first, any_later, none_below}
 use Rattle.schema_model.specs.PlainTables.{NamedTable}
 use Rattle.chunk_store.specs.Drafts.{chunks_of}
-use Rattle.constraint_scan.specs.Scanning.{constrained_beside, has_constraints_beside}
-use Rattle.constraint_scan.proofs.StandLemmas.{parts_of, there_none}
+use Rattle.violation_lists.specs.Scanning.{constrained_beside, has_constraints_beside}
+use Rattle.violation_lists.proofs.StandLemmas.{parts_of, there_none}
 use Rattle.constraint_scan.proofs.judging.+is_constrained_beside.Goals as goal
 
 pub is_one_constrained-requires-after_bounds : goal.is_one_constrained-requires-after_bounds

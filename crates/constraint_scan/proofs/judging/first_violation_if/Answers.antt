@@ -4,7 +4,7 @@ use Rattle.chunk_store.specs.Drafts.{chunks_of}
 use Rattle.table_root.specs.Standing.{IsDatabaseAt}
 use Rattle.plain_writes.specs.Violations.{first_violation}
 use Rattle.plain_writes.specs.CheckTexts.{checks}
-use Rattle.constraint_scan.specs.Scanning.{has_constraints}
+use Rattle.violation_lists.specs.Scanning.{has_constraints}
 use Rattle.constraint_scan.proofs.judging.first_violation_if.Goals as goal
 
 pub returns-then-eq : goal.returns-then-eq

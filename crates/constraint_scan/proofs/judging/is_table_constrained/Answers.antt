@@ -1,8 +1,8 @@
 use Rattle.std.proofs.Common.{◌∙◌, ap}
 use Rattle.chunk_store.specs.Drafts.{chunks_of}
 use Rattle.table_root.specs.declared.records.StoredTable.{StoredTable}
-use Rattle.constraint_scan.specs.Scanning.{is_constrained}
-use Rattle.constraint_scan.proofs.StandLemmas.{table_found, table_same}
+use Rattle.violation_lists.specs.Scanning.{is_constrained}
+use Rattle.violation_lists.proofs.StandLemmas.{table_found, table_same}
 use Rattle.constraint_scan.proofs.judging.is_table_constrained.Goals as goal
 
 pub read_table-requires-after_bounds : goal.read_table-requires-after_bounds

@@ -1,5 +1,5 @@
-use Rattle.constraint_scan.proofs.FreeLemmas.{free_of_refusals}
-use Rattle.constraint_scan.proofs.RefusalLemmas.{nothing_new, refusal_told}
+use Rattle.violation_lists.proofs.FreeLemmas.{free_of_refusals}
+use Rattle.violation_lists.proofs.RefusalLemmas.{nothing_new, refusal_told}
 use Rattle.constraint_scan.proofs.laws.law_of_refusals.Goals as goal
 
 pub returns : goal.returns

@@ -4,7 +4,7 @@ use Rattle.schema_model.specs.PlainTables.{PlainDatabase}
 use Rattle.chunk_store.specs.Drafts.{chunks_of}
 use Rattle.constraint_scan.specs.Pairs.{ArePairs}
 use Rattle.constraint_scan.proofs.PairLemmas.{no_tables, none_below, none_joined}
-use Rattle.constraint_scan.proofs.StandLemmas.{parts_of}
+use Rattle.violation_lists.proofs.StandLemmas.{parts_of}
 use Rattle.constraint_scan.proofs.pairing.+push_pairs.Goals as goal
 
 pub push_paired-requires-clause-old : goal.push_paired-requires-clause-old

@@ -4,9 +4,9 @@ use Rattle.chunk_store.specs.Drafts.{chunks_of}
 use Rattle.tuple_codec.specs.Nodes.{Item}
 use Rattle.tuple_codec.specs.Rows.{Cells, key_of, same_cells}
 use Rattle.schema_model.specs.PlainTables.{index_items, row_items}
-use Rattle.constraint_scan.specs.Seeking.{begins}
+use Rattle.violation_lists.specs.Seeking.{begins}
 use Rattle.constraint_scan.proofs.FoundLemmas.{so_found}
-use Rattle.constraint_scan.proofs.TreeLemmas.{in_index, in_rows, indexed_for, root_told, rows_tree}
+use Rattle.violation_lists.proofs.TreeLemmas.{in_index, in_rows, indexed_for, root_told, rows_tree}
 use Rattle.constraint_scan.proofs.seeking.has_key_by_bytes.Goals as goal
 
 pub returns-then-starts : goal.returns-then-starts

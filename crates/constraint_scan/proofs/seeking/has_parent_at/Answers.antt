@@ -3,7 +3,7 @@ use Rattle.chunk_store.specs.Drafts.{chunks_of}
 use Rattle.schema_model.specs.declared.schemas.Schema.{Schema}
 use Rattle.plain_writes.specs.Violations.{same_types, types_at}
 use Rattle.constraint_scan.proofs.FoundLemmas.{parent_found_at}
-use Rattle.constraint_scan.proofs.TreeLemmas.{schema_same}
+use Rattle.violation_lists.proofs.TreeLemmas.{schema_same}
 use Rattle.constraint_scan.proofs.seeking.has_parent_at.Goals as goal
 
 pub returns-then-same_types : goal.returns-then-same_types

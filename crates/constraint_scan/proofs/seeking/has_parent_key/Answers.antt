@@ -3,7 +3,7 @@ use Rattle.chunk_store.specs.Drafts.{chunks_of}
 use Rattle.schema_model.specs.declared.schemas.Schema.{Schema}
 use Rattle.plain_writes.specs.Violations.{places_of}
 use Rattle.constraint_scan.proofs.FoundLemmas.{parent_found}
-use Rattle.constraint_scan.proofs.TreeLemmas.{schema_same}
+use Rattle.violation_lists.proofs.TreeLemmas.{schema_same}
 use Rattle.constraint_scan.proofs.seeking.has_parent_key.Goals as goal
 
 pub returns-in-Some : goal.returns-in-Some

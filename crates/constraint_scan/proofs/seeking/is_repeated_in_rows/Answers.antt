@@ -4,7 +4,7 @@ use Rattle.tuple_codec.specs.Rows.{key_of}
 use Rattle.schema_model.specs.declared.schemas.Schema.{Schema}
 use Rattle.plain_writes.specs.Violations.{is_whole}
 use Rattle.constraint_scan.proofs.FoundLemmas.{twins_are}
-use Rattle.constraint_scan.proofs.TreeLemmas.{schema_same}
+use Rattle.violation_lists.proofs.TreeLemmas.{schema_same}
 use Rattle.constraint_scan.proofs.seeking.is_repeated_in_rows.Goals as goal
 
 pub returns : goal.returns

@@ -5,9 +5,9 @@ use Rattle.tuple_codec.specs.Nodes.{Item}
 use Rattle.tuple_codec.specs.Rows.{key_of}
 use Rattle.schema_model.specs.PlainTables.{index_items}
 use Rattle.plain_writes.specs.Violations.{is_twin}
-use Rattle.constraint_scan.specs.Seeking.{is_another, sought}
+use Rattle.violation_lists.specs.Seeking.{is_another, sought}
 use Rattle.constraint_scan.proofs.FoundLemmas.{so_found, twin_found}
-use Rattle.constraint_scan.proofs.TreeLemmas.{in_twins}
+use Rattle.violation_lists.proofs.TreeLemmas.{in_twins}
 use Rattle.constraint_scan.proofs.seeking.is_repeated_in_tree.Goals as goal
 
 pub returns-in-Some-own : goal.returns-in-Some-own

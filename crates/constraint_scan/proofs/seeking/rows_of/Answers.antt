@@ -2,7 +2,7 @@ use Rattle.std.proofs.Common.{◌≡◌, true, sym, subst}
 use Rattle.chunk_store.specs.Drafts.{chunks_of}
 use Rattle.schema_model.specs.Schemas.{is_schema}
 use Rattle.schema_model.specs.declared.schemas.Schema.{Schema}
-use Rattle.constraint_scan.proofs.TreeLemmas.{rows_at, schema_same}
+use Rattle.violation_lists.proofs.TreeLemmas.{rows_at, schema_same}
 use Rattle.constraint_scan.proofs.seeking.rows_of.Goals as goal
 
 pub read_rows-requires-clause-schema : goal.read_rows-requires-clause-schema

@@ -1,7 +1,7 @@
 use Rattle.std.proofs.Common.{◌≡◌, ◌∙◌, sym, length}
 use Rattle.std.proofs.lemmas.Result.{IfOk-weaker}
 use Rattle.chunk_store.specs.Drafts.{chunks_of}
-use Rattle.constraint_scan.proofs.StandLemmas.{parts_of}
+use Rattle.violation_lists.proofs.StandLemmas.{parts_of}
 use Rattle.load_run.specs.Loading.{load_rows_in}
 use Rattle.load_run.proofs.CountLemmas.{further, here, no_rows}
 use Rattle.load_run.proofs.counting.+rows_among.Goals as goal

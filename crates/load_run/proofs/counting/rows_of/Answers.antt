@@ -1,6 +1,6 @@
 use Rattle.chunk_store.specs.Drafts.{chunks_of}
 use Rattle.schema_model.specs.PlainTables.{row_items}
-use Rattle.constraint_scan.proofs.StandLemmas.{table_found}
+use Rattle.violation_lists.proofs.StandLemmas.{table_found}
 use Rattle.load_run.proofs.CountLemmas.{rows_counted, rows_tree}
 use Rattle.load_run.proofs.counting.rows_of.Goals as goal
 

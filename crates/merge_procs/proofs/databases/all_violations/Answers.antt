@@ -2,7 +2,7 @@ use Rattle.std.proofs.Common.{◌≡◌}
 use Rattle.chunk_store.specs.Drafts.{chunks_of}
 use Rattle.std.proofs.lemmas.Result.{IfOk-weaker}
 use Rattle.std.specs.List.{flat_map}
-use Rattle.constraint_scan.specs.Written.{written_in}
+use Rattle.violation_lists.specs.Written.{written_in}
 use Rattle.plain_writes.specs.CheckTexts.{checks}
 use Rattle.plain_sessions.specs.CommitRule.{is_none}
 use Rattle.plain_writes.specs.Violations.{violations}

@@ -2,7 +2,7 @@ use Rattle.std.proofs.Common.{subst}
 use Rattle.std.proofs.lemmas.Result.{IfOk-weaker}
 use Rattle.schema_model.specs.PlainTables.{PlainDatabase}
 use Rattle.chunk_store.specs.Drafts.{chunks_of}
-use Rattle.constraint_scan.specs.Recording.{recorded_as}
+use Rattle.violation_lists.specs.Recording.{recorded_as}
 use Rattle.table_root.specs.Kept.{IsKeptAt}
 use Rattle.plain_writes.specs.CheckTexts.{checks}
 use Rattle.plain_sessions.specs.CommitRule.{recorded}

@@ -4,7 +4,7 @@ use Rattle.tuple_codec.proofs.Lists.{any_first, any_later}
 use Rattle.schema_model.specs.Limits.{most_rows}
 use Rattle.schema_model.specs.PlainTables.{NamedTable}
 use Rattle.chunk_store.specs.Drafts.{chunks_of}
-use Rattle.constraint_scan.proofs.StandLemmas.{parts_of}
+use Rattle.violation_lists.proofs.StandLemmas.{parts_of}
 use Rattle.plain_sessions.specs.Merging.{has_too_many_rows}
 use Rattle.merge_procs.proofs.resolving.+have_too_many.Goals as goal
 

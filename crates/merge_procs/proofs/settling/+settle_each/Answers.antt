@@ -6,8 +6,8 @@ use Rattle.chunk_store.specs.Drafts.{chunks_of}
 use Rattle.chunk_store.specs.Kinds.{is_data}
 use Rattle.table_root.specs.Standing.{AreThere}
 use Rattle.table_root.specs.declared.records.TableEntry.{TableEntry}
-use Rattle.constraint_scan.proofs.RecordLemmas.{there_later, there_more}
-use Rattle.constraint_scan.proofs.StandLemmas.{parts_of}
+use Rattle.violation_lists.proofs.RecordLemmas.{there_later, there_more}
+use Rattle.violation_lists.proofs.StandLemmas.{parts_of}
 use Rattle.plain_sessions.specs.Merging.{table_after}
 use Rattle.merge_procs.proofs.SettleLemmas.{first_can, joined, others_can}
 use Rattle.merge_procs.proofs.settling.+settle_each.Goals as goal

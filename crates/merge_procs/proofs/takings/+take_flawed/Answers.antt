@@ -3,7 +3,7 @@ use Rattle.std.specs.List.{list_any}
 use Rattle.std.proofs.lemmas.Result.{IfOk-weaker}
 use Rattle.tuple_codec.proofs.Lists.{any_first, any_later}
 use Rattle.chunk_store.specs.Drafts.{chunks_of}
-use Rattle.constraint_scan.proofs.StandLemmas.{parts_of}
+use Rattle.violation_lists.proofs.StandLemmas.{parts_of}
 use Rattle.merge_procs.specs.Resolving.{takes_flawed}
 use Rattle.merge_procs.proofs.takings.+take_flawed.Goals as goal
 

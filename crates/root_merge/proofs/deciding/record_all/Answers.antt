@@ -6,7 +6,7 @@ use Rattle.chunk_store.specs.Chunks.{Extends}
 use Rattle.chunk_store.specs.Drafts.{chunks_of}
 use Rattle.plain_writes.specs.Violations.{violations}
 use Rattle.plain_writes.specs.CheckTexts.{checks}
-use Rattle.constraint_scan.specs.Recording.{recorded_as}
+use Rattle.violation_lists.specs.Recording.{recorded_as}
 use Rattle.table_root.specs.Kept.{IsKeptAt}
 use Rattle.plain_sessions.specs.CommitRule.{is_none, recorded}
 use Rattle.root_merge.specs.declared.settling.Left.{Left}

@@ -2,7 +2,7 @@ use Rattle.std.proofs.Common.{◌≡◌, ◌∙◌, List, true, sym, subst}
 use Rattle.tuple_codec.specs.Limits.{are_types}
 use Rattle.tuple_codec.specs.Rows.{fits_all}
 use Rattle.tuple_codec.specs.declared.values.SqlType.{SqlType}
-use Rattle.constraint_scan.proofs.SeekLemmas.{types_fit}
+use Rattle.violation_lists.proofs.SeekLemmas.{types_fit}
 use Rattle.sql_select.proofs.KeyLemmas.{places_of, types_of}
 use Rattle.sql_select.proofs.entries.index_bytes.Goals as goal
 

@@ -2,7 +2,7 @@ use Rattle.std.proofs.Common.{length}
 use Rattle.chunk_store.specs.Drafts.{chunks_of}
 use Rattle.prolly_tree.specs.Walks.{scan_rest}
 use Rattle.schema_model.specs.PlainTables.{PlainTable}
-use Rattle.constraint_scan.specs.Roots.{IsIndexedAt}
+use Rattle.violation_lists.specs.Roots.{IsIndexedAt}
 use Rattle.sql_select.proofs.EntryLemmas.{IsEntering}
 use Rattle.sql_select.proofs.entries.rows_by_index.Given as goal
 

@@ -6,7 +6,7 @@ use Rattle.plain_sql.specs.Gives.{GivesBy}
 use Rattle.plain_writes.specs.Seen.{named_seen, table_seen}
 use Rattle.plain_schemas.specs.Altered.{change_of, is_open}
 use Rattle.plain_writes.specs.CheckTexts.{checks}
-use Rattle.constraint_scan.specs.Scanning.{skeleton}
+use Rattle.violation_lists.specs.Scanning.{skeleton}
 use Rattle.sql_write.proofs.AlteringLemmas.{altered_is, schema_same}
 use Rattle.sql_write.proofs.TableLemmas.{kept_read}
 use Rattle.sql_write.proofs.altering.altered.Goals as goal

@@ -7,7 +7,7 @@ use Rattle.plain_writes.specs.Violations.{first_violation}
 use Rattle.plain_writes.specs.Writes.{effect_if, replaced, with_rows}
 use Rattle.plain_writes.specs.CheckTexts.{checks}
 use Rattle.table_root.specs.declared.records.StoredTable.{StoredTable}
-use Rattle.constraint_scan.specs.Scanning.{has_constraints_beside}
+use Rattle.violation_lists.specs.Scanning.{has_constraints_beside}
 use Rattle.sql_write.specs.Making.{Makes}
 use Rattle.sql_write.proofs.TableLemmas.{constrained_replaced, listed_there, read_later}
 use Rattle.sql_write.proofs.putting.fill_table.Goals as goal

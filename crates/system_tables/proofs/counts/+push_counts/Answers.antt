@@ -1,5 +1,5 @@
 use Rattle.chunk_store.specs.Drafts.{chunks_of}
-use Rattle.constraint_scan.proofs.StandLemmas.{parts_of}
+use Rattle.violation_lists.proofs.StandLemmas.{parts_of}
 use Rattle.system_tables.proofs.TableLemmas.{count_more}
 use Rattle.system_tables.proofs.counts.+push_counts.Goals as goal
 

@@ -1,5 +1,0 @@
-use Rattle.std.proofs.Common.{length}
-use Rattle.constraint_scan.proofs.reading.+push_tables.Given as goal
-
-abbrev pub decreases-push_tables : goal.decreases-push_tables
-decreases-push_tables g l = length l.entries.now

@@ -1,5 +1,0 @@
-use Rattle.std.proofs.Common.{length}
-use Rattle.constraint_scan.proofs.thinning.+push_thin.Given as goal
-
-abbrev pub decreases-push_thin : goal.decreases-push_thin
-decreases-push_thin g l = length l.entries.now

@@ -1,0 +1,14 @@
+pub mod RefusalLemmas
+pub mod FreeLemmas
+pub mod StandLemmas
+pub mod NameLemmas
+pub mod WrittenLemmas
+pub mod ListLemmas
+pub mod RecordLemmas
+pub mod OnceLemmas
+pub mod OwnLemmas
+pub mod PrefixLemmas
+pub mod SeekLemmas
+pub mod TreeLemmas
+pub mod ThinLemmas
+pub mod NullLemmas
