@@ -6,7 +6,7 @@ use Rattle.script_text.specs.Collisions.{TellsTruly}
 use Rattle.script_text.specs.Output.{refusal_text, shortage, shortage_of}
 use Rattle.script_text.specs.declared.replies.Reply.{Reply}
 use Rattle.script_text.specs.declared.replies.Reply.TheVariants.{Done, Count, Rows, Refused, Syntax, Collided}
-use Rattle.session_txn.specs.Showing.{IsDue, is_plain_reply}
+use Rattle.session_plan.specs.Showing.{IsDue, is_plain_reply}
 
 apart_of : (number : ℕ) → nat_lt 3 number ≡ true → shortage_of number ≡ None
 apart_of number h =

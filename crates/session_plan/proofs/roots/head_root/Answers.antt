@@ -1,5 +1,5 @@
-use Rattle.branch_procs.proofs.RootLemmas.{has_commit, root_kept}
-use Rattle.branch_procs.proofs.roots.head_root.Goals as goal
+use Rattle.session_plan.proofs.RootLemmas.{has_commit, root_kept}
+use Rattle.session_plan.proofs.roots.head_root.Goals as goal
 
 pub read_commit-requires-after_bounds : goal.read_commit-requires-after_bounds
 read_commit-requires-after_bounds g c κs within =

@@ -1,5 +1,5 @@
-use Rattle.session_txn.proofs.CommitLemmas.{work_by, work_fault}
-use Rattle.session_txn.proofs.committing.work_of.Goals as goal
+use Rattle.session_plan.proofs.CommitLemmas.{work_by, work_fault}
+use Rattle.session_plan.proofs.committing.work_of.Goals as goal
 
 pub returns-clause-work : goal.returns-clause-work
 returns-clause-work g c =

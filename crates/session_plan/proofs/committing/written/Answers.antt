@@ -3,9 +3,9 @@ use Rattle.std.proofs.lemmas.Int.{to_z-of_z}
 use Rattle.commit_graph.specs.Commits.{parts_of}
 use Rattle.plain_sessions.specs.Records.{commit_on}
 use Rattle.schema_model.specs.PlainCommits.{commit_parts}
-use Rattle.branch_procs.specs.Committing.{parents_on}
-use Rattle.branch_procs.proofs.CommittingLemmas.{write_made}
-use Rattle.branch_procs.proofs.committing.written.Goals as goal
+use Rattle.session_plan.specs.Committing.{parents_on}
+use Rattle.session_plan.proofs.CommittingLemmas.{write_made}
+use Rattle.session_plan.proofs.committing.written.Goals as goal
 
 pub returns-clause-written : goal.returns-clause-written
 returns-clause-written g c = λ commits state can.

@@ -3,6 +3,7 @@ use Rattle.std.proofs.Common.{◌≡◌, sym, ap, ◌∙◌, subst, ℕ, suc, �
 use Rattle.std.specs.Prelude.{if◌then◌else◌}
 use Rattle.std.specs.Option.{option_map_or, option_to_list}
 use Rattle.std.proofs.lemmas.Bool.{ltb-false}
+use Rattle.tuple_codec.proofs.Truths.{two}
 use Rattle.tuple_codec.specs.declared.addresses.Address.{Address}
 use Rattle.tuple_codec.specs.declared.records.BranchRecord.{BranchRecord}
 use Rattle.chunk_store.specs.Drafts.{DraftParts}
@@ -13,8 +14,7 @@ use Rattle.commit_graph.specs.declared.commits.CommitRecord.{CommitRecord}
 use Rattle.schema_model.specs.PlainCommits.{Commits, commit_parts, greatest, height_of, is_known}
 use Rattle.plain_sessions.specs.Records.{BranchState, commit_on}
 use Rattle.root_merge.specs.States.{bytes_of}
-use Rattle.plain_writes.proofs.RowOrderLemmas.{two}
-use Rattle.branch_procs.specs.Committing.{CanCommit, parents_on}
+use Rattle.session_plan.specs.Committing.{CanCommit, parents_on}
 
 greatest_one : (h : ℕ) → h ≡ greatest (h ∷ [])
 greatest_one h = two (nat_lt 0 h)

@@ -18,9 +18,9 @@ use Rattle.plain_sessions.specs.declared.commands.Command.TheVariants as command
 use Rattle.plain_sessions.specs.declared.commands.Work.{Work}
 use Rattle.session_state.specs.Standing.{SessionStands}
 use Rattle.session_state.specs.declared.sessions.Session.{Session}
-use Rattle.session_txn.specs.Answering.{AnswersAlone}
-use Rattle.session_txn.specs.Showing.{IsDue}
-use Rattle.session_txn.proofs.ShowLemmas.{plain_told}
+use Rattle.session_plan.specs.Answering.{AnswersAlone}
+use Rattle.session_plan.specs.Showing.{IsDue}
+use Rattle.session_plan.proofs.ShowLemmas.{plain_told}
 
 abbrev said : plain.Session → Reply → Option Said
 said p reply = Some (p, reply)

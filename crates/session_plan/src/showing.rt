@@ -4,7 +4,7 @@ ghost use Rattle.std.specs.Prelude.{◌≡◌, ◌||◌, ◌==◌, ◌^◌, leng
 ghost use Rattle.std.specs.List.{list_all};
 ghost use Rattle.script_text.specs.Shown.{is_one_line, is_printable_answer, is_printable_row, is_printable_value};
 ghost use Rattle.script_text.specs.declared.replies.Reply.TheVariants.{Refused, Rows};
-ghost use Rattle.session_txn.specs.Showing.{IsDue, is_plain_reply, is_sound_reply};
+ghost use Rattle.session_plan.specs.Showing.{IsDue, is_plain_reply, is_sound_reply};
 
 use script_text::{Reply, refusal_words};
 use tuple_codec::{Answer, Row, SqlType, Text, Value};

@@ -1,6 +1,6 @@
-use Rattle.branch_procs.proofs.MakingLemmas.{alone_height, both_height, other_known}
-use Rattle.branch_procs.proofs.RootLemmas.{has_commit, height_is}
-use Rattle.branch_procs.proofs.making.greatest_height.Goals as goal
+use Rattle.session_plan.proofs.MakingLemmas.{alone_height, both_height, other_known}
+use Rattle.session_plan.proofs.RootLemmas.{has_commit, height_is}
+use Rattle.session_plan.proofs.making.greatest_height.Goals as goal
 
 pub height-first-requires-after_bounds : goal.height-first-requires-after_bounds
 height-first-requires-after_bounds g c κs within =

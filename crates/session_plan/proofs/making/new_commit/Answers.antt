@@ -1,8 +1,8 @@
 use Rattle.std.proofs.Common.{◌∙◌, ◌≤◌, ◌≤ℤ◌, ℕ, ℤ, List, pos, refl, sym, ap, subst, length, w64, rules}
 use Rattle.std.proofs.lemmas.Int.{to_z-of_z}
 use Rattle.tuple_codec.specs.Rows.{fits_bits}
-use Rattle.branch_procs.proofs.MakingLemmas.{limits_of, made_as}
-use Rattle.branch_procs.proofs.making.new_commit.Goals as goal
+use Rattle.session_plan.proofs.MakingLemmas.{limits_of, made_as}
+use Rattle.session_plan.proofs.making.new_commit.Goals as goal
 
 pub returns-clause-made : goal.returns-clause-made
 returns-clause-made g c = λ commits state can.
