@@ -126,19 +126,21 @@ fn a_failure_in_the_middle_ends_the_reading_and_the_next_one_goes_on(
     Ok(())
 }
 
-/// Writes a text to a sink that takes three bytes a call and fails at the listed ones.
-fn written(alloc: Global, failing: &[u64]) -> Result<(bool, MemorySink), AllocError> {
-    let mut sink = MemorySink::new(alloc, 16, 3, Vec::from_slice(alloc, failing)?)?;
-    let is_whole = write_whole(&mut sink, b"seven letters").is_ok();
-    Ok((is_whole, sink))
+const LETTERS: &[u8] = b"seven letters";
+
+/// A sink with room for 16 bytes, which takes three a call and fails at the listed ones.
+fn sink_of(alloc: Global, failing: &[u64]) -> Result<MemorySink, AllocError> {
+    MemorySink::new(alloc, 16, 3, Vec::from_slice(alloc, failing)?)
 }
 
 #[test]
 fn a_text_is_written_whole_or_up_to_a_failure(rt: HostRuntime) -> Result<(), Fail> {
-    let (is_whole, sink) = written(rt.alloc(), &[])?;
-    assert!(rt; is_whole && sink.bytes() == b"seven letters".as_slice());
-    let (is_whole, sink) = written(rt.alloc(), &[2])?;
-    assert!(rt; !is_whole && sink.bytes() == b"seven ".as_slice());
+    let mut sink = sink_of(rt.alloc(), &[])?;
+    assert!(rt; write_whole(&mut sink, LETTERS).is_ok());
+    assert!(rt; sink.bytes() == LETTERS);
+    let mut sink = sink_of(rt.alloc(), &[2])?;
+    assert!(rt; write_whole(&mut sink, LETTERS).is_err());
+    assert!(rt; sink.bytes() == &LETTERS[..6]);
     Ok(())
 }
 
