@@ -88,7 +88,10 @@ fn found(
 fn rows_are_found_by_key_and_in_turn(rt: HostRuntime) -> Result<(), Fail> {
     for (rows, number, byte, keys) in LOOKS {
         let found = found(rt.alloc(), rows, number)?;
-        assert!(rt; found == (u64::from(rows), byte, keys), "{rows} rows, at {number}");
+        assert!(rt;
+            found == (u64::from(rows), byte, keys),
+            "{rows} rows, at {number}"
+        );
     }
     Ok(())
 }

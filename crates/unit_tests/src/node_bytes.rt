@@ -146,7 +146,10 @@ fn what_is_no_node_is_malformed_at_its_place(rt: HostRuntime) {
         (&[1, 0, 0, 2, 0, 1, 5, 0, 0, 0, 1, 5, 0, 0][..], 9),
         (&no_row[..], 4),
     ] {
-        assert!(rt; node_in(bytes).is_err_and(|malformed| malformed.at == at), "{bytes:?}");
+        assert!(rt;
+            node_in(bytes).is_err_and(|malformed| malformed.at == at),
+            "{bytes:?}"
+        );
     }
 }
 

@@ -19,7 +19,12 @@ const TREES: [(u32, &str); 5] = [
 
 fn root_below(alloc: Global, count: u32) -> Result<Address, PutFault> {
     let mut draft = draft_of(alloc)?;
-    tree_of(alloc, &mut draft, count, |number| Some((number % 256) as u8))
+    tree_of(
+        alloc,
+        &mut draft,
+        count,
+        |number| Some((number % 256) as u8),
+    )
 }
 
 #[test]

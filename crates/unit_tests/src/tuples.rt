@@ -40,11 +40,18 @@ fn has_key(alloc: Global, kind: SqlType, value: Value, bytes: &[u8]) -> Result<b
 fn keys_are_so(alloc: Global) -> Result<bool, AllocError> {
     let one = [1, 0x80, 0, 0, 0, 0, 0, 0, 1];
     let minus_one = [1, 0x7f, 0xff, 0xff, 0xff, 0xff, 0xff, 0xff, 0xff];
-    Ok(has_key(alloc, SqlType::BigInt, Value::Int(1), &one)?
-        && has_key(alloc, SqlType::BigInt, Value::Int(-1), &minus_one)?
-        && has_key(alloc, SqlType::BigInt, Value::Null, &[0])?
-        && has_key(alloc, SqlType::Bool, Value::Bool(true), &[1, 1])?
-        && has_key(alloc, SqlType::Varchar(5), text(alloc, b"a")?, &[1, 0x61, 0, 0])?)
+    Ok(
+        has_key(alloc, SqlType::BigInt, Value::Int(1), &one)?
+            && has_key(alloc, SqlType::BigInt, Value::Int(-1), &minus_one)?
+            && has_key(alloc, SqlType::BigInt, Value::Null, &[0])?
+            && has_key(alloc, SqlType::Bool, Value::Bool(true), &[1, 1])?
+            && has_key(
+                alloc,
+                SqlType::Varchar(5),
+                text(alloc, b"a")?,
+                &[1, 0x61, 0, 0],
+            )?,
+    )
 }
 
 #[test]

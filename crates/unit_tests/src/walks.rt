@@ -76,9 +76,18 @@ type Walk = (Sample, Sample, [usize; 3], [u64; 2]);
 
 #[test]
 fn changes_are_found_and_few_nodes_are_read(rt: HostRuntime) -> Result<(), Fail> {
-    let other_values = Sample { byte: 8, ..even_rows(500) };
-    let other_keys = Sample { odd: true, ..even_rows(500) };
-    let one_value = Sample { marked: Some(2_000), ..even_rows(3_000) };
+    let other_values = Sample {
+        byte: 8,
+        ..even_rows(500)
+    };
+    let other_keys = Sample {
+        odd: true,
+        ..even_rows(500)
+    };
+    let one_value = Sample {
+        marked: Some(2_000),
+        ..even_rows(3_000)
+    };
     let walks: [Walk; 7] = [
         (even_rows(500), even_rows(500), [0, 0, 0], [0, 0]),
         (even_rows(0), even_rows(3), [3, 0, 0], [2, 2]),
@@ -92,7 +101,10 @@ fn changes_are_found_and_few_nodes_are_read(rt: HostRuntime) -> Result<(), Fail>
     ];
     for (old, new, kinds, [least, most]) in walks {
         let (found, reads) = compare(rt.alloc(), old, new)?;
-        assert!(rt; found == kinds && least <= reads && reads <= most, "{kinds:?}");
+        assert!(rt;
+            found == kinds && least <= reads && reads <= most,
+            "{kinds:?}"
+        );
     }
     Ok(())
 }
