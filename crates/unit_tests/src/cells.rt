@@ -5,23 +5,23 @@ use std::alloc::{AllocError, Global};
 use std::test::Fail;
 use tuple_codec::{Row, Value};
 
-/// Base, ours and theirs, two cells each as digits or `--` for absence; what they come to, `!!` being a conflict; who decides.
+/// Base, ours and theirs, two cells each as digits or `--` for absence; what they come to, `!!` being a conflict; who decides, `!` being nobody.
 const MERGES: &str = "11 11 11 11 ours
 11 21 11 21 ours
 11 11 12 12 theirs
 11 21 21 21 ours
 11 21 12 22 cells
 11 21 22 22 cells
-11 21 31 !! conflict
+11 21 31 !! !
 11 -- -- -- ours
 11 -- 11 -- ours
 11 11 -- -- theirs
-11 -- 12 !! conflict
-11 12 -- !! conflict
+11 -- 12 !! !
+11 12 -- !! !
 -- 11 -- 11 ours
 -- -- 11 11 theirs
 -- 11 11 11 ours
--- 11 12 !! conflict
+-- 11 12 !! !
 -- -- -- -- ours";
 
 /// The row of two digits, None for absence.
@@ -46,17 +46,17 @@ fn outcome_of(alloc: Global, digits: &[u8]) -> Result<RowOutcome, AllocError> {
     })
 }
 
-fn decision_of(word: &[u8]) -> Decision {
-    match word {
-        b"ours" => Decision::Ours,
-        b"theirs" => Decision::Theirs,
-        b"cells" => Decision::Cells,
+fn decision_of(letter: u8) -> Decision {
+    match letter {
+        b'o' => Decision::Ours,
+        b't' => Decision::Theirs,
+        b'c' => Decision::Cells,
         _ => Decision::Conflict,
     }
 }
 
 fn merges_so(alloc: Global, line: &[u8]) -> Result<bool, AllocError> {
-    if line.len() < 12 {
+    if line.len() < 13 {
         return Ok(false);
     }
     let base = row_of(alloc, &line[..2])?;
@@ -64,7 +64,7 @@ fn merges_so(alloc: Global, line: &[u8]) -> Result<bool, AllocError> {
     let theirs = row_of(alloc, &line[6..8])?;
     let decided = decide_row(base.as_ref(), ours.as_ref(), theirs.as_ref());
     let outcome = merge_row(alloc, base.as_ref(), ours.as_ref(), theirs.as_ref())?;
-    Ok(decided == decision_of(&line[12..]) && outcome == outcome_of(alloc, &line[9..11])?)
+    Ok(decided == decision_of(line[12]) && outcome == outcome_of(alloc, &line[9..11])?)
 }
 
 #[test]

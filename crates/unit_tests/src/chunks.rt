@@ -45,7 +45,7 @@ fn clashes(draft: &mut Draft<OneForAll>) -> Result<bool, PutFault> {
 
 #[test]
 fn two_strings_of_one_address_are_a_collision(rt: HostRuntime) -> Result<(), Fail> {
-    let mut draft = draft_of(rt.alloc())?;
+    let mut draft = draft_of::<OneForAll>(rt.alloc())?;
     assert!(rt; clashes(&mut draft)?);
     assert!(rt; draft.release().free_pages() == 1);
     Ok(())
@@ -65,10 +65,20 @@ fn goes_back(draft: &mut Draft<Sha512Cut>) -> Result<bool, PutFault> {
     Ok(was_there && has(draft, &first, b"first") && draft.get(&second).is_none())
 }
 
+fn is_copied(
+    alloc: Global,
+    draft: &Draft<Sha512Cut>,
+    address: &Address,
+    bytes: &[u8],
+) -> Result<bool, PutFault> {
+    let copy = draft.copied(Store::new(alloc))?;
+    Ok(has(&copy, address, bytes))
+}
+
 /// Whether a chunk is in a copy, stays over another store, and goes where the draft starts again.
 fn moves(alloc: Global, draft: &mut Draft<Sha512Cut>) -> Result<bool, PutFault> {
     let address = draft.put(b"kept")?;
-    let is_copied = has(&draft.copied(Store::new(alloc))?, &address, b"kept");
+    let is_copied = is_copied(alloc, draft, &address, b"kept")?;
     draft.rebase(Store::new(alloc))?;
     let is_kept = has(draft, &address, b"kept");
     draft.restart(Store::new(alloc));
@@ -77,7 +87,7 @@ fn moves(alloc: Global, draft: &mut Draft<Sha512Cut>) -> Result<bool, PutFault> 
 
 #[test]
 fn a_draft_goes_back_to_a_mark_and_to_other_stores(rt: HostRuntime) -> Result<(), Fail> {
-    let mut draft = draft_of(rt.alloc())?;
+    let mut draft = draft_of::<Sha512Cut>(rt.alloc())?;
     assert!(rt; goes_back(&mut draft)?);
     assert!(rt; moves(rt.alloc(), &mut draft)?);
     assert!(rt; draft.free_pages() == 1);
@@ -87,12 +97,12 @@ fn a_draft_goes_back_to_a_mark_and_to_other_stores(rt: HostRuntime) -> Result<()
     Ok(())
 }
 
-/// Appends a text to a store, sealed in a draft of its own, with the store's last segments or alone.
-fn append(alloc: Global, store: &mut Store, text: &[u8], alone: bool) -> Result<u32, PutFault> {
-    let shared = store.share()?;
+/// Appends a letter to a store, sealed in a draft of its own, with the store's last segments or alone. It tells how many pages were free then.
+fn append(alloc: Global, store: &mut Store, letter: u8, alone: bool) -> Result<u32, PutFault> {
     store.reserve(1)?;
-    let mut draft: Draft<Sha512Cut> = Draft::new(shared, PagePool::with_pages(alloc, 1)?);
-    draft.put(text)?;
+    let pool = PagePool::with_pages(alloc, 1)?;
+    let mut draft: Draft<Sha512Cut> = Draft::new(store.share()?, pool);
+    draft.put(&[letter])?;
     let sealed = if alone {
         draft.seal_own()
     } else {
@@ -102,22 +112,27 @@ fn append(alloc: Global, store: &mut Store, text: &[u8], alone: bool) -> Result<
         return Err(PutFault::Memory);
     };
     store.append(segment)?;
-    if alone {
-        store.tidy();
-    }
     Ok(pool.free_pages())
+}
+
+/// Whether six segments of one chunk each become two, and the first chunk is still found.
+fn are_joined(alloc: Global, alone: bool) -> Result<bool, PutFault> {
+    let mut store = Store::new(alloc);
+    for letter in b'a'..b'g' {
+        if append(alloc, &mut store, letter, alone)? != 1 {
+            return Ok(false);
+        }
+        if alone {
+            store.tidy();
+        }
+    }
+    let first = Sha512Cut::address_of(b"a");
+    Ok(store.segments() == 2 && store.get(&first) == Some(b"a".as_slice()))
 }
 
 #[test]
 fn small_segments_are_joined(rt: HostRuntime) -> Result<(), Fail> {
-    for alone in [false, true] {
-        let mut store = Store::new(rt.alloc());
-        for text in ["a", "b", "c", "d", "e", "f"] {
-            assert!(rt; append(rt.alloc(), &mut store, text.as_bytes(), alone)? == 1);
-        }
-        assert!(rt; store.segments() == 2);
-        let first = Sha512Cut::address_of(b"a");
-        assert!(rt; store.get(&first) == Some(b"a".as_slice()));
-    }
+    assert!(rt; are_joined(rt.alloc(), false)?);
+    assert!(rt; are_joined(rt.alloc(), true)?);
     Ok(())
 }

@@ -90,7 +90,7 @@ fn built(
 
 /// Whether the tree of so many rows, edited, has the address of the tree that is built of the edited rows.
 fn agrees(alloc: Global, count: u16, span: Span) -> Result<bool, PutFault> {
-    let mut draft = draft_of(alloc)?;
+    let mut draft = draft_of::<Sha512Cut>(alloc)?;
     let edits = edits_of(alloc, span)?;
     let root = built(alloc, &mut draft, count, NOWHERE)?;
     let edited = apply(alloc, &mut draft, &root, &edits)?;

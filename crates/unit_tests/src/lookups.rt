@@ -51,7 +51,8 @@ fn byte_found(
 
 /// The number that a row's key ends with.
 fn key_end(row: Option<(&[u8], &[u8])>) -> Option<u16> {
-    match row?.0 {
+    let (key, _) = row?;
+    match key {
         [.., high, low] => Some(u16::from_be_bytes([*high, *low])),
         _ => None,
     }
@@ -77,7 +78,7 @@ fn found(
     rows: u16,
     number: u32,
 ) -> Result<(u64, Option<u8>, [Option<u16>; 2]), PutFault> {
-    let mut draft = draft_of(alloc)?;
+    let mut draft = draft_of::<Sha512Cut>(alloc)?;
     let root = tree_of(alloc, &mut draft, 2 * rows as u32, |number| byte_at(number))?;
     let byte = byte_found(alloc, &draft, &root, number)?;
     let keys = keys_from(alloc, &draft, &root, number)?;
@@ -87,7 +88,7 @@ fn found(
 #[test]
 fn rows_are_found_by_key_and_in_turn(rt: HostRuntime) -> Result<(), Fail> {
     for (rows, number, byte, keys) in LOOKS {
-        let found = found(rt.alloc(), rows, number)?;
+        let looked = found(rt.alloc(), rows, number)?;
         assert!(rt;
             found == (u64::from(rows), byte, keys),
             "{rows} rows, at {number}"

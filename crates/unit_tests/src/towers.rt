@@ -1,7 +1,7 @@
 //! Trees built row by row, with their addresses.
 
 use crate::samples::{draft_of, tree_of};
-use chunk_store::PutFault;
+use chunk_store::{PutFault, Sha512Cut};
 use std::alloc::Global;
 use std::test::*;
 use tuple_codec::Address;
@@ -18,7 +18,7 @@ const TREES: [(u32, &str); 5] = [
 ];
 
 fn root_below(alloc: Global, count: u32) -> Result<Address, PutFault> {
-    let mut draft = draft_of(alloc)?;
+    let mut draft = draft_of::<Sha512Cut>(alloc)?;
     tree_of(
         alloc,
         &mut draft,

@@ -63,7 +63,7 @@ fn kinds_of(list: &[ItemChange]) -> [usize; 3] {
 
 /// How many changes of each kind there are between the trees of two samples, and how many nodes are read.
 fn compare(alloc: Global, old: Sample, new: Sample) -> Result<([usize; 3], u64), PutFault> {
-    let mut draft = draft_of(alloc)?;
+    let mut draft = draft_of::<Sha512Cut>(alloc)?;
     let old = root_of(alloc, &mut draft, old)?;
     let new = root_of(alloc, &mut draft, new)?;
     let mut reads = ReadCount::new();
@@ -71,35 +71,26 @@ fn compare(alloc: Global, old: Sample, new: Sample) -> Result<([usize; 3], u64),
     Ok((kinds_of(&list), reads.count()))
 }
 
-/// Two samples, how many changes of each kind there are between their trees, and how many nodes are read at least and at most.
-type Walk = (Sample, Sample, [usize; 3], [u64; 2]);
-
+// two samples, how many changes of each kind there are between their trees, and how many nodes are read at least and at most
 #[test]
 fn changes_are_found_and_few_nodes_are_read(rt: HostRuntime) -> Result<(), Fail> {
-    let other_values = Sample {
-        byte: 8,
-        ..even_rows(500)
-    };
-    let other_keys = Sample {
-        odd: true,
-        ..even_rows(500)
-    };
-    let one_value = Sample {
-        marked: Some(2_000),
-        ..even_rows(3_000)
-    };
-    let walks: [Walk; 7] = [
-        (even_rows(500), even_rows(500), [0, 0, 0], [0, 0]),
-        (even_rows(0), even_rows(3), [3, 0, 0], [2, 2]),
-        (even_rows(3), even_rows(0), [0, 3, 0], [2, 2]),
+    let mut values = even_rows(500);
+    values.byte = 8;
+    let mut keys = even_rows(500);
+    keys.odd = true;
+    let mut one = even_rows(3_000);
+    one.marked = Some(2_000);
+    for (old, new, kinds, least, most) in [
+        (even_rows(500), even_rows(500), [0, 0, 0], 0, 0),
+        (even_rows(0), even_rows(3), [3, 0, 0], 2, 2),
+        (even_rows(3), even_rows(0), [0, 3, 0], 2, 2),
         // one more row, at the end
-        (even_rows(30_000), even_rows(30_001), [1, 0, 0], [2, 40]),
+        (even_rows(30_000), even_rows(30_001), [1, 0, 0], 2, 40),
         // two nodes on each of three levels
-        (even_rows(3_000), one_value, [0, 0, 1], [6, 6]),
-        (even_rows(500), other_values, [0, 0, 500], [2, u64::MAX]),
-        (even_rows(500), other_keys, [500, 500, 0], [2, u64::MAX]),
-    ];
-    for (old, new, kinds, [least, most]) in walks {
+        (even_rows(3_000), one, [0, 0, 1], 6, 6),
+        (even_rows(500), values, [0, 0, 500], 2, u64::MAX),
+        (even_rows(500), keys, [500, 500, 0], 2, u64::MAX),
+    ] {
         let (found, reads) = compare(rt.alloc(), old, new)?;
         assert!(rt;
             found == kinds && least <= reads && reads <= most,
