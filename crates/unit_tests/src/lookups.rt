@@ -90,7 +90,7 @@ fn rows_are_found_by_key_and_in_turn(rt: HostRuntime) -> Result<(), Fail> {
     for (rows, number, byte, keys) in LOOKS {
         let looked = found(rt.alloc(), rows, number)?;
         assert!(rt;
-            found == (u64::from(rows), byte, keys),
+            looked == (u64::from(rows), byte, keys),
             "{rows} rows, at {number}"
         );
     }
