@@ -7,7 +7,7 @@ use Rattle.chunk_store.specs.Chunks.{Chunks}
 use Rattle.chunk_store.specs.Digests.{cut_address}
 use Rattle.chunk_store.specs.Standing.{IsTree}
 use Rattle.prolly_tree.specs.Lists.{StandsForRows}
-use Rattle.unit_tests.proofs.walks.root_of.Goals as goal
+use Rattle.unit_tests.proofs.samples.tree_of.Goals as goal
 
 stands : {E : Type 0} (chunks : Chunks) (r : Result Address E) (rows : List Item) → IfOk r (λ root. IsTree cut_address chunks root.0 rows)
     → IfOk r (λ root. StandsForRows cut_address chunks root.0)
