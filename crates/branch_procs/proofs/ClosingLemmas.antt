@@ -29,7 +29,8 @@ use Rattle.plain_writes.proofs.RowOrderLemmas.{clash, two}
 use Rattle.keep_laws.proofs.PutLemmas.{taking_few}
 use Rattle.branch_procs.specs.Closing.{IsVerdict}
 use Rattle.branch_procs.specs.Listing.{AreFewTables}
-use Rattle.branch_procs.specs.Staging.{are_same, refusal_of}
+use Rattle.branch_procs.specs.Staging.{are_same}
+use Rattle.session_plan.specs.Calls.{refusal_of}
 use Rattle.branch_procs.specs.Taking.{taking, taking_all}
 use Rattle.branch_procs.proofs.TablesLemmas.{few_so}
 use Rattle.branch_procs.proofs.TakingLemmas.{kept_of, taken_are}

@@ -1,30 +1,23 @@
--- The decision of a DOLT_COMMIT: what stands in the draft over a look's store, the commit that is put into it, and what goes on standing where it is sealed.
-use Rattle.std.proofs.Common.{◌≡◌, refl, ◌∙◌, sym, ap, subst, inl, inr, ℕ, ℤ, Bool, true, false, ◌&&◌, ◌||◌, not, List, [], ◌∷◌, ◌++◌, length, Option, None, Some, Result, Ok, Err}
-use Rattle.std.specs.Prelude.{IfOk, IfErr, IsErr, IsErrAnd, is_some, if◌then◌else◌, bytes_eq}
+-- The decision of a DOLT_COMMIT: what stands in the draft over a look's store, and what goes on standing where it is sealed with the commit.
+use Rattle.std.proofs.Common.{◌≡◌, refl, ◌∙◌, sym, ap, subst, ℕ, ℤ, Bool, true, ◌&&◌, ◌||◌, not, List, ◌∷◌, ◌++◌, length, Option, None, Some, Result, Ok, Err}
+use Rattle.std.specs.Prelude.{IfOk, is_some, bytes_eq}
 use Rattle.std.specs.List.{list_all, list_any}
 use Rattle.std.specs.Option.{option_map_or, option_to_list}
 use Rattle.tuple_codec.proofs.ByteLemmas.{bytes_same}
 use Rattle.tuple_codec.specs.declared.addresses.Address.{Address}
 use Rattle.tuple_codec.specs.declared.records.BranchRecord.{BranchRecord}
-use Rattle.chunk_store.specs.Chunks.{AreNamed, Chunk, Chunks, Extends, IsSingle, Lists, chunk_bytes}
-use Rattle.chunk_store.specs.Clashes.{IsReason}
-use Rattle.chunk_store.specs.Drafts.{Drafting, DraftParts, Grows, IsNamed, IsSound, Longer, chunks_of, put_in}
-use Rattle.chunk_store.specs.Kinds.{is_commit, is_data, is_database, is_node, is_table}
+use Rattle.chunk_store.specs.Chunks.{AreNamed, Chunk, Chunks, chunk_bytes}
+use Rattle.chunk_store.specs.Drafts.{Drafting, Grows, IsSound, Longer, chunks_of}
+use Rattle.chunk_store.specs.Kinds.{is_commit, is_data}
 use Rattle.chunk_store.specs.Laws.{ChunksFollow, DraftsFollow}
 use Rattle.chunk_store.specs.Standing.{IsThere}
 use Rattle.chunk_store.specs.Stores.{all_chunks, joined}
 use Rattle.chunk_store.specs.declared.faults.PutFault.{PutFault}
-use Rattle.chunk_store.specs.declared.faults.PutFault.TheVariants.{Memory, Collision}
-use Rattle.chunk_store.proofs.ChunkLemmas.{at_join, either_some, one_at}
-use Rattle.commit_graph.specs.Commits.{IsCommitFound, parts_of}
 use Rattle.commit_graph.specs.Standing.{IsCommitThere}
-use Rattle.commit_graph.specs.declared.commits.CommitRecord.{CommitRecord}
 use Rattle.expr_eval.specs.Binding.{Outcome, and_then}
 use Rattle.plain_sql.specs.Lists.{unless}
-use Rattle.schema_model.specs.PlainCommits.{Commits, IsGrown, PlainCommit, commit_address, commit_parts, is_known, plain_commit_bytes}
+use Rattle.schema_model.specs.PlainCommits.{Commits, IsGrown, PlainCommit, commit_address, is_known, plain_commit_bytes}
 use Rattle.schema_model.specs.PlainTables.{PlainDatabase}
-use Rattle.schema_model.specs.WrittenForms.{CommitParts, commit_bytes}
-use Rattle.script_text.specs.Collisions.{IsFault}
 use Rattle.script_text.specs.declared.replies.Reply.{Reply}
 use Rattle.sql_procedures.specs.declared.requests.CommitRequest.{CommitRequest}
 use Rattle.sql_procedures.specs.declared.requests.Staging.{Staging}
@@ -33,7 +26,7 @@ use Rattle.table_root.specs.declared.heads.Look.{Look}
 use Rattle.plain_sessions.specs.Branching.{is_open, says_something, staged_first, to_commit}
 use Rattle.plain_sessions.specs.CommitRule.{decide}
 use Rattle.plain_sessions.specs.Merging.{Worked, Closes, Committing}
-use Rattle.plain_sessions.specs.Moments.{Change, closed, commit_of, committed_as}
+use Rattle.plain_sessions.specs.Moments.{closed, commit_of, committed_as}
 use Rattle.plain_sessions.specs.Records.{BranchState, Shared, commit_on, database_in, root_of, with_new_commit}
 use Rattle.plain_sessions.specs.Sessions as plain
 use Rattle.plain_sessions.specs.Sessions.{Transaction, own_root}
@@ -43,67 +36,22 @@ use Rattle.root_merge.specs.Deciding.{AreStates, set}
 use Rattle.root_merge.specs.States.{BranchStateStands, IsCandidate}
 use Rattle.root_merge.specs.declared.candidates.Candidate.{Candidate}
 use Rattle.root_merge.specs.declared.candidates.Candidate.TheVariants as made
+use Rattle.root_merge.proofs.StateLemmas.{state_later}
 use Rattle.session_state.specs.Commits.{AreAmong, CommitsAreThere, HasNoCommit}
 use Rattle.session_state.specs.Laws.{CommitsFollow, RecordsFollow}
 use Rattle.session_state.specs.declared.sessions.Session.{Session}
 use Rattle.shared_db.specs.Plans.{IsPlannedAs, IsRefusedBy, PlanIs, brought}
 use Rattle.shared_db.specs.declared.changes.DecisionPlan.{DecisionPlan}
-use Rattle.session_txn.specs.Answering.{Decides}
-use Rattle.session_txn.specs.Committing.{IsWorkOf}
-use Rattle.session_txn.proofs.CommitLemmas as decisions
-use Rattle.session_txn.proofs.CommitLemmas.{gives, ok_same, past_unless}
-use Rattle.branch_procs.specs.Committing.{CanCommit, CanDecide, IsCommitWritten, IsCommitted, IsPlannedOf, hash_reply, parents_on, staged_in}
+use Rattle.session_plan.specs.Answering.{Decides}
+use Rattle.session_plan.specs.Committing.{CanCommit, IsCommitWritten, IsPlannedOf, IsWorkOf, parents_on}
+use Rattle.session_plan.proofs.CommitLemmas as decisions
+use Rattle.session_plan.proofs.CommitLemmas.{Known, gives, ok_same, past_unless, record_in, refused_by}
+use Rattle.session_plan.proofs.CommittingLemmas.{only_one}
+use Rattle.session_plan.proofs.SealLemmas.{named_sealed, same_sealed}
+use Rattle.branch_procs.specs.Committing.{CanDecide, IsCommitted, hash_reply, staged_in}
 use Rattle.branch_procs.proofs.ClosingLemmas.{worked_commit}
-use Rattle.branch_procs.proofs.LocalLemmas.{Known, record_in}
-use Rattle.branch_procs.proofs.StageLemmas.{kept_later}
 
--- ---- what the work becomes
-
-or_third : (a b c : Bool) → c ≡ true → (a || (b || c)) ≡ true
-or_third true b c h = refl
-or_third false true c h = refl
-or_third false false c h = h
-
-pub state_later : (address : List ℕ → List ℕ) (old new : Chunks) → Extends old new → DatabasesStand → (rec : BranchRecord) (state : BranchState) → BranchStateStands address old rec state
-    → BranchStateStands address new rec state
-state_later address old new more laws rec state stands = record {
-  head = stands.head;
-  working = kept_later address old new more laws rec.working.0 state.working stands.working;
-  staged = kept_later address old new more laws rec.staged.0 state.staged stands.staged;
-  merging = stands.merging;
-}
-
-pub database_is_data : (bytes : List ℕ) → is_database bytes ≡ true → is_data bytes ≡ true
-database_is_data bytes is = or_third (is_node bytes) (is_table bytes) (is_database bytes) is
-
--- the commit was put
-pub write_made : (address : List ℕ → List ℕ) (old new : DraftParts) (wrote : CommitRecord) (commit : PlainCommit) (k : Address) → parts_of wrote ≡ commit_parts address commit → length k.0 ≡ 20
-    → k.0 ≡ address (commit_bytes (parts_of wrote)) → new ≡ put_in address (commit_bytes (parts_of wrote)) old → IsCommitFound (chunks_of new) k.0 (parts_of wrote)
-    → IsCommitWritten address old new commit k
-write_made address old new wrote commit k is twenty named chunks found = record {
-  named = subst (λ (parts : CommitParts). k.0 ≡ address (commit_bytes parts)) is named;
-  length_is = twenty;
-  found = subst (λ (parts : CommitParts). IsCommitFound (chunks_of new) k.0 parts) is found;
-  chunks = subst (λ (parts : CommitParts). new ≡ put_in address (commit_bytes parts) old) is chunks;
-}
-
-module _ (address : List ℕ → List ℕ) (chunks : ChunksFollow) (drafts : DraftsFollow) (old after : Drafting) (named : IsNamed address old.chunks) (longer : Longer old.chunks after.chunks)
-    (sound : IsSound address after.chunks) where
-  all_named : AreNamed address (after.chunks.base ++ after.chunks.own)
-  all_named = drafts.all_named address after.chunks (drafts.still_named address old.chunks after.chunks longer named) sound
-
-  fault_is : (fault : PutFault) → IsReason address (chunks_of after.chunks) fault → IsFault address fault
-  fault_is Memory reason = tt
-  fault_is (Collision clash) reason = record {
-    first = chunks.is_named address (after.chunks.base ++ after.chunks.own) clash.address.0 clash.first all_named reason.is_held;
-    second = reason.is_brought;
-    differ = reason.differ;
-  }
-
-  pub fault_told : {A : Type 0} (result : Result A PutFault) (fault : PutFault) → IsReason address (chunks_of after.chunks) fault
-      → IsErr result × IsErrAnd result (λ told. told ≡ fault) → IfErr result (IsFault address)
-  fault_told (Ok value) fault reason told = absurd told.1
-  fault_told (Err other) fault reason told = subst (IsFault address) (sym told.1) (fault_is fault reason)
+-- ---- the plan
 
 abbrev record_at : BranchRecord → Address → BranchRecord
 record_at rec k = record { head = k; working = rec.working; staged = rec.staged; merging = None }
@@ -121,17 +69,7 @@ committed_told address work after commit rec at k reply (Ok plan) written segmen
   planned = subst (λ (r : BranchRecord). IsPlannedOf after r (hash_reply k.0) plan) at_is (subst (λ (said : Reply). IsPlannedOf after at said plan) told is);
 }
 
--- ---- chunks and commits
-
--- no other commit than the one that was put is among the draft's own chunks
-pub one_put : (there : Bool) (d : DraftParts) (k bytes j more : List ℕ) → HasNoCommit d.own
-    → (let put : DraftParts = if there then d else record { base = d.base; own = d.own ++ (k, bytes) ∷ [] } in chunk_bytes put.own j ≡ Some more) → is_commit more ≡ true → j ≡ k
-one_put true d k bytes j more none found is = absurd (none j more found is)
-one_put false d k bytes j more none found is =
-    elim (either_some (chunk_bytes d.own j) (chunk_bytes ((k, bytes) ∷ []) j) more (sym (at_join d.own ((k, bytes) ∷ []) j) ∙ found)) [
-      | inl here ↦ absurd (none j more here is)
-      | inr here ↦ sym (one_at k bytes j more here).0
-    ]
+-- ---- commits
 
 merging_all : (commits : Commits) (merging : Option (List ℕ)) → option_map_or (is_known commits) merging true ≡ true → list_all (is_known commits) (option_to_list merging) ≡ true
 merging_all commits None known = refl
@@ -145,11 +83,6 @@ abbrev own_in : Outcome Worked → BranchState → BranchState
 own_in (Ok (Closes (Committing own message))) other = own
 own_in outcome other = other
 
-refused_by : (address : List ℕ → List ℕ) (found : Chunks) (look : Look) (commits : Commits) (number : ℕ) (plan : DecisionPlan) (outcome : Outcome BranchState) (f : BranchState → Change)
-    → IsRefusedBy number plan → IsCandidate address found (made.Refused number) outcome → PlanIs address look commits plan (and_then outcome (λ (state : BranchState). Ok (f state)))
-refused_by address found look commits number plan (Err refusal) f is same = subst (λ (n : ℕ). IsRefusedBy n plan) same is
-refused_by address found look commits number plan (Ok state) f is same = absurd same
-
 -- ---- the decision
 
 module _ {D : Type 0} (address : List ℕ → List ℕ) (chunks : ChunksFollow) (records : RecordsFollow) (commits : CommitsFollow) (session : Session D) (look start : Look) (started : session.start ≡ Some start)
@@ -158,22 +91,14 @@ module _ {D : Type 0} (address : List ℕ → List ℕ) (chunks : ChunksFollow) 
   abbrev store : List Chunk
   store = all_chunks look.store
 
-  there_before : CommitsAreThere address (chunk_bytes session.draft.chunks.base) t.commits
-  there_before = let stands = decisions.stands address chunks records session look start started work w p t shared present d in stands.commits
-
   among : AreAmong t.commits shared.commits
-  among = commits.among address (chunk_bytes session.draft.chunks.base) (chunk_bytes store) t.commits shared.commits
-      (decisions.base_extends address chunks records session look start started work w p t shared present d) there_before d.look_is.commits
+  among = decisions.among address chunks records session look start started work w p t shared present d commits
 
   head_known : is_known t.commits t.own.head ≡ true
   head_known = let stands = decisions.stands address chunks records session look start started work w p t shared present d in stands.own_stands.head_known
 
   own_known : Known shared.commits t.own
-  own_known =
-      let stands = decisions.stands address chunks records session look start started work w p t shared present d in (
-        decisions.known_more (t.commits t.own.head) (shared.commits t.own.head) (among t.own.head) head_known,
-        decisions.merging_more t.commits shared.commits among t.own.merging stands.own_stands.merging_known,
-      )
+  own_known = decisions.own_known address chunks records session look start started work w p t shared present d commits
 
   states : AreStates address (chunks_of work.chunks) start.rec look.rec session.own t.start present t.own
   states = decisions.states_in address chunks records session look start started work w p t shared present d
@@ -285,14 +210,11 @@ module _ {D : Type 0} (address : List ℕ → List ℕ) (chunks : ChunksFollow) 
           abbrev beside : List Chunk
           beside = store ++ now.chunks.own
 
+          now_of : joined now.segments ≡ store
+          now_of = ap joined (made_so.segments ∙ grown.segments ∙ w.segments)
+
           at_now : chunks_of now.chunks ≡ chunk_bytes beside
           at_now = λ i. chunk_bytes (now_base i ++ now.chunks.own)
-
-          only_one : (j bytes : List ℕ) → chunk_bytes now.chunks.own j ≡ Some bytes → is_commit bytes ≡ true → j ≡ k
-          only_one j bytes found is =
-              let written = made_so.written in
-              one_put (is_some (chunks_of after.chunks k)) after.chunks k (plain_commit_bytes address commit) j bytes no_commit
-              (subst (λ (parts : DraftParts). chunk_bytes parts.own j ≡ Some bytes) written.chunks found) is
 
           here : BranchStateStands address (chunk_bytes beside) rec state
           here = subst (λ (found : Chunks). BranchStateStands address found rec state) at_now
@@ -329,27 +251,17 @@ module _ {D : Type 0} (address : List ℕ → List ℕ) (chunks : ChunksFollow) 
           with_it =
               let staged = here.staged in
               commits.with_one address store now.chunks.own shared.commits commit d.look_is.commits is_there is_grown staged.within present.head
-              (ap (λ (b : Bool). b || list_any (bytes_eq present.head) (option_to_list state.merging)) (bytes_same present.head present.head refl)) only_one
-
-          single : IsSingle beside
-          single = let sound = made_so.sound in subst (λ (base : List Chunk). IsSingle (base ++ now.chunks.own)) now_base sound.single
+              (ap (λ (b : Bool). b || list_any (bytes_eq present.head) (option_to_list state.merging)) (bytes_same present.head present.head refl))
+              (only_one address after.chunks now.chunks commit made_so.k made_so.written no_commit)
 
           abbrev sealed : List Chunk
           sealed = brought plan
 
-          only : Lists sealed beside
-          only =
-              let planned = made_so.planned in
-              subst (λ (kept : List (List Chunk)). Lists sealed (joined kept ++ now.chunks.own)) (made_so.segments ∙ grown.segments ∙ w.segments) planned.sealed.only
-
           same : chunk_bytes beside ≡ chunk_bytes (store ++ sealed)
-          same =
-              let planned = made_so.planned in decisions.sealed_found chunks store now.chunks.own sealed single planned.sealed.all only
+          same = let planned = made_so.planned in same_sealed address chunks drafts store d.look_is.named now now_base now_of made_so.sound sealed planned.sealed
 
           named : AreNamed address sealed
-          named = chunks.named_fewer address sealed beside only
-              (subst (λ (base : List Chunk). AreNamed address (base ++ now.chunks.own)) now_base
-              (drafts.all_named address now.chunks (subst (AreNamed address) (sym now_base) d.look_is.named) made_so.sound))
+          named = let planned = made_so.planned in named_sealed address chunks drafts store d.look_is.named now now_base now_of made_so.sound sealed planned.sealed
 
           stands_sealed : BranchStateStands address (chunk_bytes (store ++ sealed)) rec state
           stands_sealed = subst (λ (found : Chunks). BranchStateStands address found rec state) same here

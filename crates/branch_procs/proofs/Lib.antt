@@ -1,9 +1,7 @@
 mod TablesLemmas
 mod OpenLemmas
 mod TakingLemmas
-pub mod StageLemmas
-mod RootLemmas
-pub mod LocalLemmas
+mod StageLemmas
+mod LocalLemmas
 mod ClosingLemmas
-mod MakingLemmas
-pub mod CommittingLemmas
+mod CommittingLemmas

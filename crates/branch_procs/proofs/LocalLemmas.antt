@@ -1,18 +1,15 @@
 -- A session after a call that stages tables or sets them back.
-use Rattle.std.proofs.Common.{◌≡◌, refl, sym, ◌∙◌, ap, subst, inl, inr, ℕ, true, false, List, [], ◌∷◌, ◌++◌, length, nat_lt, Option, None, Some, Ok, Err, arith}
-use Rattle.std.specs.Option.{option_map_or}
-use Rattle.std.proofs.lemmas.Bool.Decides.{nat_tests}
+use Rattle.std.proofs.Common.{◌≡◌, refl, sym, ◌∙◌, ap, subst, inl, inr, ℕ, true, List, length, nat_lt, Option, Some, Ok, Err}
 use Rattle.tuple_codec.proofs.Options.{some_there as has_one}
 use Rattle.tuple_codec.specs.declared.addresses.Address.{Address}
 use Rattle.tuple_codec.specs.declared.records.BranchRecord.{BranchRecord}
-use Rattle.chunk_store.specs.Chunks.{Chunk, Chunks, chunk_bytes}
+use Rattle.chunk_store.specs.Chunks.{Chunk}
 use Rattle.chunk_store.specs.Clashes.{IsReason}
-use Rattle.chunk_store.specs.Drafts.{AreOfKind, Drafting, DraftParts, Grows, IsNamed, IsSound, Longer, chunks_of, cut_to}
-use Rattle.chunk_store.specs.Kinds.{is_commit, is_database}
+use Rattle.chunk_store.specs.Drafts.{Drafting, DraftParts, Grows, IsNamed, IsSound, chunks_of, cut_to}
+use Rattle.chunk_store.specs.Kinds.{is_data, is_database}
 use Rattle.chunk_store.specs.Laws.{ChunksFollow, DraftsFollow, DraftsGrow}
 use Rattle.chunk_store.specs.declared.faults.PutFault.{PutFault}
 use Rattle.chunk_store.specs.declared.faults.PutFault.TheVariants.{Memory, Collision}
-use Rattle.chunk_store.proofs.ChunkLemmas.{at_join, either_some}
 use Rattle.table_root.specs.Kept.{IsKeptAt}
 use Rattle.expr_eval.specs.Binding.{Outcome}
 use Rattle.schema_model.specs.Limits.{most_tables}
@@ -22,7 +19,6 @@ use Rattle.script_text.specs.Collisions.{TellsTruly}
 use Rattle.script_text.specs.Output.{shortage}
 use Rattle.script_text.specs.declared.replies.Reply.{Reply}
 use Rattle.script_text.specs.declared.replies.Reply.TheVariants.{Refused}
-use Rattle.table_root.specs.declared.heads.Look.{Look}
 use Rattle.plain_sql.specs.Lists.{each}
 use Rattle.sql_procedures.specs.declared.requests.Reset.{Reset}
 use Rattle.sql_procedures.specs.declared.requests.Reset.TheVariants as reset
@@ -43,22 +39,21 @@ use Rattle.root_merge.specs.declared.candidates.Candidate.{Candidate}
 use Rattle.root_merge.specs.declared.candidates.Candidate.TheVariants as cand
 use Rattle.session_state.specs.Commits.{HasNoCommit}
 use Rattle.session_state.specs.Laws.{TransactionsFollow}
-use Rattle.session_state.specs.Records.{RecordStands}
-use Rattle.session_state.specs.Transactions.{StartStands, TransactionStands}
+use Rattle.session_state.specs.Transactions.{StartStands}
 use Rattle.session_state.specs.Standing.{SessionStands}
 use Rattle.session_state.specs.declared.sessions.Session.{Session}
-use Rattle.session_txn.specs.Answering.{AnswersAlone}
-use Rattle.session_txn.specs.Showing.{IsDue, is_sound_reply}
-use Rattle.session_txn.proofs.AloneLemmas.{answers_due, answers_so, collides, starves, takes_none, worked_ill, worked_well}
-use Rattle.session_txn.proofs.ShowLemmas.{due_truly}
-use Rattle.session_txn.proofs.CommitLemmas.{ok_same, past_unless, gives, of_kind}
-use Rattle.branch_procs.specs.Calls.{IsExcused, IsTold, OwnStands, Settles, Stages, staged_by, stages, status_reply}
+use Rattle.session_plan.specs.Answering.{AnswersAlone}
+use Rattle.session_plan.specs.Showing.{IsDue, is_sound_reply}
+use Rattle.session_plan.proofs.AloneLemmas.{answers_due, answers_so, collides, starves, takes_none, worked_ill, worked_well}
+use Rattle.session_plan.proofs.ShowLemmas.{due_truly}
+use Rattle.session_plan.proofs.CommitLemmas.{Known, gives, no_commit_more, ok_same, past_unless, record_in, state_in}
+use Rattle.session_plan.proofs.CommittingLemmas.{database_is_data, fault_is}
+use Rattle.session_plan.proofs.LocalLemmas.{grown_by, own_in}
+use Rattle.branch_procs.specs.Calls.{IsExcused, IsTold, Settles, Stages, staged_by, stages}
+use Rattle.session_plan.specs.Calls.{OwnStands, status_reply}
 use Rattle.branch_procs.specs.Staging.{StandsOn}
 
 -- ---- what the state names
-
-abbrev pub Known : Commits → BranchState → Type 0
-Known commits state = (is_known commits state.head ≡ true) × (option_map_or (is_known commits) state.merging true ≡ true)
 
 module _ (commits : Commits) (own made : BranchState) (known : Known commits own) where
   known_staged : (database : PlainDatabase) → staged_as own database ≡ Ok made → Known commits made
@@ -90,21 +85,6 @@ module _ (commits : Commits) (own made : BranchState) (known : Known commits own
   known_after root (Resolve request) is = subst (Known commits) (ok_same own made is) known
   known_after root (Verify way) is = subst (Known commits) (ok_same own made is) known
 
-pub record_in : (address : List ℕ → List ℕ) (chunks : Chunks) (commits : Commits) (rec : BranchRecord) (state : BranchState) → BranchStateStands address chunks rec state → Known commits state
-    → RecordStands address chunks commits rec state
-record_in address chunks commits rec state stands known = record {
-  head = stands.head;
-  working = stands.working;
-  staged = stands.staged;
-  merging = stands.merging;
-  head_known = known.0;
-  merging_known = known.1;
-}
-
-pub state_in : (address : List ℕ → List ℕ) (chunks : Chunks) (commits : Commits) (rec : BranchRecord) (state : BranchState) → RecordStands address chunks commits rec state
-    → BranchStateStands address chunks rec state
-state_in address chunks commits rec state stands = record { head = stands.head; working = stands.working; staged = stands.staged; merging = stands.merging }
-
 -- ---- the head
 
 pub head_known_at : (address : List ℕ → List ℕ) (draft : DraftParts) (own : BranchRecord) (commits : Commits) (state : BranchState) → OwnStands address draft own commits state
@@ -121,20 +101,6 @@ on_head address draft own commits state at root kept =
     }
 
 -- ---- the draft
-
-database_apart : (bytes : List ℕ) → is_database bytes ≡ true → is_commit bytes ≡ true → ⊥
-database_apart [] h is = absurd (cc)
-database_apart (byte ∷ bytes) h is =
-    let five : byte ≡ 5 = grind (arith, nat_tests) in
-    let wrong : false ≡ true = ap (λ (n : ℕ). is_database (n ∷ bytes)) (sym five) ∙ h in absurd (cc)
-
--- databases more are no commits
-no_commit_more : ChunksFollow → (own more : List Chunk) → HasNoCommit own → AreOfKind is_database more → HasNoCommit (own ++ more)
-no_commit_more laws own more none all k bytes there is =
-    elim (either_some (chunk_bytes own k) (chunk_bytes more k) bytes (sym (at_join own more k) ∙ there)) [
-      | inl here ↦ none k bytes here is
-      | inr here ↦ database_apart bytes (of_kind is_database more k bytes all (laws.is_listed more k bytes here)) is
-    ]
 
 -- ---- the call on the own record
 
@@ -175,12 +141,7 @@ pub fails_truly : (address : List ℕ → List ℕ) (old mid : Drafting) (fault 
 fails_truly address old mid Memory reply chunks drafts growth named sound grows reason told = subst (λ (r : Reply). TellsTruly address r) (sym told) tt
 fails_truly address old mid (Collision clash) reply chunks drafts growth named sound grows reason told =
     let longer = growth.is_longer is_database old mid grows in
-    subst (λ (r : Reply). TellsTruly address r) (sym told) (record {
-      first = chunks.is_named address (mid.chunks.base ++ mid.chunks.own) clash.address.0 clash.first
-          (drafts.all_named address mid.chunks (drafts.still_named address old.chunks mid.chunks longer named) sound) reason.is_held;
-      second = reason.is_brought;
-      differ = reason.differ;
-    })
+    subst (λ (r : Reply). TellsTruly address r) (sym told) (fault_is address chunks drafts old.chunks mid.chunks named longer sound (Collision clash) reason)
 
 pub settled_so : (address : List ℕ → List ℕ) (old mid new : Drafting) (before after : BranchRecord) (mark : ℕ) (m : Candidate) (wanted : Outcome BranchState) (reply : Reply) → DraftsFollow → DraftsGrow
     → mark ≡ length old.chunks.own → Grows is_database old mid → IsCandidate address (chunks_of mid.chunks) m wanted → Settles mark mid new before after m reply
@@ -204,30 +165,6 @@ base_back old mid new mark same cut = ap (λ (d : DraftParts). d.base) cut ∙ s
 
 -- ---- the session
 
--- its own record stands in its draft
-pub own_by : (address : List ℕ → List ℕ) (draft : DraftParts) (start : Option Look) (own : BranchRecord) (found : Option Transaction) (t : Transaction) → found ≡ Some t
-    → StartStands address draft start own found → OwnStands address draft own t.commits t.own
-own_by address draft None own None t is stands = absurd (cc)
-own_by address draft None own (Some other) t is stands = absurd stands
-own_by address draft (Some look) own None t is stands = absurd stands
-own_by address draft (Some look) own (Some other) t is stands =
-    let same : other ≡ t = cc in
-    subst (λ (u : Transaction). OwnStands address draft own u.commits u.own) same (record { stands = stands.own_stands; all_there = stands.commits })
-
-pub own_in : {D : Type 0} (address : List ℕ → List ℕ) (session : Session D) (p : plain.Session) (t : Transaction) → SessionStands address session p → p.transaction ≡ Some t
-    → OwnStands address session.draft.chunks session.own t.commits t.own
-own_in address session p t stands there = own_by address session.draft.chunks session.start session.own p.transaction t there stands.transaction
-
-pub grown_by : (address : List ℕ → List ℕ) (old new : DraftParts) (start : Option Look) (own rec : BranchRecord) (found : Option Transaction) (t : Transaction) (state : BranchState)
-    → TransactionsFollow → found ≡ Some t → Longer old new → StartStands address old start own found → RecordStands address (chunks_of new) t.commits rec state
-    → StartStands address new start rec (Some (with_own state t))
-grown_by address old new None own rec None t state follow is longer stands made = absurd (cc)
-grown_by address old new None own rec (Some other) t state follow is longer stands made = absurd stands
-grown_by address old new (Some look) own rec None t state follow is longer stands made = absurd stands
-grown_by address old new (Some look) own rec (Some other) t state follow is longer stands made =
-    let same : other ≡ t = cc in
-    follow.grown address old new look own rec t state longer (subst (λ (u : Transaction). TransactionStands address old look own u) same stands) made
-
 abbrev with_record : {D : Type 0} → Session D → BranchRecord → Drafting → Session D
 with_record session own d = record session { own = own; draft = d }
 
@@ -236,6 +173,7 @@ done_stands : {D : Type 0} (address : List ℕ → List ℕ) (old : Session D) (
     → Known t.commits state → Grows is_database old.draft d → SessionStands address (with_record old own d) (within p (with_own state t))
 done_stands address old d own p t state chunks drafts growth follow there stands stood known grows =
     let longer = growth.is_longer is_database old.draft d grows in
+    let wide = growth.wider is_database is_data old.draft d database_is_data grows in
     record {
       name = stands.name;
       number = stands.number;
@@ -245,9 +183,9 @@ done_stands address old d own p t state chunks drafts growth follow there stands
       force = stands.force;
       position = stands.position;
       transaction = grown_by address old.draft.chunks d.chunks old.start old.own own p.transaction t state follow there longer stands.transaction
-          (record_in address (chunks_of d.chunks) t.commits own state stood known);
+          (λ before. record_in address (chunks_of d.chunks) t.commits own state stood known);
       named = drafts.still_named address old.draft.chunks d.chunks longer stands.named;
-      plain_own = subst (λ (cs : List Chunk). HasNoCommit cs) (sym grows.own) (no_commit_more chunks old.draft.chunks.own grows.more stands.plain_own grows.kinds);
+      plain_own = subst (λ (cs : List Chunk). HasNoCommit cs) (sym wide.own) (no_commit_more chunks old.draft.chunks.own wide.more stands.plain_own wide.kinds);
       committer = stands.committer;
     }
 

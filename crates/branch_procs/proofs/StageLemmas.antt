@@ -18,16 +18,18 @@ use Rattle.plain_writes.specs.Violations.{table_in}
 use Rattle.plain_sessions.specs.Branching.{add, is_open, is_open_table, may_reset, may_stage, reset_to, staged_as, taking_all}
 use Rattle.plain_sessions.specs.Records.{BranchState, clean_at}
 use Rattle.root_merge.specs.States.{BranchStateStands, IsCandidate}
+use Rattle.root_merge.proofs.StateLemmas.{root_later as kept_later}
 use Rattle.root_merge.specs.declared.candidates.Candidate.{Candidate}
 use Rattle.root_merge.specs.declared.candidates.Candidate.TheVariants as made
 use Rattle.sql_procedures.specs.declared.requests.Reset.TheVariants as reset
 use Rattle.sql_procedures.specs.declared.requests.Tables.TheVariants as tables
 use Rattle.sql_write.specs.Putting.{address_in}
 use Rattle.branch_procs.specs.Listing.{AreFewTables, AreTables}
-use Rattle.branch_procs.specs.Staging.{AreBoth, CanStage, absence, first_absence, refusal_of, reset_absence}
+use Rattle.branch_procs.specs.Staging.{AreBoth, CanStage, absence, first_absence, reset_absence}
+use Rattle.session_plan.specs.Calls.{refusal_of}
 use Rattle.branch_procs.specs.Taking.{taking_all as chunk_taking_all}
 use Rattle.branch_procs.proofs.TakingLemmas.{at, found_named, taken_are}
-use Rattle.session_txn.proofs.CommitLemmas.{ok_same, past_unless}
+use Rattle.session_plan.proofs.CommitLemmas.{ok_same, past_unless}
 
 -- ---- refusals
 
@@ -116,9 +118,6 @@ pub resets_told : (address : List ℕ → List ℕ) (root : PlainDatabase) (stat
 resets_told address root state head staged names h s = (λ i. first_absence (h i) (s i) names) ∙ absences_told address root state names
 
 -- ---- records
-
-pub kept_later : (address : List ℕ → List ℕ) (old new : Chunks) → Extends old new → DatabasesStand → (k : List ℕ) (database : PlainDatabase) → IsKeptAt address old k database → IsKeptAt address new k database
-kept_later address old new more laws k database kept = record { stands = laws.later address old new k database more kept.stands; within = kept.within }
 
 -- with another staged database
 pub staged_stands : (address : List ℕ → List ℕ) (old new : Chunks) → Extends old new → DatabasesStand → (own : BranchRecord) (staged : Address) (state : BranchState) (database : PlainDatabase)

@@ -1,28 +1,24 @@
 -- DOLT_ADD and DOLT_RESET in a session's transaction.
-use Rattle.std.specs.Prelude.{◌≡◌, ◌⊎◌, ℕ, Bool, true, false, List, [], ◌∷◌, Ok, Err}
+use Rattle.std.specs.Prelude.{◌≡◌, ◌⊎◌, ℕ, Bool, true, false, List, Ok, Err}
 use Rattle.tuple_codec.specs.declared.records.BranchRecord.{BranchRecord}
-use Rattle.chunk_store.specs.Chunks.{chunk_bytes}
-use Rattle.chunk_store.specs.Drafts.{Drafting, DraftParts, Grows, chunks_of, cut_to}
+use Rattle.chunk_store.specs.Drafts.{Drafting, Grows, chunks_of, cut_to}
 use Rattle.chunk_store.specs.Kinds.{is_database}
 use Rattle.chunk_store.specs.declared.faults.Clash.{Clash}
 use Rattle.chunk_store.specs.declared.faults.PutFault.{PutFault}
 use Rattle.chunk_store.specs.declared.faults.PutFault.TheVariants.{Memory, Collision}
 use Rattle.expr_eval.specs.Binding.{Outcome}
-use Rattle.schema_model.specs.PlainCommits.{Commits}
 use Rattle.schema_model.specs.PlainTables.{PlainDatabase}
 use Rattle.script_text.specs.declared.replies.Reply.{Reply}
 use Rattle.script_text.specs.declared.replies.Reply.TheVariants.{Refused, Collided}
-use Rattle.plain_sessions.specs.Branching.{add, reset_to, status}
+use Rattle.plain_sessions.specs.Branching.{add, reset_to}
 use Rattle.plain_sessions.specs.Records.{BranchState}
-use Rattle.plain_sessions.specs.Replies.{one_row}
 use Rattle.plain_sessions.specs.declared.commands.Work.{Work}
 use Rattle.plain_sessions.specs.declared.commands.Work.TheVariants.{Add, ResetTo}
 use Rattle.root_merge.specs.States.{BranchStateStands}
 use Rattle.root_merge.specs.declared.candidates.Candidate.{Candidate}
 use Rattle.root_merge.specs.declared.candidates.Candidate.TheVariants as candidate
-use Rattle.session_state.specs.Commits.{CommitsAreThere}
-use Rattle.session_state.specs.Records.{RecordStands}
-use Rattle.session_txn.specs.Showing.{IsDue}
+use Rattle.session_plan.specs.Showing.{IsDue}
+use Rattle.session_plan.specs.Calls.{status_reply}
 
 -- it stages tables, or sets them back
 abbrev pub stages : Work → Bool
@@ -35,14 +31,6 @@ abbrev pub staged_by : PlainDatabase → Work → BranchState → Outcome Branch
 staged_by root (Add tables) own = add tables own
 staged_by root (ResetTo reset) own = reset_to root reset own
 staged_by root other own = Ok own
-
--- a record stands in a draft for a state, and the store below has all commits
-pub record OwnStands (address : List ℕ → List ℕ) (draft : DraftParts) (own : BranchRecord) (commits : Commits) (state : BranchState) : Type 0 where
-  pub stands : RecordStands address (chunks_of draft) commits own state
-  pub all_there : CommitsAreThere address (chunk_bytes draft.base) commits
-
-abbrev pub status_reply : Reply
-status_reply = one_row (status ∷ [])
 
 -- it was done: the record stands for what the state became
 pub record IsDone (address : List ℕ → List ℕ) (old new : Drafting) (own : BranchRecord) (wanted : Outcome BranchState) (reply : Reply) : Type 0 where

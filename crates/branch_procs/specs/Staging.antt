@@ -1,22 +1,16 @@
 -- What is staged, and by what a call is refused.
-use Rattle.std.specs.Prelude.{ℕ, Bool, true, false, ◌&&◌, bytes_eq, List, Option, None, Some, Ok, Err, [], ◌∷◌, is_some, if◌then◌else◌}
+use Rattle.std.specs.Prelude.{ℕ, Bool, true, false, ◌&&◌, bytes_eq, List, Option, None, Some, [], ◌∷◌, is_some, if◌then◌else◌}
 use Rattle.std.specs.Option.{option_or}
 use Rattle.tuple_codec.specs.declared.addresses.Address.{Address}
 use Rattle.tuple_codec.specs.declared.records.BranchRecord.{BranchRecord}
 use Rattle.chunk_store.specs.Chunks.{Chunks}
 use Rattle.table_root.specs.Kept.{IsKeptAt}
-use Rattle.expr_eval.specs.Binding.{Outcome}
 use Rattle.schema_model.specs.PlainTables.{PlainDatabase}
 use Rattle.table_root.specs.declared.records.TableEntry.{TableEntry}
 use Rattle.plain_sessions.specs.Records.{BranchState}
 use Rattle.root_merge.specs.States.{BranchStateStands}
 use Rattle.sql_write.specs.Putting.{address_in}
 use Rattle.branch_procs.specs.Listing.{AreTables}
-
--- the number of a refusal, if it is one
-abbrev pub refusal_of : {A : Type 0} → Outcome A → Option ℕ
-refusal_of (Ok x) = None
-refusal_of (Err number) = Some number
 
 -- a record that stands for a state, and tables that may come to be staged in it
 pub record CanStage (address : List ℕ → List ℕ) (chunks : Chunks) (own : BranchRecord) (tables : List TableEntry) (state : BranchState) (database : PlainDatabase) : Type 0 where

@@ -13,14 +13,15 @@ ghost use Rattle.session_state.specs.Standing.{IsInTransaction, SessionStands};
 ghost use Rattle.sql_procedures.specs.declared.requests.Staging.TheVariants as staging;
 ghost use Rattle.branch_procs.specs.Closing.{IsVerdict};
 ghost use Rattle.branch_procs.specs.Listing.{AreFewTables};
-ghost use Rattle.branch_procs.specs.Staging.{StandsOn, are_same, is_same, refusal_of};
+ghost use Rattle.branch_procs.specs.Staging.{StandsOn, are_same, is_same};
+ghost use Rattle.session_plan.specs.Calls.{refusal_of};
 
 use crate::listing::read_tables;
 use crate::opening::any_is_open;
-use crate::roots::head_root;
 use crate::taking::take_named;
 use chunk_store::{Draft, PutFault};
 use schema_model::law_of_sameness;
+use session_plan::head_root;
 use session_state::Session;
 use sql_procedures::{CommitRequest, Staging};
 use sql_write::laws_of_growth;

@@ -3,7 +3,7 @@
 ghost use Rattle.std.specs.Prelude.{◌≡◌, ◌≤◌, ◌≤ℤ◌, Bool, IfErr, IfOk, Ok, length, pos, true};
 ghost use Rattle.chunk_store.specs.Clashes.{IsReason};
 ghost use Rattle.chunk_store.specs.Drafts.{Grows, IsNamed, chunks_of};
-ghost use Rattle.chunk_store.specs.Kinds.{is_commit, is_data};
+ghost use Rattle.chunk_store.specs.Kinds.{is_data};
 ghost use Rattle.chunk_store.specs.Laws.{ChunksFollow, DraftsFollow, DraftsGrow};
 ghost use Rattle.schema_model.specs.PlainCommits.{Commits};
 ghost use Rattle.script_text.specs.Collisions.{IsFault};
@@ -19,19 +19,18 @@ ghost use Rattle.plain_sessions.specs.declared.commands.Work.TheVariants as work
 ghost use Rattle.root_merge.specs.Deciding.{set};
 ghost use Rattle.root_merge.specs.States.{IsCandidate};
 ghost use Rattle.session_state.specs.Laws.{CommitsFollow, RecordsFollow};
-ghost use Rattle.session_txn.specs.Answering.{Decides};
-ghost use Rattle.session_txn.specs.Committing.{IsWorkOf};
-ghost use Rattle.shared_db.specs.Plans.{IsRefusedBy, PlanIs};
-ghost use Rattle.branch_procs.specs.Committing.{CanCommit, CanDecide, IsCommitWritten, IsCommitted, IsPlannedOf, parents_on, staged_in};
+ghost use Rattle.session_plan.specs.Answering.{Decides};
+ghost use Rattle.session_plan.specs.Committing.{CanCommit, parents_on};
+ghost use Rattle.shared_db.specs.Plans.{PlanIs};
+ghost use Rattle.branch_procs.specs.Committing.{CanDecide, IsCommitted, staged_in};
 
-use crate::making::{new_commit, staged_for};
+use crate::making::staged_for;
 use crate::replying::hash_reply;
-use chunk_store::{Draft, PutFault, SealFault, law_of_chunks, law_of_drafts, law_of_growth};
-use commit_graph::write_commit;
+use chunk_store::{Draft, PutFault, law_of_chunks, law_of_drafts, law_of_growth};
 use root_merge::{Candidate, candidate};
-use script_text::Reply;
+use session_plan::{refused, sealed, work_of, written};
 use session_state::{Session, law_of_records, law_of_standing_commits};
-use shared_db::{DecisionPlan, RecordChange};
+use shared_db::DecisionPlan;
 use sql_procedures::{CommitRequest, Staging};
 use std::alloc::Global;
 use table_root::{Look, law_of_databases};
@@ -82,20 +81,6 @@ pub fn plan_dolt_commit<D: Digester>(
     }
 }
 
-/// A draft over the look's store with the session's own chunks, in which to work on a decision: what stands in the session's draft stands in it, and so does
-/// what the look shows.
-pub fn work_of<D: Digester>(session: &Session<D>, look: &Look) -> Result<Draft<D>, PutFault>
-    requires { (p : plain.Session) × (t : plain.Transaction) × (shared : Shared) × (present : BranchState) × Decides D.address session.now look.now p t shared present }
-    ensures work { IfOk result (λ work. IsWorkOf session.now look.now work) }
-    ensures fault { IfErr result (IsFault D.address) }
-{
-    law_of_chunks();
-    look.store.tell();
-    session.draft.tell();
-    let store = look.store.share()?;
-    session.draft.copied(store)
-}
-
 /// What the commit rule makes of the own record with the tables that the commit stages first.
 fn decided<D: Digester>(
     alloc: Global,
@@ -123,32 +108,6 @@ fn decided<D: Digester>(
         session.force,
     )?;
     Ok(made)
-}
-
-/// Writes the commit of the record's staged database, on the commit that is given and on the one that the record says is being merged. Only its chunk is
-/// put, and none where it was there before.
-pub fn written<D: Digester>(
-    alloc: Global,
-    work: &mut Draft<D>,
-    rec: &BranchRecord,
-    present: &Address,
-    committer: &Text,
-    message: &Text,
-    epoch: i64,
-) -> Result<Address, PutFault>
-    requires can { (commits : Commits) × (state : BranchState) × CanCommit D.address work.old.chunks rec.now present.now commits state }
-    requires committer { length committer.now ≤ 32 }
-    requires date { pos 0 ≤ℤ epoch }
-    requires message { length message.now ≤ 8192 }
-    ensures written { (commits : Commits) (state : BranchState) → CanCommit D.address work.old.chunks rec.now present.now commits state
-        → IfOk result (λ k. IsCommitWritten D.address work.old.chunks work.new.chunks (commit_on commits epoch committer.now state.staged (parents_on present.now state) message.now) k) }
-    ensures grows { Grows is_commit work.old work.new }
-    ensures cause { IfErr result (IsReason D.address (chunks_of work.new.chunks)) }
-{
-    law_of_growth();
-    let commit = new_commit(alloc, work, rec, present, committer, message, epoch)?;
-    let k = write_commit(alloc, work, &commit)?;
-    Ok(k)
 }
 
 /// Writes the commit, and plans the record that is at it.
@@ -187,36 +146,6 @@ fn at_commit(rec: &BranchRecord, head: Address) -> BranchRecord
         working: rec.working,
         staged: rec.staged,
         merging: None,
-    }
-}
-
-/// A decision for this record, with all that was worked in the draft.
-pub fn sealed<D: Digester>(
-    work: Draft<D>,
-    rec: BranchRecord,
-    reply: Reply,
-) -> Result<DecisionPlan, PutFault>
-    ensures sealed { IfOk result (λ plan. IsPlannedOf work rec reply plan) }
-    ensures fault { IfErr result (IsFault D.address) }
-{
-    match work.seal_own() {
-        Ok((segment, _)) => Ok(DecisionPlan {
-            change: RecordChange::Record(rec),
-            reply,
-            sealed: Some(segment),
-        }),
-        Err(SealFault::Memory(_)) => Err(PutFault::Memory),
-    }
-}
-
-/// A decision that changes nothing, and answers this refusal.
-pub fn refused(number: u16) -> DecisionPlan
-    ensures { IsRefusedBy number result }
-{
-    DecisionPlan {
-        change: RecordChange::Nothing,
-        reply: Reply::Refused(number),
-        sealed: None,
     }
 }
 

@@ -14,19 +14,18 @@ ghost use Rattle.plain_sessions.specs.declared.commands.Command.TheVariants as c
 ghost use Rattle.root_merge.specs.States.{IsCandidate};
 ghost use Rattle.session_state.specs.Laws.{RecordsFollow, TransactionsFollow};
 ghost use Rattle.session_state.specs.Standing.{IsInTransaction, SessionStands};
-ghost use Rattle.session_txn.specs.Answering.{AnswersAlone};
-ghost use Rattle.session_txn.specs.Showing.{is_sound_reply};
-ghost use Rattle.branch_procs.specs.Calls.{IsTold, OwnStands, Settles, Stages, staged_by, stages, status_reply};
+ghost use Rattle.session_plan.specs.Answering.{AnswersAlone};
+ghost use Rattle.session_plan.specs.Showing.{is_sound_reply};
+ghost use Rattle.branch_procs.specs.Calls.{IsTold, Settles, Stages, staged_by, stages};
+ghost use Rattle.session_plan.specs.Calls.{OwnStands, status_reply};
 
-use crate::replying::status_reply;
-use crate::roots::head_root;
 use crate::staging::{add, reset_to};
 use chunk_store::{Draft, DraftMark, PutFault, law_of_chunks, law_of_drafts, law_of_growth};
 use plain_sessions::Work;
 use root_merge::Candidate;
 use script_text::Reply;
+use session_plan::{due, head_root, status_reply};
 use session_state::{Session, law_of_records, law_of_transactions};
-use session_txn::due;
 use std::alloc::Global;
 use tuple_codec::{BranchRecord, Digester};
 

@@ -12,7 +12,8 @@ ghost use Rattle.plain_sessions.specs.Records.{BranchState};
 ghost use Rattle.root_merge.specs.States.{BranchStateStands, HasBranchState, IsCandidate};
 ghost use Rattle.sql_procedures.specs.declared.requests.Tables.TheVariants as tables;
 ghost use Rattle.sql_procedures.specs.declared.requests.Reset.TheVariants as reset;
-ghost use Rattle.branch_procs.specs.Staging.{AreBoth, CanStage, StandsOn, absence, first_absence, refusal_of, reset_absence};
+ghost use Rattle.branch_procs.specs.Staging.{AreBoth, CanStage, StandsOn, absence, first_absence, reset_absence};
+ghost use Rattle.session_plan.specs.Calls.{refusal_of};
 
 use crate::listing::{put_database, read_tables};
 use crate::opening::{any_is_open, is_open_table};

@@ -1,13 +1,13 @@
 -- The decision of a DOLT_MERGE, and its answers.
 use Rattle.std.proofs.Common.{◌≡◌, refl, ◌∙◌, sym, ap, subst, ℕ, ℤ, Bool, true, false, ◌&&◌, ◌||◌, not, List, [], ◌∷◌, ◌++◌, length, Some, Result, Ok, Err}
-use Rattle.std.specs.Prelude.{IfOk, bytes_eq, is_some}
+use Rattle.std.specs.Prelude.{IfOk, bytes_eq}
 use Rattle.std.specs.List.{list_any}
 use Rattle.tuple_codec.proofs.ByteLemmas.{bytes_same}
 use Rattle.tuple_codec.proofs.Truths.{alike_truths as one_test}
 use Rattle.tuple_codec.specs.declared.addresses.Address.{Address}
 use Rattle.tuple_codec.specs.declared.records.BranchRecord.{BranchRecord}
 use Rattle.chunk_store.specs.Chunks.{Chunk, Chunks, Extends, chunk_bytes}
-use Rattle.chunk_store.specs.Drafts.{Drafting, DraftParts, Grows, IsSound, Longer, chunks_of}
+use Rattle.chunk_store.specs.Drafts.{Drafting, Grows, IsSound, Longer, chunks_of}
 use Rattle.chunk_store.specs.Kinds.{is_commit, is_data}
 use Rattle.chunk_store.specs.Laws.{ChunksFollow, DraftsFollow}
 use Rattle.chunk_store.specs.Standing.{IsThere}
@@ -34,21 +34,21 @@ use Rattle.session_state.specs.Records.{RecordStands}
 use Rattle.session_state.specs.Transactions.{TransactionStands}
 use Rattle.session_state.specs.declared.sessions.Session.{Session}
 use Rattle.session_state.proofs.ChangeLemmas.{record_by, record_told, same_record}
-use Rattle.session_txn.specs.Answering.{Decides}
-use Rattle.session_txn.specs.Committing.{IsWorkOf}
-use Rattle.session_txn.proofs.CommitLemmas as decisions
-use Rattle.session_txn.proofs.CommitLemmas.{ok_same}
+use Rattle.session_plan.specs.Answering.{Decides}
+use Rattle.session_plan.specs.Committing.{CanCommit, IsCommitWritten, IsPlannedOf, IsWorkOf}
+use Rattle.session_plan.proofs.CommitLemmas as decisions
+use Rattle.session_plan.proofs.CommitLemmas.{ok_same}
 use Rattle.shared_db.specs.Plans.{IsPlannedAs, PlanIs, brought}
 use Rattle.shared_db.specs.declared.changes.DecisionPlan.{DecisionPlan}
-use Rattle.branch_procs.specs.Committing.{CanCommit, IsCommitWritten, IsPlannedOf}
-use Rattle.branch_procs.proofs.CommittingLemmas.{one_put}
-use Rattle.branch_procs.proofs.StageLemmas.{kept_later}
+use Rattle.session_plan.proofs.CommittingLemmas.{only_one}
+use Rattle.session_plan.proofs.SealLemmas.{at_after, named_sealed, same_sealed}
+use Rattle.root_merge.proofs.StateLemmas.{root_later as kept_later}
 use Rattle.merge_procs.specs.Databases.{IsMet}
 use Rattle.merge_procs.specs.Planning.{CanMergeRoots, IsForwarded, IsJoined, IsMergeCommitted, clean_record, joining_record, success}
 use Rattle.merge_procs.specs.Ways.{IsThree}
 use Rattle.merge_procs.specs.declared.databases.Met.TheVariants as meeting
 use Rattle.merge_procs.specs.declared.ways.Three.{Three}
-use Rattle.merge_procs.proofs.PlanningLemmas.{goes_on, at_after, same_sealed, named_sealed}
+use Rattle.merge_procs.proofs.PlanningLemmas.{goes_on}
 
 -- ---- the decision
 
@@ -96,8 +96,8 @@ module _ {D : Type 0} (address : List ℕ → List ℕ) (chunks : ChunksFollow) 
 
   -- ---- what the work has
 
-  pub among : AreAmong t.commits shared.commits
-  among = commits.among address (chunk_bytes session.draft.chunks.base) (chunk_bytes store_of) t.commits shared.commits base_extends stands.commits d.look_is.commits
+  among : AreAmong t.commits shared.commits
+  among = decisions.among address chunks records session look start started work w p t shared present d commits
 
   pub known_now : (k : List ℕ) → is_known t.commits k ≡ true → is_known shared.commits k ≡ true
   known_now k known = decisions.known_more (t.commits k) (shared.commits k) (among k) known
@@ -213,12 +213,6 @@ module _ {D : Type 0} (address : List ℕ → List ℕ) (chunks : ChunksFollow) 
         is_at_now : chunks_of now.chunks ≡ at_now
         is_at_now = λ i. chunk_bytes (now_base i ++ now.chunks.own)
 
-        only_one : (j bytes : List ℕ) → chunk_bytes now.chunks.own j ≡ Some bytes → is_commit bytes ≡ true → j ≡ k
-        only_one j bytes there is =
-            let written = joining.written in
-            one_put (is_some (chunks_of met.chunks k)) met.chunks k (plain_commit_bytes address commit) j bytes no_commit_met
-            (subst (λ (parts : DraftParts). chunk_bytes parts.own j ≡ Some bytes) written.chunks there) is
-
         root_kept : IsKeptAt address at_now (let root = made.root in root.0) database
         root_kept = subst (λ (c : Chunks). IsKeptAt address c (let root = made.root in root.0) database) is_at_now
             (kept_later address (chunks_of met.chunks) (chunks_of now.chunks) (drafts.longer_extends met.chunks now.chunks longer) databases (let root = made.root in root.0) database made.kept)
@@ -250,7 +244,8 @@ module _ {D : Type 0} (address : List ℕ → List ℕ) (chunks : ChunksFollow) 
         with_it : (left : Commits) × (with_new_commit address commit shared.commits ≡ Some left) × CommitsAreThere address at_now left
         with_it =
             commits.with_one address store_of now.chunks.own shared.commits commit d.look_is.commits is_there is_grown root_kept.within t.own.head
-            (ap (λ (b : Bool). b || list_any (bytes_eq t.own.head) (three.other.0 ∷ [])) (bytes_same t.own.head t.own.head refl)) only_one
+            (ap (λ (b : Bool). b || list_any (bytes_eq t.own.head) (three.other.0 ∷ [])) (bytes_same t.own.head t.own.head refl))
+            (only_one address met.chunks now.chunks commit joining.k joining.written no_commit_met)
 
         abbrev sealed_so : IsBrought now.segments now.chunks.own (brought plan)
         sealed_so = let planned = joining.planned in planned.sealed

@@ -31,14 +31,13 @@ use Rattle.root_merge.proofs.MergedLemmas.{within_named as all_within}
 use Rattle.script_text.specs.declared.replies.Reply.{Reply}
 use Rattle.session_state.specs.Laws.{RecordsFollow}
 use Rattle.session_state.specs.Records.{RecordStands}
-use Rattle.session_txn.specs.Showing.{is_plain_reply}
+use Rattle.session_plan.specs.Showing.{is_plain_reply}
 use Rattle.sql_procedures.specs.declared.requests.Resolution.{Resolution}
 use Rattle.sql_write.specs.Putting.{AreListed}
 use Rattle.sql_write.proofs.TableLemmas.{kept_read, kept_short}
 use Rattle.keep_laws.proofs.ResolveLemmas.{resolved_kept}
 use Rattle.plain_writes.specs.WriteLaws.{IsKept}
-use Rattle.branch_procs.specs.Calls.{status_reply}
-use Rattle.branch_procs.specs.Staging.{refusal_of}
+use Rattle.session_plan.specs.Calls.{refusal_of, status_reply}
 use Rattle.merge_procs.specs.Resolving.{CanJudge, CanResolve, CanSettleEach, first_absent, first_refusal, has_name}
 use Rattle.merge_procs.specs.Steps.{IsStep}
 use Rattle.merge_procs.specs.declared.steps.Step.TheVariants as step

@@ -1,15 +1,13 @@
--- Which decision a DOLT_MERGE is, whether the branch is as it was, and what goes on standing where the work is sealed.
-use Rattle.std.proofs.Common.{◌≡◌, refl, ◌∙◌, sym, ap, subst, ℕ, Bool, true, false, ◌&&◌, not, List, ◌++◌, length, Option, None, Some, Ok, Err}
+-- Which decision a DOLT_MERGE is, and whether the branch is as it was.
+use Rattle.std.proofs.Common.{◌≡◌, refl, ◌∙◌, sym, ap, subst, ℕ, Bool, true, false, ◌&&◌, not, List, length, Option, None, Some, Ok, Err}
 use Rattle.std.specs.Prelude.{◌≤◌, if◌then◌else◌, nat_le}
 use Rattle.std.proofs.lemmas.Bool.{and_parts, leb-true}
 use Rattle.std.specs.List.{list_all}
 use Rattle.std.specs.Option.{option_map_or}
 use Rattle.tuple_codec.specs.declared.addresses.Address.{Address}
 use Rattle.tuple_codec.specs.declared.records.BranchRecord.{BranchRecord}
-use Rattle.chunk_store.specs.Chunks.{AreNamed, Chunk, Chunks, IsSingle, Lists, chunk_bytes}
-use Rattle.chunk_store.specs.Drafts.{Drafting, DraftParts, IsSound, chunks_of}
-use Rattle.chunk_store.specs.Laws.{ChunksFollow, DraftsFollow}
-use Rattle.chunk_store.specs.Stores.{IsBrought, joined}
+use Rattle.chunk_store.specs.Chunks.{Chunks}
+use Rattle.chunk_store.specs.Drafts.{DraftParts}
 use Rattle.expr_eval.specs.Binding.{Outcome, and_then}
 use Rattle.schema_merge.specs.RootMerge.{MergedDatabase}
 use Rattle.plain_sql.specs.Lists.{unless}
@@ -29,8 +27,7 @@ use Rattle.plain_sessions.specs.Statements.{worked}
 use Rattle.plain_sessions.specs.declared.commands.Work.TheVariants as call
 use Rattle.session_state.specs.Transactions.{StartStands}
 use Rattle.session_state.specs.declared.sessions.Session.{Session}
-use Rattle.session_txn.specs.Answering.{Decides}
-use Rattle.session_txn.proofs.CommitLemmas as decisions
+use Rattle.session_plan.specs.Answering.{Decides}
 use Rattle.shared_db.specs.Plans.{IsPlannedAs, IsRefusedBy, PlanIs}
 use Rattle.shared_db.specs.declared.changes.DecisionPlan.{DecisionPlan}
 use Rattle.merge_procs.specs.Ways.{IsThree, IsWay}
@@ -117,29 +114,3 @@ module _ (address : List ℕ → List ℕ) (look : Look) (t : Transaction) (shar
 
   pub goes_on : (plan : DecisionPlan) → moved ≡ false → IsPlannedAs address look shared.commits plan change → PlanIs address look shared.commits plan (unless_moved t present change)
   goes_on plan is planned = subst (PlanIs address look shared.commits plan) (sym (decided_as false is)) planned
-
--- ---- what was sealed
-
-module _ (address : List ℕ → List ℕ) (chunks : ChunksFollow) (drafts : DraftsFollow) (store : List Chunk) (store_named : AreNamed address store) (after : Drafting)
-    (base : after.chunks.base ≡ store) (of : joined after.segments ≡ store) (sound : IsSound address after.chunks) (sealed : List Chunk)
-    (is : IsBrought after.segments after.chunks.own sealed) where
-  abbrev beside : List Chunk
-  beside = store ++ after.chunks.own
-
-  pub at_after : chunks_of after.chunks ≡ chunk_bytes beside
-  at_after = λ i. chunk_bytes (base i ++ after.chunks.own)
-
-  single : IsSingle beside
-  single = subst (λ (below : List Chunk). IsSingle (below ++ after.chunks.own)) base sound.single
-
-  only : Lists sealed beside
-  only = subst (λ (below : List Chunk). Lists sealed (below ++ after.chunks.own)) of is.only
-
-  -- the same is found of what was sealed as of the draft's own
-  pub same_sealed : chunk_bytes beside ≡ chunk_bytes (store ++ sealed)
-  same_sealed = decisions.sealed_found chunks store after.chunks.own sealed single is.all only
-
-  pub named_sealed : AreNamed address sealed
-  named_sealed = chunks.named_fewer address sealed beside only
-      (subst (λ (below : List Chunk). AreNamed address (below ++ after.chunks.own)) base
-      (drafts.all_named address after.chunks (subst (AreNamed address) (sym base) store_named) sound))

@@ -1,17 +1,16 @@
 -- What calls that aren't decided on make of a session's own record, and the session after them.
-use Rattle.std.proofs.Common.{◌≡◌, refl, sym, ◌∙◌, ap, subst, inl, inr, ℕ, Bool, true, not, List, [], ◌++◌, length, codes, Option, None, Some, is_some, Result, Ok, Err, IfOk, IfErr, if◌then◌else◌}
+use Rattle.std.proofs.Common.{◌≡◌, refl, sym, ◌∙◌, ap, subst, inl, ℕ, Bool, true, not, List, [], length, codes, Option, None, Some, is_some, Result, Ok, Err, IfOk, IfErr, if◌then◌else◌}
 use Rattle.std.specs.Option.{option_map}
 use Rattle.tuple_codec.proofs.Options.{some_there as has_one}
 use Rattle.tuple_codec.specs.declared.addresses.Address.{Address}
 use Rattle.tuple_codec.specs.declared.records.BranchRecord.{BranchRecord}
 use Rattle.chunk_store.specs.Chunks.{Chunk, Chunks, chunk_bytes}
 use Rattle.chunk_store.specs.Clashes.{IsReason}
-use Rattle.chunk_store.specs.Drafts.{AreOfKind, Drafting, DraftParts, Grows, IsNamed, IsSound, chunks_of, cut_to}
+use Rattle.chunk_store.specs.Drafts.{Drafting, DraftParts, Grows, IsNamed, IsSound, chunks_of, cut_to}
 use Rattle.chunk_store.specs.Laws.{ChunksFollow, DraftsFollow, DraftsGrow}
 use Rattle.chunk_store.specs.declared.faults.Clash.{Clash}
 use Rattle.chunk_store.specs.declared.faults.PutFault.{PutFault}
 use Rattle.chunk_store.specs.declared.faults.PutFault.TheVariants.{Memory, Collision}
-use Rattle.chunk_store.proofs.ChunkLemmas.{at_join, either_some}
 use Rattle.chunk_store.specs.Kinds.{is_data}
 use Rattle.table_root.specs.Kept.{IsKeptAt}
 use Rattle.expr_eval.specs.Binding.{Outcome, and_then}
@@ -40,12 +39,13 @@ use Rattle.session_state.specs.Records.{RecordStands}
 use Rattle.session_state.specs.Transactions.{StartStands}
 use Rattle.session_state.specs.Standing.{IsInTransaction, SessionStands}
 use Rattle.session_state.specs.declared.sessions.Session.{Session}
-use Rattle.session_txn.specs.Answering.{AnswersAlone}
-use Rattle.session_txn.specs.Showing.{is_plain_reply}
-use Rattle.session_txn.proofs.AloneLemmas.{answers_due, answers_so, collides, starves, takes_none, worked_ill, worked_well}
-use Rattle.session_txn.proofs.ShowLemmas.{due_truly, plain_told}
-use Rattle.session_txn.proofs.CommitLemmas.{data_apart, of_kind}
-use Rattle.branch_procs.proofs.LocalLemmas.{grown_by, own_in}
+use Rattle.session_plan.specs.Answering.{AnswersAlone}
+use Rattle.session_plan.specs.Showing.{is_plain_reply}
+use Rattle.session_plan.proofs.AloneLemmas.{answers_due, answers_so, collides, starves, takes_none, worked_ill, worked_well}
+use Rattle.session_plan.proofs.ShowLemmas.{due_truly, plain_told}
+use Rattle.session_plan.proofs.CommitLemmas.{no_commit_more}
+use Rattle.session_plan.proofs.CommittingLemmas.{fault_is}
+use Rattle.session_plan.proofs.LocalLemmas.{grown_by, own_in}
 use Rattle.merge_procs.specs.Databases.{IsMet}
 use Rattle.merge_procs.specs.Steps.{IsBack, IsMade, IsPlain, IsSame, IsStep, Settles}
 use Rattle.merge_procs.specs.Ways.{IsThree}
@@ -142,25 +142,12 @@ opens address old new own p t request three working made drafts growth records s
 
 -- ---- the draft
 
--- data more are no commits
-no_commit_more : ChunksFollow → (own more : List Chunk) → HasNoCommit own → AreOfKind is_data more → HasNoCommit (own ++ more)
-no_commit_more laws own more none all k bytes there is =
-    elim (either_some (chunk_bytes own k) (chunk_bytes more k) bytes (sym (at_join own more k) ∙ there)) [
-      | inl here ↦ none k bytes here is
-      | inr here ↦ data_apart bytes (of_kind is_data more k bytes all (laws.is_listed more k bytes here)) is
-    ]
-
 -- a collision that is told is one
 collides_truly : (address : List ℕ → List ℕ) (old mid : Drafting) (clash : Clash) (reply : Reply) → ChunksFollow → DraftsFollow → DraftsGrow → IsNamed address old.chunks
     → IsSound address mid.chunks → Grows is_data old mid → IsReason address (chunks_of mid.chunks) (Collision clash) → reply ≡ Collided clash → TellsTruly address reply
 collides_truly address old mid clash reply chunks drafts growth named sound grows reason told =
     let longer = growth.is_longer is_data old mid grows in
-    subst (λ (r : Reply). TellsTruly address r) (sym told) (record {
-      first = chunks.is_named address (mid.chunks.base ++ mid.chunks.own) clash.address.0 clash.first
-          (drafts.all_named address mid.chunks (drafts.still_named address old.chunks mid.chunks longer named) sound) reason.is_held;
-      second = reason.is_brought;
-      differ = reason.differ;
-    })
+    subst (λ (r : Reply). TellsTruly address r) (sym told) (fault_is address chunks drafts old.chunks mid.chunks named longer sound (Collision clash) reason)
 
 -- ---- the session
 
@@ -183,7 +170,7 @@ made_stands address old d own p t state chunks drafts growth follow there stands
       allow = stands.allow;
       force = stands.force;
       position = stands.position;
-      transaction = grown_by address old.draft.chunks d.chunks old.start old.own own p.transaction t state follow there longer stands.transaction made;
+      transaction = grown_by address old.draft.chunks d.chunks old.start old.own own p.transaction t state follow there longer stands.transaction (λ before. made);
       named = drafts.still_named address old.draft.chunks d.chunks longer stands.named;
       plain_own = subst (λ (cs : List Chunk). HasNoCommit cs) (sym grows.own) (no_commit_more chunks old.draft.chunks.own grows.more stands.plain_own grows.kinds);
       committer = stands.committer;

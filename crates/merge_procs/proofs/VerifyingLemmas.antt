@@ -17,7 +17,7 @@ use Rattle.plain_sessions.specs.Records.{BranchState}
 use Rattle.plain_sessions.specs.Replies.{number_field, one_row}
 use Rattle.plain_writes.specs.Violations.{violations}
 use Rattle.session_state.specs.Records.{RecordStands}
-use Rattle.session_txn.specs.Showing.{is_plain_reply}
+use Rattle.session_plan.specs.Showing.{is_plain_reply}
 use Rattle.table_root.specs.Standing.{DatabasesStand}
 use Rattle.merge_procs.specs.Steps.{IsMade}
 

@@ -15,7 +15,7 @@ use Rattle.plain_sessions.specs.Merging.{merge_reply}
 use Rattle.root_merge.specs.Merging.{AreRoots}
 use Rattle.session_state.specs.Commits.{CommitsAreThere}
 use Rattle.shared_db.specs.declared.changes.DecisionPlan.{DecisionPlan}
-use Rattle.branch_procs.specs.Committing.{IsCommitWritten, IsPlannedOf}
+use Rattle.session_plan.specs.Committing.{IsCommitWritten, IsPlannedOf}
 use Rattle.merge_procs.specs.declared.ways.Three.{Three}
 
 -- the message that is given, or one of both names

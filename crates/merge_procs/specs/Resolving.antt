@@ -25,7 +25,7 @@ use Rattle.root_merge.specs.Merging.{are_within}
 use Rattle.session_state.specs.Records.{RecordStands}
 use Rattle.sql_procedures.specs.declared.requests.Resolution.{Resolution}
 use Rattle.sql_procedures.specs.declared.requests.Side.{Side}
-use Rattle.branch_procs.specs.Staging.{refusal_of}
+use Rattle.session_plan.specs.Calls.{refusal_of}
 use Rattle.merge_procs.specs.declared.takings.Flaw.{Flaw}
 use Rattle.merge_procs.specs.declared.takings.Flaw.TheVariants as flaw
 

@@ -14,7 +14,7 @@ use Rattle.script_text.specs.declared.replies.Reply.{Reply}
 use Rattle.script_text.specs.declared.replies.Reply.TheVariants.{Refused, Collided}
 use Rattle.session_state.specs.Records.{RecordStands}
 use Rattle.session_state.specs.declared.sessions.Session.{Session}
-use Rattle.session_txn.specs.Showing.{IsDue, is_plain_reply}
+use Rattle.session_plan.specs.Showing.{IsDue, is_plain_reply}
 use Rattle.merge_procs.specs.declared.steps.Made.{Made}
 use Rattle.merge_procs.specs.declared.steps.Step.{Step}
 use Rattle.merge_procs.specs.declared.steps.Step.TheVariants as step

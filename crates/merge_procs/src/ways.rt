@@ -18,11 +18,11 @@ ghost use Rattle.session_state.specs.Standing.{IsInTransaction, SessionStands};
 ghost use Rattle.tuple_codec.specs.AddressTexts.{IsAddress};
 ghost use Rattle.merge_procs.specs.Ways.{AreDatabases, IsOver, IsWay, Leads, head_at, is_changed};
 
-use branch_procs::head_root;
 use chunk_store::{Draft, law_of_chunks};
 use commit_graph::law_of_standing_commits;
 use merge_base::merge_base;
 use schema_model::{law_of_ancestors, law_of_sameness};
+use session_plan::head_root;
 use session_state::Session;
 use sql_procedures::MergeOf;
 use std::alloc::{AllocError, Global};

@@ -13,7 +13,7 @@ use Rattle.plain_sessions.specs.declared.commands.Command.TheVariants.{Data}
 use Rattle.plain_sessions.specs.declared.commands.Work.{Work}
 use Rattle.session_state.specs.Changes.{Parts, StateStands}
 use Rattle.session_state.specs.declared.sessions.Session.{Session}
-use Rattle.session_txn.specs.Answering.{AnswersAlone}
+use Rattle.session_plan.specs.Answering.{AnswersAlone}
 use Rattle.serving.specs.Answering.{HasMet, place_after}
 use Rattle.serving.specs.Branching.{Went}
 use Rattle.serving.specs.Serving.{IsBefore, Meets, MeetsOnce, Passes}

@@ -26,7 +26,7 @@ use Rattle.session_state.specs.Changes.{Parts, StateStands}
 use Rattle.session_state.specs.Standing.{SessionStands}
 use Rattle.session_state.specs.declared.sessions.Position.TheVariants as place
 use Rattle.session_state.specs.declared.sessions.Session.{Session}
-use Rattle.session_txn.specs.Showing.{is_sound_reply}
+use Rattle.session_plan.specs.Showing.{is_sound_reply}
 use Rattle.shared_db.specs.Stepping.{Ends, IsPlainStep, IsStepped, StepsFollow, number_of, places_after, plain_step, step_of_branch, step_of_checkout}
 use Rattle.shared_db.specs.declared.changes.BranchReply.{BranchReply}
 use Rattle.shared_db.specs.declared.changes.BranchReply.TheVariants as ended

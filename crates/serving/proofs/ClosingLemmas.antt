@@ -33,7 +33,7 @@ use Rattle.session_state.specs.Laws.{StatesFollow, with_record}
 use Rattle.session_state.specs.Transactions.{IsLookOf, StartStands}
 use Rattle.session_state.specs.Standing.{SessionStands}
 use Rattle.session_state.specs.declared.sessions.Session.{Session}
-use Rattle.session_txn.specs.Showing.{is_sound_reply}
+use Rattle.session_plan.specs.Showing.{is_sound_reply}
 use Rattle.branch_procs.specs.Closing.{IsVerdict}
 use Rattle.merge_procs.specs.Closing.{IsAsBefore, is_closing}
 use Rattle.shared_db.specs.Plans.{PlanIs, brought}

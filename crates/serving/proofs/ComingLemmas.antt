@@ -22,7 +22,7 @@ use Rattle.session_state.specs.Changes.{Parts}
 use Rattle.session_state.specs.Standing.{IsInTransaction, SessionStands}
 use Rattle.session_state.specs.declared.sessions.Position.TheVariants as place
 use Rattle.session_state.specs.declared.sessions.Session.{Session}
-use Rattle.session_txn.specs.Answering.{AnswersAlone}
+use Rattle.session_plan.specs.Answering.{AnswersAlone}
 use Rattle.session_txn.proofs.SessionLemmas.{in_transaction}
 use Rattle.serving.specs.Kinds.{is_alone, is_in_place, may_close}
 use Rattle.serving.specs.Serving.{Fails, IsBefore, PassesAlone}

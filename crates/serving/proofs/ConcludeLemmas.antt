@@ -17,7 +17,7 @@ use Rattle.session_state.specs.Changes.{Parts}
 use Rattle.session_state.specs.Standing.{SessionStands}
 use Rattle.session_state.specs.declared.sessions.Position.TheVariants as place
 use Rattle.session_state.specs.declared.sessions.Session.{Session}
-use Rattle.session_txn.specs.Showing.{is_sound_reply}
+use Rattle.session_plan.specs.Showing.{is_sound_reply}
 use Rattle.serving.specs.Answering.{Concluded}
 use Rattle.serving.specs.Serving.{Drops, IsBefore, IsBetween}
 use Rattle.serving.specs.Starting.{with_reply}

@@ -19,7 +19,7 @@ use Rattle.plain_sessions.specs.Sessions as plain
 use Rattle.session_state.specs.Changes.{Parts, StateStands}
 use Rattle.session_state.specs.Laws.{StatesFollow, with_record}
 use Rattle.session_state.specs.Transactions.{IsLookOf}
-use Rattle.session_txn.specs.Showing.{is_sound_reply}
+use Rattle.session_plan.specs.Showing.{is_sound_reply}
 use Rattle.shared_db.specs.Plans.{PlanIs, brought}
 use Rattle.shared_db.specs.Shared.{AreWith, IsSettled, changed_lines}
 use Rattle.shared_db.specs.declared.changes.DecisionPlan.{DecisionPlan}

@@ -29,7 +29,7 @@ use Rattle.session_state.specs.Records.{RecordStands}
 use Rattle.table_root.specs.declared.heads.Look.{Look}
 use Rattle.session_state.specs.Standing.{SessionStands}
 use Rattle.session_state.specs.declared.sessions.Session.{Session}
-use Rattle.session_txn.specs.Answering.{Decides}
+use Rattle.session_plan.specs.Answering.{Decides}
 use Rattle.shared_db.specs.Plans.{PlanIs}
 use Rattle.shared_db.specs.Shared.{IsSettled, is_line_of, record_at}
 use Rattle.shared_db.specs.declared.changes.DecisionPlan.{DecisionPlan}

@@ -22,8 +22,8 @@ use Rattle.session_state.specs.Transactions.{IsLookOf}
 use Rattle.plain_sessions.specs.declared.commands.Command.TheVariants as command
 use Rattle.session_state.specs.Standing.{SessionStands}
 use Rattle.session_state.specs.declared.sessions.Session.{Session}
-use Rattle.session_txn.specs.Answering.{Decides}
-use Rattle.session_txn.specs.Showing.{is_sound_reply}
+use Rattle.session_plan.specs.Answering.{Decides}
+use Rattle.session_plan.specs.Showing.{is_sound_reply}
 use Rattle.shared_db.specs.Plans.{PlanIs, brought}
 use Rattle.shared_db.specs.Shared.{IsSettled, noted, record_at}
 use Rattle.shared_db.specs.declared.changes.DecisionPlan.{DecisionPlan}

@@ -10,7 +10,7 @@ use Rattle.plain_sessions.specs.CommitRule.{both_merged, candidate, decide, is_i
 use Rattle.plain_sessions.specs.Records.{BranchState, is_same_state}
 use Rattle.plain_sessions.specs.Replies.{refused}
 use Rattle.plain_sessions.specs.Sessions.{Variables}
-use Rattle.session_txn.specs.Showing.{is_sound_reply}
+use Rattle.session_plan.specs.Showing.{is_sound_reply}
 use Rattle.std.specs.Prelude.{Result, ◌||◌}
 
 pub record IsPlain (number : ℕ) : Type 0 where

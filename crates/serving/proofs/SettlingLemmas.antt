@@ -34,8 +34,8 @@ use Rattle.session_state.specs.Changes.{Parts}
 use Rattle.session_state.specs.Transactions.{StartStands}
 use Rattle.session_state.specs.Standing.{SessionStands}
 use Rattle.session_state.specs.declared.sessions.Session.{Session}
-use Rattle.session_txn.specs.Showing.{IsDue, is_sound_reply}
-use Rattle.session_txn.proofs.ShowLemmas.{plain_told}
+use Rattle.session_plan.specs.Showing.{IsDue, is_sound_reply}
+use Rattle.session_plan.proofs.ShowLemmas.{plain_told}
 use Rattle.shared_db.specs.Plans.{brought}
 use Rattle.shared_db.specs.Shared.{IsSettled, noted, record_at}
 use Rattle.shared_db.specs.declared.changes.DecisionPlan.{DecisionPlan}

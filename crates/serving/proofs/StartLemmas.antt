@@ -28,8 +28,8 @@ use Rattle.session_state.specs.Laws.{StatesFollow}
 use Rattle.session_state.specs.Transactions.{IsLookOf}
 use Rattle.session_state.specs.Standing.{SessionStands}
 use Rattle.session_state.specs.declared.sessions.Session.{Session}
-use Rattle.session_txn.specs.Answering.{AnswersAlone}
-use Rattle.session_txn.specs.Showing.{is_sound_reply}
+use Rattle.session_plan.specs.Answering.{AnswersAlone}
+use Rattle.session_plan.specs.Showing.{is_sound_reply}
 use Rattle.shared_db.specs.Shared.{noted}
 use Rattle.serving.specs.Answering.{Answered, HasStartedTo}
 use Rattle.serving.specs.Branching.{Went}

@@ -20,7 +20,7 @@ use Rattle.session_state.specs.Changes.{Parts}
 use Rattle.session_state.specs.Transactions.{IsLookOf}
 use Rattle.session_state.specs.Standing.{SessionStands}
 use Rattle.session_state.specs.declared.sessions.Session.{Session}
-use Rattle.session_txn.specs.Answering.{Decides}
+use Rattle.session_plan.specs.Answering.{Decides}
 use Rattle.shared_db.specs.Plans.{PlanIs}
 use Rattle.shared_db.specs.declared.changes.DecisionPlan.{DecisionPlan}
 use Rattle.serving.specs.Serving.{IsHere}

@@ -20,7 +20,7 @@ use Rattle.run_laws.specs.Turns.{InOneTurn, ServedIn, Turn, TurnsFollow, moments
 use Rattle.session_state.specs.Changes.{Parts, StateStands}
 use Rattle.session_state.specs.Standing.{SessionStands}
 use Rattle.session_state.specs.declared.sessions.Session.{Session}
-pub use Rattle.session_txn.specs.Showing.{is_sound_reply}
+pub use Rattle.session_plan.specs.Showing.{is_sound_reply}
 use Rattle.shared_db.specs.Shared.{noted}
 use Rattle.serving.specs.Kinds.{may_close}
 use Rattle.serving.specs.Steps.{fault_reply}

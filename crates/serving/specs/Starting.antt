@@ -17,8 +17,8 @@ use Rattle.plain_sessions.specs.declared.commands.Work.{Work}
 use Rattle.session_state.specs.Changes.{Parts}
 use Rattle.session_state.specs.Standing.{SessionStands}
 use Rattle.session_state.specs.declared.sessions.Session.{Session}
-use Rattle.session_txn.specs.Answering.{AnswersAlone}
-use Rattle.session_txn.specs.Showing.{is_sound_reply}
+use Rattle.session_plan.specs.Answering.{AnswersAlone}
+use Rattle.session_plan.specs.Showing.{is_sound_reply}
 use Rattle.shared_db.specs.Shared.{noted}
 use Rattle.serving.specs.Branching.{Went}
 use Rattle.serving.specs.Serving.{IsBefore, MeetsOnce}

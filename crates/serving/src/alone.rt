@@ -7,8 +7,8 @@ ghost use Rattle.plain_sessions.specs.Moments.{is_in_transaction};
 ghost use Rattle.plain_sessions.specs.Sessions as plain;
 ghost use Rattle.plain_sessions.specs.declared.commands.Command.TheVariants as command;
 ghost use Rattle.session_state.specs.Standing.{IsInTransaction, SessionStands};
-ghost use Rattle.session_txn.specs.Answering.{AnswersAlone};
-ghost use Rattle.session_txn.specs.Showing.{is_sound_reply};
+ghost use Rattle.session_plan.specs.Answering.{AnswersAlone};
+ghost use Rattle.session_plan.specs.Showing.{is_sound_reply};
 ghost use Rattle.serving.specs.Kinds.{calls, is_alone, is_call};
 
 use branch_procs::branch_local;

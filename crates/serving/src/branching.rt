@@ -9,7 +9,7 @@ ghost use Rattle.plain_sessions.specs.Sessions as plain;
 ghost use Rattle.plain_sessions.specs.Sessions.{is_changed};
 ghost use Rattle.plain_sessions.specs.declared.commands.Command.TheVariants as command;
 ghost use Rattle.sql_procedures.specs.Arguments.{is_point};
-ghost use Rattle.session_txn.specs.Showing.{is_sound_reply};
+ghost use Rattle.session_plan.specs.Showing.{is_sound_reply};
 ghost use Rattle.shared_db.specs.Shared.{KeepsRoom};
 ghost use Rattle.shared_db.specs.Stepping.{point_of, step_of_branch, step_of_checkout};
 ghost use Rattle.shared_db.specs.declared.changes.BranchReply.TheVariants as reply;

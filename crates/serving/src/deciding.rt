@@ -9,7 +9,7 @@ ghost use Rattle.script_text.specs.Collisions.{IsFault};
 ghost use Rattle.plain_sessions.specs.Records.{Shared};
 ghost use Rattle.plain_sessions.specs.Sessions as plain;
 ghost use Rattle.session_state.specs.Standing.{SessionStands};
-ghost use Rattle.session_txn.specs.Showing.{is_sound_reply};
+ghost use Rattle.session_plan.specs.Showing.{is_sound_reply};
 ghost use Rattle.shared_db.specs.Plans.{brought};
 ghost use Rattle.shared_db.specs.Shared.{IsSettled, KeepsRoom, record_at};
 ghost use Rattle.serving.specs.Planning.{HasLooked, IfLost, IfSettled, IsPlanned, IsPlannedFor, UnlessSettled, by_rule};

@@ -6,7 +6,7 @@ ghost use Rattle.plain_sessions.specs.Records.{Shared};
 ghost use Rattle.plain_sessions.specs.Sessions as plain;
 ghost use Rattle.plain_sessions.specs.declared.commands.Command.{Command};
 ghost use Rattle.session_state.specs.Changes.{Parts};
-ghost use Rattle.session_txn.specs.Showing.{is_sound_reply};
+ghost use Rattle.session_plan.specs.Showing.{is_sound_reply};
 ghost use Rattle.serving.specs.Serving.{Fails, IsBefore, PassesAlone};
 ghost use Rattle.serving.specs.Steps.{after_start, fault_reply, number_at};
 

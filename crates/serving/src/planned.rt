@@ -8,7 +8,7 @@ ghost use Rattle.plain_sessions.specs.Fitness.{IsFitCommand};
 ghost use Rattle.plain_sessions.specs.Records.{Shared};
 ghost use Rattle.plain_sessions.specs.Sessions as plain;
 ghost use Rattle.session_state.specs.Changes.{Parts};
-ghost use Rattle.session_txn.specs.Showing.{is_sound_reply};
+ghost use Rattle.session_plan.specs.Showing.{is_sound_reply};
 ghost use Rattle.shared_db.specs.Shared.{KeepsRoom, record_at};
 ghost use Rattle.serving.specs.Planning.{HasLooked, PlansCommand, PlansPending, PlansRule};
 ghost use Rattle.serving.specs.Serving.{Concludes, IsBetween, IsHere};

@@ -14,7 +14,7 @@ ghost use Rattle.plain_sessions.specs.Statements.{worked};
 ghost use Rattle.plain_sessions.specs.declared.commands.Command.TheVariants as command;
 ghost use Rattle.plain_sessions.specs.declared.commands.Work.{Work};
 ghost use Rattle.session_state.specs.Changes.{Parts};
-ghost use Rattle.session_txn.specs.Showing.{is_sound_reply};
+ghost use Rattle.session_plan.specs.Showing.{is_sound_reply};
 ghost use Rattle.shared_db.specs.Shared.{KeepsRoom};
 ghost use Rattle.serving.specs.Answering.{Answered};
 ghost use Rattle.serving.specs.Branching.{Went};

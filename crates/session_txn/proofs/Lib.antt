@@ -1,4 +1,3 @@
-pub mod AloneLemmas
 pub mod CommitLemmas
 pub mod UnmovedLemmas
 pub mod CountLemmas
@@ -8,6 +7,5 @@ pub mod DropLemmas
 pub mod FoundLemmas
 pub mod SelectLemmas
 pub mod SessionLemmas
-pub mod ShowLemmas
 pub mod ValueLemmas
 pub mod WriteLemmas

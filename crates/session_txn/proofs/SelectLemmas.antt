@@ -36,10 +36,10 @@ use Rattle.plain_sessions.specs.declared.commands.Command.TheVariants as command
 use Rattle.plain_sessions.specs.declared.commands.Work.TheVariants as work
 use Rattle.session_state.specs.Standing.{SessionStands}
 use Rattle.session_state.specs.declared.sessions.Session.{Session}
-use Rattle.session_txn.specs.Answering.{AnswersAlone}
+use Rattle.session_plan.specs.Answering.{AnswersAlone}
 use Rattle.session_txn.specs.Reading.{system_of}
-use Rattle.session_txn.specs.Showing.{IsDue}
-use Rattle.session_txn.proofs.AloneLemmas.{answers_due, in_place, worked_ill, worked_well}
+use Rattle.session_plan.specs.Showing.{IsDue}
+use Rattle.session_plan.proofs.AloneLemmas.{answers_due, in_place, worked_ill, worked_well}
 use Rattle.session_txn.proofs.SessionLemmas.{own_kept}
 
 -- ---- system tables as answers

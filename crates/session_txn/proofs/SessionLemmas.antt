@@ -1,14 +1,10 @@
 -- What a session's steps leave of it.
-use Rattle.std.proofs.Common.{◌≡◌, ◌≤◌, ◌+◌, arith, refl, sym, ◌∙◌, ap, subst, inl, inr, ◌⊎◌, ℕ, Bool, true, false, ◌&&◌, not, List, [], ◌∷◌, ◌++◌, Option, None, Some, Ok, Err, cond, if◌then◌else◌}
+use Rattle.std.proofs.Common.{◌≡◌, ◌≤◌, ◌+◌, arith, refl, sym, ◌∙◌, ap, subst, inl, inr, ◌⊎◌, ℕ, Bool, true, false, ◌&&◌, not, List, [], Option, None, Some, if◌then◌else◌}
 use Rattle.std.specs.Option.{option_map}
 use Rattle.tuple_codec.proofs.Options.{some_there as has_one}
 use Rattle.tuple_codec.proofs.Truths.{not_true as kept_so}
-use Rattle.tuple_codec.specs.declared.addresses.Address.{Address}
-use Rattle.tuple_codec.specs.declared.records.BranchRecord.{BranchRecord}
-use Rattle.chunk_store.specs.Chunks.{Chunk, chunk_bytes}
 use Rattle.chunk_store.specs.Drafts.{Drafting, DraftParts, IsNamed, chunks_of}
 use Rattle.chunk_store.specs.Stores.{all_chunks}
-use Rattle.chunk_store.specs.Kinds.{is_commit}
 use Rattle.table_root.specs.Kept.{HasKeptAt, IsKeptAt}
 use Rattle.table_root.specs.declared.heads.Look.{Look}
 use Rattle.script_text.specs.Output.{shortage}
@@ -24,11 +20,13 @@ use Rattle.plain_sessions.specs.declared.commands.Command.{Command}
 use Rattle.plain_sessions.specs.declared.commands.Command.TheVariants as command
 use Rattle.session_state.specs.Commits.{HasNoCommit}
 use Rattle.session_state.specs.Laws.{TransactionsFollow}
-use Rattle.session_state.specs.Transactions.{IsLookOf, StartStands, TransactionStands}
+use Rattle.session_state.specs.Transactions.{IsLookOf, TransactionStands}
 use Rattle.session_state.specs.Standing.{IsInTransaction, SessionStands}
 use Rattle.session_state.specs.declared.sessions.Session.{Session}
-use Rattle.session_txn.specs.Answering.{AnswersAlone, is_local}
-use Rattle.session_txn.proofs.AloneLemmas.{answers_so}
+use Rattle.session_plan.specs.Answering.{AnswersAlone}
+use Rattle.session_txn.specs.Answering.{is_local}
+use Rattle.session_plan.proofs.AloneLemmas.{answers_so}
+use Rattle.session_plan.proofs.LocalLemmas.{own_in}
 
 -- ---- SET
 
@@ -84,17 +82,9 @@ begins address old look kept d p shared follow stands look_is here rec heads is 
 -- ---- in a transaction
 
 -- its own tables stand, and keep the limits
-own_by : (address : List ℕ → List ℕ) (chunks : DraftParts) (start : Option Look) (own : BranchRecord) (found : Option Transaction) (t : Transaction) → found ≡ Some t
-    → StartStands address chunks start own found → IsKeptAt address (chunks_of chunks) own.working.0 t.own.working
-own_by address chunks None own None t is stands = absurd (cc)
-own_by address chunks None own (Some other) t is stands = absurd stands
-own_by address chunks (Some look) own None t is stands = absurd stands
-own_by address chunks (Some look) own (Some other) t is stands =
-    let same : other ≡ t = cc in subst (λ (u : Transaction). IsKeptAt address (chunks_of chunks) own.working.0 u.own.working) same stands.own_stands.working
-
 pub own_kept : {D : Type 0} (address : List ℕ → List ℕ) (session : Session D) (p : plain.Session) (t : Transaction) → SessionStands address session p → p.transaction ≡ Some t
     → IsKeptAt address (chunks_of session.draft.chunks) session.own.working.0 t.own.working
-own_kept address session p t stands there = own_by address session.draft.chunks session.start session.own p.transaction t there stands.transaction
+own_kept address session p t stands there = let own = own_in address session p t stands there in let kept = own.stands in kept.working
 
 pub has_own : {D : Type 0} (address : List ℕ → List ℕ) (session : Session D) (p : plain.Session) (t : Transaction) → SessionStands address session p → p.transaction ≡ Some t
     → HasKeptAt address (chunks_of session.draft.chunks) session.own.working.0

@@ -7,10 +7,11 @@ use Rattle.chunk_store.specs.Drafts.{Drafting, IsSound, chunks_of}
 use Rattle.chunk_store.specs.Kinds.{is_data}
 use Rattle.chunk_store.specs.Laws.{ChunksFollow, DraftsFollow}
 use Rattle.chunk_store.specs.Stores.{IsBrought, all_chunks}
-use Rattle.chunk_store.proofs.ChunkLemmas.{listed_either, single_fewer}
+use Rattle.chunk_store.proofs.ChunkLemmas.{single_fewer}
 use Rattle.chunk_store.proofs.GrowthLemmas.{grows_itself}
 use Rattle.expr_eval.specs.Binding.{Outcome}
 use Rattle.schema_model.specs.PlainCommits.{is_known}
+use Rattle.script_text.specs.declared.replies.Reply.TheVariants.{Done}
 use Rattle.table_root.specs.declared.heads.Look.{Look}
 use Rattle.plain_sessions.specs.CommitRule.{decide}
 use Rattle.plain_sessions.specs.Moments.{ruled}
@@ -29,9 +30,11 @@ use Rattle.session_state.specs.Standing.{SessionStands}
 use Rattle.session_state.specs.declared.sessions.Session.{Session}
 use Rattle.shared_db.specs.Plans.{PlanIs}
 use Rattle.shared_db.specs.declared.changes.DecisionPlan.{DecisionPlan}
-use Rattle.session_txn.specs.Answering.{Decides}
-use Rattle.session_txn.specs.Committing.{IsDecisionFor, IsOwnFor, IsSealedAs, IsWorkOf}
-use Rattle.session_txn.proofs.CommitLemmas.{decided_known, state_in, record_in, decided_by, stands, more, present_stands, planned_told}
+use Rattle.session_plan.specs.Answering.{Decides}
+use Rattle.session_txn.specs.Committing.{IsDecisionFor, IsOwnFor}
+use Rattle.session_plan.specs.Committing.{IsPlannedOf, IsWorkOf}
+use Rattle.session_plan.proofs.CommitLemmas.{decided_known, state_in, record_in, decided_by, stands, more, present_stands}
+use Rattle.session_txn.proofs.CommitLemmas.{planned_told}
 
 -- ---- a branch that hasn't moved: what would be worked in a draft over the look's store is what the session's own draft has
 
@@ -60,10 +63,10 @@ module _ {D : Type 0} (address : List ℕ → List ℕ) (chunks : ChunksFollow) 
   as_work : IsWorkOf session look (own_work session look)
   as_work = record { base = refl; own = refl; segments = refl; agree = o.agree; single = o.single }
 
-  is_sealed_as : (plan : DecisionPlan) → IsDecisionFor rec sealed plan → IsSealedAs (own_work session look) rec plan
+  is_sealed_as : (plan : DecisionPlan) → IsDecisionFor rec sealed plan → IsPlannedOf (own_work session look) rec Done plan
   is_sealed_as plan is = record {
     change = is.change;
-    reply = is.reply;
+    reply_is = is.reply;
     sealed = subst (IsBrought look.store.segments kept) (sym (is.brings ∙ o.is)) (record {
       all = λ k bytes listed. listed;
       only = (chunks.listed_either (all_chunks look.store) kept).1;

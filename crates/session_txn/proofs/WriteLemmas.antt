@@ -1,29 +1,27 @@
 -- Statements that write, in a transaction.
-use Rattle.std.proofs.Common.{◌≡◌, refl, sym, ◌∙◌, ap, subst, inl, inr, ◌⊎◌, ℕ, Bool, true, false, List, [], ◌∷◌, ◌++◌, length, Option, None, Some, Ok, Err, bytes_eq, if◌then◌else◌}
+use Rattle.std.proofs.Common.{◌≡◌, refl, sym, ◌∙◌, ap, subst, inl, inr, ℕ, true, List, length, Option, None, Some, Ok, Err}
 use Rattle.tuple_codec.proofs.Options.{some_there as has_one}
-use Rattle.tuple_codec.proofs.Truths.{two}
 use Rattle.tuple_codec.specs.declared.addresses.Address.{Address}
-use Rattle.tuple_codec.specs.declared.records.BranchRecord.{BranchRecord}
-use Rattle.chunk_store.specs.Chunks.{Chunk, Chunks, chunk_bytes}
-use Rattle.chunk_store.specs.Clashes.{IsMet}
-use Rattle.chunk_store.specs.Drafts.{AreOfKind, Drafting, DraftParts, Grows, IsNamed, IsSound, Longer, chunks_of, cut_to}
+use Rattle.chunk_store.specs.Chunks.{Chunk, Chunks}
+use Rattle.chunk_store.specs.Drafts.{Drafting, DraftParts, Grows, IsNamed, IsSound, Longer, chunks_of, cut_to}
 use Rattle.chunk_store.specs.Kinds.{is_data}
 use Rattle.chunk_store.specs.Laws.{ChunksFollow, DraftsFollow, DraftsGrow}
+use Rattle.chunk_store.specs.declared.faults.PutFault.TheVariants.{Collision}
+use Rattle.chunk_store.proofs.FollowLemmas.{chunks_follow}
 use Rattle.table_root.specs.Kept.{IsKeptAt}
 use Rattle.script_text.specs.Collisions.{TellsTruly}
 use Rattle.script_text.specs.declared.replies.Reply.{Reply}
-use Rattle.script_text.specs.declared.replies.Reply.TheVariants.{Refused, Collided}
+use Rattle.script_text.specs.declared.replies.Reply.TheVariants.{Refused}
 use Rattle.schema_model.specs.PlainTables.{PlainDatabase}
 use Rattle.sql_ast.specs.declared.statements.Write.{Write}
 use Rattle.expr_eval.specs.Binding.{Outcome}
 use Rattle.plain_writes.specs.Writes.{Effect}
 use Rattle.plain_sessions.specs.Statements.{changed, counted_or_done, worked}
-use Rattle.sql_write.specs.Writing.{IsEffectWritten, Writes}
+use Rattle.sql_write.specs.Writing.{Writes}
 use Rattle.sql_write.specs.declared.faults.SqlFault.{SqlFault}
 use Rattle.sql_write.specs.declared.faults.SqlFault.TheVariants as fault
 use Rattle.sql_write.specs.declared.writing.Written.{Written}
 use Rattle.script_text.specs.Output.{shortage}
-use Rattle.table_root.specs.declared.heads.Look.{Look}
 use Rattle.plain_sessions.specs.Moments.{is_in_transaction}
 use Rattle.plain_sessions.specs.Records.{BranchState}
 use Rattle.plain_sessions.specs.Replies.{refused}
@@ -33,18 +31,19 @@ use Rattle.plain_sessions.specs.declared.commands.Command.TheVariants as command
 use Rattle.plain_sessions.specs.declared.commands.Work.TheVariants as work
 use Rattle.session_state.specs.Commits.{HasNoCommit}
 use Rattle.session_state.specs.Laws.{RecordsFollow, TransactionsFollow}
-use Rattle.session_state.specs.Records.{RecordStands}
-use Rattle.session_state.specs.Transactions.{StartStands, TransactionStands}
+use Rattle.session_state.specs.Transactions.{StartStands}
 use Rattle.session_state.specs.Standing.{SessionStands}
 use Rattle.session_state.specs.declared.sessions.Session.{Session}
-use Rattle.session_txn.specs.Answering.{AnswersAlone}
+use Rattle.session_plan.specs.Answering.{AnswersAlone}
 use Rattle.session_txn.specs.Deleting.{turn_effect}
 use Rattle.session_txn.specs.Writing.{IsExcused, IsRefusedBy, TurnsRoot, written_reply}
 use Rattle.session_txn.proofs.PutBackLemmas.{IsWell, reply_turned, well_kept, write_turned}
-use Rattle.session_txn.proofs.AloneLemmas.{answers_due, answers_so, collides, starves, takes_none, worked_ill, worked_well}
+use Rattle.session_plan.proofs.AloneLemmas.{answers_due, answers_so, collides, starves, takes_none, worked_ill, worked_well}
 use Rattle.session_txn.proofs.SessionLemmas.{own_kept}
-use Rattle.session_txn.proofs.ShowLemmas.{due_truly}
-use Rattle.session_txn.proofs.CommitLemmas.{data_apart}
+use Rattle.session_plan.proofs.ShowLemmas.{due_truly}
+use Rattle.session_plan.proofs.CommitLemmas.{no_commit_more}
+use Rattle.session_plan.proofs.CommittingLemmas.{fault_is}
+use Rattle.session_plan.proofs.LocalLemmas.{grown_by}
 
 -- ---- the draft
 
@@ -86,56 +85,14 @@ pub refuses_truly : (address : List ℕ → List ℕ) (old mid : DraftParts) (f 
 refuses_truly address old mid (fault.Refused number) effect reply chunks drafts named sound longer wrote owed = due_truly address 1 (Refused number) reply owed
 refuses_truly address old mid fault.Memory effect reply chunks drafts named sound longer wrote owed = subst (λ (r : Reply). TellsTruly address r) (sym owed) tt
 refuses_truly address old mid (fault.Collision clash) effect reply chunks drafts named sound longer wrote owed =
-    subst (λ (r : Reply). TellsTruly address r) (sym owed) (record {
-      first = chunks.is_named address (mid.base ++ mid.own) clash.address.0 clash.first (drafts.all_named address mid (drafts.still_named address old mid longer named) sound) wrote.is_held;
-      second = wrote.is_brought;
-      differ = wrote.differ;
-    })
+    subst (λ (r : Reply). TellsTruly address r) (sym owed) (fault_is address chunks drafts old mid named longer sound (Collision clash) wrote)
 
 -- ---- the session
-
-found_either : (xs ys : List Chunk) (k bytes : List ℕ) → chunk_bytes (xs ++ ys) k ≡ Some bytes → (chunk_bytes xs k ≡ Some bytes) ⊎ (chunk_bytes ys k ≡ Some bytes)
-found_either [] ys k bytes h = inr h
-found_either (c ∷ xs) ys k bytes h = two (bytes_eq c.0 k)
-    (λ t. inl (ap (λ (b : Bool). if b then Some c.1 else chunk_bytes xs k) t ∙ sym (ap (λ (b : Bool). if b then Some c.1 else chunk_bytes (xs ++ ys) k) t) ∙ h))
-    (λ t. found_in c xs ys k bytes t (found_either xs ys k bytes (sym (ap (λ (b : Bool). if b then Some c.1 else chunk_bytes (xs ++ ys) k) t) ∙ h)))
-  where
-    found_in : (c : Chunk) (xs ys : List Chunk) (k bytes : List ℕ) → bytes_eq c.0 k ≡ false → (chunk_bytes xs k ≡ Some bytes) ⊎ (chunk_bytes ys k ≡ Some bytes)
-        → (chunk_bytes (c ∷ xs) k ≡ Some bytes) ⊎ (chunk_bytes ys k ≡ Some bytes)
-    found_in c xs ys k bytes t (inl there) = inl (ap (λ (b : Bool). if b then Some c.1 else chunk_bytes xs k) t ∙ there)
-    found_in c xs ys k bytes t (inr there) = inr there
-
-of_data : (ys : List Chunk) (k bytes : List ℕ) → AreOfKind is_data ys → chunk_bytes ys k ≡ Some bytes → is_data bytes ≡ true
-of_data [] k bytes all h = absurd (cc)
-of_data (c ∷ ys) k bytes all h = two (bytes_eq c.0 k)
-    (λ t. let same : Some c.1 ≡ Some bytes = sym (ap (λ (b : Bool). if b then Some c.1 else chunk_bytes ys k) t) ∙ h in
-    let is : c.1 ≡ bytes = cc in ap is_data (sym is) ∙ all.0)
-    (λ t. of_data ys k bytes all.1 (sym (ap (λ (b : Bool). if b then Some c.1 else chunk_bytes ys k) t) ∙ h))
-
--- data more are no commits
-no_commit_more : (own more : List Chunk) → HasNoCommit own → AreOfKind is_data more → HasNoCommit (own ++ more)
-no_commit_more own more none all k bytes there is = by_place (found_either own more k bytes there)
-  where
-    by_place : (chunk_bytes own k ≡ Some bytes) ⊎ (chunk_bytes more k ≡ Some bytes) → ⊥
-    by_place (inl here) = none k bytes here is
-    by_place (inr here) = data_apart bytes (of_data more k bytes all here) is
 
 worked_write : (p : plain.Session) (t : Transaction) (w : Write) (outcome : Outcome Effect) → IsWell t.own.working → turn_effect t.own.working w ≡ outcome
     → worked p t (work.Change w) ≡ changed t.own outcome
 unfolding worked
 worked_write p t w outcome h is = write_turned t.own w h ∙ ap (changed t.own) is
-
-grown_by : (address : List ℕ → List ℕ) (old new : DraftParts) (start : Option Look) (own rec : BranchRecord) (found : Option Transaction) (t : Transaction) (state : BranchState)
-    → TransactionsFollow → found ≡ Some t → Longer old new → StartStands address old start own found
-    → (RecordStands address (chunks_of old) t.commits own t.own → RecordStands address (chunks_of new) t.commits rec state)
-    → StartStands address new start rec (Some (with_own state t))
-grown_by address old new None own rec None t state follow is longer stands made = absurd (cc)
-grown_by address old new None own rec (Some other) t state follow is longer stands made = absurd stands
-grown_by address old new (Some look) own rec None t state follow is longer stands made = absurd stands
-grown_by address old new (Some look) own rec (Some other) t state follow is longer stands made =
-    let same : other ≡ t = cc in
-    let here = subst (λ (u : Transaction). TransactionStands address old look own u) same stands in
-    follow.grown address old new look own rec t state longer here (made here.own_stands)
 
 abbrev at_root : {D : Type 0} → Session D → Address → Drafting → Session D
 at_root session root d = record session { own = record session.own { working = root }; draft = d }
@@ -159,7 +116,7 @@ turned_stands address old d root p t database drafts growth records follow there
           (drafts.longer_extends old.draft.chunks d.chunks longer) (λ k known. known) own in
           record { head = later.head; working = kept; staged = later.staged; merging = later.merging; head_known = later.head_known; merging_known = later.merging_known });
       named = drafts.still_named address old.draft.chunks d.chunks longer stands.named;
-      plain_own = subst (λ (cs : List Chunk). HasNoCommit cs) (sym grows.own) (no_commit_more old.draft.chunks.own grows.more stands.plain_own grows.kinds);
+      plain_own = subst (λ (cs : List Chunk). HasNoCommit cs) (sym grows.own) (no_commit_more chunks_follow old.draft.chunks.own grows.more stands.plain_own grows.kinds);
       committer = stands.committer;
     }
 

@@ -3,6 +3,5 @@ pub mod Committing
 pub mod Deleting
 pub mod Planning
 pub mod Reading
-pub mod Showing
 pub mod Values
 pub mod Writing

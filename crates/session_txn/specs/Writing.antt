@@ -14,7 +14,7 @@ use Rattle.sql_ast.specs.declared.statements.Write.{Write}
 use Rattle.sql_ast.specs.declared.statements.Write.TheVariants as write
 use Rattle.sql_write.specs.declared.faults.SqlFault.{SqlFault}
 use Rattle.sql_write.specs.declared.faults.SqlFault.TheVariants as fault
-use Rattle.session_txn.specs.Showing.{IsDue}
+use Rattle.session_plan.specs.Showing.{IsDue}
 
 -- what is answered to a statement that wrote so many rows
 abbrev pub written_reply : Write → ℕ → Reply

@@ -11,14 +11,15 @@ ghost use Rattle.plain_sessions.specs.Sessions as plain;
 ghost use Rattle.plain_sessions.specs.Sessions.{over, with_variable};
 ghost use Rattle.plain_sessions.specs.declared.commands.Command.TheVariants as command;
 ghost use Rattle.session_state.specs.Standing.{SessionStands};
-ghost use Rattle.session_txn.specs.Answering.{AnswersAlone, is_local};
-ghost use Rattle.session_txn.specs.Showing.{IsDue, is_sound_reply};
+ghost use Rattle.session_plan.specs.Answering.{AnswersAlone};
+ghost use Rattle.session_txn.specs.Answering.{is_local};
+ghost use Rattle.session_plan.specs.Showing.{IsDue, is_sound_reply};
 
 use crate::selecting::{ask, say};
-use crate::showing::due;
 use crate::writing::change;
 use plain_sessions::{Command, Work};
 use script_text::Reply;
+use session_plan::due;
 use session_state::Session;
 use sql_ast::{Refusal, Setting};
 use std::alloc::Global;

@@ -11,13 +11,14 @@ ghost use Rattle.plain_sessions.specs.Replies.{done};
 ghost use Rattle.plain_sessions.specs.Sessions as plain;
 ghost use Rattle.root_merge.specs.States.{HasBranchState};
 ghost use Rattle.session_state.specs.Laws.{CommitsFollow, RecordsFollow};
-ghost use Rattle.session_txn.specs.Answering.{Decides};
-ghost use Rattle.session_txn.specs.Committing.{IsDecisionFor, IsOwnFor, IsSealedAs, IsWorkOf};
-ghost use Rattle.shared_db.specs.Plans.{IsRefusedBy, PlanIs};
+ghost use Rattle.session_plan.specs.Answering.{Decides};
+ghost use Rattle.session_txn.specs.Committing.{IsDecisionFor, IsOwnFor};
+ghost use Rattle.shared_db.specs.Plans.{PlanIs};
 
-use chunk_store::{Draft, PutFault, SealFault, Segment, law_of_chunks, law_of_drafts};
+use chunk_store::{PutFault, Segment, law_of_chunks, law_of_drafts};
 use root_merge::{Candidate, candidate, unmoved_candidate};
 use script_text::Reply;
+use session_plan::{refused, sealed, work_of};
 use session_state::{Session, law_of_records, law_of_standing_commits};
 use shared_db::{DecisionPlan, RecordChange};
 use std::alloc::Global;
@@ -127,42 +128,7 @@ fn plan_merged<D: Digester>(
     work.tell();
     match made? {
         Candidate::Refused(number) => Ok(refused(number)),
-        Candidate::Record(rec) => sealed(work, rec),
-    }
-}
-
-/// A draft over the look's store with the session's own chunks, in which to work.
-fn work_of<D: Digester>(session: &Session<D>, look: &Look) -> Result<Draft<D>, PutFault>
-    requires { (p : plain.Session) × (t : plain.Transaction) × (shared : Shared) × (present : BranchState) × Decides D.address session.now look.now p t shared present }
-    ensures work { IfOk result (λ work. IsWorkOf session.now look.now work) }
-    ensures fault { IfErr result (IsFault D.address) }
-{
-    law_of_chunks();
-    look.store.tell();
-    session.draft.tell();
-    let store = look.store.share()?;
-    session.draft.copied(store)
-}
-
-/// A decision for this record, with all that was worked.
-fn sealed<D: Digester>(work: Draft<D>, rec: BranchRecord) -> Result<DecisionPlan, PutFault>
-    ensures sealed { IfOk result (λ plan. IsSealedAs work rec plan) }
-    ensures fault { IfErr result (IsFault D.address) }
-{
-    match work.seal_own() {
-        Ok((segment, _)) => Ok(decision(rec, segment)),
-        Err(SealFault::Memory(_)) => Err(PutFault::Memory),
-    }
-}
-
-/// A decision that changes nothing.
-fn refused(number: u16) -> DecisionPlan
-    ensures { IsRefusedBy number result }
-{
-    DecisionPlan {
-        change: RecordChange::Nothing,
-        reply: Reply::Refused(number),
-        sealed: None,
+        Candidate::Record(rec) => sealed(work, rec, Reply::Done),
     }
 }
 

@@ -7,11 +7,9 @@ mod deleting;
 mod dropping;
 mod planning;
 mod selecting;
-mod showing;
 mod values;
 mod writing;
 
 pub use answering::{ends_transaction, local};
 pub use committing::plan_commit;
 pub use planning::{finish, plan_begin};
-pub use showing::due;

@@ -14,15 +14,15 @@ ghost use Rattle.plain_sessions.specs.declared.commands.Command.TheVariants as c
 ghost use Rattle.plain_sessions.specs.declared.commands.Work.TheVariants as work;
 ghost use Rattle.sql_ast.specs.declared.selects.Select.TheVariants as select;
 ghost use Rattle.session_state.specs.Standing.{IsInTransaction, SessionStands};
-ghost use Rattle.session_txn.specs.Answering.{AnswersAlone};
+ghost use Rattle.session_plan.specs.Answering.{AnswersAlone};
 ghost use Rattle.session_txn.specs.Reading.{system_of};
-ghost use Rattle.session_txn.specs.Showing.{IsDue, is_sound_reply};
+ghost use Rattle.session_plan.specs.Showing.{IsDue, is_sound_reply};
 
-use crate::showing::due;
 use crate::values::{select_with_values, values_of};
 use chunk_store::Draft;
 use plain_sql::Refused;
 use script_text::Reply;
+use session_plan::due;
 use session_state::Session;
 use sql_ast::{NamedExpr, Select};
 use sql_select::{AskFault, NamedAnswer, Sources, answer, law_of_reading};

@@ -1,7 +1,7 @@
 mod SampleRows
 mod SampleEdits
-mod SampleTrees
 mod TupleVectors
 mod TowerVectors
 mod TreeVectors
 mod WalkVectors
+mod WireVectors

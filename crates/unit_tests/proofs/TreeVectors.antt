@@ -1,4 +1,4 @@
--- The definitions of `prolly_tree`, computed on a tree of two rows.
+-- The definitions of `prolly_tree`, computed on two rows.
 use Rattle.std.proofs.Common.{◌≡◌, [], ◌∷◌, Some, None, refl}
 use Rattle.tuple_codec.specs.Nodes.{leaf_item}
 use Rattle.tuple_codec.specs.Edits.{value_at}

@@ -1,12 +1,13 @@
 -- The definitions of `tuple_codec`, computed.
 use Rattle.std.proofs.Common.{◌≡◌, ℕ, [], ◌∷◌, Option, Some, None, true, false, refl}
 use Rattle.std.specs.Prelude.{pos, negsuc}
+use Rattle.std.specs.declared.cmp.Ordering.TheVariants.{Less, Equal, Greater}
 use Rattle.tuple_codec.specs.Edits.{edited, changed, added, removed, replaced, value_at}
 use Rattle.tuple_codec.specs.KeyBytes.{key_bytes}
 use Rattle.tuple_codec.specs.Nodes.{Item, leaf_item}
 use Rattle.tuple_codec.specs.RowBytes.{row_bytes}
 use Rattle.tuple_codec.specs.RowRule.{row3}
-use Rattle.tuple_codec.specs.Rows.{Cells, fits, key_of}
+use Rattle.tuple_codec.specs.Rows.{Cells, fits, key_of, value_cmp}
 use Rattle.tuple_codec.specs.declared.edits.Edit.{Edit}
 use Rattle.tuple_codec.specs.declared.values.SqlType.TheVariants as kind
 use Rattle.tuple_codec.specs.declared.values.Value.TheVariants as cell
@@ -19,11 +20,38 @@ number n = cell.Int (pos n) ∷ []
 least_that_fits : fits kind.Int (cell.Int (negsuc 2147483647)) ≡ true
 least_that_fits = refl
 
+greatest_that_fits : fits kind.Int (cell.Int (pos 2147483647)) ≡ true
+greatest_that_fits = refl
+
 one_too_great : fits kind.Int (cell.Int (pos 2147483648)) ≡ false
 one_too_great = refl
 
+least_of_all_fits : fits kind.BigInt (cell.Int (negsuc 9223372036854775807)) ≡ true
+least_of_all_fits = refl
+
+digits_enough : fits (kind.Decimal 3 1) (cell.Decimal (negsuc 998)) ≡ true
+digits_enough = refl
+
 digits_beyond : fits (kind.Decimal 3 1) (cell.Decimal (pos 1000)) ≡ false
 digits_beyond = refl
+
+number_of_no_bool : fits kind.Bool (cell.Int (pos 1)) ≡ false
+number_of_no_bool = refl
+
+null_of_any : fits kind.Bool cell.Null ≡ true
+null_of_any = refl
+
+null_before_numbers : value_cmp cell.Null (cell.Int (negsuc 0)) ≡ Less
+null_before_numbers = refl
+
+numbers_by_size : value_cmp (cell.Int (negsuc 0)) (cell.Int (negsuc 1)) ≡ Greater
+numbers_by_size = refl
+
+false_before_true : value_cmp (cell.Bool false) (cell.Bool true) ≡ Less
+false_before_true = refl
+
+text_as_itself : value_cmp (cell.Text (97 ∷ [])) (cell.Text (97 ∷ [])) ≡ Equal
+text_as_itself = refl
 
 key_in_its_order : key_of (1 ∷ 0 ∷ []) (cell.Bool true ∷ cell.Null ∷ []) ≡ cell.Null ∷ cell.Bool true ∷ []
 key_in_its_order = refl

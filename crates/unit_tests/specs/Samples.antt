@@ -1,5 +1,5 @@
--- Rows and edits whose keys are numbers, a tree of two rows, and how its nodes are named.
-use Rattle.std.specs.Prelude.{◌≡◌, ◌≤◌, ◌<◌, ◌^◌, ◌%◌, ℕ, true, List, [], ◌∷◌, ◌++◌, length, replicate, Option, None, Some}
+-- Rows and edits whose keys are numbers, and two other rows.
+use Rattle.std.specs.Prelude.{◌≡◌, ◌≤◌, ◌<◌, ◌^◌, ℕ, true, List, [], ◌∷◌, length, Option, None, Some}
 use Rattle.std.specs.Int.{w64, to_be_bytes}
 use Rattle.tuple_codec.specs.Nodes.{Item, is_after, leaf_item}
 use Rattle.tuple_codec.specs.Trees.{AreRows}
@@ -46,11 +46,7 @@ abbrev pub IsFit : Option (List ℕ) → Type 0
 IsFit None = Unit {0}
 IsFit (Some value) = length value ≤ 300
 
--- ---- a tree of two rows
-
--- 19 zeros and the number of bytes
-abbrev pub by_length : List ℕ → List ℕ
-by_length bytes = replicate 19 0 ++ length bytes % 256 ∷ []
+-- ---- two rows
 
 -- the rows (b, two) and (d, four)
 abbrev pub two_rows : List Item

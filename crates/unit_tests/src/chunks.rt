@@ -1,8 +1,20 @@
 //! Drafts and stores of small chunks: a collision, marks, sealing, and how segments are joined.
 
+use crate::samples::draft_of;
 use chunk_region::PagePool;
 use chunk_store::{Draft, PutFault, Sha512Cut, Store};
+use std::alloc::Global;
+use std::test::Fail;
 use tuple_codec::{Address, Digester};
+
+#[test]
+fn an_address_is_the_first_20_bytes_of_the_digest(rt: HostRuntime) {
+    let address = Address([
+        0xdd, 0xaf, 0x35, 0xa1, 0x93, 0x61, 0x7a, 0xba, 0xcc, 0x41, 0x73, 0x49, 0xae, 0x20, 0x41,
+        0x31, 0x12, 0xe6, 0xfa, 0x4e,
+    ]);
+    assert!(rt; Sha512Cut::address_of(b"abc") == address);
+}
 
 /// Names all bytes alike.
 #[derive(Drop)]
@@ -18,131 +30,109 @@ impl Digester for OneForAll {
     }
 }
 
-#[test]
-fn an_address_is_the_first_20_bytes_of_the_digest(rt: HostRuntime) {
-    let address = Address([
-        0xdd, 0xaf, 0x35, 0xa1, 0x93, 0x61, 0x7a, 0xba, 0xcc, 0x41, 0x73, 0x49, 0xae, 0x20, 0x41,
-        0x31, 0x12, 0xe6, 0xfa, 0x4e,
-    ]);
-    assert_eq!(rt; Sha512Cut::address_of(b"abc"), address);
+/// Whether a draft takes one text twice, and answers another with the clash of both.
+fn clashes(draft: &mut Draft<OneForAll>) -> Result<bool, PutFault> {
+    let address = draft.put(b"a")?;
+    let again = draft.put(b"a")?;
+    Ok(match draft.put(b"b") {
+        Err(PutFault::Collision(clash)) => address == again
+            && clash.address == address
+            && clash.first.as_slice() == b"a".as_slice()
+            && clash.second.as_slice() == b"b".as_slice(),
+        _ => false,
+    })
 }
 
 #[test]
-fn two_strings_of_one_address_are_a_collision(rt: HostRuntime) {
-    let pool = PagePool::with_pages(rt.alloc(), 1).expect(&rt, "memory for a page");
-    let mut draft: Draft<OneForAll> = Draft::new(Store::new(rt.alloc()), pool);
-    let address = draft.put(b"a").expect(&rt, "memory for a chunk");
-    let again = draft.put(b"a").expect(&rt, "the same chunk");
-    assert_eq!(rt; again, address);
-    let Err(PutFault::Collision(clash)) = draft.put(b"b") else {
-        panic!(rt; "no collision");
-    };
-    assert_eq!(rt; clash.address, address);
-    assert_eq!(rt; clash.first.as_slice(), b"a".as_slice());
-    assert_eq!(rt; clash.second.as_slice(), b"b".as_slice());
-    assert_eq!(rt; draft.release().free_pages(), 1);
+fn two_strings_of_one_address_are_a_collision(rt: HostRuntime) -> Result<(), Fail> {
+    let mut draft = draft_of::<OneForAll>(rt.alloc())?;
+    assert!(rt; clashes(&mut draft)?);
+    assert!(rt; draft.release().free_pages() == 1);
+    Ok(())
 }
 
-#[test]
-fn a_draft_goes_back_to_a_mark_and_restarts(rt: HostRuntime) {
-    let pool = PagePool::with_pages(rt.alloc(), 1).expect(&rt, "memory for a page");
-    let mut draft: Draft<Sha512Cut> = Draft::new(Store::new(rt.alloc()), pool);
-    let first = draft.put(b"first").expect(&rt, "memory for a chunk");
+fn has(draft: &Draft<Sha512Cut>, address: &Address, bytes: &[u8]) -> bool {
+    draft.get(address) == Some(bytes)
+}
+
+/// Whether what was put behind a mark goes with it alone.
+fn goes_back(draft: &mut Draft<Sha512Cut>) -> Result<bool, PutFault> {
+    let first = draft.put(b"first")?;
     let mark = draft.mark();
-    let second = draft.put(b"second").expect(&rt, "memory for a chunk");
-    let found = draft.get(&second).expect(&rt, "the chunk");
-    assert_eq!(rt; found, b"second".as_slice());
+    let second = draft.put(b"second")?;
+    let was_there = has(draft, &second, b"second");
     draft.back_to(mark);
-    assert!(rt; draft.get(&second).is_none());
-    let found = draft.get(&first).expect(&rt, "the chunk");
-    assert_eq!(rt; found, b"first".as_slice());
-    draft
-        .rebase(Store::new(rt.alloc()))
-        .expect(&rt, "no collision");
-    let found = draft.get(&first).expect(&rt, "the chunk");
-    assert_eq!(rt; found, b"first".as_slice());
-    draft.restart(Store::new(rt.alloc()));
-    assert!(rt; draft.get(&first).is_none());
+    Ok(was_there && has(draft, &first, b"first") && draft.get(&second).is_none())
+}
+
+fn is_copied(
+    alloc: Global,
+    draft: &Draft<Sha512Cut>,
+    address: &Address,
+    bytes: &[u8],
+) -> Result<bool, PutFault> {
+    let copy = draft.copied(Store::new(alloc))?;
+    Ok(has(&copy, address, bytes))
+}
+
+/// Whether a chunk is in a copy, stays over another store, and goes where the draft starts again.
+fn moves(alloc: Global, draft: &mut Draft<Sha512Cut>) -> Result<bool, PutFault> {
+    let address = draft.put(b"kept")?;
+    let is_copied = is_copied(alloc, draft, &address, b"kept")?;
+    draft.rebase(Store::new(alloc))?;
+    let is_kept = has(draft, &address, b"kept");
+    draft.restart(Store::new(alloc));
+    Ok(is_copied && is_kept && draft.get(&address).is_none())
 }
 
 #[test]
-fn a_copied_draft_has_the_same_chunks(rt: HostRuntime) {
-    let pool = PagePool::with_pages(rt.alloc(), 1).expect(&rt, "memory for a page");
-    let mut draft: Draft<Sha512Cut> = Draft::new(Store::new(rt.alloc()), pool);
-    let address = draft.put(b"kept").expect(&rt, "memory for a chunk");
-    let copy = draft
-        .copied(Store::new(rt.alloc()))
-        .expect(&rt, "memory for a copy");
-    let found = copy.get(&address).expect(&rt, "the chunk");
-    assert_eq!(rt; found, b"kept".as_slice());
-}
-
-#[test]
-fn a_sealed_draft_is_appended_to_a_store(rt: HostRuntime) {
-    let pool = PagePool::with_pages(rt.alloc(), 1).expect(&rt, "memory for a page");
-    let mut draft: Draft<Sha512Cut> = Draft::new(Store::new(rt.alloc()), pool);
-    let address = draft.put(b"kept").expect(&rt, "memory for a chunk");
-    let Ok((segment, pool)) = draft.seal() else {
-        panic!(rt; "no memory for a segment");
-    };
-    assert_eq!(rt; pool.free_pages(), 1);
-    let mut store = Store::new(rt.alloc());
-    store.reserve(1).expect(&rt, "memory for a segment");
-    store.append(segment).expect(&rt, "no collision");
-    let shared = store.share().expect(&rt, "memory for a store");
-    let draft: Draft<Sha512Cut> = Draft::new(shared, pool);
-    let found = draft.get(&address).expect(&rt, "the chunk");
-    assert_eq!(rt; found, b"kept".as_slice());
-}
-
-#[test]
-fn a_draft_keeps_the_pages_that_it_has(rt: HostRuntime) {
-    let pool = PagePool::with_pages(rt.alloc(), 1).expect(&rt, "memory for a page");
-    let mut draft: Draft<Sha512Cut> = Draft::new(Store::new(rt.alloc()), pool);
-    let _address = draft.put(b"left").expect(&rt, "memory for a chunk");
-    draft.restart(Store::new(rt.alloc()));
-    assert_eq!(rt; draft.free_pages(), 1);
-    draft.refill(4).expect(&rt, "memory for pages");
-    assert_eq!(rt; draft.free_pages(), 4);
+fn a_draft_goes_back_to_a_mark_and_to_other_stores(rt: HostRuntime) -> Result<(), Fail> {
+    let mut draft = draft_of::<Sha512Cut>(rt.alloc())?;
+    assert!(rt; goes_back(&mut draft)?);
+    assert!(rt; moves(rt.alloc(), &mut draft)?);
+    assert!(rt; draft.free_pages() == 1);
+    draft.refill(4)?;
     draft.clear();
-    assert_eq!(rt; draft.free_pages(), 4);
+    assert!(rt; draft.free_pages() == 4);
+    Ok(())
+}
+
+/// Appends a letter to a store, sealed in a draft of its own, with the store's last segments or alone. It tells how many pages were free then.
+fn append(alloc: Global, store: &mut Store, letter: u8, alone: bool) -> Result<u32, PutFault> {
+    store.reserve(1)?;
+    let pool = PagePool::with_pages(alloc, 1)?;
+    let mut draft: Draft<Sha512Cut> = Draft::new(store.share()?, pool);
+    draft.put(&[letter])?;
+    let sealed = if alone {
+        draft.seal_own()
+    } else {
+        draft.seal()
+    };
+    let Ok((segment, pool)) = sealed else {
+        return Err(PutFault::Memory);
+    };
+    store.append(segment)?;
+    Ok(pool.free_pages())
+}
+
+/// Whether six segments of one chunk each become two, and the first chunk is still found.
+fn are_joined(alloc: Global, alone: bool) -> Result<bool, PutFault> {
+    let mut store = Store::new(alloc);
+    for letter in b'a'..b'g' {
+        if append(alloc, &mut store, letter, alone)? != 1 {
+            return Ok(false);
+        }
+        if alone {
+            store.tidy();
+        }
+    }
+    let first = Sha512Cut::address_of(b"a");
+    Ok(store.segments() == 2 && store.get(&first) == Some(b"a".as_slice()))
 }
 
 #[test]
-fn small_segments_are_joined(rt: HostRuntime) {
-    let mut store = Store::new(rt.alloc());
-    for text in ["a", "b", "c", "d", "e", "f"] {
-        let pool = PagePool::with_pages(rt.alloc(), 0).expect(&rt, "memory for a pool");
-        let shared = store.share().expect(&rt, "memory for a store");
-        let mut draft: Draft<Sha512Cut> = Draft::new(shared, pool);
-        let _address = draft.put(text.as_bytes()).expect(&rt, "memory for a chunk");
-        let Ok((segment, _pool)) = draft.seal() else {
-            panic!(rt; "no memory for a segment");
-        };
-        store.append(segment).expect(&rt, "no collision");
-    }
-    assert_eq!(rt; store.segments(), 2);
-    let first = Sha512Cut::address_of(b"a");
-    let found = store.get(&first).expect(&rt, "the first chunk");
-    assert_eq!(rt; found, b"a".as_slice());
-}
-
-#[test]
-fn a_store_joins_what_was_sealed_alone(rt: HostRuntime) {
-    let mut store = Store::new(rt.alloc());
-    for text in ["a", "b", "c", "d", "e", "f"] {
-        let pool = PagePool::with_pages(rt.alloc(), 0).expect(&rt, "memory for a pool");
-        let shared = store.share().expect(&rt, "memory for a store");
-        let mut draft: Draft<Sha512Cut> = Draft::new(shared, pool);
-        let _address = draft.put(text.as_bytes()).expect(&rt, "memory for a chunk");
-        let Ok((segment, _pool)) = draft.seal_own() else {
-            panic!(rt; "no memory for a segment");
-        };
-        store.append(segment).expect(&rt, "no collision");
-        store.tidy();
-    }
-    assert_eq!(rt; store.segments(), 2);
-    let first = Sha512Cut::address_of(b"a");
-    let found = store.get(&first).expect(&rt, "the first chunk");
-    assert_eq!(rt; found, b"a".as_slice());
+fn small_segments_are_joined(rt: HostRuntime) -> Result<(), Fail> {
+    assert!(rt; are_joined(rt.alloc(), false)?);
+    assert!(rt; are_joined(rt.alloc(), true)?);
+    Ok(())
 }

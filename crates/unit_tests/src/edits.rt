@@ -1,16 +1,12 @@
 //! Edited trees beside trees that are built anew.
 
 ghost use Rattle.std.specs.Prelude.{◌<◌, ◌+◌, ◌-◌, ◌^◌, IfOk, OnOk};
-ghost use Rattle.chunk_store.specs.Digests.{cut_address};
 ghost use Rattle.chunk_store.specs.Drafts.{chunks_of};
-ghost use Rattle.prolly_tree.specs.Lists.{StandsForRows};
 ghost use Rattle.unit_tests.specs.Samples.{AreEditsBelow, AreFewEdits, IsFit, StandsForFew};
 
-use crate::samples::{draft_of, key_of, rows_of, value_of};
+use crate::samples::{draft_of, key_of, tree_of, value_of};
 use chunk_store::{Draft, PutFault, Sha512Cut};
-use node_chunker::build;
 use prolly_edit::apply;
-use prolly_tree::{count, get};
 use std::alloc::{AllocError, Global};
 use std::test::*;
 use tuple_codec::{Address, Blob, Edit};
@@ -89,13 +85,12 @@ fn built(
     ensures { IfOk result (λ root. StandsForFew (chunks_of draft.new.chunks) root.0) }
 {
     let end = span.to.max(2 * count as u32 + 1);
-    let rows = rows_of(alloc, end, |number| byte_at(count, span, number))?;
-    build(alloc, draft, &rows)
+    tree_of(alloc, draft, end, |number| byte_at(count, span, number))
 }
 
 /// Whether the tree of so many rows, edited, has the address of the tree that is built of the edited rows.
 fn agrees(alloc: Global, count: u16, span: Span) -> Result<bool, PutFault> {
-    let mut draft = draft_of(alloc)?;
+    let mut draft = draft_of::<Sha512Cut>(alloc)?;
     let edits = edits_of(alloc, span)?;
     let root = built(alloc, &mut draft, count, NOWHERE)?;
     let edited = apply(alloc, &mut draft, &root, &edits)?;
@@ -154,45 +149,4 @@ fn removal_of_all_before_the_last_subtree(rt: HostRuntime) {
         let same = both_agree(rt.alloc(), count, 0, 2 * before + 1).expect(&rt, "memory for trees");
         assert!(rt; same, "{count} rows, edits of the first {before}");
     }
-}
-
-/// The first byte of the value that is found at a number.
-fn byte_found(
-    alloc: Global,
-    draft: &Draft<Sha512Cut>,
-    root: &Address,
-    number: u32,
-) -> Result<Option<u8>, AllocError>
-    requires { StandsForRows cut_address (chunks_of draft.now.chunks) root.now.0 }
-{
-    let key = key_of(alloc, number)?;
-    match get(draft, root, key.as_slice()) {
-        Some([byte, ..]) => Ok(Some(*byte)),
-        _ => Ok(None),
-    }
-}
-
-// of three levels, with rows at the even numbers from 2 on
-#[test]
-fn rows_are_found_by_key(rt: HostRuntime) -> Result<(), Fail> {
-    let mut draft = draft_of(rt.alloc())?;
-    let middle = Span {
-        from: 5_000,
-        to: 5_001,
-        byte: Some(9),
-    };
-    let root = built(rt.alloc(), &mut draft, 5_000, middle)?;
-    assert_eq!(rt; count(&draft, &root), 5_000);
-    for (number, want) in [
-        (0, None),
-        (2, Some(7)),
-        (5_000, Some(9)),
-        (5_001, None),
-        (10_000, Some(7)),
-        (10_001, None),
-    ] {
-        let found = byte_found(rt.alloc(), &draft, &root, number)?;
-        assert_eq!(rt; found, want, "at {number}");
-    }
-    Ok(())
 }

@@ -10,6 +10,8 @@ mod edits;
 #[cfg(test)]
 mod gates;
 #[cfg(test)]
+mod lookups;
+#[cfg(test)]
 mod node_bytes;
 #[cfg(test)]
 mod regions;
@@ -19,8 +21,6 @@ mod samples;
 mod streams;
 #[cfg(test)]
 mod towers;
-#[cfg(test)]
-mod trees;
 #[cfg(test)]
 mod tuples;
 #[cfg(test)]

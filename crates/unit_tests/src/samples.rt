@@ -1,17 +1,22 @@
-//! What several tests have: a new draft, and rows whose keys are numbers.
+//! What several tests have: a new draft, rows whose keys are numbers, and the tree of such rows.
 
 ghost use Rattle.std.specs.Prelude.{◌≡◌, ◌≤◌, ◌<◌, ◌+◌, ◌-◌, ◌^◌, ℕ, map, length, IfOk, OnOk};
 ghost use Rattle.std.specs.Int.{w64, to_be_bytes};
+ghost use Rattle.chunk_store.specs.Digests.{cut_address};
+ghost use Rattle.chunk_store.specs.Drafts.{Longer, chunks_of};
 ghost use Rattle.node_format.specs.Views.{leaf_of};
-ghost use Rattle.unit_tests.specs.Samples.{AreBelow, AreFewRows};
+ghost use Rattle.prolly_tree.specs.Lists.{StandsForRows};
+ghost use Rattle.unit_tests.specs.Samples.{AreBelow, AreFewRows, StandsForFew};
 
 use chunk_region::PagePool;
-use chunk_store::{Draft, Sha512Cut, Store};
+use chunk_store::{Draft, PutFault, Sha512Cut, Store};
+use node_chunker::build;
 use node_format::LeafItem;
 use std::alloc::{AllocError, Global};
-use tuple_codec::Blob;
+use tuple_codec::{Address, Blob, Digester};
 
-pub fn draft_of(alloc: Global) -> Result<Draft<Sha512Cut>, AllocError> {
+/// A draft over a new store, with a page.
+pub fn draft_of<D: Digester>(alloc: Global) -> Result<Draft<D>, AllocError> {
     let pool = PagePool::with_pages(alloc, 1)?;
     Ok(Draft::new(Store::new(alloc), pool))
 }
@@ -47,7 +52,7 @@ fn add_row(
 }
 
 /// A row for each number below the end that has a byte: the number in eight bytes, and the byte 300 times.
-pub fn rows_of<F: Fn(u32) -> Option<u8>>(
+fn rows_of<F: Fn(u32) -> Option<u8>>(
     alloc: Global,
     end: u32,
     byte_at: F,
@@ -60,4 +65,20 @@ pub fn rows_of<F: Fn(u32) -> Option<u8>>(
         add_row(alloc, &mut rows, number, byte_at(number))?;
     }
     Ok(rows)
+}
+
+/// The root of the tree of these rows.
+pub fn tree_of<F: Fn(u32) -> Option<u8>>(
+    alloc: Global,
+    draft: &mut Draft<Sha512Cut>,
+    end: u32,
+    byte_at: F,
+) -> Result<Address, PutFault>
+    requires { F.IsAlwaysCallable byte_at }
+    ensures few { IfOk result (λ root. StandsForFew (chunks_of draft.new.chunks) root.0) }
+    ensures tree { IfOk result (λ root. StandsForRows cut_address (chunks_of draft.new.chunks) root.0) }
+    ensures longer { Longer draft.old.chunks draft.new.chunks }
+{
+    let rows = rows_of(alloc, end, byte_at)?;
+    build(alloc, draft, &rows)
 }

@@ -1,12 +1,12 @@
-//! Reading and writing in memory and over devices that fail, call by call.
+//! Readings and writings, in memory and over devices that fail.
 
-ghost use Rattle.std.specs.Prelude.{◌≤◌, IfOk};
+ghost use Rattle.std.specs.Prelude.{◌<◌, ◌≤◌, IfOk};
 
 use std::alloc::{AllocError, Global};
 use std::io::{Error, ErrorKind, Read, Write};
 use std::test::Fail;
 use wire_io::{
-    Failed, MemorySink, MemorySource, NoPace, Pacer, ReadStop, Sink, Source, StdSink, StdSource,
+    MemorySink, MemorySource, NoPace, Pacer, ReadStop, Sink, Source, StdSink, StdSource,
     read_up_to, write_whole,
 };
 
@@ -58,29 +58,6 @@ impl Write for Stuck {
     }
 }
 
-#[test]
-fn a_steady_source_gives_its_bytes_and_then_its_end(rt: HostRuntime) -> Result<(), Fail> {
-    let mut source = MemorySource::steady(b"abcde".to_vec(rt.alloc())?);
-    let mut buf = [0u8; 3];
-    assert_eq!(rt; source.read(&mut buf), Ok(3));
-    assert_eq!(rt; buf, *b"abc");
-    assert_eq!(rt; source.read(&mut buf), Ok(2));
-    assert_eq!(rt; &buf[..2], b"de".as_slice());
-    assert_eq!(rt; source.read(&mut buf), Ok(0));
-    Ok(())
-}
-
-#[test]
-fn a_steady_sink_takes_what_its_room_holds_and_then_fails(rt: HostRuntime) -> Result<(), Fail> {
-    let mut sink = MemorySink::steady(rt.alloc(), 4)?;
-    assert_eq!(rt; sink.write(b"abc"), Ok(3));
-    assert_eq!(rt; sink.write(b"de"), Ok(1));
-    assert_eq!(rt; sink.write(b"e"), Err(Failed));
-    assert_eq!(rt; sink.write(b""), Ok(0));
-    assert_eq!(rt; sink.bytes(), b"abcd".as_slice());
-    Ok(())
-}
-
 /// Its proof shows that over a steady source no reading fails.
 fn read_steady(alloc: Global, bytes: &[u8]) -> Result<Vec<u8>, AllocError> {
     let mut source = MemorySource::steady(bytes.to_vec(alloc)?);
@@ -93,10 +70,7 @@ fn read_steady(alloc: Global, bytes: &[u8]) -> Result<Vec<u8>, AllocError> {
 
 #[test]
 fn over_a_steady_source_no_reading_fails(rt: HostRuntime) -> Result<(), Fail> {
-    assert_eq!(rt;
-        read_steady(rt.alloc(), b"abcde")?.as_slice(),
-        b"abcde".as_slice()
-    );
+    assert!(rt; read_steady(rt.alloc(), b"abcde")?.as_slice() == b"abcde".as_slice());
     Ok(())
 }
 
@@ -112,33 +86,33 @@ fn write_steady(alloc: Global) -> Result<MemorySink, AllocError> {
 
 #[test]
 fn in_a_steady_sinks_room_no_writing_fails(rt: HostRuntime) -> Result<(), Fail> {
-    assert_eq!(rt; write_steady(rt.alloc())?.bytes(), b"abcde".as_slice());
+    assert!(rt; write_steady(rt.alloc())?.bytes() == b"abcde".as_slice());
     Ok(())
 }
 
-#[test]
-fn a_source_moves_at_most_its_limit_and_fails_at_the_listed_calls(
-    rt: HostRuntime,
-) -> Result<(), Fail> {
-    let failing = vec![in rt.alloc(); 1u64, 2]?;
-    let mut source = MemorySource::new(b"abcde".to_vec(rt.alloc())?, 2, failing);
-    let mut buf = [0u8; 8];
-    assert_eq!(rt; source.read(&mut buf), Ok(2));
-    assert_eq!(rt; source.read(&mut buf), Err(Failed));
-    assert_eq!(rt; source.read(&mut buf), Err(Failed));
-    assert_eq!(rt; source.read(&mut buf), Ok(2));
-    assert_eq!(rt; buf[0], b'c');
-    Ok(())
+/// A source of so many bytes, which gives at most so many a call and fails at the listed ones.
+fn source_of(
+    alloc: Global,
+    size: usize,
+    most: usize,
+    failing: &[u64],
+) -> Result<MemorySource, AllocError>
+    requires { 0 < most }
+{
+    let failing = Vec::from_slice(alloc, failing)?;
+    Ok(MemorySource::new(vec![in alloc; 7u8; size]?, most, failing))
+}
+
+/// How many bytes a reading gives.
+fn count_read<S: Source>(alloc: Global, source: &mut S, most: usize) -> Result<usize, ReadStop> {
+    Ok(read_up_to(alloc, source, most)?.len())
 }
 
 #[test]
 fn a_reading_takes_all_or_the_most_it_may(rt: HostRuntime) -> Result<(), Fail> {
-    let bytes = vec![in rt.alloc(); 7u8; 20_000]?;
-    let mut source = MemorySource::new(bytes, 9_000, Vec::new(rt.alloc()));
-    let first = read_up_to(rt.alloc(), &mut source, 12_000);
-    assert_eq!(rt; first.map(|bytes| bytes.len()), Ok(12_000));
-    let second = read_up_to(rt.alloc(), &mut source, 12_000);
-    assert_eq!(rt; second.map(|bytes| bytes.len()), Ok(8_000));
+    let mut source = source_of(rt.alloc(), 20_000, 9_000, &[])?;
+    assert!(rt; count_read(rt.alloc(), &mut source, 12_000) == Ok(12_000));
+    assert!(rt; count_read(rt.alloc(), &mut source, 12_000) == Ok(8_000));
     Ok(())
 }
 
@@ -146,53 +120,44 @@ fn a_reading_takes_all_or_the_most_it_may(rt: HostRuntime) -> Result<(), Fail> {
 fn a_failure_in_the_middle_ends_the_reading_and_the_next_one_goes_on(
     rt: HostRuntime,
 ) -> Result<(), Fail> {
-    let failing = vec![in rt.alloc(); 1u64]?;
-    let mut source = MemorySource::new(b"abcde".to_vec(rt.alloc())?, 2, failing);
-    let first = read_up_to(rt.alloc(), &mut source, 100);
-    assert_eq!(rt; first.map(|bytes| bytes.len()), Err(ReadStop::Failed));
-    let second = read_up_to(rt.alloc(), &mut source, 100);
-    assert_eq!(rt; second.map(|bytes| bytes.len()), Ok(3));
+    let mut source = source_of(rt.alloc(), 5, 2, &[1])?;
+    assert!(rt; count_read(rt.alloc(), &mut source, 100) == Err(ReadStop::Failed));
+    assert!(rt; count_read(rt.alloc(), &mut source, 100) == Ok(3));
+    Ok(())
+}
+
+const LETTERS: &[u8] = b"seven letters";
+
+/// A sink with room for 16 bytes, which takes three a call and fails at the listed ones.
+fn sink_of(alloc: Global, failing: &[u64]) -> Result<MemorySink, AllocError> {
+    MemorySink::new(alloc, 16, 3, Vec::from_slice(alloc, failing)?)
+}
+
+#[test]
+fn a_text_is_written_whole_or_up_to_a_failure(rt: HostRuntime) -> Result<(), Fail> {
+    let mut sink = sink_of(rt.alloc(), &[])?;
+    assert!(rt; write_whole(&mut sink, LETTERS).is_ok());
+    assert!(rt; sink.bytes() == LETTERS);
+    let mut sink = sink_of(rt.alloc(), &[2])?;
+    assert!(rt; write_whole(&mut sink, LETTERS).is_err());
+    assert!(rt; sink.bytes() == &LETTERS[..6]);
     Ok(())
 }
 
 #[test]
-fn a_text_is_written_whole_by_writes_of_three_bytes(rt: HostRuntime) -> Result<(), Fail> {
-    let mut sink = MemorySink::new(rt.alloc(), 16, 3, Vec::new(rt.alloc()))?;
-    assert_eq!(rt; write_whole(&mut sink, b"seven letters"), Ok(()));
-    assert_eq!(rt; sink.bytes(), b"seven letters".as_slice());
-    Ok(())
-}
-
-#[test]
-fn a_failure_in_the_middle_leaves_the_front_of_the_text(rt: HostRuntime) -> Result<(), Fail> {
-    let failing = vec![in rt.alloc(); 2u64]?;
-    let mut sink = MemorySink::new(rt.alloc(), 16, 3, failing)?;
-    assert_eq!(rt; write_whole(&mut sink, b"seven letters"), Err(Failed));
-    assert_eq!(rt; sink.bytes(), b"seven ".as_slice());
-    Ok(())
-}
-
-#[test]
-fn a_reader_of_std_fails_where_it_has_an_error(rt: HostRuntime) -> Result<(), Fail> {
+fn a_reader_of_std_fails_where_it_has_an_error(rt: HostRuntime) {
     let mut source = StdSource::new(Device { calls: 0 });
-    let mut buf = [0u8; 5];
-    assert_eq!(rt; source.read(&mut buf), Ok(2));
-    assert_eq!(rt; source.read(&mut buf), Ok(2));
-    assert_eq!(rt; source.read(&mut buf), Err(Failed));
-    assert_eq!(rt; source.read(&mut buf), Ok(2));
-    Ok(())
+    assert!(rt; count_read(rt.alloc(), &mut source, 5) == Err(ReadStop::Failed));
+    assert!(rt; count_read(rt.alloc(), &mut source, 5) == Ok(5));
 }
 
 #[test]
-fn a_writer_of_std_fails_where_it_has_an_error_or_takes_nothing(
-    rt: HostRuntime,
-) -> Result<(), Fail> {
+fn a_writer_of_std_fails_where_it_has_an_error_or_takes_nothing(rt: HostRuntime) {
     let mut sink = StdSink::new(Device { calls: 0 });
-    assert_eq!(rt; write_whole(&mut sink, b"abcd"), Ok(()));
-    assert_eq!(rt; write_whole(&mut sink, b"e"), Err(Failed));
-    assert_eq!(rt; StdSink::new(Stuck).write(b"e"), Err(Failed));
-    assert_eq!(rt; StdSink::new(Stuck).write(b""), Ok(0));
-    Ok(())
+    assert!(rt; write_whole(&mut sink, b"abcd").is_ok());
+    assert!(rt; write_whole(&mut sink, b"e").is_err());
+    assert!(rt; StdSink::new(Stuck).write(b"e").is_err());
+    assert!(rt; StdSink::new(Stuck).write(b"") == Ok(0));
 }
 
 #[test]

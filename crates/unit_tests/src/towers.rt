@@ -1,8 +1,7 @@
 //! Trees built row by row, with their addresses.
 
-use crate::samples::{draft_of, rows_of};
-use chunk_store::PutFault;
-use node_chunker::build;
+use crate::samples::{draft_of, tree_of};
+use chunk_store::{PutFault, Sha512Cut};
 use std::alloc::Global;
 use std::test::*;
 use tuple_codec::Address;
@@ -19,15 +18,21 @@ const TREES: [(u32, &str); 5] = [
 ];
 
 fn root_below(alloc: Global, count: u32) -> Result<Address, PutFault> {
-    let mut draft = draft_of(alloc)?;
-    let rows = rows_of(alloc, count, |number| Some((number % 256) as u8))?;
-    build(alloc, &mut draft, &rows)
+    let mut draft = draft_of::<Sha512Cut>(alloc)?;
+    tree_of(
+        alloc,
+        &mut draft,
+        count,
+        |number| Some((number % 256) as u8),
+    )
 }
 
 #[test]
-fn a_tree_has_the_address_of_its_rows(rt: HostRuntime) {
+fn a_tree_has_the_address_of_its_rows(rt: HostRuntime) -> Result<(), Fail> {
     for (count, want) in TREES {
-        let root = root_below(rt.alloc(), count).expect(&rt, "memory for a tree");
+        let root = root_below(rt.alloc(), count)?;
         assert!(rt; &root.text()[..] == want.as_bytes(), "{count} rows");
+        assert!(rt; Address::read(want.as_bytes()) == Some(root), "{want}");
     }
+    Ok(())
 }

@@ -36,32 +36,35 @@ fn has_key(alloc: Global, kind: SqlType, value: Value, bytes: &[u8]) -> Result<b
     Ok(key.as_slice() == bytes && read == Some(row))
 }
 
+/// Whether numbers, NULL, truths and texts have the keys that the format gives them.
+fn keys_are_so(alloc: Global) -> Result<bool, AllocError> {
+    let one = [1, 0x80, 0, 0, 0, 0, 0, 0, 1];
+    let minus_one = [1, 0x7f, 0xff, 0xff, 0xff, 0xff, 0xff, 0xff, 0xff];
+    Ok(
+        has_key(alloc, SqlType::BigInt, Value::Int(1), &one)?
+            && has_key(alloc, SqlType::BigInt, Value::Int(-1), &minus_one)?
+            && has_key(alloc, SqlType::BigInt, Value::Null, &[0])?
+            && has_key(alloc, SqlType::Bool, Value::Bool(true), &[1, 1])?
+            && has_key(
+                alloc,
+                SqlType::Varchar(5),
+                text(alloc, b"a")?,
+                &[1, 0x61, 0, 0],
+            )?,
+    )
+}
+
 #[test]
 fn keys_are_spelled_and_read(rt: HostRuntime) -> Result<(), Fail> {
-    let alloc = rt.alloc();
-    let one = [1, 0x80, 0, 0, 0, 0, 0, 0, 1];
-    assert!(rt; has_key(alloc, SqlType::BigInt, Value::Int(1), &one)?);
-    let minus_one = [1, 0x7f, 0xff, 0xff, 0xff, 0xff, 0xff, 0xff, 0xff];
-    assert!(rt; has_key(alloc, SqlType::BigInt, Value::Int(-1), &minus_one)?);
-    assert!(rt; has_key(alloc, SqlType::BigInt, Value::Null, &[0])?);
-    assert!(rt; has_key(alloc, SqlType::Bool, Value::Bool(true), &[1, 1])?);
-    let letter = text(alloc, b"a")?;
-    assert!(rt; has_key(alloc, SqlType::Varchar(5), letter, &[1, 0x61, 0, 0])?);
-    let zero = text(alloc, b"a\0b")?;
-    assert!(rt;
-        has_key(
-            alloc,
-            SqlType::Varchar(5),
-            zero,
-            &[1, 0x61, 0, 0xff, 0x62, 0, 0]
-        )?
-    );
+    assert!(rt; keys_are_so(rt.alloc())?);
+    let zero = text(rt.alloc(), b"a\0b")?;
+    let bytes = [1, 0x61, 0, 0xff, 0x62, 0, 0];
+    assert!(rt; has_key(rt.alloc(), SqlType::Varchar(5), zero, &bytes)?);
     Ok(())
 }
 
 #[test]
 fn other_bytes_are_no_key(rt: HostRuntime) -> Result<(), Fail> {
-    let alloc = rt.alloc();
     for (kind, bytes) in [
         (SqlType::Varchar(5), &[1u8, 0x61, 0][..]),
         (SqlType::Varchar(5), &[2][..]),
@@ -69,8 +72,7 @@ fn other_bytes_are_no_key(rt: HostRuntime) -> Result<(), Fail> {
         (SqlType::Varchar(5), &[0, 0][..]),
         (SqlType::Int, &[1, 0x80, 0, 0, 1, 0, 0, 0, 0][..]),
     ] {
-        let read = decode_key(alloc, &[kind], bytes)?;
-        assert!(rt; read.is_none());
+        assert!(rt; decode_key(rt.alloc(), &[kind], bytes)?.is_none());
     }
     Ok(())
 }
@@ -90,60 +92,43 @@ fn row_with_null(alloc: Global, value: Value) -> Result<Option<Blob>, AllocError
 
 #[test]
 fn rows_are_spelled_and_read(rt: HostRuntime) -> Result<(), Fail> {
-    let alloc = rt.alloc();
-    let bytes = row_with_null(alloc, text(alloc, b"a")?)?;
+    let bytes = row_with_null(rt.alloc(), text(rt.alloc(), b"a")?)?;
     assert!(rt; bytes.is_some_and(|bytes| bytes.as_slice() == &[1, 0, 1, 0x61, 0][..]));
-    let short = decode_row(alloc, &[SqlType::Varchar(5)], &[1, 0, 2, 0x61])?;
-    assert!(rt; short.is_none());
+    assert!(rt; decode_row(rt.alloc(), &[SqlType::Varchar(5)], &[1, 0, 2, 0x61])?.is_none());
     Ok(())
 }
 
 #[test]
-fn the_address_of_abc_is_printed_and_read(rt: HostRuntime) -> Result<(), Fail> {
+fn the_address_of_abc_is_printed_and_read(rt: HostRuntime) {
     let address = Address([
         0xdd, 0xaf, 0x35, 0xa1, 0x93, 0x61, 0x7a, 0xba, 0xcc, 0x41, 0x73, 0x49, 0xae, 0x20, 0x41,
         0x31, 0x12, 0xe6, 0xfa, 0x4e,
     ]);
     let text = b"rmnjb8cjc5tblj21ed4qs821649eduie";
-    assert!(rt; &address.text()[..] == &text[..]);
+    assert!(rt; address.text() == *text);
     assert!(rt; Address::read(text) == Some(address));
-    assert!(rt; Address::read(b"rmnjb8cjc5tblj21ed4qs821649eduiw") == None);
-    assert!(rt; Address::read(&text[..31]) == None);
-    Ok(())
+    let others = [&b"rmnjb8cjc5tblj21ed4qs821649eduiw"[..], &text[..31]];
+    assert!(rt; others.iter().all(|other| Address::read(other).is_none()));
+}
+
+/// Whether a text is one of two characters at most.
+fn fits_two(alloc: Global, bytes: &[u8]) -> Result<bool, AllocError> {
+    Ok(value_fits(&SqlType::Varchar(2), &text(alloc, bytes)?))
 }
 
 #[test]
-fn values_fit_up_to_their_bounds(rt: HostRuntime) -> Result<(), Fail> {
-    let alloc = rt.alloc();
-    for (kind, value, fits) in [
-        (SqlType::Int, Value::Int(2_147_483_647), true),
-        (SqlType::Int, Value::Int(2_147_483_648), false),
-        (SqlType::Int, Value::Int(-2_147_483_648), true),
-        (SqlType::BigInt, Value::Int(i64::MIN), true),
-        (SqlType::Decimal(3, 1), Value::Decimal(-999), true),
-        (SqlType::Decimal(3, 1), Value::Decimal(1000), false),
-        (SqlType::Varchar(2), text(alloc, "éé".as_bytes())?, true),
-        (SqlType::Varchar(2), text(alloc, b"abc")?, false),
-        (SqlType::Varchar(2), text(alloc, b"\xff")?, false),
-        (SqlType::Bool, Value::Int(1), false),
-        (SqlType::Bool, Value::Null, true),
-    ] {
-        assert_eq!(rt; value_fits(&kind, &value), fits);
+fn texts_fit_by_their_characters(rt: HostRuntime) -> Result<(), Fail> {
+    for (bytes, fits) in [("éé".as_bytes(), true), (b"abc", false), (b"\xff", false)] {
+        assert!(rt; fits_two(rt.alloc(), bytes)? == fits);
     }
-    assert!(rt; is_text("é".as_bytes()));
-    assert!(rt; !is_text(b"\xc3"));
+    assert!(rt; is_text("é".as_bytes()) && !is_text(b"\xc3"));
     Ok(())
 }
 
 #[test]
-fn cells_are_ordered(rt: HostRuntime) -> Result<(), Fail> {
-    let alloc = rt.alloc();
-    let number = Value::Int(-1);
-    assert!(rt; Value::Null.compare(&number) == Ordering::Less);
-    assert!(rt; number.compare(&Value::Int(-2)) == Ordering::Greater);
-    assert!(rt; Value::Bool(false).compare(&Value::Bool(true)) == Ordering::Less);
-    let shorter = text(alloc, b"a")?;
-    assert!(rt; shorter.compare(&text(alloc, b"a\0")?) == Ordering::Less);
-    assert!(rt; shorter.compare(&shorter) == Ordering::Equal);
+fn texts_are_ordered(rt: HostRuntime) -> Result<(), Fail> {
+    let shorter = text(rt.alloc(), b"a")?;
+    let longer = text(rt.alloc(), b"a\0")?;
+    assert!(rt; shorter.compare(&longer) == Ordering::Less);
     Ok(())
 }

@@ -5,9 +5,8 @@ ghost use Rattle.chunk_store.specs.Digests.{cut_address};
 ghost use Rattle.chunk_store.specs.Drafts.{Longer, chunks_of};
 ghost use Rattle.prolly_tree.specs.Lists.{StandsForRows};
 
-use crate::samples::{draft_of, rows_of};
+use crate::samples::{draft_of, tree_of};
 use chunk_store::{Draft, PutFault, Sha512Cut};
-use node_chunker::build;
 use pair_walk::{ItemChange, ReadCount, changes};
 use std::alloc::Global;
 use std::test::*;
@@ -48,8 +47,7 @@ fn root_of(alloc: Global, draft: &mut Draft<Sha512Cut>, sample: Sample) -> Resul
     ensures longer { Longer draft.old.chunks draft.new.chunks }
 {
     let end = 2 * sample.count as u32;
-    let rows = rows_of(alloc, end, |number| byte_at(sample, number))?;
-    build(alloc, draft, &rows)
+    tree_of(alloc, draft, end, |number| byte_at(sample, number))
 }
 
 /// How many rows were added, removed and replaced.
@@ -65,7 +63,7 @@ fn kinds_of(list: &[ItemChange]) -> [usize; 3] {
 
 /// How many changes of each kind there are between the trees of two samples, and how many nodes are read.
 fn compare(alloc: Global, old: Sample, new: Sample) -> Result<([usize; 3], u64), PutFault> {
-    let mut draft = draft_of(alloc)?;
+    let mut draft = draft_of::<Sha512Cut>(alloc)?;
     let old = root_of(alloc, &mut draft, old)?;
     let new = root_of(alloc, &mut draft, new)?;
     let mut reads = ReadCount::new();
@@ -73,51 +71,31 @@ fn compare(alloc: Global, old: Sample, new: Sample) -> Result<([usize; 3], u64),
     Ok((kinds_of(&list), reads.count()))
 }
 
+// two samples, how many changes of each kind there are between their trees, and how many nodes are read at least and at most
 #[test]
-fn one_root_is_never_read(rt: HostRuntime) {
-    let found = compare(rt.alloc(), even_rows(500), even_rows(500)).expect(&rt, "memory for trees");
-    assert_eq!(rt; found, ([0, 0, 0], 0));
-}
-
-#[test]
-fn no_rows_against_some(rt: HostRuntime) {
-    let found = compare(rt.alloc(), even_rows(0), even_rows(3)).expect(&rt, "memory for trees");
-    assert_eq!(rt; found, ([3, 0, 0], 2));
-    let found = compare(rt.alloc(), even_rows(3), even_rows(0)).expect(&rt, "memory for trees");
-    assert_eq!(rt; found, ([0, 3, 0], 2));
-}
-
-#[test]
-fn a_row_more_reads_the_last_nodes(rt: HostRuntime) {
-    let (kinds, reads) = compare(rt.alloc(), even_rows(30_000), even_rows(30_001)).expect(
-        &rt,
-        "memory for trees",
-    );
-    assert_eq!(rt; kinds, [1, 0, 0]);
-    assert!(rt; reads <= 40);
-}
-
-// the trees have three levels
-#[test]
-fn another_value_reads_two_nodes_a_level(rt: HostRuntime) {
-    let mut other = even_rows(3_000);
-    other.marked = Some(2_000);
-    let found = compare(rt.alloc(), even_rows(3_000), other).expect(&rt, "memory for trees");
-    assert_eq!(rt; found, ([0, 0, 1], 6));
-}
-
-#[test]
-fn other_values(rt: HostRuntime) {
-    let mut other = even_rows(500);
-    other.byte = 8;
-    let (kinds, _) = compare(rt.alloc(), even_rows(500), other).expect(&rt, "memory for trees");
-    assert_eq!(rt; kinds, [0, 0, 500]);
-}
-
-#[test]
-fn other_keys(rt: HostRuntime) {
-    let mut other = even_rows(500);
-    other.odd = true;
-    let (kinds, _) = compare(rt.alloc(), even_rows(500), other).expect(&rt, "memory for trees");
-    assert_eq!(rt; kinds, [500, 500, 0]);
+fn changes_are_found_and_few_nodes_are_read(rt: HostRuntime) -> Result<(), Fail> {
+    let mut values = even_rows(500);
+    values.byte = 8;
+    let mut keys = even_rows(500);
+    keys.odd = true;
+    let mut one = even_rows(3_000);
+    one.marked = Some(2_000);
+    for (old, new, kinds, least, most) in [
+        (even_rows(500), even_rows(500), [0, 0, 0], 0, 0),
+        (even_rows(0), even_rows(3), [3, 0, 0], 2, 2),
+        (even_rows(3), even_rows(0), [0, 3, 0], 2, 2),
+        // one more row, at the end
+        (even_rows(30_000), even_rows(30_001), [1, 0, 0], 2, 40),
+        // two nodes on each of three levels
+        (even_rows(3_000), one, [0, 0, 1], 6, 6),
+        (even_rows(500), values, [0, 0, 500], 2, u64::MAX),
+        (even_rows(500), keys, [500, 500, 0], 2, u64::MAX),
+    ] {
+        let (found, reads) = compare(rt.alloc(), old, new)?;
+        assert!(rt;
+            found == kinds && least <= reads && reads <= most,
+            "{kinds:?}"
+        );
+    }
+    Ok(())
 }

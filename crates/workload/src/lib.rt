@@ -4,8 +4,6 @@
 mod laws;
 mod scripts;
 mod speech;
-#[cfg(test)]
-mod tests;
 
 pub use laws::law_of_workload;
 pub use scripts::load_script;

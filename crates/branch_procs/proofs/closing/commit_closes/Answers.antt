@@ -5,7 +5,8 @@ use Rattle.plain_sessions.specs.Merging.{Worked}
 use Rattle.plain_sessions.specs.Records.{root_of}
 use Rattle.branch_procs.specs.Closing.{IsVerdict}
 use Rattle.branch_procs.proofs.ClosingLemmas.{verdict_of, worked_commit}
-use Rattle.branch_procs.proofs.LocalLemmas.{head_known_at, on_head, own_in}
+use Rattle.branch_procs.proofs.LocalLemmas.{head_known_at, on_head}
+use Rattle.session_plan.proofs.LocalLemmas.{own_in}
 use Rattle.branch_procs.proofs.closing.commit_closes.Goals as goal
 
 pub head_root-requires-after_bounds : goal.head_root-requires-after_bounds

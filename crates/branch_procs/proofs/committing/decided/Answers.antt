@@ -2,7 +2,8 @@ use Rattle.chunk_store.specs.Chunks.{Extends}
 use Rattle.chunk_store.specs.Drafts.{chunks_of}
 use Rattle.chunk_store.specs.Kinds.{is_data, is_database}
 use Rattle.branch_procs.specs.Committing.{staged_in}
-use Rattle.branch_procs.proofs.CommittingLemmas.{database_is_data, state_later}
+use Rattle.session_plan.proofs.CommittingLemmas.{database_is_data}
+use Rattle.root_merge.proofs.StateLemmas.{state_later}
 use Rattle.branch_procs.proofs.committing.decided.Goals as goal
 
 pub candidate-requires-clause-start : goal.candidate-requires-clause-start

@@ -5,8 +5,9 @@ use Rattle.plain_sessions.specs.Merging.{Committing}
 use Rattle.plain_sessions.specs.Moments.{closed}
 use Rattle.plain_sessions.specs.Records.{BranchState, commit_on}
 use Rattle.shared_db.specs.Plans.{PlanIs}
-use Rattle.session_txn.proofs.CommitLemmas.{fault_told}
-use Rattle.branch_procs.specs.Committing.{IsCommitted, parents_on}
+use Rattle.session_plan.proofs.CommitLemmas.{fault_told}
+use Rattle.branch_procs.specs.Committing.{IsCommitted}
+use Rattle.session_plan.specs.Committing.{parents_on}
 use Rattle.branch_procs.proofs.CommittingLemmas.{can_commit, can_decide, own_is, plans_told, refuses}
 use Rattle.branch_procs.proofs.committing.plan_dolt_commit.Goals as goal
 

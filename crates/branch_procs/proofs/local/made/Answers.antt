@@ -5,7 +5,8 @@ use Rattle.plain_sessions.specs.Records.{root_of}
 use Rattle.plain_sessions.specs.declared.commands.Work.{Work}
 use Rattle.root_merge.specs.States.{IsCandidate}
 use Rattle.branch_procs.specs.Calls.{staged_by}
-use Rattle.branch_procs.proofs.LocalLemmas.{head_known_at, on_head, state_in}
+use Rattle.branch_procs.proofs.LocalLemmas.{head_known_at, on_head}
+use Rattle.session_plan.proofs.CommitLemmas.{state_in}
 use Rattle.branch_procs.proofs.local.made.Goals as goal
 
 pub add-requires-after_bounds : goal.add-requires-after_bounds

@@ -1,4 +1,5 @@
-use Rattle.branch_procs.proofs.LocalLemmas.{answers, own_in}
+use Rattle.branch_procs.proofs.LocalLemmas.{answers}
+use Rattle.session_plan.proofs.LocalLemmas.{own_in}
 use Rattle.branch_procs.proofs.local.staged.Goals as goal
 
 pub stage-reply-requires-clause-stands : goal.stage-reply-requires-clause-stands

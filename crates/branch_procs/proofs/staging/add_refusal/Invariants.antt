@@ -3,7 +3,8 @@ use Rattle.chunk_store.specs.Drafts.{chunks_of}
 use Rattle.plain_sql.specs.Lists.{each}
 use Rattle.plain_sessions.specs.Branching.{may_stage}
 use Rattle.plain_sessions.specs.Records.{BranchState}
-use Rattle.branch_procs.specs.Staging.{AreBoth, refusal_of}
+use Rattle.branch_procs.specs.Staging.{AreBoth}
+use Rattle.session_plan.specs.Calls.{refusal_of}
 use Rattle.branch_procs.proofs.staging.add_refusal.Given as goal
 
 abbrev pub invariant-loop-name : goal.invariant-loop-name

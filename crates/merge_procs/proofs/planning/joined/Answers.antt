@@ -4,15 +4,15 @@ use Rattle.std.proofs.lemmas.Int.{to_z-of_z}
 use Rattle.chunk_store.specs.Kinds.{is_commit}
 use Rattle.plain_sessions.specs.Merging.{merge_reply}
 use Rattle.plain_sessions.specs.Records.{commit_on}
-use Rattle.branch_procs.proofs.CommittingLemmas.{fault_told}
-use Rattle.branch_procs.specs.Committing.{IsCommitWritten, parents_on}
+use Rattle.session_plan.proofs.CommittingLemmas.{fault_told}
+use Rattle.session_plan.specs.Committing.{IsCommitWritten, parents_on}
 use Rattle.merge_procs.proofs.DecidingLemmas.{joined_told}
 use Rattle.merge_procs.proofs.planning.joined.Goals as goal
 
 pub returns-in_err-head-clause-fault : goal.returns-in_err-head-clause-fault
 returns-in_err-head-clause-fault g c =
     let laws = c.laws.ensures in
-    fault_told g.D.Digester.address laws.chunks laws.drafts c.args.work c.written-made.new.work c.requires.named
+    fault_told g.D.Digester.address laws.chunks laws.drafts c.args.work.chunks c.written-made.new.work.chunks c.requires.named
     (laws.growth.is_longer is_commit c.args.work c.written-made.new.work c.written-made.ensures.grows) c.tell.ensures c.from_residual.result c.in_err-head.field-0.0
     c.in_err-head.ensures.cause c.from_residual.ensures
 

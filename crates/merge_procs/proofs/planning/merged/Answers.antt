@@ -5,8 +5,8 @@ use Rattle.chunk_store.specs.Drafts.{chunks_of}
 use Rattle.plain_sessions.specs.Records.{commit_on}
 use Rattle.tuple_codec.specs.declared.records.BranchRecord.{BranchRecord}
 use Rattle.chunk_store.specs.Kinds.{is_data}
-use Rattle.branch_procs.proofs.CommittingLemmas.{fault_told}
-use Rattle.branch_procs.specs.Committing.{CanCommit, parents_on}
+use Rattle.session_plan.proofs.CommittingLemmas.{fault_told}
+use Rattle.session_plan.specs.Committing.{CanCommit, parents_on}
 use Rattle.merge_procs.specs.Databases.{IsMet, merged_of}
 use Rattle.merge_procs.specs.Planning.{IsJoined}
 use Rattle.merge_procs.specs.declared.databases.Met.{Met}
@@ -16,7 +16,7 @@ use Rattle.merge_procs.proofs.planning.merged.Goals as goal
 pub returns-in_err-root-clause-fault : goal.returns-in_err-root-clause-fault
 returns-in_err-root-clause-fault g c =
     let laws = c.laws.ensures in
-    fault_told g.D.Digester.address laws.chunks laws.drafts c.args.work c.meet-met.new.draft c.requires.named
+    fault_told g.D.Digester.address laws.chunks laws.drafts c.args.work.chunks c.meet-met.new.draft.chunks c.requires.named
     (laws.growth.is_longer is_data c.args.work c.meet-met.new.draft c.meet-met.ensures.grows) c.tell.ensures c.from_residual.result c.in_err-root.field-0.0
     c.in_err-root.ensures.cause c.from_residual.ensures
 

@@ -2,7 +2,7 @@ use Rattle.std.proofs.Common.{◌∙◌, ap, refl, subst, sym, None}
 use Rattle.chunk_store.specs.Drafts.{Drafting}
 use Rattle.script_text.specs.Collisions.{TellsTruly}
 use Rattle.script_text.specs.declared.replies.Reply.{Reply}
-use Rattle.session_txn.specs.Showing.{is_sound_reply}
+use Rattle.session_plan.specs.Showing.{is_sound_reply}
 use Rattle.plain_sessions.specs.Branching.{checkout_name, switched_to}
 use Rattle.plain_sessions.specs.declared.commands.Command.TheVariants as command
 use Rattle.serving.specs.Branching.{Went}

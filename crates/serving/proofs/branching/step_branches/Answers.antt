@@ -1,6 +1,6 @@
 use Rattle.std.proofs.Common.{◌∙◌, ap, refl, subst, sym, [], ◌∷◌}
 use Rattle.script_text.specs.declared.replies.Reply.{Reply}
-use Rattle.session_txn.specs.Showing.{is_sound_reply}
+use Rattle.session_plan.specs.Showing.{is_sound_reply}
 use Rattle.script_text.specs.Collisions.{TellsTruly}
 use Rattle.plain_sessions.specs.Branching.{status}
 use Rattle.plain_sessions.specs.Replies.{one_row}

@@ -1,6 +1,6 @@
 use Rattle.std.proofs.Common.{sym, subst, true, ◌≡◌}
 use Rattle.script_text.specs.declared.replies.Reply.{Reply}
-use Rattle.session_txn.specs.Showing.{is_sound_reply}
+use Rattle.session_plan.specs.Showing.{is_sound_reply}
 use Rattle.serving.proofs.ConcludeLemmas.{concluded_so, concluded_truly, with_reply_sound}
 use Rattle.serving.proofs.concluding.conclude_work.Goals as goal
 

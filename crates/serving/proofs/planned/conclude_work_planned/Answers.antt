@@ -2,7 +2,7 @@ use Rattle.std.proofs.Common.{◌≡◌, None, arith, subst, sym, true, w64}
 use Rattle.std.proofs.lemmas.Int.{to_z-of_z}
 use Rattle.script_text.specs.declared.replies.Reply.{Reply}
 use Rattle.session_state.specs.Changes.{Parts}
-use Rattle.session_txn.specs.Showing.{is_sound_reply}
+use Rattle.session_plan.specs.Showing.{is_sound_reply}
 use Rattle.serving.specs.Serving.{IsBetween}
 use Rattle.serving.specs.Steps.{Decided}
 use Rattle.serving.specs.declared.meeting.Pending.TheVariants as pending

@@ -1,7 +1,7 @@
 use Rattle.std.proofs.Common.{◌≡◌, None, refl, true}
 use Rattle.script_text.specs.Collisions.{TellsTruly}
 use Rattle.script_text.specs.declared.replies.Reply.{Reply}
-use Rattle.session_txn.specs.Showing.{is_sound_reply}
+use Rattle.session_plan.specs.Showing.{is_sound_reply}
 use Rattle.serving.proofs.SettlingLemmas.{closed_open}
 use Rattle.serving.proofs.PlannedLemmas.{closing_settled, for_closing, lost}
 use Rattle.serving.proofs.PlanningLemmas.{settled_some}

@@ -1,6 +1,6 @@
 use Rattle.std.proofs.Common.{◌≡◌, refl, None, true}
 use Rattle.script_text.specs.declared.replies.Reply.{Reply}
-use Rattle.session_txn.specs.Showing.{is_sound_reply}
+use Rattle.session_plan.specs.Showing.{is_sound_reply}
 use Rattle.serving.specs.Steps.{Decided}
 use Rattle.serving.proofs.AnswerLemmas.{commit_answered, decided_truly, over_stands}
 use Rattle.serving.proofs.PlannedLemmas.{for_rule, lost, rule_settled}

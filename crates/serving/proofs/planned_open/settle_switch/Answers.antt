@@ -2,7 +2,7 @@ use Rattle.std.proofs.Common.{◌≡◌, subst, sym, true}
 use Rattle.script_text.specs.declared.replies.Reply.{Reply}
 use Rattle.plain_sessions.specs.declared.commands.Command.TheVariants as command
 use Rattle.session_state.specs.declared.sessions.Session.{Session}
-use Rattle.session_txn.specs.Showing.{is_sound_reply}
+use Rattle.session_plan.specs.Showing.{is_sound_reply}
 use Rattle.serving.specs.Answering.{Answered}
 use Rattle.serving.specs.Steps.{Decided}
 use Rattle.serving.proofs.AnswerLemmas.{decided_truly}

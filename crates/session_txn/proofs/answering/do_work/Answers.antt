@@ -2,7 +2,8 @@ use Rattle.std.proofs.Common.{◌∙◌, ap, subst, sym}
 use Rattle.plain_sessions.specs.Fitness.{IsFitCommand}
 use Rattle.plain_sessions.specs.declared.commands.Command.TheVariants as command
 use Rattle.plain_sessions.specs.declared.commands.Work.{Work}
-use Rattle.session_txn.specs.Answering.{AnswersAlone, is_local}
+use Rattle.session_plan.specs.Answering.{AnswersAlone}
+use Rattle.session_txn.specs.Answering.{is_local}
 use Rattle.session_txn.proofs.SessionLemmas.{in_transaction}
 use Rattle.session_txn.proofs.answering.do_work.Goals as goal
 

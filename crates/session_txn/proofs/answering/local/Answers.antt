@@ -5,11 +5,12 @@ use Rattle.plain_sessions.specs.Fitness.{IsFitCommand}
 use Rattle.plain_sessions.specs.Replies.{refused_by}
 use Rattle.plain_sessions.specs.declared.commands.Command.{Command}
 use Rattle.plain_sessions.specs.declared.commands.Command.TheVariants as command
-use Rattle.session_txn.specs.Answering.{AnswersAlone, is_local}
-use Rattle.session_txn.proofs.AloneLemmas.{answers_due}
+use Rattle.session_plan.specs.Answering.{AnswersAlone}
+use Rattle.session_txn.specs.Answering.{is_local}
+use Rattle.session_plan.proofs.AloneLemmas.{answers_due}
 use Rattle.session_txn.proofs.SelectLemmas.{says}
 use Rattle.session_txn.proofs.SessionLemmas.{ends}
-use Rattle.session_txn.proofs.ShowLemmas.{due_truly}
+use Rattle.session_plan.proofs.ShowLemmas.{due_truly}
 use Rattle.session_txn.proofs.answering.local.Goals as goal
 
 pub do_work-requires-clause-stands : goal.do_work-requires-clause-stands

@@ -1,5 +1,6 @@
 use Rattle.chunk_store.specs.Drafts.{chunks_of}
-use Rattle.session_txn.proofs.CommitLemmas.{fault_told, planned_told, refused, states_in}
+use Rattle.session_plan.proofs.CommitLemmas.{fault_told, states_in}
+use Rattle.session_txn.proofs.CommitLemmas.{planned_told, refused}
 use Rattle.session_txn.proofs.committing.plan_merged.Goals as goal
 
 pub candidate-made-requires-clause-start : goal.candidate-made-requires-clause-start

@@ -6,9 +6,9 @@ use Rattle.sql_select.specs.Gives.{Answers}
 use Rattle.sql_select.specs.Sources.{known}
 use Rattle.sql_select.specs.declared.faults.AskFault.{AskFault}
 use Rattle.tuple_codec.specs.declared.answers.Answer.{Answer}
-use Rattle.session_txn.specs.Showing.{IsDue}
+use Rattle.session_plan.specs.Showing.{IsDue}
 use Rattle.session_txn.proofs.SelectLemmas.{kept_reads, shows_due}
-use Rattle.session_txn.proofs.ShowLemmas.{due_truly}
+use Rattle.session_plan.proofs.ShowLemmas.{due_truly}
 use Rattle.session_txn.proofs.selecting.show.Goals as goal
 
 pub returns-in-Ok-clause-due : goal.returns-in-Ok-clause-due

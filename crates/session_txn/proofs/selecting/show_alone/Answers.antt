@@ -4,7 +4,7 @@ use Rattle.plain_sql.specs.Plans.{answer}
 use Rattle.plain_sql.specs.declared.faults.Refused as faults
 use Rattle.script_text.specs.declared.replies.Reply.TheVariants.{Refused}
 use Rattle.tuple_codec.specs.declared.answers.Answer.{Answer}
-use Rattle.session_txn.specs.Showing.{IsDue}
+use Rattle.session_plan.specs.Showing.{IsDue}
 use Rattle.session_txn.proofs.SelectLemmas.{shows_alone}
 use Rattle.session_txn.proofs.selecting.show_alone.Goals as goal
 

@@ -1,5 +1,0 @@
-use Rattle.std.proofs.Common.{length}
-use Rattle.session_txn.proofs.showing.+is_printable_row.Given as goal
-
-abbrev pub decreases-is_printable_row : goal.decreases-is_printable_row
-decreases-is_printable_row l = length l.kinds.now
