@@ -40,7 +40,8 @@ fn is_kept(mut region: Region) -> Result<bool, AllocError> {
     region.back_to(mark);
     let still_read = region.bytes(word) == b"word".as_slice();
     let (sealed, pool) = region.seal();
-    Ok(was_read && still_read && sealed.bytes(word) == b"word".as_slice() && pool.free_pages() == 1)
+    let sealed_read = sealed.bytes(word) == b"word".as_slice();
+    Ok(was_read && still_read && sealed_read && pool.free_pages() == 1)
 }
 
 #[test]

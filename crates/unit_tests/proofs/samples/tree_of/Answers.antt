@@ -15,4 +15,4 @@ stands chunks r rows tree =
     IfOk-weaker r (λ (root : Address). IsTree cut_address chunks root.0 rows) (λ (root : Address). StandsForRows cut_address chunks root.0) (λ root t. (rows, t)) tree
 
 pub returns-clause-tree : goal.returns-clause-tree
-returns-clause-tree c = stands _ c.build.result _ c.build.ensures.ok
+returns-clause-tree g c = stands _ c.build.result _ c.build.ensures.ok
