@@ -13,7 +13,7 @@ use crate::words::LoadRun;
 use crate::writing::{write_clash, write_last};
 use chunk_store::PutFault;
 use load_run::{Load, print_load, run_load};
-use script_text::Status;
+use script_text::{Status, one_reading, one_stop};
 use std::alloc::Global;
 use std::sync::Wait;
 use std::thread::Threads;
@@ -38,7 +38,11 @@ pub fn run_workload<D: Digester, R: Threads + Wait + Sync, K: Sink, P: Pacer>(
     ensures memory { result ≡ Status.Memory → output.new ≡ output.old }
 {
     match run_load::<R, D, P>(rt, alloc, pacer, asked.seed, asked.epoch) {
-        Ok(load) => write_load(alloc, &load, output),
+        Ok(load) => {
+            one_reading();
+            one_stop();
+            write_load(alloc, &load, output)
+        }
         Err(PutFault::Collision(clash)) => write_clash(alloc, &clash, output),
         Err(PutFault::Memory) => Status::Memory,
     }

@@ -2,9 +2,11 @@ use Rattle.std.proofs.Common.{ℤ, refl, subst, w64}
 use Rattle.std.proofs.lemmas.Int.{to_z-of_z}
 use Rattle.chunk_store.specs.declared.faults.PutFault.{PutFault}
 use Rattle.shared_db.specs.Opening.{IsOpeningClash, IsOpeningFault}
+use Rattle.load_run.specs.Loading.{load_text}
 use Rattle.script_text.specs.Lines.{collision_line}
-use Rattle.doltrun.specs.Loads.{Clashes}
+use Rattle.doltrun.specs.Loads.{Clashes, Tells}
 use Rattle.doltrun.proofs.EpochLemmas.{date_fits}
+use Rattle.doltrun.proofs.LoadLemmas.{load_answer}
 use Rattle.doltrun.proofs.load.run_workload.Goals as goal
 
 pub returns-in-Err-Collision-clause-part : goal.returns-in-Err-Collision-clause-part
@@ -18,3 +20,22 @@ returns-in-Err-Collision-clause-part g c = λ is.
       wider = c.write_clash.ensures.wider is;
       writes = c.write_clash.ensures.part is;
     }
+
+pub returns-in-Ok-clause-done : goal.returns-in-Ok-clause-done
+returns-in-Ok-clause-done g c = λ is. record {
+  written = load_text c.in-Ok.load.seed c.in-Ok.load.run c.in-Ok.load.rows;
+  answers =
+      load_answer g.D.Digester.address c.args.asked c.in-Ok.load.seed c.in-Ok.load.run c.in-Ok.load.rows c.one_reading.ensures c.one_stop.ensures c.requires c.in-Ok.ensures.seed
+      c.in-Ok.ensures.loaded c.in-Ok.ensures.truly c.in-Ok.ensures.shown;
+  writes = c.write_load.ensures.done is;
+}
+
+pub returns-in-Ok-clause-part : goal.returns-in-Ok-clause-part
+returns-in-Ok-clause-part g c = λ is. record {
+  written = load_text c.in-Ok.load.seed c.in-Ok.load.run c.in-Ok.load.rows;
+  wanted = Tells
+      (load_answer g.D.Digester.address c.args.asked c.in-Ok.load.seed c.in-Ok.load.run c.in-Ok.load.rows c.one_reading.ensures c.one_stop.ensures c.requires c.in-Ok.ensures.seed
+      c.in-Ok.ensures.loaded c.in-Ok.ensures.truly c.in-Ok.ensures.shown);
+  wider = c.write_load.ensures.wider is;
+  writes = c.write_load.ensures.part is;
+}
