@@ -129,7 +129,7 @@ pub fn copy_schema(alloc: Global, schema: &Schema) -> Result<Schema, AllocError>
 }
 
 /// A copy, of which contracts know that it has these rows.
-pub fn copy_rows(alloc: Global, rows: &[Row]) -> Result<Sequence<Row>, AllocError>
+pub(crate) fn copy_rows(alloc: Global, rows: &[Row]) -> Result<Sequence<Row>, AllocError>
     ensures { IfOk result (λ copy. copy ≡ rows.now) }
 {
     let mut copy = Sequence::new(alloc);

@@ -27,7 +27,7 @@ pub use binding::{assignments, tests_of};
 pub use breaking::Broken;
 pub use checking::{Reads, check_of};
 pub use columns::{column_place, own_scope};
-pub use copies::{copy_column, copy_named, copy_rows, copy_schema, with_rows};
+pub use copies::{copy_column, copy_named, copy_schema, with_rows};
 pub use effects::{Effect, delete_effect, insert_effect, replaced, update_effect};
 pub use inserting::{Given, new_row, new_rows, places_named, tuple_said, tuples_said};
 pub use keyed::by_key;

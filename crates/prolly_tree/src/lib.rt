@@ -14,7 +14,7 @@ mod tree_laws;
 mod walks;
 
 pub use meets::has_any;
-pub use nodes::{count, get, known_at, node_at};
+pub use nodes::{count, get, known_at};
 pub use scans::{Scan, scan_from};
 pub use steps::WalkHead;
 pub use tree_laws::{law_of_addresses, law_of_cutting, law_of_roots, law_of_rows};

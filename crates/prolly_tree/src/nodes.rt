@@ -33,7 +33,7 @@ pub fn count<D: Digester>(draft: &Draft<D>, root: &Address) -> u64
 }
 
 /// The node at an address, for crates that go through trees by themselves. It reads one chunk.
-pub fn node_at<'a, D: Digester>(draft: &'a Draft<D>, address: &Address) -> NodeRef<'a>
+pub(crate) fn node_at<'a, D: Digester>(draft: &'a Draft<D>, address: &Address) -> NodeRef<'a>
     requires { (node : Node) × IsStored (chunks_of draft.now.chunks) address.now.0 node }
     ensures { (node : Node) → IsStored (chunks_of draft.now.chunks) address.now.0 node → result ≡ node }
 {

@@ -29,7 +29,7 @@ pub use law::{one_reading, one_stop};
 pub use lines::{collision_text, fault_text};
 pub use numerals::number_in;
 pub use outputs::{BranchLine, RunText, StopText};
-pub use printing::{print_output, push_clash, push_order};
+pub use printing::{print_output, push_order};
 pub use reading::read_script;
 pub use refusals::refusal_words;
 pub use replies::Reply;

@@ -109,7 +109,7 @@ fn push_syntax(out: &mut Vec<u8>, at: u32) -> Result<(), AllocError>
 /// Writes behind what `out` holds what follows the word `collision`: the address that two byte strings have, the one that
 /// was held and the one that was brought, each behind a space, the strings in hex. Where memory was wanting, nothing is said of
 /// `out`.
-pub fn push_clash(alloc: Global, out: &mut Vec<u8>, clash: &Clash) -> Result<(), AllocError>
+pub(crate) fn push_clash(alloc: Global, out: &mut Vec<u8>, clash: &Clash) -> Result<(), AllocError>
     ensures { OnOk result (out.new.items ≡ out.old.items ++ clash_text clash.now) }
 {
     push_address(out, &clash.address)?;

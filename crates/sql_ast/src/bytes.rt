@@ -42,14 +42,14 @@ pub fn continues_word(byte: u8) -> bool
 }
 
 /// A letter in lower case, as names have it; any other byte as it is.
-pub fn lower_case(byte: u8) -> u8
+pub(crate) fn lower_case(byte: u8) -> u8
     ensures { result ≡ lower byte }
 {
     if is_capital(byte) { byte + 32 } else { byte }
 }
 
 /// Adds what a backslash before this byte stands for in a string.
-pub fn push_escape(text: &mut Text, byte: u8) -> Result<(), AllocError>
+pub(crate) fn push_escape(text: &mut Text, byte: u8) -> Result<(), AllocError>
     ensures { OnOk result (text.new ≡ text.old ++ escape byte) }
 {
     match byte {

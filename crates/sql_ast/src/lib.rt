@@ -30,7 +30,7 @@ mod token_lists;
 mod tokens;
 mod words;
 
-pub use bytes::{hex_value, lower_case, push_escape};
+pub use bytes::hex_value;
 pub use expressions::{Comparison, Expr, Literal, Term};
 pub use faults::{ReadFault, Refusal};
 pub use keywords::keyword_of;

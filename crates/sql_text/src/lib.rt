@@ -17,5 +17,5 @@ pub use canon::canonical_text;
 pub use depths::is_too_deep;
 pub use features::{Feature, has_feature, is_aggregate_node, is_long_name, is_variable_name};
 pub use nesting::nests_aggregates;
-pub use printed_values::{push_byte_string, push_number, push_quoted, push_row, push_scaled};
+pub use printed_values::{push_number, push_row};
 pub use sizes::text_size;

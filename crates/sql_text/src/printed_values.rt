@@ -85,7 +85,7 @@ fn push_truth(out: &mut Vec<u8>, bit: bool) -> Result<(), AllocError>
 }
 
 /// Writes a text between quotes.
-pub fn push_quoted(out: &mut Vec<u8>, text: &[u8]) -> Result<(), AllocError>
+pub(crate) fn push_quoted(out: &mut Vec<u8>, text: &[u8]) -> Result<(), AllocError>
     ensures { OnOk result (out.new.items ≡ out.old.items ++ quoted text.now) }
 {
     out.push(b'\'')?;
@@ -117,7 +117,7 @@ fn push_escaped_byte(out: &mut Vec<u8>, byte: u8) -> Result<(), AllocError>
 }
 
 /// Writes a byte string in hex.
-pub fn push_byte_string(alloc: Global, out: &mut Vec<u8>, bytes: &[u8]) -> Result<(), AllocError>
+pub(crate) fn push_byte_string(alloc: Global, out: &mut Vec<u8>, bytes: &[u8]) -> Result<(), AllocError>
     ensures { OnOk result (out.new.items ≡ out.old.items ++ byte_string bytes.now) }
 {
     let digits = hex::encode(alloc, bytes)?;
@@ -146,7 +146,7 @@ fn push_decimal(out: &mut Vec<u8>, scale: u8, number: i64) -> Result<(), AllocEr
 }
 
 /// Writes a number with so many of its digits behind the point, all of them.
-pub fn push_scaled(out: &mut Vec<u8>, scale: u8, number: u64) -> Result<(), AllocError>
+pub(crate) fn push_scaled(out: &mut Vec<u8>, scale: u8, number: u64) -> Result<(), AllocError>
     ensures { OnOk result (out.new.items ≡ out.old.items ++ scaled scale number) }
 {
     if scale == 0 {

@@ -20,4 +20,3 @@ mod violations;
 pub use entries::{ListEntry, Listed};
 pub use lists::{columns_of, entries_of};
 pub use sources::system_sources;
-pub use tables::{shown_ancestors, shown_branches, shown_log, shown_status};

@@ -18,7 +18,7 @@ use std::alloc::{AllocError, Global};
 use tuple_codec::Digester;
 
 /// `dolt_log`: the head's ancestors.
-pub fn shown_log<D: Digester>(alloc: Global, session: &Session<D>) -> Result<Known, AllocError>
+pub(crate) fn shown_log<D: Digester>(alloc: Global, session: &Session<D>) -> Result<Known, AllocError>
     requires { IsInTransaction D.address session.now }
     ensures { (p : plain.Session) (t : Transaction) → SessionStands D.address session.now p → p.transaction ≡ Some t
         → IfOk result (λ known. known ≡ shown.log t) }
@@ -29,7 +29,7 @@ pub fn shown_log<D: Digester>(alloc: Global, session: &Session<D>) -> Result<Kno
 }
 
 /// `dolt_commit_ancestors`: the parents of each of the head's ancestors.
-pub fn shown_ancestors<D: Digester>(
+pub(crate) fn shown_ancestors<D: Digester>(
     alloc: Global,
     session: &Session<D>,
 ) -> Result<Known, AllocError>
@@ -43,7 +43,7 @@ pub fn shown_ancestors<D: Digester>(
 }
 
 /// `dolt_branches`: the branches as they were when the transaction began.
-pub fn shown_branches<D: Digester>(alloc: Global, session: &Session<D>) -> Result<Known, AllocError>
+pub(crate) fn shown_branches<D: Digester>(alloc: Global, session: &Session<D>) -> Result<Known, AllocError>
     requires { IsInTransaction D.address session.now }
     ensures { (p : plain.Session) (t : Transaction) → SessionStands D.address session.now p → p.transaction ≡ Some t
         → IfOk result (λ known. known ≡ shown.branches t) }
@@ -57,7 +57,7 @@ pub fn shown_branches<D: Digester>(alloc: Global, session: &Session<D>) -> Resul
 }
 
 /// `dolt_status`: the tables that aren't as the head or as staged has them.
-pub fn shown_status<D: Digester>(alloc: Global, session: &Session<D>) -> Result<Known, AllocError>
+pub(crate) fn shown_status<D: Digester>(alloc: Global, session: &Session<D>) -> Result<Known, AllocError>
     requires { IsInTransaction D.address session.now }
     ensures { (p : plain.Session) (t : Transaction) → SessionStands D.address session.now p → p.transaction ≡ Some t
         → IfOk result (λ known. known ≡ shown.status t) }
