@@ -1,6 +1,6 @@
 //! Rows as bytes, cell by cell, in the form of keys and in that of rows.
 
-ghost use Rattle.std.specs.Prelude.{◌≡◌, ◌≤◌, ◌<◌, ◌++◌, ◌∷◌, length, true, OnOk, IfOk};
+ghost use Rattle.std.specs.Prelude.{◌≡◌, ◌≤◌, ◌<◌, ◌++◌, ◌∷◌, length, take, true, OnOk, OnErr, IfOk};
 ghost use Rattle.std.specs.List.{list_all};
 ghost use Rattle.tuple_codec.specs.Cells.{cell_bytes, spelling, text_bytes, is_short, is_spelled};
 ghost use Rattle.tuple_codec.specs.Fronts.{Gives, cell_front, cells_front, fitting, value_front, whole};
@@ -34,7 +34,8 @@ pub fn encode(alloc: Global, form: Form, row: &Row) -> Result<Blob, AllocError>
 /// Writes a cell's bytes.
 pub fn push_cell(out: &mut Vec<u8>, form: Form, value: &Value) -> Result<(), AllocError>
     requires { is_spelled form value.now ≡ true }
-    ensures { OnOk result (out.new.items ≡ out.old.items ++ cell_bytes form value.now) }
+    ensures ok { OnOk result (out.new.items ≡ out.old.items ++ cell_bytes form value.now) }
+    ensures err { OnErr result (take (length out.old.items) out.new.items ≡ out.old.items) }
 {
     match value {
         Value::Null => out.extend_from_slice(&[0]),
@@ -48,7 +49,8 @@ pub fn push_cell(out: &mut Vec<u8>, form: Form, value: &Value) -> Result<(), All
 /// Writes the flag of a value and its text.
 fn push_text(out: &mut Vec<u8>, form: Form, text: &[u8]) -> Result<(), AllocError>
     requires { is_short form text.now ≡ true }
-    ensures { OnOk result (out.new.items ≡ out.old.items ++ 1 ∷ text_bytes form text.now) }
+    ensures ok { OnOk result (out.new.items ≡ out.old.items ++ 1 ∷ text_bytes form text.now) }
+    ensures err { OnErr result (take (length out.old.items) out.new.items ≡ out.old.items) }
 {
     out.extend_from_slice(&[1])?;
     match form {

@@ -1,6 +1,6 @@
 //! Fields at the front of bytes, each with the bytes after it, and how they are written.
 
-ghost use Rattle.std.specs.Prelude.{◌≡◌, ◌<◌, ◌++◌, length, OnOk};
+ghost use Rattle.std.specs.Prelude.{◌≡◌, ◌<◌, ◌++◌, length, take, OnOk, OnErr};
 ghost use Rattle.tuple_codec.specs.Fields.{bytes_at, short_at};
 ghost use Rattle.tuple_codec.specs.Fronts.{Gives, length_prefixed_at};
 ghost use Rattle.tuple_codec.specs.RowBytes.{length_prefixed};
@@ -39,10 +39,11 @@ pub fn long_at(bytes: &[u8]) -> Result<(&[u8], &[u8]), Unread>
     }
 }
 
-/// Writes a length in two bytes, the higher one first, and the bytes.
+/// Writes a length in two bytes, the higher one first, and the bytes. Where memory is wanting, a part may stand behind what was there.
 pub fn push_long(out: &mut Vec<u8>, bytes: &[u8]) -> Result<(), AllocError>
     requires { length bytes.now < 65536 }
-    ensures { OnOk result (out.new.items ≡ out.old.items ++ length_prefixed bytes.now) }
+    ensures ok { OnOk result (out.new.items ≡ out.old.items ++ length_prefixed bytes.now) }
+    ensures err { OnErr result (take (length out.old.items) out.new.items ≡ out.old.items) }
 {
     let mut size = [0; 2];
     BigEndian::write_u16(&mut size, bytes.len() as u16);

@@ -1,6 +1,6 @@
 //! Keys as bytes, and the laws that these keep the order of keys and are one key's alone.
 
-ghost use Rattle.std.specs.Prelude.{◌≡◌, ◌++◌, true, IfOk, OnOk};
+ghost use Rattle.std.specs.Prelude.{◌≡◌, ◌++◌, length, take, true, IfOk, OnOk, OnErr};
 ghost use Rattle.tuple_codec.specs.Rows.{fits_all};
 ghost use Rattle.tuple_codec.specs.Limits.{are_types};
 ghost use Rattle.tuple_codec.specs.KeyBytes.{key_bytes, key_cell};
@@ -21,9 +21,11 @@ pub fn encode_key(alloc: Global, types: &[SqlType], row: &Row) -> Result<Blob, A
     encode(alloc, Form::Key, row)
 }
 
-/// Writes a key's next cell: the bytes of a key are those of its cells in order.
+/// Writes a key's next cell: the bytes of a key are those of its cells in order. Where memory is wanting, a part of the cell may
+/// stand behind what was there.
 pub fn push_key_cell(out: &mut Vec<u8>, cell: &Value) -> Result<(), AllocError>
-    ensures { OnOk result (out.new.items ≡ out.old.items ++ key_cell cell.now) }
+    ensures ok { OnOk result (out.new.items ≡ out.old.items ++ key_cell cell.now) }
+    ensures err { OnErr result (take (length out.old.items) out.new.items ≡ out.old.items) }
 {
     push_cell(out, Form::Key, cell)
 }

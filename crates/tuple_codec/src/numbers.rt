@@ -1,6 +1,6 @@
 //! Numbers as bytes in both forms, and truth values read from bytes.
 
-ghost use Rattle.std.specs.Prelude.{◌≡◌, ◌++◌, ◌∷◌, OnOk};
+ghost use Rattle.std.specs.Prelude.{◌≡◌, ◌++◌, ◌∷◌, OnOk, OnErr};
 ghost use Rattle.std.specs.Int.{w64, to_be_bytes};
 ghost use Rattle.tuple_codec.specs.Fronts.{Gives, bool_front, number_front, number_of};
 ghost use Rattle.tuple_codec.specs.Cells.{bits_of};
@@ -15,7 +15,8 @@ const SIGN: u64 = 1 << 63;
 
 /// Writes the flag of a value and its number.
 pub fn push_number(out: &mut Vec<u8>, form: Form, number: i64) -> Result<(), AllocError>
-    ensures { OnOk result (out.new.items ≡ out.old.items ++ 1 ∷ to_be_bytes w64 (bits_of form number)) }
+    ensures ok { OnOk result (out.new.items ≡ out.old.items ++ 1 ∷ to_be_bytes w64 (bits_of form number)) }
+    ensures err { OnErr result (out.new.items ≡ out.old.items) }
 {
     let mut bytes = [1; 9];
     BigEndian::write_u64(&mut bytes[1..], bits(form, number));

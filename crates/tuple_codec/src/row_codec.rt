@@ -1,6 +1,6 @@
 //! The cells of a row that aren't in its key as bytes, and the law that these are one row's alone.
 
-ghost use Rattle.std.specs.Prelude.{◌≡◌, ◌++◌, true, IfOk, OnOk};
+ghost use Rattle.std.specs.Prelude.{◌≡◌, ◌++◌, length, take, true, IfOk, OnOk, OnErr};
 ghost use Rattle.tuple_codec.specs.Cells.{is_spelled};
 ghost use Rattle.tuple_codec.specs.Rows.{fits_all};
 ghost use Rattle.tuple_codec.specs.Limits.{are_types};
@@ -22,10 +22,12 @@ pub fn encode_row(alloc: Global, types: &[SqlType], row: &Row) -> Result<Blob, A
     encode(alloc, Form::Row, row)
 }
 
-/// Writes a row's next cell: the bytes of a row are those of its cells in order.
+/// Writes a row's next cell: the bytes of a row are those of its cells in order. Where memory is wanting, a part of the cell may
+/// stand behind what was there.
 pub fn push_row_cell(out: &mut Vec<u8>, cell: &Value) -> Result<(), AllocError>
     requires cell { is_spelled Form.Row cell.now ≡ true }
-    ensures { OnOk result (out.new.items ≡ out.old.items ++ row_cell cell.now) }
+    ensures ok { OnOk result (out.new.items ≡ out.old.items ++ row_cell cell.now) }
+    ensures err { OnErr result (take (length out.old.items) out.new.items ≡ out.old.items) }
 {
     push_cell(out, Form::Row, cell)
 }

@@ -1,6 +1,6 @@
 //! Texts as bytes: behind their length in rows, and with zero bytes escaped in keys.
 
-ghost use Rattle.std.specs.Prelude.{◌≡◌, ◌≤◌, ◌++◌, length, OnOk, false};
+ghost use Rattle.std.specs.Prelude.{◌≡◌, ◌≤◌, ◌++◌, length, take, OnOk, OnErr, false};
 ghost use Rattle.tuple_codec.specs.KeyBytes.{escaped};
 ghost use Rattle.tuple_codec.specs.Fronts.{Gives, length_prefixed_at, text_front, unescaped};
 
@@ -11,7 +11,8 @@ use std::alloc::{AllocError, Global};
 
 /// Writes a text with its zero bytes escaped.
 pub fn push_escaped(out: &mut Vec<u8>, text: &[u8]) -> Result<(), AllocError>
-    ensures { OnOk result (out.new.items ≡ out.old.items ++ escaped text.now) }
+    ensures ok { OnOk result (out.new.items ≡ out.old.items ++ escaped text.now) }
+    ensures err { OnErr result (take (length out.old.items) out.new.items ≡ out.old.items) }
 {
     for byte in text {
         out.push(*byte)?;

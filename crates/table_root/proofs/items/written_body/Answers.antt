@@ -31,7 +31,7 @@ loop-position-preserved c =
       | then-not-is_keyed+in_ok-push_row_cell w ↦
           let step = other_step key row place value done all c.loop-position-test.true (sym w.if-not-is_keyed.ensures) c.loop-position.invariant in
           let here : done ++ row_cell (get_or row place value) ≡ c.if-not-is_keyed.bytes.items =
-          let pushed = w.in_ok-push_row_cell.ensures in
+          let pushed = w.in_ok-push_row_cell.ensures.ok in
           let cell = c.index-row-position.is in
           let same = w.bytes-is in
           cc in

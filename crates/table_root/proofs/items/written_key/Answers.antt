@@ -19,6 +19,6 @@ loop-position-preserved c =
     let there = subst (λ (l : List ℕ). get_or l at 0 < length row) (sym c.as_slice-key.ensures) (cell_there c.args.schema.now row at c.requires.schema c.requires.row below) in
     let step = key_step key row at c.index-row-from.result c.loop-position.bytes.items _ c.loop-position-test.true there c.loop-position.invariant in
     let cell = c.index-row-from.is in
-    let pushed = c.in_ok-push_key_cell.ensures in
+    let pushed = c.in_ok-push_key_cell.ensures.ok in
     let from = c.from.ensures in
     cc
