@@ -185,6 +185,13 @@ impl Region {
         }
     }
 
+    /// What every region has, for proofs: it has taken the pages that are written on, and no other. It does nothing.
+    pub fn tell(&self)
+        ensures { self.now.taken ≡ length self.now.pages }
+    {
+        let _pages = &self.pages;
+    }
+
     /// Undoes what was placed after `mark` was taken: all that was placed before stays.
     pub fn back_to(&mut self, mark: Mark)
         ensures cut { self.new.pages ≡ cut mark self.old.pages }

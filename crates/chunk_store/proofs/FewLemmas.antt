@@ -33,7 +33,7 @@ pub all_held : (other : List Chunk) (segments : List (List Chunk)) → AreWithin
 all_held other [] all = refl
 all_held other (s ∷ ss) all = all_case (is_within s other) s (drop_held other ss) all.0 (all_held other ss all.1)
 
-twice : (d n : ℕ) → n ≡ d + 1 → 2 ^ n ≡ 2 ^ d * 2
+pub twice : (d n : ℕ) → n ≡ d + 1 → 2 ^ n ≡ 2 ^ d * 2
 twice d n is = ap (λ k. 2 ^ k) is ∙ pow_more 2 d
 
 -- so many segments, and the chunks of what comes after them

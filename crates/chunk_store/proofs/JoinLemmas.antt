@@ -286,7 +286,7 @@ listed_some : (cs : List Chunk) (k bytes : List ℕ) → Listed cs k bytes → 0
 listed_some [] k bytes none = absurd none
 listed_some (c ∷ cs) k bytes listed = omega arith
 
-gather_some : (s cs : List Chunk) → 0 < length s → 0 < length (gather [] (s ++ cs))
+pub gather_some : (s cs : List Chunk) → 0 < length s → 0 < length (gather [] (s ++ cs))
 gather_some [] cs some = absurd (none_below some) where
   none_below : 0 < 0 → ⊥
   none_below less = omega arith

@@ -6,5 +6,7 @@ pub mod FewLemmas
 pub mod FollowLemmas
 pub mod GrowthLemmas
 pub mod JoinLemmas
+pub mod LaidLemmas
 pub mod MatchLemmas
 pub mod PlacingLemmas
+pub mod TidyLemmas

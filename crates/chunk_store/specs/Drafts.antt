@@ -1,7 +1,8 @@
 -- Drafts: a store, and chunks of the draft's own over it.
-use Rattle.std.specs.Prelude.{◌≡◌, ℕ, ◌+◌, ◌<◌, ◌≤◌, Bool, true, List, [], ◌∷◌, ◌++◌, if◌then◌else◌, is_some, take, Result, IfOk, IfErr, OnOk, OnErr}
+use Rattle.std.specs.Prelude.{◌≡◌, ℕ, ◌+◌, ◌<◌, ◌≤◌, Bool, true, List, [], ◌∷◌, ◌++◌, if◌then◌else◌, is_some, length, take, Result, IfOk, IfErr, OnOk, OnErr}
 use Rattle.std.specs.List.{AllByRecursion}
 use Rattle.tuple_codec.specs.declared.addresses.Address.{Address}
+use Rattle.chunk_region.specs.Pages.{Pages, place_on}
 use Rattle.chunk_store.specs.declared.faults.PutFault.{PutFault}
 use Rattle.chunk_store.specs.Chunks.{Chunk, Chunks, AreNamed, IsHeld, IsSingle, chunk_bytes}
 use Rattle.chunk_store.specs.Clashes.{IsBroughtClash, IsReason}
@@ -25,6 +26,15 @@ chunks_of d = chunk_bytes (d.base ++ d.own)
 -- all pages that belong to the draft's pool, free or taken
 abbrev pub pages_in : Drafting → ℕ
 pages_in draft = draft.free + draft.taken
+
+-- the pages after chunks were placed on them, one behind another
+abbrev pub place_chunks : Pages → List Chunk → Pages
+place_chunks pages [] = pages
+place_chunks pages (c ∷ cs) = place_chunks (place_on c.1 pages) cs
+
+-- how many pages such own chunks take
+abbrev pub pages_for : List Chunk → ℕ
+pages_for own = length (place_chunks [] own)
 
 -- the bytes are put: where their address is found nothing changes, else they are the last own chunk
 abbrev pub put_in : (List ℕ → List ℕ) → List ℕ → DraftParts → DraftParts

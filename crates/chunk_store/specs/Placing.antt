@@ -3,9 +3,10 @@ use Rattle.std.specs.Prelude.{◌≡◌, ◌≤◌, ◌++◌, ℕ, Bool, true, l
 use Rattle.std.specs.List.{AllByRecursion}
 use Rattle.chunk_region.specs.declared.span.Span.{Span}
 use Rattle.chunk_region.specs.Pages as region
-use Rattle.chunk_region.specs.Pages.{Pages, IsWritten, IsBeforeMark, behind}
+use Rattle.chunk_region.specs.Pages.{Pages, IsWritten, IsBeforeMark, behind, mark_of, place_on}
 use Rattle.chunk_store.specs.declared.index.Placed.{Placed}
 use Rattle.chunk_store.specs.Chunks.{Chunk, AreNamed, IsSingle}
+use Rattle.chunk_store.specs.Drafts.{place_chunks}
 
 -- what an index has: where each chunk lies, in the order in which they came, for how many more it has room, and whether it has a table
 pub record Indexed : Type 0 where
@@ -62,6 +63,13 @@ abbrev pub InOrder : List Placed → Type 0
 InOrder [] = Unit {0}
 InOrder (c ∷ cs) = AllByRecursion (λ later. IsBeforeMark later.before c.span) cs × InOrder cs
 
+-- the mark of each chunk was taken where the chunks before it had been placed on pages
+abbrev pub AreMarked : Pages → List Placed → List Chunk → Type 0
+AreMarked before [] [] = Unit {0}
+AreMarked before [] (chunk ∷ chunks) = ⊥
+AreMarked before (c ∷ cs) [] = ⊥
+AreMarked before (c ∷ cs) (chunk ∷ chunks) = (c.before ≡ mark_of before) × AreMarked (place_on chunk.1 before) cs chunks
+
 -- no chunk is longer than a page
 abbrev pub AllFit : List Chunk → Type 0
 AllFit chunks = AllByRecursion (λ c. length c.1 ≤ 65536) chunks
@@ -72,11 +80,13 @@ pub record ArePlaced (pages : Pages) (placed : List Placed) : Type 0 where
   pub fit : AllFit (chunks_in pages placed)
   pub single : IsSingle (chunks_in pages placed)
 
--- chunks over a store: each is on the pages, in order, under its address and no longer than a page, and one address has one byte string,
--- in the store and here
+-- chunks over a store: each is on the pages, in order, under its address and no longer than a page, one address has one byte string,
+-- in the store and here, and nothing else was placed on the pages
 pub record AreOver (address : List ℕ → List ℕ) (base : List Chunk) (pages : Pages) (placed : List Placed) : Type 0 where
   pub all_written : AllWritten pages placed
   pub in_order : InOrder placed
   pub named : AreNamed address (chunks_in pages placed)
   pub fit : AllFit (chunks_in pages placed)
   pub single : IsSingle (base ++ chunks_in pages placed)
+  pub marked : AreMarked [] placed (chunks_in pages placed)
+  pub laid : pages ≡ place_chunks [] (chunks_in pages placed)

@@ -1,6 +1,7 @@
 -- Stores: the chunks of several segments, one segment after another; and how segments are joined and dropped.
 use Rattle.std.specs.Prelude.{◌≡◌, ◌⊎◌, ℕ, ◌+◌, ◌*◌, ◌^◌, ◌-◌, ◌<◌, ◌≤◌, nat_lt, Bool, true, false, ◌&&◌, List, [], ◌∷◌, ◌++◌, length, drop, if◌then◌else◌, is_some}
 use Rattle.std.specs.List.{AllByRecursion, list_all}
+use Rattle.chunk_store.specs.Building.{gather}
 use Rattle.chunk_store.specs.Chunks.{Chunk, Listed, Lists, chunk_bytes}
 
 -- what a store has: its segments, each the list of its chunks, and for how many segments more it has room
@@ -58,6 +59,16 @@ joins more [] = []
 joins more (segment ∷ segments) =
     if nat_lt (length segment) (2 * (more + length (joined segments))) then segment ∷ segments else joins more segments
 
+-- the segments after the last ones became one: those from the first one on that has less than twice as many chunks as those after it
+abbrev pub tidied : List (List Chunk) → List (List Chunk)
+tidied [] = []
+tidied (segment ∷ segments) =
+    if nat_lt (length segment) (2 * length (joined segments)) then gather [] (segment ++ joined segments) ∷ [] else segment ∷ tidied segments
+
+-- k segments have 2 ^ (k - 1) chunks or more
+abbrev pub AreFew : List (List Chunk) → Type 0
+AreFew segments = 0 < length segments → 2 ^ (length segments - 1) ≤ length (joined segments)
+
 -- what chunks over the segments of a store are sealed to: it has these chunks and those of the segments that are joined to them
 pub record IsSealed (segments : List (List Chunk)) (own sealed : List Chunk) : Type 0 where
   pub union : IsUnion own (joined (joins (length own) segments)) sealed
@@ -68,7 +79,6 @@ pub record IsBrought (segments : List (List Chunk)) (own sealed : List Chunk) : 
   pub all : Lists own sealed
   pub only : Lists sealed (joined segments ++ own)
 
--- where what was sealed over a store is appended to that store, k segments have 2 ^ (k - 1) chunks or more
+-- where what was sealed over a store is appended to that store, there are few segments
 abbrev pub StaysFew : Type 0
-StaysFew = (segments : List (List Chunk)) (own sealed : List Chunk) → AreSome segments → IsSealed segments own sealed → 0 < length (with_segment sealed segments)
-    → 2 ^ (length (with_segment sealed segments) - 1) ≤ length (joined (with_segment sealed segments))
+StaysFew = (segments : List (List Chunk)) (own sealed : List Chunk) → AreSome segments → IsSealed segments own sealed → AreFew (with_segment sealed segments)

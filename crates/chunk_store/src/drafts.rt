@@ -5,7 +5,7 @@ ghost use Rattle.std.specs.Arc.{arc_value};
 ghost use Rattle.chunk_region.specs.Pages.{Pages};
 ghost use Rattle.chunk_store.specs.Chunks.{Agree, AreNamed, IsHeld, IsSingle, chunk_bytes};
 ghost use Rattle.chunk_store.specs.Clashes.{IsCause};
-ghost use Rattle.chunk_store.specs.Drafts.{IsSound, Puts, TakesAtMostOnePage, chunks_of, cut_to, pages_in};
+ghost use Rattle.chunk_store.specs.Drafts.{IsSound, Puts, TakesAtMostOnePage, chunks_of, cut_to, pages_for, pages_in};
 ghost use Rattle.chunk_store.specs.Stores.{IsBrought, IsSealed, all_chunks};
 
 use crate::faults::{PutFault, is_there};
@@ -134,19 +134,23 @@ impl<D: Digester> Draft<D> {
 
     /// Where the draft is now, to go back to.
     pub fn mark(&self) -> DraftMark
-        ensures { result.own ≡ length self.now.chunks.own }
+        ensures own { result.own ≡ length self.now.chunks.own }
+        ensures taken { self.now.taken ≡ pages_for self.now.chunks.own }
     {
+        self.region.tell();
         DraftMark {
             own: self.index.len(),
         }
     }
 
-    /// Drops what came after `mark` was taken.
+    /// Drops what came after `mark` was taken, and gives back the pages that only this lies on.
     pub fn back_to(&mut self, mark: DraftMark)
         ensures chunks { self.new.chunks ≡ cut_to mark.own self.old.chunks }
         ensures segments { self.new.segments ≡ self.old.segments }
         ensures pages { pages_in self.new ≡ pages_in self.old }
+        ensures taken { self.new.taken ≡ pages_for self.new.chunks.own }
     {
+        self.region.tell();
         if mark.own < self.index.len() {
             let first = self.index.at(mark.own);
             self.region.back_to(first.before);

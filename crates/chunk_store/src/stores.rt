@@ -6,7 +6,7 @@ ghost use Rattle.smallvec.specs.SmallVec.{small_vec_len};
 ghost use Rattle.chunk_store.specs.Chunks.{Agree, IsSingle, Lists, chunk_bytes};
 ghost use Rattle.chunk_store.specs.Clashes.{Differ, IsCause};
 ghost use Rattle.chunk_store.specs.Building.{gather};
-ghost use Rattle.chunk_store.specs.Stores.{AreSome, IsMatched, IsUnion, all_chunks, drop_held, joined, joins, with_segment};
+ghost use Rattle.chunk_store.specs.Stores.{AreFew, AreSome, IsMatched, IsUnion, all_chunks, drop_held, joined, joins, tidied, with_segment};
 
 use crate::faults::{PutFault, is_there};
 use crate::held::{HeldSegment, SegmentList};
@@ -134,20 +134,24 @@ impl Store {
     }
 
     /// Joins the last segments, from the first one on that has less than twice as many chunks as come after it, so that a store to which segments
-    /// without others' chunks are appended has few. What the store has stays, and all of it where memory is wanting. The pages of the joined segments
-    /// are shared.
-    pub fn tidy(&mut self)
+    /// without others' chunks are appended has few. What the store has stays. The pages of the joined segments are shared.
+    ///
+    /// `Ok` says that no such segments are left; where memory is wanting none are joined.
+    pub fn tidy(&mut self) -> Result<(), AllocError>
         ensures keeps { Lists (all_chunks self.old) (all_chunks self.new) }
         ensures adds_none { Lists (all_chunks self.new) (all_chunks self.old) }
         ensures room { self.old.room ≤ self.new.room }
+        ensures joined { OnOk result (self.new.segments ≡ tidied self.old.segments) }
+        ensures few { OnOk result (AreFew self.new.segments) }
+        ensures same { OnErr result (self.new.segments ≡ self.old.segments) }
     {
         let from = self.joined_from(0);
         if from < self.segments.len() {
-            if let Ok(whole) = self.joined_last(from) {
-                self.segments.truncate(from);
-                self.segments.push_reserved(HeldSegment::new(whole));
-            }
+            let whole = self.joined_last(from)?;
+            self.segments.truncate(from);
+            self.segments.push_reserved(HeldSegment::new(whole));
         }
+        Ok(())
     }
 
     /// The segments from one on as one.

@@ -123,7 +123,7 @@ fn are_joined(alloc: Global, alone: bool) -> Result<bool, PutFault> {
             return Ok(false);
         }
         if alone {
-            store.tidy();
+            store.tidy()?;
         }
     }
     let first = Sha512Cut::address_of(b"a");

@@ -8,13 +8,13 @@ use Rattle.branch_procs.proofs.local.stage.Goals as goal
 pub returns-in-Ok-clause-stages : goal.returns-in-Ok-clause-stages
 returns-in-Ok-clause-stages g c = λ commits state own.
     settled_so g.D.Digester.address c.args.draft.now c.made-made.new.draft c.settle.new.draft c.args.own.now c.settle.new.own c.mark-mark.result.own c.in-Ok.candidate
-    (staged_by (root_of commits state.head) c.args.asked.now state) c.settle.result c.laws.ensures.drafts c.laws.ensures.growth c.mark-mark.ensures c.in-Ok.ensures.grows
+    (staged_by (root_of commits state.head) c.args.asked.now state) c.settle.result c.laws.ensures.drafts c.laws.ensures.growth c.mark-mark.ensures.own c.in-Ok.ensures.grows
     (c.in-Ok.ensures.is commits state own) c.settle.ensures.settles
 
 pub returns-in-Err-clause-stages : goal.returns-in-Err-clause-stages
 returns-in-Err-clause-stages g c = λ commits state own.
     failed_so g.D.Digester.address c.args.draft.now c.made-made.new.draft c.back_to.new.self c.args.own.now c.mark-mark.result.own c.in-Err.fault
-    (staged_by (root_of commits state.head) c.args.asked.now state) c.told.result c.laws.ensures.drafts c.laws.ensures.growth c.mark-mark.ensures c.in-Err.ensures.grows
+    (staged_by (root_of commits state.head) c.args.asked.now state) c.told.result c.laws.ensures.drafts c.laws.ensures.growth c.mark-mark.ensures.own c.in-Err.ensures.grows
     c.back_to.ensures.chunks c.told.ensures.told
 
 pub returns-in-Ok-clause-truly : goal.returns-in-Ok-clause-truly

@@ -10,11 +10,11 @@ returns-in-Ok-clause-clean g c = λ b o t roots.
 
 pub returns-in-Ok-clause-chunks : goal.returns-in-Ok-clause-chunks
 returns-in-Ok-clause-chunks g c =
-    comes_back c.args.draft.now c.meet-met.new.draft c.back_to.new.self c.mark-mark.result.own c.laws.ensures.drafts c.laws.ensures.growth c.mark-mark.ensures c.meet-met.ensures.grows c.back_to.ensures.chunks
+    comes_back c.args.draft.now c.meet-met.new.draft c.back_to.new.self c.mark-mark.result.own c.laws.ensures.drafts c.laws.ensures.growth c.mark-mark.ensures.own c.meet-met.ensures.grows c.back_to.ensures.chunks
 
 pub returns-in-Err-clause-chunks : goal.returns-in-Err-clause-chunks
 returns-in-Err-clause-chunks g c =
-    comes_back c.args.draft.now c.meet-met.new.draft c.back_to.new.self c.mark-mark.result.own c.laws.ensures.drafts c.laws.ensures.growth c.mark-mark.ensures c.meet-met.ensures.grows c.back_to.ensures.chunks
+    comes_back c.args.draft.now c.meet-met.new.draft c.back_to.new.self c.mark-mark.result.own c.laws.ensures.drafts c.laws.ensures.growth c.mark-mark.ensures.own c.meet-met.ensures.grows c.back_to.ensures.chunks
 
 pub returns-in-Err-clause-fault : goal.returns-in-Err-clause-fault
 returns-in-Err-clause-fault g c =

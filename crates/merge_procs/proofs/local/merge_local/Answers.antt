@@ -13,7 +13,7 @@ settle-requires-after_bounds g c κs within =
 pub returns-clause-alone : goal.returns-clause-alone
 returns-clause-alone g c = λ p stands inside.
     answers g.D.Digester.address c.args.session.now c.worked-step.new.session c.settle.new.session c.mark-mark.result.own p c.args.asked.now c.worked-step.result c.settle.result
-    c.laws.ensures.chunks c.laws.ensures.drafts c.laws.ensures.growth c.laws.ensures.transactions c.mark-mark.ensures inside stands c.worked-step.ensures.same c.worked-step.ensures.grows
+    c.laws.ensures.chunks c.laws.ensures.drafts c.laws.ensures.growth c.laws.ensures.transactions c.mark-mark.ensures.own inside stands c.worked-step.ensures.same c.worked-step.ensures.grows
     c.worked-step.ensures.is c.settle.ensures.settles
 
 pub returns-clause-truly : goal.returns-clause-truly

@@ -12,7 +12,7 @@ returns-in-Ok-clause-turns g c = λ tables stands.
 pub returns-in-Err-clause-turns : goal.returns-in-Err-clause-turns
 returns-in-Err-clause-turns g c = λ tables stands.
     unturned g.D.Digester.address c.args.draft.now c.written-result.new.draft c.back_to.new.self c.args.database.now c.mark-mark.result.own c.in-Err.fault (turn_effect tables c.args.statement.now)
-    c.refuse.result c.laws.ensures.drafts (c.in-Err.ensures.done tables stands) c.refuse.ensures.due c.mark-mark.ensures c.in-Err.ensures.longer c.back_to.ensures.chunks
+    c.refuse.result c.laws.ensures.drafts (c.in-Err.ensures.done tables stands) c.refuse.ensures.due c.mark-mark.ensures.own c.in-Err.ensures.longer c.back_to.ensures.chunks
 
 pub returns-in-Err-clause-truly : goal.returns-in-Err-clause-truly
 returns-in-Err-clause-truly g c =

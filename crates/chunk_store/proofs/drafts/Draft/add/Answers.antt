@@ -32,7 +32,7 @@ invariant_of-self-2 g c =
     c.requires.agrees others (sym (ap (λ (d : Drafting). chunk_bytes d.chunks.base k) c.self.view_is) ∙ held) in
     subst P (sym (c.push.ensures ∙ ap (λ l. l ++ chunk ∷ []) c.make_room.ensures.same))
     (over_push g.D.Digester.address base pages c.place.new.self.pages cs chunk c.args.bytes.now c.self.invariant c.place.ensures.keeps
-    c.in_ok-span.ensures.stands c.mark-before.ensures.before c.requires.size c.requires.named absent agrees)
+    c.in_ok-span.ensures.stands c.mark-before.ensures.before c.mark-before.ensures.at c.in_ok-span.ensures.exact c.requires.size c.requires.named absent agrees)
 
 pub returns-clause-ok : goal.returns-clause-ok
 returns-clause-ok g c =

@@ -10,7 +10,7 @@ pub invariant_of-self : goal.invariant_of-self
 invariant_of-self g c =
     let P : List Placed → Type 0 = λ l. AreOver g.D.Digester.address (all_chunks c.self.inside.base) c.clear.new.self.pages l in
     subst P (sym c.cut.ensures)
-    (over_none g.D.Digester.address (all_chunks c.self.inside.base) c.self.inside.region.pages c.clear.new.self.pages c.self.inside.index.placed c.self.invariant)
+    (over_none g.D.Digester.address (all_chunks c.self.inside.base) c.self.inside.region.pages c.clear.new.self.pages c.self.inside.index.placed c.self.invariant c.clear.ensures.pages)
 
 pub returns-clause-chunks : goal.returns-clause-chunks
 returns-clause-chunks g c = same_parts _ _ _ _ (ap (λ (d : Drafting). d.chunks.base) c.self.view_is) (ap (chunks_in c.clear.new.self.pages) c.cut.ensures)

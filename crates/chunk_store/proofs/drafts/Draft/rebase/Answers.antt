@@ -17,6 +17,8 @@ invariant_of-self g c =
       in_order = over.in_order;
       named = over.named;
       fit = over.fit;
+      marked = over.marked;
+      laid = over.laid;
       single = single_join store own c.fits.ensures.single (single_right (all_chunks c.self.inside.base) own over.single)
           (subst P (sym (ap (λ (d : Drafting). d.chunks.own) c.self.view_is)) c.in_ok-fits.ensures.agree);
     }
