@@ -3,7 +3,8 @@
 ghost use Rattle.std.specs.Prelude.{◌≡◌, IfOk, string_bytes};
 ghost use Rattle.script_text.specs.Lines.{collision_line, fault_line};
 
-use crate::{BadScript, push_clash};
+use crate::BadScript;
+use crate::printing::push_clash;
 use chunk_store::Clash;
 use std::alloc::{AllocError, Global};
 

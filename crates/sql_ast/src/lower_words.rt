@@ -6,7 +6,8 @@ ghost use Rattle.sql_ast.specs.Values as spec;
 ghost use Rattle.sql_ast.specs.Values.{lowered};
 
 use crate::slices::between;
-use crate::{Piece, keyword_of, lower_case};
+use crate::bytes::lower_case;
+use crate::{Piece, keyword_of};
 use smallvec::SmallVec;
 use std::alloc::{AllocError, Global};
 use tuple_codec::Text;

@@ -4,7 +4,7 @@ ghost use Rattle.std.specs.Prelude.{◌≡◌, IfOk};
 ghost use Rattle.sql_ast.specs.Values as spec;
 ghost use Rattle.sql_ast.specs.Values.{string_from};
 
-use crate::push_escape;
+use crate::bytes::push_escape;
 use std::alloc::{AllocError, Global};
 use tuple_codec::Text;
 

@@ -4,7 +4,7 @@ ghost use Rattle.std.specs.Prelude.{◌≡◌, ◌++◌, OnOk, codes};
 ghost use Rattle.sql_ast.specs.declared.expressions.Expr.{out-Expr};
 ghost use Rattle.sql_text.specs.Canon.{back, comparison_word, front, literal_text, opened, operator, term_word, truth_word};
 
-use crate::{push_byte_string, push_number, push_quoted, push_scaled};
+use crate::printed_values::{push_byte_string, push_number, push_quoted, push_scaled};
 use sql_ast::{Comparison, Expr, Literal, Term};
 use std::alloc::{AllocError, Global};
 use tuple_codec::Text;
