@@ -1,5 +1,5 @@
 -- What CREATE TABLE may not say of its columns, keys and constraints.
-use Rattle.std.specs.Prelude.{ℕ, Bool, true, false, ◌||◌, ◌&&◌, ◌==◌, List, [], ◌∷◌, Option, Some, None, nat_le, not, if◌then◌else◌}
+use Rattle.std.specs.Prelude.{ℕ, Bool, true, false, ◌||◌, ◌&&◌, ◌==◌, List, [], ◌∷◌, Option, Some, None, not, if◌then◌else◌}
 use Rattle.std.specs.Str.{bytes_eq}
 use Rattle.std.specs.List.{list_any, count_by, sum_by}
 use Rattle.sql_ast.specs.declared.expressions.Expr.{Expr}
@@ -9,6 +9,7 @@ use Rattle.sql_ast.specs.declared.tables.Element.{Element}
 use Rattle.sql_ast.specs.declared.tables.Element.TheVariants as element
 use Rattle.sql_ast.specs.declared.tables.TypeName.{TypeName}
 use Rattle.sql_ast.specs.declared.tables.TypeName.TheVariants as type
+use Rattle.tuple_codec.specs.Limits.{is_type}
 use Rattle.tuple_codec.specs.declared.values.SqlType.{SqlType}
 use Rattle.tuple_codec.specs.declared.values.SqlType.TheVariants as kind
 use Rattle.sql_text.specs.Depths.{is_deep}
@@ -60,21 +61,18 @@ keys_column name other = false
 
 -- Types.
 
-abbrev pub text_type : SqlType → ℕ → Option SqlType
-text_type made size = if nat_le 1 size && nat_le size 2000 then Some made else None
-
-abbrev pub decimal_type : ℕ → ℕ → Option SqlType
-decimal_type digits scale =
-    if nat_le 1 digits && nat_le digits 18 && nat_le scale digits then Some (kind.Decimal digits scale) else None
+-- the type itself, if it is one that a column may have
+abbrev pub ranged : SqlType → Option SqlType
+ranged made = if is_type made then Some made else None
 
 -- the type, if its numbers are in range
 abbrev pub type_of : TypeName → Option SqlType
 type_of type.BigInt = Some kind.BigInt
 type_of type.Int = Some kind.Int
 type_of type.Bool = Some kind.Bool
-type_of (type.Varchar most) = text_type (kind.Varchar most) most
-type_of (type.Varbinary most) = text_type (kind.Varbinary most) most
-type_of (type.Decimal digits scale) = decimal_type digits scale
+type_of (type.Varchar most) = ranged (kind.Varchar most)
+type_of (type.Varbinary most) = ranged (kind.Varbinary most)
+type_of (type.Decimal digits scale) = ranged (kind.Decimal digits scale)
 
 abbrev pub is_typed : Option SqlType → Bool
 is_typed (Some type) = true

@@ -8,7 +8,6 @@ mod constraints;
 mod defaults;
 mod misuse;
 mod names;
-mod order_keys;
 mod outside;
 mod selects;
 mod tables;
@@ -17,8 +16,4 @@ mod writes;
 pub use constraints::{Sort, made_names};
 pub use defaults::{Definition, altered_column, created_column};
 pub use misuse::is_misused;
-pub use order_keys::{Key, order_key};
 pub use outside::is_outside;
-pub use selects::{
-    GroupItem, group_item, is_aggregate_call, is_grouped_query, orders_combinations, source_name,
-};

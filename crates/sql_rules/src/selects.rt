@@ -1,7 +1,7 @@
-//! SELECTs outside the language, and what the items of a grouped one show.
+//! SELECTs outside the language.
 
 ghost use Rattle.std.specs.Prelude.{◌≡◌};
-ghost use Rattle.std.specs.List.{list_all, list_any, position};
+ghost use Rattle.std.specs.List.{list_all, list_any};
 ghost use Rattle.std.specs.Str.{bytes_eq};
 ghost use Rattle.sql_ast.specs.declared.expressions.Expr.{out-Expr};
 ghost use Rattle.sql_ast.specs.declared.selects.ColumnName.TheVariants.{Name, Qualified};
@@ -9,27 +9,19 @@ ghost use Rattle.sql_text.specs.Features.{has};
 ghost use Rattle.sql_rules.specs.Names.{repeats_by};
 ghost use Rattle.sql_text.specs.Nesting.{nests};
 ghost use Rattle.sql_rules.specs.Selects as spec;
-ghost use Rattle.sql_rules.specs.Selects.{alone_outside, are_of_groups, from_outside, grouped_as, in_item, in_items, is_filled, is_grouped, is_of_groups, is_open_to_sources, is_ungrouped_item_shown, is_written_as, items_outside, joined_name, key_outside, keys_outside, mixes_aggregates, query_outside, repeats_source, select_outside};
-ghost use Rattle.sql_text.specs.SelectNames as names;
-ghost use Rattle.sql_text.specs.SelectNames.{is_call, name_or};
+ghost use Rattle.sql_rules.specs.Selects.{alone_outside, are_of_groups, from_outside, in_item, in_items, is_filled, is_grouped, is_of_groups, is_open_to_sources, is_ungrouped_item_shown, is_written_as, items_outside, joined_name, key_outside, keys_outside, mixes_aggregates, query_outside, repeats_source, select_outside};
+ghost use Rattle.sql_text.specs.SelectNames.{is_call};
 ghost use Rattle.sql_rules.specs.Writes.{is_misplaced};
 
-use crate::order_keys::is_outside_key;
 use crate::writes::{is_given_out_of_place, is_out_of_place};
 use sql_ast::{
     ColumnName, Expr, FromClause, Items, Join, NamedExpr, OrderKey, Query, Select, SelectItem,
-    TableSource,
 };
-use sql_text::{Feature, has_feature, is_aggregate_node, nests_aggregates};
+use sql_text::{
+    Feature, Key, has_feature, is_aggregate_node, item_list, nests_aggregates, order_key,
+    source_name,
+};
 use tuple_codec::Text;
-
-/// What a grouped SELECT shows in an item.
-#[derive(Clone, Copy, PartialEq, Eq)]
-pub enum GroupItem {
-    /// The column of GROUP BY at this place, counted from 0.
-    GroupColumn(usize),
-    AggregateCall,
-}
 
 /// Whether a SELECT is refused 9013 for its sources, conditions, items, grouping or order keys; the lengths of its names are judged apart.
 pub fn is_outside_select(select: &Select) -> bool
@@ -90,16 +82,6 @@ fn joins_named(joins: &[Join], name: &Text) -> bool
         .any(|join| name.is(source_name(&join.source).as_slice()))
 }
 
-/// The name that a source goes by.
-pub fn source_name(source: &TableSource) -> &Text
-    ensures { result.now ≡ names.source_name source.now }
-{
-    match &source.alias {
-        Some(alias) => alias,
-        None => &source.table,
-    }
-}
-
 fn are_outside_items(items: &Items) -> bool
     ensures { result ≡ items_outside items.now }
 {
@@ -155,7 +137,7 @@ fn item_nests(item: &SelectItem) -> bool
 }
 
 /// Whether a SELECT has GROUP BY, or an aggregate in an item.
-pub fn is_grouped_query(query: &Query) -> bool
+fn is_grouped_query(query: &Query) -> bool
     ensures { result ≡ is_grouped query.now }
 {
     has_some(query.clauses.groups.as_slice()) || some_item_has(&query.items, Feature::Aggregate)
@@ -195,39 +177,18 @@ fn all_are_of_groups(list: &[SelectItem], groups: &[ColumnName]) -> bool
 fn is_item_of_groups(item: &SelectItem, groups: &[ColumnName]) -> bool
     ensures { result ≡ is_of_groups groups.now item.now }
 {
-    group_item(groups, item).is_some()
-}
-
-/// What an item of a grouped SELECT is; nothing where such a SELECT may not show it.
-pub fn group_item(groups: &[ColumnName], item: &SelectItem) -> Option<GroupItem>
-    ensures { result ≡ spec.group_item groups.now item.now }
-{
     match item {
-        SelectItem::AllOf(_) => None,
-        SelectItem::One(named) => group_item_of(groups, &named.expr),
+        SelectItem::AllOf(_) => false,
+        SelectItem::One(named) => {
+            is_aggregate_node(&named.expr) || is_column_of_groups(&named.expr, groups)
+        }
     }
 }
 
-fn group_item_of(groups: &[ColumnName], expr: &Expr) -> Option<GroupItem>
-    ensures { result ≡ grouped_as groups.now expr.now }
+fn is_column_of_groups(expr: &Expr, groups: &[ColumnName]) -> bool
+    ensures { result ≡ list_any (is_written_as (out-Expr expr.now)) groups.now }
 {
-    if is_aggregate_call(expr) {
-        return Some(GroupItem::AggregateCall);
-    }
-    group_written_as(groups, expr).map(GroupItem::GroupColumn)
-}
-
-fn group_written_as(groups: &[ColumnName], expr: &Expr) -> Option<usize>
-    ensures { result ≡ position (is_written_as (out-Expr expr.now)) groups.now }
-{
-    groups.iter().position(|column| is_column(expr, column))
-}
-
-/// Whether an expression is an aggregate's call as a whole.
-pub fn is_aggregate_call(expr: &Expr) -> bool
-    ensures { result ≡ is_call expr.now }
-{
-    is_aggregate_node(expr)
+    groups.iter().any(|column| is_column(expr, column))
 }
 
 /// Whether an expression is a column, written alike.
@@ -264,21 +225,38 @@ fn has_outside_key(query: &Query) -> bool
     ensures { result ≡ keys_outside query.now }
 {
     let keys = query.clauses.sorting.keys.as_slice();
-    some_key_is_outside(&query.items, orders_combinations(query), keys)
+    some_key_is_outside(item_list(&query.items), orders_combinations(query), keys)
 }
 
 /// Whether the rows that a SELECT orders stand for one combination of its sources' rows each.
-pub fn orders_combinations(query: &Query) -> bool
+fn orders_combinations(query: &Query) -> bool
     ensures { result ≡ is_open_to_sources query.now }
 {
     !(is_grouped_query(query) || query.distinct)
 }
 
-fn some_key_is_outside(items: &Items, open_to_sources: bool, keys: &[OrderKey]) -> bool
+fn some_key_is_outside(items: &[SelectItem], open_to_sources: bool, keys: &[OrderKey]) -> bool
     ensures { result ≡ list_any (key_outside items.now open_to_sources) keys.now }
 {
     keys.iter()
         .any(|key| is_outside_key(items, open_to_sources, key))
+}
+
+/// Whether a key of ORDER BY is none; `open_to_sources` says whether one may be an expression over the sources.
+fn is_outside_key(items: &[SelectItem], open_to_sources: bool, key: &OrderKey) -> bool
+    ensures { result ≡ key_outside items.now open_to_sources key.now }
+{
+    is_out_of_place(&key.expr) || !may_order(open_to_sources, order_key(items, &key.expr))
+}
+
+fn may_order(open_to_sources: bool, key: Option<Key>) -> bool
+    ensures { result ≡ spec.may_order open_to_sources key }
+{
+    match key {
+        Some(Key::AtItem(_)) => true,
+        Some(Key::OverSources) => open_to_sources,
+        None => false,
+    }
 }
 
 fn is_outside_alone(list: &[NamedExpr]) -> bool
@@ -311,5 +289,5 @@ fn has_mixed_aggregates(list: &[NamedExpr]) -> bool
 fn all_are_calls(list: &[NamedExpr]) -> bool
     ensures { result ≡ list_all (λ named. is_call named.expr) list.now }
 {
-    list.iter().all(|named| is_aggregate_call(&named.expr))
+    list.iter().all(|named| is_aggregate_node(&named.expr))
 }

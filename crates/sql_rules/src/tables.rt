@@ -1,12 +1,13 @@
 //! What a table's definition keeps to: one primary key, names given once, and types in range.
 
-ghost use Rattle.std.specs.Prelude.{◌≡◌, ◌&&◌, nat_le, not, IfOk, IfSome, true};
+ghost use Rattle.std.specs.Prelude.{◌≡◌, not, IfOk, IfSome, true};
 ghost use Rattle.std.specs.List.{count_by, list_any, sum_by};
 ghost use Rattle.std.specs.Option.{option_copied};
 ghost use Rattle.std.specs.Str.{bytes_eq};
 ghost use Rattle.tuple_codec.specs.Limits.{is_type};
+ghost use Rattle.tuple_codec.specs.declared.values.SqlType.TheVariants.{Decimal, Varbinary, Varchar};
 ghost use Rattle.sql_rules.specs.Names.{in_given};
-ghost use Rattle.sql_rules.specs.Tables.{check_outside, column_name, decimal_type, element_outside, given_name, has_named, has_one_key, is_key_mark, is_typed, keys_in, misnames, repeats_given, text_type, type_of};
+ghost use Rattle.sql_rules.specs.Tables.{check_outside, column_name, element_outside, given_name, has_named, has_one_key, is_key_mark, is_typed, keys_in, misnames, ranged, repeats_given, type_of};
 
 use crate::names::repeats_name;
 use crate::writes::is_out_of_place;
@@ -184,13 +185,14 @@ pub fn column_type(name: &TypeName) -> Option<SqlType>
 }
 
 fn is_text_size(size: u64) -> bool
-    ensures { result ≡ (nat_le 1 size && nat_le size 2000) }
+    ensures text { result ≡ is_type (Varchar size) }
+    ensures bytes { result ≡ is_type (Varbinary size) }
 {
     1 <= size && size <= MOST_CHARACTERS
 }
 
 fn decimal(digits: u64, scale: u64) -> Option<SqlType>
-    ensures of_numbers { result ≡ decimal_type digits scale }
+    ensures of_numbers { result ≡ ranged (Decimal digits scale) }
     ensures sound { IfSome result (λ type. is_type type ≡ true) }
 {
     if 1 <= digits && digits <= MOST_DIGITS && scale <= digits {

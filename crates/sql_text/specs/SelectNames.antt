@@ -1,7 +1,10 @@
--- The names of a SELECT's sources and items.
-use Rattle.std.specs.Prelude.{ℕ, Bool, false, List, Option, Some, None, bytes_eq}
+-- A SELECT's items, and the names of its sources and items.
+use Rattle.std.specs.Prelude.{ℕ, Bool, false, List, [], Option, Some, None, bytes_eq}
 use Rattle.sql_ast.specs.declared.expressions.Expr.{Expr, out-Expr}
 use Rattle.sql_ast.specs.declared.expressions.Expr.TheOpen.{Expr-F}
+use Rattle.sql_ast.specs.declared.selects.Items.{Items}
+use Rattle.sql_ast.specs.declared.selects.Items.TheVariants as items
+use Rattle.sql_ast.specs.declared.selects.NamedExpr.{NamedExpr}
 use Rattle.sql_ast.specs.declared.selects.SelectItem.{SelectItem}
 use Rattle.sql_ast.specs.declared.selects.SelectItem.TheVariants as item
 use Rattle.sql_ast.specs.declared.selects.TableSource.{TableSource}
@@ -33,3 +36,13 @@ is_named_by name None expr = is_column_named name (out-Expr expr)
 abbrev pub is_item_named : List ℕ → SelectItem → Bool
 is_item_named name (item.AllOf source) = false
 is_item_named name (item.One named) = is_named_by name named.name named.expr
+
+-- the items as they are written, of which `*` alone is none
+abbrev pub item_list : Items → List SelectItem
+item_list items.All = []
+item_list (items.Listed list) = list
+
+-- the item that is an expression, which `name.*` isn't
+abbrev pub expression_of : Option SelectItem → Option NamedExpr
+expression_of (Some (item.One named)) = Some named
+expression_of other = None
