@@ -11,4 +11,4 @@ pub use binding::{bind, bind_condition};
 pub use bound::{BoundExpr, BoundNode};
 pub use faults::{BindFault, EvalFault};
 pub use scopes::{ScopeColumn, place_named, place_qualified};
-pub use valuing::{eval, eval_cells};
+pub use valuing::eval;

@@ -22,8 +22,7 @@ pub fn eval(alloc: Global, expr: &BoundExpr, row: &Row) -> Result<Value, EvalFau
     eval_cells(alloc, expr, row.as_slice())
 }
 
-/// As `eval`, on the cells of a row that no one has put into a `Row`.
-pub fn eval_cells(alloc: Global, expr: &BoundExpr, cells: &[Value]) -> Result<Value, EvalFault>
+fn eval_cells(alloc: Global, expr: &BoundExpr, cells: &[Value]) -> Result<Value, EvalFault>
     ensures { Evaluates result (value cells.now expr.now.node) }
 {
     match worth(&expr.node, cells) {
