@@ -22,4 +22,4 @@ pub use features::{Feature, has_feature, is_aggregate_node, is_long_name, is_var
 pub use nesting::nests_aggregates;
 pub use order_keys::{Key, order_key};
 pub use printed_values::{push_number, push_row};
-pub use sizes::text_size;
+pub use select_names::{item_list, source_name};

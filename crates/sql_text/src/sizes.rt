@@ -18,7 +18,7 @@ pub const MOST_TOLD: u64 = 1 << 32;
 ///
 /// The text isn't written: one with BETWEENs inside one another may have more bytes than any memory.
 #[cycle(sizes)]
-pub fn text_size(alloc: Global, expr: &Expr) -> Result<u64, AllocError>
+pub(crate) fn text_size(alloc: Global, expr: &Expr) -> Result<u64, AllocError>
     ensures { IfOk result (λ size. size ≡ spec.text_size expr.now) }
 {
     match expr {
