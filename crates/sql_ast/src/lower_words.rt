@@ -5,8 +5,8 @@ ghost use Rattle.sql_ast.specs.Words.{keyword_of};
 ghost use Rattle.sql_ast.specs.Values as spec;
 ghost use Rattle.sql_ast.specs.Values.{lowered};
 
-use crate::slices::between;
 use crate::bytes::lower_case;
+use crate::slices::between;
 use crate::{Piece, keyword_of};
 use smallvec::SmallVec;
 use std::alloc::{AllocError, Global};

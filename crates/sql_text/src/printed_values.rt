@@ -117,7 +117,11 @@ fn push_escaped_byte(out: &mut Vec<u8>, byte: u8) -> Result<(), AllocError>
 }
 
 /// Writes a byte string in hex.
-pub(crate) fn push_byte_string(alloc: Global, out: &mut Vec<u8>, bytes: &[u8]) -> Result<(), AllocError>
+pub(crate) fn push_byte_string(
+    alloc: Global,
+    out: &mut Vec<u8>,
+    bytes: &[u8],
+) -> Result<(), AllocError>
     ensures { OnOk result (out.new.items ≡ out.old.items ++ byte_string bytes.now) }
 {
     let digits = hex::encode(alloc, bytes)?;

@@ -18,7 +18,10 @@ use std::alloc::{AllocError, Global};
 use tuple_codec::Digester;
 
 /// `dolt_log`: the head's ancestors.
-pub(crate) fn shown_log<D: Digester>(alloc: Global, session: &Session<D>) -> Result<Known, AllocError>
+pub(crate) fn shown_log<D: Digester>(
+    alloc: Global,
+    session: &Session<D>,
+) -> Result<Known, AllocError>
     requires { IsInTransaction D.address session.now }
     ensures { (p : plain.Session) (t : Transaction) → SessionStands D.address session.now p → p.transaction ≡ Some t
         → IfOk result (λ known. known ≡ shown.log t) }
@@ -43,7 +46,10 @@ pub(crate) fn shown_ancestors<D: Digester>(
 }
 
 /// `dolt_branches`: the branches as they were when the transaction began.
-pub(crate) fn shown_branches<D: Digester>(alloc: Global, session: &Session<D>) -> Result<Known, AllocError>
+pub(crate) fn shown_branches<D: Digester>(
+    alloc: Global,
+    session: &Session<D>,
+) -> Result<Known, AllocError>
     requires { IsInTransaction D.address session.now }
     ensures { (p : plain.Session) (t : Transaction) → SessionStands D.address session.now p → p.transaction ≡ Some t
         → IfOk result (λ known. known ≡ shown.branches t) }
@@ -57,7 +63,10 @@ pub(crate) fn shown_branches<D: Digester>(alloc: Global, session: &Session<D>) -
 }
 
 /// `dolt_status`: the tables that aren't as the head or as staged has them.
-pub(crate) fn shown_status<D: Digester>(alloc: Global, session: &Session<D>) -> Result<Known, AllocError>
+pub(crate) fn shown_status<D: Digester>(
+    alloc: Global,
+    session: &Session<D>,
+) -> Result<Known, AllocError>
     requires { IsInTransaction D.address session.now }
     ensures { (p : plain.Session) (t : Transaction) → SessionStands D.address session.now p → p.transaction ≡ Some t
         → IfOk result (λ known. known ≡ shown.status t) }
