@@ -5,9 +5,9 @@ use Rattle.std.specs.Ordering.{ordering_then, ordering_reverse, is_lt, is_eq}
 use Rattle.std.specs.declared.cmp.Ordering.{Ordering}
 use Rattle.std.specs.declared.cmp.Ordering.TheVariants.{Equal}
 use Rattle.tuple_codec.specs.Rows.{Cells, cell_at, key_cmp, key_of, value_cmp}
+use Rattle.tuple_codec.specs.declared.values.SqlType.{SqlType}
 use Rattle.tuple_codec.specs.declared.values.Value.{Value}
 use Rattle.tuple_codec.specs.declared.values.Value.TheVariants as cell
-use Rattle.sql_values.specs.Kinds.{column_type}
 use Rattle.sql_values.specs.Totals.{total}
 use Rattle.sql_values.specs.declared.kinds.Kind.{Kind}
 use Rattle.sql_ast.specs.declared.selects.Direction.{Direction}
@@ -38,7 +38,7 @@ pub data Shown : Type 0 where
 
 pub record Heading : Type 0 where
   pub name : List ℕ
-  pub kind : Kind
+  pub kind : SqlType
   pub shown : Shown
 
 pub record SortKey : Type 0 where
@@ -179,7 +179,7 @@ arranged plan rows = cut plan.limit (in_order (rank_cmp plan.keys) (once_if plan
 abbrev pub headed : Plan → List RankedRow → Answer
 headed plan rows = record {
   names = map (λ heading. heading.name) plan.headings;
-  kinds = map (λ heading. column_type heading.kind) plan.headings;
+  kinds = map (λ heading. heading.kind) plan.headings;
   rows = map (λ row. row.cells) (arranged plan rows);
 }
 

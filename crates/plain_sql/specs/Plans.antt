@@ -1,9 +1,9 @@
 -- A SELECT whose names and kinds are found, or its first refusal.
 use Rattle.std.specs.Prelude.{ℕ, suc, ◌-◌, Bool, true, false, if◌then◌else◌, List, [], ◌∷◌, ◌++◌, map, filter, nat_lt, not, Option, None, Some, Result, Ok, Err, bytes_eq, slice_get}
 use Rattle.std.specs.List.{flat_map, list_any, find, enumerate_from}
-use Rattle.std.specs.Option.{option_and_then, option_map, option_or, option_to_list}
+use Rattle.std.specs.Option.{option_and_then, option_map, option_map_or, option_or, option_to_list}
 use Rattle.tuple_codec.specs.Rows.{Cells}
-use Rattle.sql_values.specs.Kinds.{is_counted}
+use Rattle.sql_values.specs.Kinds.{column_type, is_counted}
 use Rattle.sql_values.specs.declared.kinds.Kind.{Kind}
 use Rattle.sql_values.specs.declared.kinds.Kind.TheVariants as kind
 use Rattle.sql_ast.specs.declared.expressions.Expr.{Expr, out-Expr, roll-Expr, fold-Expr}
@@ -31,6 +31,8 @@ use Rattle.expr_eval.specs.Binding.{Outcome, and_then, mismatch, bound, bound_co
 use Rattle.expr_eval.specs.Scopes.{place_named, place_qualified}
 use Rattle.expr_eval.specs.Valuing.{value}
 use Rattle.expr_eval.specs.declared.bound.BoundExpr.{BoundExpr}
+use Rattle.expr_eval.specs.declared.bound.BoundNode.{BoundNode, out-BoundNode}
+use Rattle.expr_eval.specs.declared.bound.BoundNode.TheOpen.{BoundNode-F}
 use Rattle.expr_eval.specs.declared.scopes.ScopeColumn.{ScopeColumn}
 use Rattle.tuple_codec.specs.declared.values.SqlType.{SqlType}
 use Rattle.plain_sql.specs.declared.sources.Known.{Known}
@@ -83,38 +85,49 @@ abbrev pub shown_name : Option (List ℕ) → Expr → List ℕ
 shown_name (Some name) expr = name
 shown_name None expr = own_name expr (out-Expr expr)
 
-abbrev pub headed_by : List ℕ → Kind → Shown → Heading
+abbrev pub type_at : List ScopeColumn → ℕ → Kind → SqlType
+type_at scope place kind = option_map_or (λ column. column.kind) (slice_get scope place) (column_type kind)
+
+-- a column of a source has its own type, any other expression that of its kind
+abbrev pub node_type : List ScopeColumn → Kind → BoundNode-F BoundNode → SqlType
+node_type scope kind (BoundNode-F.Column own place) = type_at scope place kind
+node_type scope kind node = column_type kind
+
+abbrev pub type_of : List ScopeColumn → BoundExpr → SqlType
+type_of scope bound = node_type scope bound.kind (out-BoundNode bound.node)
+
+abbrev pub headed_by : List ℕ → SqlType → Shown → Heading
 headed_by name kind shown = record { name = name; kind = kind; shown = shown }
 
-abbrev pub value_heading : List ℕ → BoundExpr → Outcome Heading
-value_heading name bound = Ok (headed_by name bound.kind (Of (meaning bound)))
+abbrev pub value_heading : List ScopeColumn → List ℕ → BoundExpr → Outcome Heading
+value_heading scope name bound = Ok (headed_by name (type_of scope bound) (Of (meaning bound)))
 
 abbrev pub count_heading : List ℕ → BoundExpr → Outcome Heading
-count_heading name bound = Ok (headed_by name kind.Int (Count (meaning bound)))
+count_heading name bound = Ok (headed_by name (column_type kind.Int) (Count (meaning bound)))
 
 abbrev pub sum_heading : List ℕ → BoundExpr → Outcome Heading
-sum_heading name bound = if is_counted bound.kind then Ok (headed_by name bound.kind (Sum bound.kind (meaning bound))) else mismatch
+sum_heading name bound = if is_counted bound.kind then Ok (headed_by name (column_type bound.kind) (Sum bound.kind (meaning bound))) else mismatch
 
 abbrev pub least_heading : List ℕ → BoundExpr → Outcome Heading
-least_heading name bound = Ok (headed_by name bound.kind (Least (meaning bound)))
+least_heading name bound = Ok (headed_by name (column_type bound.kind) (Least (meaning bound)))
 
 abbrev pub greatest_heading : List ℕ → BoundExpr → Outcome Heading
-greatest_heading name bound = Ok (headed_by name bound.kind (Greatest (meaning bound)))
+greatest_heading name bound = Ok (headed_by name (column_type bound.kind) (Greatest (meaning bound)))
 
 -- an aggregate's call, or an expression
 abbrev pub heading_of : List ScopeColumn → List ℕ → Expr → Expr-F Expr → Outcome Heading
-heading_of scope name expr Expr-F.CountAll = Ok (headed_by name kind.Int Rows)
+heading_of scope name expr Expr-F.CountAll = Ok (headed_by name (column_type kind.Int) Rows)
 heading_of scope name expr (Expr-F.Count a) = and_then (bound scope a) (count_heading name)
 heading_of scope name expr (Expr-F.Sum a) = and_then (bound scope a) (sum_heading name)
 heading_of scope name expr (Expr-F.Min a) = and_then (bound scope a) (least_heading name)
 heading_of scope name expr (Expr-F.Max a) = and_then (bound scope a) (greatest_heading name)
-heading_of scope name expr node = and_then (bound scope expr) (value_heading name)
+heading_of scope name expr node = and_then (bound scope expr) (value_heading scope name)
 
 abbrev pub one_heading : List ScopeColumn → NamedExpr → Outcome Heading
 one_heading scope named = heading_of scope (shown_name named.name named.expr) named.expr (out-Expr named.expr)
 
 abbrev pub column_heading : List ScopeColumn → ℕ × ScopeColumn → Outcome Heading
-column_heading scope x = and_then (column_at scope x.0) (value_heading x.1.name)
+column_heading scope x = and_then (column_at scope x.0) (value_heading scope x.1.name)
 
 abbrev pub has_source : List ℕ → List ScopeColumn → Bool
 has_source source scope = list_any (λ column. bytes_eq column.source source) scope

@@ -1,7 +1,6 @@
 //! A SELECT's answer over tables that are known.
 
 ghost use Rattle.std.specs.Prelude.{◌≡◌, ◌∷◌, [], IfOk, map};
-ghost use Rattle.sql_values.specs.Kinds.{column_type};
 ghost use Rattle.plain_sql.specs.Answers.{answered, answered_of, are_too_many, arranged, cells_shown, groups, headed, keys_shown, once_if, ranked};
 ghost use Rattle.plain_sql.specs.Gives.{Gives};
 ghost use Rattle.plain_sql.specs.Lists.{each};
@@ -134,11 +133,11 @@ fn names_of(alloc: Global, headings: &[Heading]) -> Result<Sequence<Text>, Alloc
 }
 
 fn types_of(alloc: Global, headings: &[Heading]) -> Result<Sequence<SqlType>, AllocError>
-    ensures { IfOk result (λ kinds. kinds ≡ map (λ heading. column_type heading.kind) (map heading_seen headings.now)) }
+    ensures { IfOk result (λ kinds. kinds ≡ map (λ heading. heading.kind) (map heading_seen headings.now)) }
 {
     let mut kinds = Sequence::new(alloc);
     for heading in headings {
-        kinds.push(heading.kind.column_type())?;
+        kinds.push(heading.kind)?;
     }
     Ok(kinds)
 }

@@ -4,25 +4,25 @@ ghost use Rattle.std.specs.Prelude.{◌≡◌, IfOk, map};
 ghost use Rattle.sql_ast.specs.declared.expressions.Expr.{out-Expr};
 ghost use Rattle.plain_sql.specs.Gives.{Gives, GivesBy};
 ghost use Rattle.plain_sql.specs.Lists.{all_of, each};
-ghost use Rattle.plain_sql.specs.Plans.{all_headings, column_heading, has_source, heading_in, heading_of, headings_of, item_headings, one_heading, own_name, shown_name, source_headings, sum_heading, value_heading};
+ghost use Rattle.plain_sql.specs.Plans.{all_headings, column_heading, has_source, heading_in, heading_of, headings_of, item_headings, one_heading, own_name, shown_name, source_headings, sum_heading, type_at, type_of, value_heading};
 ghost use Rattle.plain_sql.specs.Seen.{heading_seen};
 
 use crate::binding::{bound, column_at};
 use crate::faults::Refused;
 use crate::lists::append;
 use crate::shown::Showing;
-use expr_eval::{BoundExpr, ScopeColumn};
+use expr_eval::{BoundExpr, BoundNode, ScopeColumn};
 use sql_ast::{Expr, Items, NamedExpr, SelectItem};
 use sql_text::canonical_text;
 use sql_values::Kind;
 use std::alloc::{AllocError, Global};
-use tuple_codec::{Sequence, Text};
+use tuple_codec::{Sequence, SqlType, Text};
 
 /// A column of the answer.
 #[derive(Drop)]
 pub struct Heading {
     pub name: Text,
-    pub kind: Kind,
+    pub kind: SqlType,
     pub shown: Showing,
 }
 
@@ -46,12 +46,31 @@ pub fn shown_name(alloc: Global, named: &NamedExpr) -> Result<Text, AllocError>
     }
 }
 
-fn value_heading(name: Text, bound: BoundExpr) -> Result<Heading, Refused>
-    ensures { GivesBy heading_seen result (value_heading name bound) }
+fn type_at(scope: &[ScopeColumn], place: usize, kind: &Kind) -> SqlType
+    ensures { result ≡ type_at scope.now place kind.now }
+{
+    match scope.get(place) {
+        Some(column) => column.kind,
+        None => kind.column_type(),
+    }
+}
+
+/// A column of a source keeps its own type.
+fn type_of(scope: &[ScopeColumn], bound: &BoundExpr) -> SqlType
+    ensures { result ≡ type_of scope.now bound.now }
+{
+    match &bound.node {
+        BoundNode::Column(_, place) => type_at(scope, *place, &bound.kind),
+        _ => bound.kind.column_type(),
+    }
+}
+
+fn value_heading(scope: &[ScopeColumn], name: Text, bound: BoundExpr) -> Result<Heading, Refused>
+    ensures { GivesBy heading_seen result (value_heading scope.now name bound) }
 {
     Ok(Heading {
         name,
-        kind: bound.kind,
+        kind: type_of(scope, &bound),
         shown: Showing::Of(bound),
     })
 }
@@ -62,7 +81,7 @@ fn sum_heading(name: Text, bound: BoundExpr) -> Result<Heading, Refused>
     match bound.kind {
         Kind::Int | Kind::Decimal(_) => Ok(Heading {
             name,
-            kind: bound.kind,
+            kind: bound.kind.column_type(),
             shown: Showing::Sum(bound),
         }),
         _ => Err(Refused::By(9001)),
@@ -81,12 +100,12 @@ pub fn heading_of(
     match expr {
         Expr::CountAll => Ok(Heading {
             name,
-            kind: Kind::Int,
+            kind: SqlType::BigInt,
             shown: Showing::Rows,
         }),
         Expr::Count(counted) => Ok(Heading {
             name,
-            kind: Kind::Int,
+            kind: SqlType::BigInt,
             shown: Showing::Count(bound(alloc, scope, counted.get())?),
         }),
         Expr::Sum(summed) => sum_heading(name, bound(alloc, scope, summed.get())?),
@@ -94,7 +113,7 @@ pub fn heading_of(
             let bound = bound(alloc, scope, compared.get())?;
             Ok(Heading {
                 name,
-                kind: bound.kind,
+                kind: bound.kind.column_type(),
                 shown: Showing::Least(bound),
             })
         }
@@ -102,11 +121,11 @@ pub fn heading_of(
             let bound = bound(alloc, scope, compared.get())?;
             Ok(Heading {
                 name,
-                kind: bound.kind,
+                kind: bound.kind.column_type(),
                 shown: Showing::Greatest(bound),
             })
         }
-        _ => value_heading(name, bound(alloc, scope, expr)?),
+        _ => value_heading(scope, name, bound(alloc, scope, expr)?),
     }
 }
 
@@ -131,7 +150,11 @@ fn column_heading(
     ensures { GivesBy heading_seen result (column_heading scope.now (place, column.now)) }
 {
     let bound = column_at(scope, place)?;
-    value_heading(Text::from_slice(alloc, column.name.as_slice())?, bound)
+    value_heading(
+        scope,
+        Text::from_slice(alloc, column.name.as_slice())?,
+        bound,
+    )
 }
 
 fn all_headings(alloc: Global, scope: &[ScopeColumn]) -> Result<Sequence<Heading>, Refused>

@@ -24,7 +24,7 @@ mod sources;
 pub use answering::answer;
 pub use asking::{ask, passes};
 pub use binding::{bound, condition};
-pub use calm::{are_calm, is_calm};
+pub use calm::is_calm;
 pub use faults::Refused;
 pub use grouping::cells_at;
 pub use lists::append;
