@@ -1,5 +1,5 @@
 -- A SELECT whose names and kinds are found, or its first refusal.
-use Rattle.std.specs.Prelude.{ℕ, suc, ◌-◌, Bool, true, false, if◌then◌else◌, List, [], ◌∷◌, ◌++◌, map, filter, nat_lt, not, Option, None, Some, Result, Ok, Err, bytes_eq, slice_get}
+use Rattle.std.specs.Prelude.{ℕ, suc, Bool, true, false, if◌then◌else◌, List, [], ◌∷◌, ◌++◌, map, filter, not, Option, None, Some, Result, Ok, Err, bytes_eq, slice_get}
 use Rattle.std.specs.List.{flat_map, list_any, find, enumerate_from}
 use Rattle.std.specs.Option.{option_and_then, option_map, option_map_or, option_or, option_to_list}
 use Rattle.tuple_codec.specs.Rows.{Cells}
@@ -9,8 +9,6 @@ use Rattle.sql_values.specs.declared.kinds.Kind.TheVariants as kind
 use Rattle.sql_ast.specs.declared.expressions.Expr.{Expr, out-Expr, roll-Expr, fold-Expr}
 use Rattle.sql_ast.specs.declared.expressions.Expr.TheOpen.{Expr-F}
 use Rattle.sql_ast.specs.declared.expressions.Expr.TheVariants as expr
-use Rattle.sql_ast.specs.declared.expressions.Literal.{Literal}
-use Rattle.sql_ast.specs.declared.expressions.Literal.TheVariants as literal
 use Rattle.sql_ast.specs.declared.selects.Select.{Select}
 use Rattle.sql_ast.specs.declared.selects.Select.TheVariants as select
 use Rattle.sql_ast.specs.declared.selects.NamedExpr.{NamedExpr}
@@ -25,7 +23,10 @@ use Rattle.sql_ast.specs.declared.selects.Clauses.{Clauses}
 use Rattle.sql_ast.specs.declared.selects.ColumnName.{ColumnName}
 use Rattle.sql_ast.specs.declared.selects.ColumnName.TheVariants as column
 use Rattle.sql_ast.specs.declared.selects.OrderKey.{OrderKey}
-use Rattle.sql_text.specs.SelectNames.{is_call, is_item_named, source_name}
+use Rattle.sql_text.specs.OrderKeys.{key_of}
+use Rattle.sql_text.specs.SelectNames.{expression_of, is_call, item_list, source_name}
+use Rattle.sql_text.specs.declared.order_keys.Key.{Key}
+use Rattle.sql_text.specs.declared.order_keys.Key.TheVariants.{AtItem}
 use Rattle.sql_text.specs.Canon.{text}
 use Rattle.expr_eval.specs.Binding.{Outcome, and_then, mismatch, bound, bound_condition, column_at}
 use Rattle.expr_eval.specs.Scopes.{place_named, place_qualified}
@@ -165,10 +166,6 @@ abbrev pub calls_aggregate : SelectItem → Bool
 calls_aggregate (item.AllOf source) = false
 calls_aggregate (item.One named) = is_call named.expr
 
-abbrev pub item_list : Items → List SelectItem
-item_list items.All = []
-item_list (items.Listed list) = list
-
 abbrev pub is_none : {A : Type 0} → List A → Bool
 is_none [] = true
 is_none (x ∷ xs) = false
@@ -177,28 +174,13 @@ is_none (x ∷ xs) = false
 abbrev pub grouping_of : Bool → List ℕ → Grouping
 grouping_of aggregates places = if not (is_none places) then By places else (if aggregates then Whole else Single)
 
--- an item that is an expression; `*` and `name.*` are meant by no number and no name
-abbrev pub expression_of : Option SelectItem → Option NamedExpr
-expression_of (Some (item.One named)) = Some named
-expression_of other = None
+-- the item at which the key orders; a number of no item is a literal as any other
+abbrev pub item_at : List SelectItem → Option Key → Option NamedExpr
+item_at list (Some (AtItem place)) = expression_of (slice_get list place)
+item_at list other = None
 
--- items are counted from 1, as they are written
-abbrev pub item_numbered : List SelectItem → ℕ → Option NamedExpr
-item_numbered list n = if nat_lt 0 n then expression_of (slice_get list (n - 1)) else None
-
--- the first item of that name, which is its AS, else its column's name
-abbrev pub item_named : List SelectItem → List ℕ → Option NamedExpr
-item_named list name = expression_of (find (is_item_named name) list)
-
-abbrev pub item_meant_by : List SelectItem → Literal → Option NamedExpr
-item_meant_by list (literal.Whole n) = item_numbered list n
-item_meant_by list other = None
-
--- the item that a key means, by a number or a name
-abbrev pub item_meant : List SelectItem → Expr-F Expr → Option NamedExpr
-item_meant list (Expr-F.Literal given) = item_meant_by list given
-item_meant list (Expr-F.Name name) = item_named list name
-item_meant list node = None
+abbrev pub item_meant : List SelectItem → Expr → Option NamedExpr
+item_meant list expr = item_at list (key_of list expr)
 
 -- a key that means an item shows what the item shows; any other is an expression over the sources
 abbrev pub shown_by : List ScopeColumn → Expr → Option NamedExpr → Outcome Shown
@@ -207,7 +189,7 @@ shown_by scope expr None = and_then (meant scope expr) (λ meaning. Ok (Of meani
 
 abbrev pub sort_key : List ScopeColumn → List SelectItem → OrderKey → Outcome SortKey
 sort_key scope list key =
-    and_then (shown_by scope key.expr (item_meant list (out-Expr key.expr))) (λ shown. Ok (record { shown = shown; direction = key.direction }))
+    and_then (shown_by scope key.expr (item_meant list key.expr)) (λ shown. Ok (record { shown = shown; direction = key.direction }))
 
 -- ---- the whole
 

@@ -4,7 +4,7 @@ ghost use Rattle.std.specs.Prelude.{◌≡◌, IfOk, map};
 ghost use Rattle.sql_ast.specs.declared.expressions.Expr.{out-Expr};
 ghost use Rattle.plain_sql.specs.Gives.{Gives, GivesBy};
 ghost use Rattle.plain_sql.specs.Lists.{all_of, each};
-ghost use Rattle.plain_sql.specs.Plans.{all_headings, column_heading, has_source, heading_in, heading_of, headings_of, item_headings, one_heading, own_name, shown_name, source_headings, sum_heading, type_at, type_of, value_heading};
+ghost use Rattle.plain_sql.specs.Plans.{all_headings, column_heading, greatest_heading, has_source, heading_in, heading_of, headings_of, item_headings, least_heading, one_heading, own_name, shown_name, source_headings, sum_heading, type_at, type_of, value_heading};
 ghost use Rattle.plain_sql.specs.Seen.{heading_seen};
 
 use crate::binding::{bound, column_at};
@@ -88,6 +88,26 @@ fn sum_heading(name: Text, bound: BoundExpr) -> Result<Heading, Refused>
     }
 }
 
+fn least_heading(name: Text, bound: BoundExpr) -> Result<Heading, Refused>
+    ensures { GivesBy heading_seen result (least_heading name bound) }
+{
+    Ok(Heading {
+        name,
+        kind: bound.kind.column_type(),
+        shown: Showing::Least(bound),
+    })
+}
+
+fn greatest_heading(name: Text, bound: BoundExpr) -> Result<Heading, Refused>
+    ensures { GivesBy heading_seen result (greatest_heading name bound) }
+{
+    Ok(Heading {
+        name,
+        kind: bound.kind.column_type(),
+        shown: Showing::Greatest(bound),
+    })
+}
+
 /// What an item shows: an aggregate's call, or an expression. SUM of another kind than Int and Decimal is refused 9001.
 pub fn heading_of(
     alloc: Global,
@@ -109,22 +129,8 @@ pub fn heading_of(
             shown: Showing::Count(bound(alloc, scope, counted.get())?),
         }),
         Expr::Sum(summed) => sum_heading(name, bound(alloc, scope, summed.get())?),
-        Expr::Min(compared) => {
-            let bound = bound(alloc, scope, compared.get())?;
-            Ok(Heading {
-                name,
-                kind: bound.kind.column_type(),
-                shown: Showing::Least(bound),
-            })
-        }
-        Expr::Max(compared) => {
-            let bound = bound(alloc, scope, compared.get())?;
-            Ok(Heading {
-                name,
-                kind: bound.kind.column_type(),
-                shown: Showing::Greatest(bound),
-            })
-        }
+        Expr::Min(compared) => least_heading(name, bound(alloc, scope, compared.get())?),
+        Expr::Max(compared) => greatest_heading(name, bound(alloc, scope, compared.get())?),
         _ => value_heading(scope, name, bound(alloc, scope, expr)?),
     }
 }

@@ -5,7 +5,7 @@ ghost use Rattle.std.specs.List.{list_any};
 ghost use Rattle.sql_text.specs.SelectNames.{is_call};
 ghost use Rattle.plain_sql.specs.Gives.{Gives, GivesBy};
 ghost use Rattle.plain_sql.specs.Lists.{each};
-ghost use Rattle.plain_sql.specs.Plans.{calls_aggregate, condition, conditions, group_place, grouping_of, is_none, item_list, meaning, one_heading, place_meant, planned, planned_alone};
+ghost use Rattle.plain_sql.specs.Plans.{calls_aggregate, condition, conditions, group_place, grouping_of, is_none, meaning, one_heading, place_meant, planned, planned_alone};
 ghost use Rattle.plain_sql.specs.Seen.{heading_seen, plan_seen};
 
 use crate::binding::condition;
@@ -15,8 +15,8 @@ use crate::items::{Heading, headings_of, one_heading};
 use crate::keys::sort_keys;
 use crate::ranking::Sorter;
 use expr_eval::{BoundExpr, ScopeColumn, place_named, place_qualified};
-use sql_ast::{ColumnName, Items, Limit, NamedExpr, Query, SelectItem};
-use sql_text::is_aggregate_node;
+use sql_ast::{ColumnName, Limit, NamedExpr, Query, SelectItem};
+use sql_text::{is_aggregate_node, item_list};
 use std::alloc::Global;
 use tuple_codec::Sequence;
 
@@ -118,15 +118,6 @@ pub fn grouping_of(aggregates: bool, places: Sequence<usize>) -> Grouping
         Grouping::Whole
     } else {
         Grouping::Single
-    }
-}
-
-fn item_list(items: &Items) -> &[SelectItem]
-    ensures { result.now ≡ item_list items.now }
-{
-    match items {
-        Items::All => &[],
-        Items::Listed(list) => list.as_slice(),
     }
 }
 

@@ -2,7 +2,6 @@
 
 ghost use Rattle.std.specs.Prelude.{◌≡◌, IfOk, OnOk, OnErr, ◌++◌, map};
 ghost use Rattle.std.specs.List.{flat_map};
-ghost use Rattle.sql_text.specs.SelectNames.{source_name};
 ghost use Rattle.plain_sql.specs.Gives.{Gives};
 ghost use Rattle.plain_sql.specs.Lists.{each};
 ghost use Rattle.plain_sql.specs.Plans.{read_as, scope_column, scope_of, source_read, sources_of};
@@ -10,6 +9,7 @@ ghost use Rattle.plain_sql.specs.Plans.{read_as, scope_column, scope_of, source_
 use crate::faults::Refused;
 use expr_eval::ScopeColumn;
 use sql_ast::{FromClause, TableSource};
+use sql_text::source_name;
 use std::alloc::{AllocError, Global};
 use tuple_codec::{Row, Sequence, SqlType, Text, copy_row};
 
@@ -33,16 +33,6 @@ pub struct Known {
 pub struct Read {
     pub columns: Sequence<ScopeColumn>,
     pub rows: Sequence<Row>,
-}
-
-/// The name that a source goes by.
-fn name_of(source: &TableSource) -> &Text
-    ensures { result.now ≡ source_name source.now }
-{
-    match &source.alias {
-        Some(alias) => alias,
-        None => &source.table,
-    }
 }
 
 fn scope_columns(
@@ -89,7 +79,7 @@ fn source_read(alloc: Global, known: &[Known], source: &TableSource) -> Result<R
 {
     for one in known {
         if one.name.is(source.table.as_slice()) {
-            return Ok(read_as(alloc, name_of(source).as_slice(), one)?);
+            return Ok(read_as(alloc, source_name(source).as_slice(), one)?);
         }
     }
     Err(Refused::By(1146))

@@ -17,8 +17,8 @@ use Rattle.expr_eval.specs.declared.bound.BoundExpr.{BoundExpr}
 use Rattle.expr_eval.specs.declared.scopes.ScopeColumn.{ScopeColumn}
 use Rattle.plain_sql.specs.Answers.{Heading, Meaning, Plan, SortKey, answered, answered_of, combinations, is_true, kept, kept_row, row_if}
 use Rattle.plain_sql.specs.Lists.{each, or_refuse}
-use Rattle.plain_sql.specs.Plans.{answer, calls_aggregate, condition, conditions, group_place, grouping_of, headings_of, is_known_as, item_list, meaning, query_on, read_as, sort_key, source_read}
-use Rattle.sql_text.specs.SelectNames.{source_name}
+use Rattle.plain_sql.specs.Plans.{answer, calls_aggregate, condition, conditions, group_place, grouping_of, headings_of, is_known_as, meaning, query_on, read_as, sort_key, source_read}
+use Rattle.sql_text.specs.SelectNames.{item_list, source_name}
 use Rattle.plain_sql.specs.declared.sources.Known.{Known}
 use Rattle.plain_sql.specs.declared.sources.Read.{Read}
 use Rattle.plain_sql.specs.Passing.{IsPassedOver}

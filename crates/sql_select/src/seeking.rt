@@ -5,7 +5,6 @@ ghost use Rattle.chunk_store.specs.Drafts.{chunks_of};
 ghost use Rattle.schema_model.specs.PlainTables.{PlainTable};
 ghost use Rattle.table_root.specs.Standing.{IsTableOf};
 ghost use Rattle.plain_sql.specs.Plans.{scope_column};
-ghost use Rattle.sql_text.specs.SelectNames.{source_name};
 ghost use Rattle.sql_select.specs.Choosing.{IsSeekOf, is_wanted};
 ghost use Rattle.sql_select.specs.declared.choosing.Seek as seeks;
 ghost use Rattle.sql_select.specs.Seeks.{AreNeeded, SeeksBy, SeeksSource};
@@ -17,6 +16,7 @@ use expr_eval::ScopeColumn;
 use plain_sql::{Refused, condition};
 use schema_model::{Column, Schema};
 use sql_ast::{Expr, Query, TableSource};
+use sql_text::source_name;
 use std::alloc::{AllocError, Global};
 use table_root::{StoredTable, read_rows};
 use tuple_codec::{Digester, Row, Sequence, Text};
@@ -59,22 +59,12 @@ fn seek_by(
 ) -> Result<Option<Seek>, AllocError>
     ensures { (seek : seeks.Seek) → IfOk result (λ found. found ≡ Some seek → SeeksBy source.now filter.now schema.now (is_wanted schema.now seek) × IsSeekOf schema.now seek) }
 {
-    let name = name_of(source).as_slice();
+    let name = source_name(source).as_slice();
     let scope = scope_columns(alloc, name, schema.columns.as_slice())?;
     match condition(alloc, scope.as_slice(), filter) {
         Ok(test) => sought(alloc, schema, &test),
         Err(Refused::By(_)) => Ok(None),
         Err(Refused::Memory) => Err(AllocError),
-    }
-}
-
-/// The name that a source goes by.
-fn name_of(source: &TableSource) -> &Text
-    ensures { result.now ≡ source_name source.now }
-{
-    match &source.alias {
-        Some(alias) => alias,
-        None => &source.table,
     }
 }
 

@@ -14,7 +14,7 @@ returns-in-Ok c = λ seek.
     let schema = c.args.schema.now in
     let test = c.in-Ok.test in
     let scope_is : c.as_slice-2.result.now ≡ scope_in source schema =
-    c.as_slice-2.ensures ∙ c.in_ok-scope.ensures ∙ ap (λ name. map (scope_column name) (map typed_column c.as_slice.result.now)) (c.as_slice-name.ensures ∙ c.name_of.ensures)
+    c.as_slice-2.ensures ∙ c.in_ok-scope.ensures ∙ ap (λ name. map (scope_column name) (map typed_column c.as_slice.result.now)) (c.as_slice-name.ensures ∙ c.source_name.ensures)
     ∙ ap (λ columns. map (scope_column (source_name source)) (map typed_column columns)) c.as_slice.ensures in
     both_ok c.sought.result (λ found. found ≡ Some seek → seeking.Seeks schema test (is_wanted schema seek)) (λ found. found ≡ Some seek → IsSeekOf schema seek)
     (λ found. found ≡ Some seek → SeeksBy source c.args.filter.now schema (is_wanted schema seek) × IsSeekOf schema seek)
