@@ -1,7 +1,7 @@
 -- A name climbs from level to level, as far as it ends nodes.
 use Rattle.std.proofs.Common.{◌≡◌, ◌≤◌, ◌<◌, ◌+◌, ℕ, zero, suc, true, false, cond, List, [], ◌∷◌, ◌++◌, length, map, take, drop, None, get_or, sym, refl, ap, subst, ◌∙◌, arith}
 use Rattle.std.specs.Prelude.{◌==◌}
-use Rattle.std.proofs.lemmas.List.{append_assoc, length-append, map-append, take-append-drop, take_all, take_more}
+use Rattle.std.proofs.lemmas.List.{append_assoc, length-append, length-drop, map-append, take-append-drop, take_all, take_more}
 use Rattle.std.proofs.Math.ListN.{set, drop_of_length-le}
 use Rattle.std.proofs.Math.Seq.{drop-cons}
 use Rattle.tuple_codec.specs.Nodes.{Item}
@@ -14,11 +14,11 @@ use Rattle.chunk_store.specs.Kinds.{is_node}
 use Rattle.chunk_store.proofs.FollowLemmas.{drafts_follow}
 use Rattle.chunk_store.proofs.GrowthLemmas.{drafts_grow}
 use Rattle.node_chunker.specs.Towers.{pushes, ended_chunks}
-use Rattle.node_chunker.specs.Growth.{CanPush, FitsLevel, IsTower, IsWritable, spread}
+use Rattle.node_chunker.specs.Growth.{CanPush, FitsLevel, IsTower, IsWritable}
 use Rattle.chunk_store.specs.Standing.{AreHeld}
 use Rattle.node_chunker.specs.Steps.{IsClimbing, IsNamed, IsPushedAt}
 use Rattle.node_chunker.proofs.TowerLemmas.{all_split, extends_both}
-use Rattle.node_chunker.proofs.GrowthLemmas.{rise_split, rows_join, low_level, fits_row, fits_up, writable_here, tower_push}
+use Rattle.node_chunker.proofs.GrowthLemmas.{rise_split, fits_row, fits_up, writable_here, tower_push}
 
 -- ---- lists with one place changed
 
@@ -45,10 +45,10 @@ pub climb_begins : (a : List ℕ → List ℕ) (chunks : Chunks) (nodes : List (
 climb_begins a chunks nodes at item fits = record { fits = fits; comes = refl; kept = λ later extends put. put }
 
 module _ (a : List ℕ → List ℕ) (made : List (List Item)) (written : List (List ℕ)) where
-  pub climb_low : (chunks : Chunks) (nodes : List (List Item)) (at : ℕ) (item : Item) → IsClimbing a chunks made written nodes at item → at < 62
-  climb_low chunks nodes at item climbing =
-      let few = climbing.fits.few in
-      let low = low_level (suc at) item.rows climbing.fits.grown.1 (omega (arith, rows_join (spread (drop at nodes)) (item ∷ []))) in
+  pub climb_low : (chunks : Chunks) (nodes : List (List Item)) (at : ℕ) (item : Item) → IsClimbing a chunks made written nodes at item → at < length nodes → at < 63
+  climb_low chunks nodes at item climbing within =
+      let long = length-drop at nodes in
+      let low = climbing.fits.low (omega arith) in
       omega arith
 
   fits_here : (chunks : Chunks) (nodes : List (List Item)) (at : ℕ) (item : Item) (held : List Item) → IsClimbing a chunks made written nodes at item

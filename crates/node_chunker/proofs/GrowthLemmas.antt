@@ -21,7 +21,7 @@ use Rattle.prolly_tree.proofs.StandingLists.{name_key}
 use Rattle.prolly_tree.proofs.StandingReads.{all_map}
 use Rattle.node_chunker.specs.Towers.{is_empty, pushes, ended_chunks}
 use Rattle.chunk_store.specs.Chunks.{Chunks, Extends}
-use Rattle.node_chunker.specs.Growth.{IsEntry, IsGrown, AreOpen, IsTopped, above_of, spread, last_after, IsWritable, FitsLevel, IsTower}
+use Rattle.node_chunker.specs.Growth.{IsEntry, IsGrown, AreGrown, AreOpen, IsTopped, above_of, spread, last_after, IsWritable, FitsLevel, IsTower}
 use Rattle.chunk_store.specs.Standing.{AreHeld}
 use Rattle.node_chunker.proofs.TowerLemmas.{all_join, all_split, never_empty, continues_push, kept_push}
 
@@ -131,10 +131,6 @@ writable level items each small rise few low some =
       few = few;
     }
 
-pub entries : (level : ℕ) (items : List Item) → AllByRecursion (IsGrown level) items → AllByRecursion (IsEntry level) items
-entries level [] each = tt
-entries level (x ∷ items) each = (each.0.0, entries level items each.1)
-
 pub low_level : (level rows : ℕ) → 2 ^ level ≤ rows → rows < 2 ^ 63 → level < 63
 low_level level rows grown few =
     elim (cases_lt level 63) [
@@ -183,9 +179,18 @@ module _ (a : List ℕ → List ℕ) where
       let few = fits.few in
       let rows : rows_in (held ++ x ∷ []) < 2 ^ 63 =
       omega (arith, rows_join held (x ∷ []), rows_join (spread above ++ held) (x ∷ []), rows_join (spread above) held) in
-      let low = low_level level x.rows fits.grown.1 (omega (arith, rows_join held (x ∷ []))) in
-      more_writable a level held x (entries level held fits.are_open.0) fits.grown.0 fits.are_open.1
+      let low = fits.low (omega arith) in
+      more_writable a level held x fits.are_open.0 fits.entry fits.are_open.1
       (rise_alone (last_after None (spread above)) (held ++ x ∷ []) parts.1) rows (omega arith)
+
+  pub name_entry : (level : ℕ) (held : List Item) (x : Item) → IsEntry level x → length (a (bytes_of level (held ++ x ∷ []))) ≡ 20
+      → IsEntry (suc level) (name a level (held ++ x ∷ []))
+  name_entry level held x entry named =
+      let node = held ++ x ∷ [] in
+      let rows = name_rows a level node in
+      let many : 0 < rows_in node = omega (arith, rows_join held (x ∷ []), entry_rows level x entry) in
+      let P : List ℕ → Type 0 = λ k. length k ≤ 4096 in
+      (subst P (sym (name_key a level node ∙ last_is held x)) (entry_key level x entry), ap length (name_body a level node) ∙ named, omega arith)
 
   -- the name of a node that ends
   pub name_grown : (level : ℕ) (held : List Item) (x : Item) → AllByRecursion (IsGrown level) held → IsGrown level x
@@ -194,18 +199,18 @@ module _ (a : List ℕ → List ℕ) where
       let node = held ++ x ∷ [] in
       let more = grown_up level held x each grown (some_before a level held x over) in
       let rows = name_rows a level node in
-      let many : 0 < rows_in node = omega (arith, rows_join held (x ∷ []), entry_rows level x grown.0) in
-      let P : List ℕ → Type 0 = λ k. length k ≤ 4096 in
-      ((subst P (sym (name_key a level node ∙ last_is held x)) (entry_key level x grown.0), ap length (name_body a level node) ∙ named, omega arith), omega arith)
+      (name_entry level held x grown.0 named, omega arith)
 
   pub fits_up : (level : ℕ) (held : List Item) (above : List (List Item)) (x : Item) → FitsLevel a level (held ∷ above) x
       → closes a level (held ++ x ∷ []) ≡ true → length (a (bytes_of level (held ++ x ∷ []))) ≡ 20
       → FitsLevel a (suc level) above (name a level (held ++ x ∷ []))
   fits_up level held above x fits over named =
       let P : ℕ → Type 0 = λ n. n < 2 ^ 63 in
+      let deep = fits.low (omega arith) in
       record {
         are_open = fits.are_open.2;
-        grown = name_grown level held x fits.are_open.0 fits.grown over named;
+        entry = name_entry level held x fits.entry named;
+        low = λ some. omega arith;
         rises = rise_up level held above x fits.rises;
         few = subst P (sym (rows_up level held above x)) fits.few;
       }
@@ -216,15 +221,37 @@ module _ (a : List ℕ → List ℕ) where
 
   pub open_push : (level : ℕ) (nodes : List (List Item)) (x : Item) → FitsLevel a level nodes x → AreNamed (ended_chunks a level nodes x)
       → AreOpen a level (pushes a level nodes x)
-  open_push level [] x fits named = ((fits.grown, tt), closes_one a level x, tt)
+  open_push level [] x fits named = ((fits.entry, tt), closes_one a level x, tt)
   open_push level (held ∷ above) x fits named =
       let n = name a level (held ++ x ∷ []) in
       elim (closes a level (held ++ x ∷ [])) as (λ b. closes a level (held ++ x ∷ []) ≡ b
       → AreNamed (cond b (bytes_of level (held ++ x ∷ []) ∷ ended_chunks a (suc level) above n) [])
       → AreOpen a level (cond b ([] ∷ pushes a (suc level) above n) ((held ++ x ∷ []) ∷ above))) [
         | true ↦ λ e each. (tt, closes_none a level, open_push (suc level) above n (fits_up level held above x fits e each.0) each.1)
-        | false ↦ λ e each. (all_join (IsGrown level) held (x ∷ []) fits.are_open.0 (fits.grown, tt), e, fits.are_open.2)
+        | false ↦ λ e each. (all_join (IsEntry level) held (x ∷ []) fits.are_open.0 (fits.entry, tt), e, fits.are_open.2)
       ] refl named
+
+  pub grown_push : (level : ℕ) (nodes : List (List Item)) (x : Item) → AreGrown level nodes → IsGrown level x → AreNamed (ended_chunks a level nodes x)
+      → AreGrown level (pushes a level nodes x)
+  grown_push level [] x each grown named = ((grown, tt), tt)
+  grown_push level (held ∷ above) x each grown named =
+      let n = name a level (held ++ x ∷ []) in
+      elim (closes a level (held ++ x ∷ [])) as (λ b. closes a level (held ++ x ∷ []) ≡ b
+      → AreNamed (cond b (bytes_of level (held ++ x ∷ []) ∷ ended_chunks a (suc level) above n) [])
+      → AreGrown level (cond b ([] ∷ pushes a (suc level) above n) ((held ++ x ∷ []) ∷ above))) [
+        | true ↦ λ e put. (tt, grown_push (suc level) above n each.1 (name_grown level held x each.0 grown e put.0) put.1)
+        | false ↦ λ e put. (all_join (IsGrown level) held (x ∷ []) each.0 (grown, tt), each.1)
+      ] refl named
+
+  pub pushes_few : (level : ℕ) (nodes : List (List Item)) (x : Item) → length (pushes a level nodes x) ≤ length nodes + 1
+  pushes_few level [] x = omega arith
+  pushes_few level (held ∷ above) x =
+      let n = name a level (held ++ x ∷ []) in
+      let more = pushes_few (suc level) above n in
+      elim (closes a level (held ++ x ∷ [])) as (λ b. length (cond b ([] ∷ pushes a (suc level) above n) ((held ++ x ∷ []) ∷ above)) ≤ length (held ∷ above) + 1) [
+        | true ↦ omega arith
+        | false ↦ omega arith
+      ]
 
   pub rises_push : (level : ℕ) (nodes : List (List Item)) (x : Item) → Rise (spread nodes ++ x ∷ []) → Rise (spread (pushes a level nodes x))
   rises_push level [] x rise = rise
@@ -276,7 +303,37 @@ module _ (a : List ℕ → List ℕ) where
         | false ↦ topped
       ]
 
+  -- levels are few
+  pub topped_rows : (level : ℕ) (held : List Item) (above : List (List Item)) → AreGrown level (held ∷ above) → IsTopped (held ∷ above)
+      → 2 ^ (level + length above) ≤ rows_in (spread (held ∷ above))
+  topped_rows level [] [] each topped = absurd cc
+  topped_rows level (first ∷ held) [] each topped =
+      let grown = each.0.0.1 in
+      let P : ℕ → Type 0 = λ n. 2 ^ n ≤ rows_in (first ∷ held) in
+      let e : level ≡ level + 0 = omega arith in
+      subst P e (omega arith)
+  topped_rows level held (next ∷ above) each topped =
+      let more = topped_rows (suc level) next above each.1 topped in
+      let P : ℕ → Type 0 = λ n. 2 ^ n ≤ rows_in (spread (held ∷ next ∷ above)) in
+      let e : suc level + length above ≡ level + length (next ∷ above) = omega arith in
+      subst P e (omega (arith, rows_join (spread (next ∷ above)) held))
+
+  pub topped_low : (level : ℕ) (nodes : List (List Item)) → AreGrown level nodes → IsTopped nodes → rows_in (spread nodes) < 2 ^ 63 → 0 < length nodes
+      → level + length nodes ≤ 63
+  topped_low level [] each topped few some = absurd (omega arith)
+  topped_low level (held ∷ above) each topped few some =
+      let low = low_level (level + length above) (rows_in (spread (held ∷ above))) (topped_rows level held above each topped) few in
+      omega arith
+
   -- ---- a tower
+
+  tower_low : (chunks : Chunks) (held : List Item) (above : List (List Item)) (rows : List Item) → IsTower a chunks (held ∷ above) rows → length (held ∷ above) ≤ 64
+  tower_low chunks held [] rows tower = omega arith
+  tower_low chunks held (next ∷ above) rows tower =
+      let counted = tower.counted in
+      let few = tower.are_rows.few in
+      let low = topped_low 1 (next ∷ above) tower.grown.1 tower.topped (omega (arith, rows_join (spread (next ∷ above)) held)) (omega arith) in
+      omega arith
 
   pub fits_row : (chunks : Chunks) (held : List Item) (above : List (List Item)) (rows : List Item) (x : Item) → IsTower a chunks (held ∷ above) rows
       → AreRows (rows ++ x ∷ []) → FitsLevel a 0 (held ∷ above) x
@@ -289,7 +346,8 @@ module _ (a : List ℕ → List ℕ) where
       let one = row.one in
       record {
         are_open = tower.are_open;
-        grown = (row, omega arith);
+        entry = row;
+        low = λ some. omega (arith, tower_low chunks held above rows tower);
         rises = rise_join None (spread (held ∷ above)) (x ∷ []) tower.rises (subst P (sym tower.last) after.1.0, tt);
         few = omega (arith, rows_join (spread (held ∷ above)) (x ∷ []), length-append rows (x ∷ []));
       }
@@ -301,9 +359,9 @@ module _ (a : List ℕ → List ℕ) where
       let P : Option (List ℕ) → Type 0 = λ k. is_after k x.key ≡ true in
       let counted = tower.counted in
       let few = fits.few in
-      let one = fits.grown.0.one in
+      let one = fits.entry.one in
       record {
-        each = all_join IsRow rows (x ∷ []) tower.are_rows.each (fits.grown.0, tt);
+        each = all_join IsRow rows (x ∷ []) tower.are_rows.each (fits.entry, tt);
         rise = rise_join None rows (x ∷ []) tower.are_rows.rise (subst P tower.last after.1.0, tt);
         few = omega (arith, rows_join (spread (held ∷ above)) (x ∷ []), length-append rows (x ∷ []));
       }
@@ -326,12 +384,13 @@ module _ (a : List ℕ → List ℕ) where
   tower_push old new held above rows x tower fits grows put =
       let found = found_named new (ended_chunks a 0 (held ∷ above) x) put in
       let counted = tower.counted in
-      let one = fits.grown.0.one in
+      let one = fits.entry.one in
       record {
         are_rows = rows_follow old held above rows x tower fits;
         continues = continues_push a held above rows x tower.continues;
         kept = kept_push a old new held above rows x grows put tower.kept;
         are_open = open_push 0 (held ∷ above) x fits found;
+        grown = grown_push 0 (held ∷ above) x tower.grown (fits.entry, omega arith) found;
         topped = topped_above held above x tower.topped;
         rises = rises_push 0 (held ∷ above) x fits.rises;
         last = last_push 0 (held ∷ above) x ∙ sym (last_join None rows (x ∷ []));
@@ -344,6 +403,7 @@ module _ (a : List ℕ → List ℕ) where
     continues = λ turns more. refl;
     kept = λ later extends turns more held. held;
     are_open = (tt, closes_none a 0, tt);
+    grown = (tt, tt);
     topped = tt;
     rises = tt;
     last = refl;

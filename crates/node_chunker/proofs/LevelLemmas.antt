@@ -9,8 +9,8 @@ use Rattle.prolly_tree.proofs.StandingNodes.{fit_last_key}
 use Rattle.chunk_store.specs.Chunks.{Chunks}
 use Rattle.chunk_store.specs.Standing.{AreHeld}
 use Rattle.node_chunker.specs.Towers.{is_empty}
-use Rattle.node_chunker.specs.Growth.{IsEntry, IsGrown, AreOpen, IsTopped, spread, last_after, IsWritable}
-use Rattle.node_chunker.proofs.GrowthLemmas.{all_fit, name_body, name_rows, rows_join, entry_rows, entries, open_small, more_writable, writable, rise_split, after_less}
+use Rattle.node_chunker.specs.Growth.{IsEntry, IsTopped, spread, last_after, IsWritable}
+use Rattle.node_chunker.proofs.GrowthLemmas.{all_fit, name_body, name_rows, rows_join, entry_rows, open_small, more_writable, writable, rise_split, after_less}
 
 -- ---- levels one above another
 
@@ -72,23 +72,8 @@ module _ (a : List ℕ → List ℕ) where
       ended (z ∷ items) y = refl
   cut_last level held (x ∷ y ∷ carry) one = absurd (omega arith)
 
-  -- levels are few
-  pub topped_rows : (level : ℕ) (held : List Item) (above : List (List Item)) → AreOpen a level (held ∷ above) → IsTopped (held ∷ above)
-      → 2 ^ (level + length above) ≤ rows_in (spread (held ∷ above))
-  topped_rows level [] [] each topped = absurd cc
-  topped_rows level (first ∷ held) [] each topped =
-      let grown = each.0.0.1 in
-      let P : ℕ → Type 0 = λ n. 2 ^ n ≤ rows_in (first ∷ held) in
-      let e : level ≡ level + 0 = omega arith in
-      subst P e (omega arith)
-  topped_rows level held (next ∷ above) each topped =
-      let more = topped_rows (suc level) next above each.2 topped in
-      let P : ℕ → Type 0 = λ n. 2 ^ n ≤ rows_in (spread (held ∷ next ∷ above)) in
-      let e : suc level + length above ≡ level + length (next ∷ above) = omega arith in
-      subst P e (omega (arith, rows_join (spread (next ∷ above)) held))
-
   -- what is left of a level may be written
-  pub few_bytes : (level : ℕ) (held carry : List Item) → AllByRecursion (IsGrown level) held → AllByRecursion (IsEntry level) carry → length carry ≤ 1
+  pub few_bytes : (level : ℕ) (held carry : List Item) → AllByRecursion (IsEntry level) held → AllByRecursion (IsEntry level) carry → length carry ≤ 1
       → closes a level held ≡ false → Rise (held ++ carry) → rows_in (held ++ carry) < 2 ^ 63 → level < 256 → is_empty (held ++ carry) ≡ false
       → IsWritable level (held ++ carry)
   few_bytes level held [] each carried one over rise few low some =
@@ -96,14 +81,14 @@ module _ (a : List ℕ → List ℕ) where
       let Q : List Item → Type 0 = λ l. rows_in l < 2 ^ 63 in
       let R : List Item → Type 0 = λ l. is_empty l ≡ false in
       let e = append-nil held in
-      subst P (sym e) (writable level held (entries level held each) (omega (arith, open_small a level held (entries level held each) over))
+      subst P (sym e) (writable level held each (omega (arith, open_small a level held each over))
       (subst Rise e rise) (subst Q e few) low (λ above. not_nil held (subst R e some)))
     where
       not_nil : (items : List Item) → is_empty items ≡ false → 0 < length items
       not_nil [] none = absurd cc
       not_nil (item ∷ items) none = omega arith
   few_bytes level held (x ∷ []) each carried one over rise few low some =
-      more_writable a level held x (entries level held each) carried.0 over rise few low
+      more_writable a level held x each carried.0 over rise few low
   few_bytes level held (x ∷ y ∷ carry) each carried one over rise few low some = absurd (omega arith)
 
   -- its name may stand one level up

@@ -7,4 +7,6 @@ pub mod ClosingLemmas
 pub mod ClimbLemmas
 pub mod RefLemmas
 pub mod LiftLemmas
+pub mod RowLemmas
 pub mod SubtreeLemmas
+pub mod LowestLemmas

@@ -8,11 +8,12 @@ use Rattle.prolly_tree.specs.Found.{left, lift, Ended}
 use Rattle.prolly_tree.proofs.StandingLists.{name_key}
 use Rattle.chunk_store.specs.Chunks.{Chunks}
 use Rattle.chunk_store.specs.Standing.{AreHeld, IsThere}
-use Rattle.node_chunker.specs.Growth.{IsGrown, last_after}
+use Rattle.node_chunker.specs.Growth.{IsEntry, IsGrown, last_after}
 use Rattle.node_chunker.specs.Subtrees.{lift_chunks}
 use Rattle.node_chunker.proofs.TowerLemmas.{all_join, all_split}
 use Rattle.node_format.proofs.BuildLemmas.{last_is}
-use Rattle.node_chunker.proofs.GrowthLemmas.{name_rows, rows_join, name_grown, after_less, last_join, found_named, AreNamed}
+use Rattle.node_chunker.proofs.GrowthLemmas.{name_entry, name_rows, rows_join, name_grown, after_less, last_join, found_named, AreNamed}
+use Rattle.node_chunker.proofs.LevelLemmas.{named_entry}
 use Rattle.node_chunker.proofs.RefLemmas.{up}
 
 pub rows_grown : (rows : List Item) → AllByRecursion IsRow rows → AllByRecursion (IsGrown 0) rows
@@ -81,6 +82,26 @@ module _ (a : List ℕ → List ℕ) where
         | true ↦ λ e o n. (name_grown a level held item before each.0 e n.0, cut_grown level [] items tt each.1 o n.1)
         | false ↦ λ e o n. cut_grown level node items (all_join (IsGrown level) held (item ∷ []) before (each.0, tt)) each.1 o n
       ] refl over named
+
+  cut_entries : (c : Chunks) (level : ℕ) (held items : List Item) → AllByRecursion (IsEntry level) held → AllByRecursion (IsEntry level) items
+      → AreHeld a c (map (bytes_of level) (cut_from a level held items)) → AllByRecursion (IsEntry (suc level)) (names a level (cut_from a level held items))
+  cut_entries c level [] [] before each put = tt
+  cut_entries c level (first ∷ held) [] before each put = (named_entry a c level (first ∷ held) refl before (put.0, tt), tt)
+  cut_entries c level held (item ∷ items) before each put =
+      let node = held ++ item ∷ [] in
+      elim (closes a level node) as (λ b. AreHeld a c (map (bytes_of level) (cond b (node ∷ cut_from a level [] items) (cut_from a level node items)))
+      → AllByRecursion (IsEntry (suc level)) (names a level (cond b (node ∷ cut_from a level [] items) (cut_from a level node items)))) [
+        | true ↦ λ h. (name_entry a level held item each.0 h.0.1, cut_entries c level [] items tt each.1 h.1)
+        | false ↦ λ h. cut_entries c level node items (all_join (IsEntry level) held (item ∷ []) before (each.0, tt)) each.1 h
+      ] put
+
+  pub lift_entries : (c : Chunks) (rise level : ℕ) (items : List Item) → AllByRecursion (IsEntry level) items → AreHeld a c (lift_chunks a rise level items)
+      → AllByRecursion (IsEntry (up rise level)) (lift a rise level items)
+  lift_entries c zero level items each held = each
+  lift_entries c (suc rise) level items each held =
+      let nodes = cut a level items in
+      let here = all_split (IsThere a c) (map (bytes_of level) nodes) (lift_chunks a rise (suc level) (names a level nodes)) held in
+      lift_entries c rise (suc level) (names a level nodes) (cut_entries c level [] items tt each here.0) here.1
 
   pub lift_grown : (c : Chunks) (rise level : ℕ) (items : List Item) → AllByRecursion (IsGrown level) items → Ended a rise level items
       → AreHeld a c (lift_chunks a rise level items) → AllByRecursion (IsGrown (up rise level)) (lift a rise level items)

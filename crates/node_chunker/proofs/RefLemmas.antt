@@ -1,5 +1,5 @@
 -- A subtree pushed whole over levels that are empty: it counts as the rows below it.
-use Rattle.std.proofs.Common.{◌≡◌, ◌<◌, ◌+◌, ℕ, zero, suc, false, cond, List, [], ◌∷◌, ◌++◌, length, map, take, drop, replicate, sym, refl, ap, subst, ◌∙◌, arith}
+use Rattle.std.proofs.Common.{◌≡◌, ◌<◌, ◌≤◌, ◌+◌, ℕ, zero, suc, false, cond, List, [], ◌∷◌, ◌++◌, length, map, take, drop, replicate, sym, refl, ap, subst, ◌∙◌, arith}
 use Rattle.tuple_codec.specs.Nodes.{Item}
 use Rattle.tuple_codec.specs.Trees.{blank, bytes_of, cut, inner_chunks, names, top}
 use Rattle.prolly_tree.specs.Found.{left, lift, Ended}
@@ -156,6 +156,54 @@ module _ (a : List ℕ → List ℕ) where
       (some_under rise nodes some)))
       (level_held c level below more (chunks_after a turns (suc level) (under rise nodes)) ended.0 mine.0 theirs.0
       (held_ref c rise turns (suc level) nodes x names_below names_more some ended.1 lifted mine.1 ends theirs.1))
+
+  -- where nothing follows, nothing need have ended
+  pub after_whole : (rise turns level : ℕ) (nodes : List (List Item)) (x : Item) (below : List Item) → is_empty nodes ≡ false
+      → lift a rise level below ≡ x ∷ []
+      → after a turns level (under rise nodes) below ≡ after a turns level (under rise (pushes a (up rise level) nodes x)) []
+  after_whole zero turns level nodes x below some lifted = ap (after a turns level nodes) lifted ∙ after_push a turns level nodes x []
+  after_whole (suc rise) zero level nodes x below some lifted =
+      skip_left (is_empty (under rise nodes)) (is_single below) (first_of below) blank (some_under rise nodes some)
+      ∙ sym (skip_left (is_empty (under rise (pushes a (up rise (suc level)) nodes x))) (is_single []) (first_of []) blank
+      (some_under rise (pushes a (up rise (suc level)) nodes x) (never_empty a (up rise (suc level)) nodes x)))
+  after_whole (suc rise) (suc turns) level nodes x below some lifted =
+      let over = pushes a (up rise (suc level)) nodes x in
+      skip_left (is_empty (under rise nodes)) (is_single below) (first_of below)
+      (after a turns (suc level) (under rise nodes) (names a level (cut a level below))) (some_under rise nodes some)
+      ∙ after_whole rise turns (suc level) nodes x (names a level (cut a level below)) some lifted
+      ∙ sym (skip_left (is_empty (under rise over)) (is_single []) (first_of []) (after a turns (suc level) (under rise over) [])
+      (some_under rise over (never_empty a (up rise (suc level)) nodes x)))
+
+  pub held_whole : (c : Chunks) (rise turns level : ℕ) (nodes : List (List Item)) (x : Item) (below : List Item) → is_empty nodes ≡ false
+      → lift a rise level below ≡ x ∷ [] → AreHeld a c (lift_chunks a rise level below)
+      → AreHeld a c (ended_chunks a (up rise level) nodes x) → AreHeld a c (chunks_after a turns level (under rise (pushes a (up rise level) nodes x)) [])
+      → AreHeld a c (chunks_after a turns level (under rise nodes) below)
+  held_whole c zero turns level nodes x below some lifted held ends rest =
+      let P : List Item → Type 0 = λ l. AreHeld a c (chunks_after a turns level nodes l) in
+      subst P (sym lifted) (held_push a c turns level nodes x [] ends rest)
+  held_whole c (suc rise) zero level nodes x below some lifted held ends rest = tt
+  held_whole c (suc rise) (suc turns) level nodes x below some lifted held ends rest =
+      let over = pushes a (up rise (suc level)) nodes x in
+      let lower = map (bytes_of level) (cut a level below) in
+      let names_below = names a level (cut a level below) in
+      let P : List (List ℕ) → Type 0 = AreHeld a c in
+      let mine = all_split (IsThere a c) lower (lift_chunks a rise (suc level) names_below) held in
+      let theirs = subst P (skip_left (is_empty (under rise over)) (is_single []) [] (chunks_after a turns (suc level) (under rise over) [])
+      (some_under rise over (never_empty a (up rise (suc level)) nodes x))) rest in
+      subst P (sym (skip_left (is_empty (under rise nodes)) (is_single below) [] (lower ++ chunks_after a turns (suc level) (under rise nodes) names_below)
+      (some_under rise nodes some)))
+      (all_join (IsThere a c) lower (chunks_after a turns (suc level) (under rise nodes) names_below) mine.0
+      (held_whole c rise turns (suc level) nodes x names_below some lifted mine.1 ends theirs))
+
+  -- a subtree alone comes to the item that names it
+  pub after_alone : (rise turns level : ℕ) (x : Item) → rise ≤ turns → after a turns level (under rise ((x ∷ []) ∷ [])) [] ≡ x
+  after_alone zero zero level x enough = refl
+  after_alone zero (suc turns) level x enough = refl
+  after_alone (suc rise) zero level x enough = absurd (omega arith)
+  after_alone (suc rise) (suc turns) level x enough =
+      skip_left (is_empty (under rise ((x ∷ []) ∷ []))) (is_single []) (first_of []) (after a turns (suc level) (under rise ((x ∷ []) ∷ [])) [])
+      (some_under rise ((x ∷ []) ∷ []) refl)
+      ∙ after_alone rise turns (suc level) x (omega arith)
 
   -- and so where nothing was pushed before
   no_chunks : (level : ℕ) (items : List Item) → inner_chunks a zero level items ≡ []

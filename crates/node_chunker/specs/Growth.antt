@@ -1,5 +1,5 @@
 -- What the open nodes of a tower are: small, in order, and with the rows counted.
-use Rattle.std.specs.Prelude.{◌≡◌, ◌≤◌, ◌<◌, ℕ, zero, suc, ◌^◌, false, List, [], ◌∷◌, ◌++◌, length, Option, None, Some}
+use Rattle.std.specs.Prelude.{◌≡◌, ◌≤◌, ◌<◌, ◌+◌, ℕ, zero, suc, ◌^◌, false, List, [], ◌∷◌, ◌++◌, length, Option, None, Some}
 use Rattle.std.specs.List.{AllByRecursion}
 use Rattle.tuple_codec.specs.Nodes.{Item, IsNode, Rise}
 use Rattle.tuple_codec.specs.Trees.{AreRows, IsRow, bytes_of, closes, last_key, rows_in}
@@ -15,10 +15,15 @@ IsEntry (suc level) item = (length item.key ≤ 4096) × (length item.body ≡ 2
 abbrev pub IsGrown : ℕ → Item → Type 0
 IsGrown level item = IsEntry level item × (2 ^ level ≤ item.rows)
 
--- nodes of this level and those above that are open: what they have has ended, and they haven't
+-- nodes of this level and those above that are open: what they have may stand there, and they haven't ended
 abbrev pub AreOpen : (List ℕ → List ℕ) → ℕ → List (List Item) → Type 0
 AreOpen address level [] = Unit {0}
-AreOpen address level (held ∷ above) = AllByRecursion (IsGrown level) held × (closes address level held ≡ false) × AreOpen address (suc level) above
+AreOpen address level (held ∷ above) = AllByRecursion (IsEntry level) held × (closes address level held ≡ false) × AreOpen address (suc level) above
+
+-- what they have has ended
+abbrev pub AreGrown : ℕ → List (List Item) → Type 0
+AreGrown level [] = Unit {0}
+AreGrown level (held ∷ above) = AllByRecursion (IsGrown level) held × AreGrown (suc level) above
 
 -- the last level isn't empty
 abbrev pub IsTopped : List (List Item) → Type 0
@@ -51,7 +56,8 @@ pub record IsWritable (level : ℕ) (items : List Item) : Type 0 where
 -- an item may be pushed at this level
 pub record FitsLevel (address : List ℕ → List ℕ) (level : ℕ) (open_nodes : List (List Item)) (item : Item) : Type 0 where
   pub are_open : AreOpen address level open_nodes
-  pub grown : IsGrown level item
+  pub entry : IsEntry level item
+  pub low : 0 < length open_nodes → level + length open_nodes ≤ 64
   pub rises : Rise (spread open_nodes ++ item ∷ [])
   pub few : rows_in (spread open_nodes ++ item ∷ []) < 2 ^ 63
 
@@ -61,6 +67,7 @@ pub record IsTower (address : List ℕ → List ℕ) (chunks : Chunks) (open_nod
   pub continues : Continues address open_nodes rows
   pub kept : KeepsNodes address chunks open_nodes rows
   pub are_open : AreOpen address 0 open_nodes
+  pub grown : AreGrown 0 open_nodes
   pub topped : IsTopped (above_of open_nodes)
   pub rises : Rise (spread open_nodes)
   pub last : last_after None (spread open_nodes) ≡ last_after None rows
@@ -69,7 +76,3 @@ pub record IsTower (address : List ℕ → List ℕ) (chunks : Chunks) (open_nod
 -- a row may be pushed after those that were
 abbrev pub CanPush : (List ℕ → List ℕ) → Chunks → List (List Item) → Item → Type 0
 CanPush address chunks open_nodes row = (rows : List Item) × IsTower address chunks open_nodes rows × AreRows (rows ++ row ∷ [])
-
--- rows were pushed, and nothing else
-abbrev pub WasPushed : (List ℕ → List ℕ) → Chunks → List (List Item) → Type 0
-WasPushed address chunks open_nodes = (rows : List Item) × IsTower address chunks open_nodes rows

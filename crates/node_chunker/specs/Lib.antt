@@ -3,3 +3,4 @@ pub mod Growth
 pub mod Subtrees
 pub mod Steps
 pub mod Closing
+pub mod Lowest

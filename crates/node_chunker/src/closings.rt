@@ -5,10 +5,10 @@ ghost use Rattle.tuple_codec.specs.Nodes.{Item};
 ghost use Rattle.node_format.specs.Views.{ref_of};
 ghost use Rattle.chunk_store.specs.Drafts.{Grows, chunks_of};
 ghost use Rattle.chunk_store.specs.Kinds.{is_node};
-ghost use Rattle.chunk_store.specs.Standing.{IsTree};
 ghost use Rattle.node_chunker.specs.Closing.{CanClose, IsClosing, IsLevelClosed};
 ghost use Rattle.chunk_store.specs.Clashes.{IsReason};
 ghost use Rattle.node_chunker.specs.Growth.{IsWritable};
+ghost use Rattle.node_chunker.specs.Subtrees.{IsAbove};
 ghost use Rattle.node_chunker.specs.Towers.{is_empty};
 
 use crate::inners::OpenInner;
@@ -25,7 +25,7 @@ pub(crate) enum Closed {
     Below(Option<RefItem>),
 }
 
-/// Closes the open nodes from level 1 up, the leaf having left a name or none: the root's address.
+/// Closes the open nodes from level 1 up, the leaf having left a name or none: the address of the one node that is left.
 pub(crate) fn close_levels<D: Digester>(
     mut inner: Vec<OpenInner>,
     mut room: Vec<u8>,
@@ -34,7 +34,7 @@ pub(crate) fn close_levels<D: Digester>(
 ) -> Result<Address, PutFault>
     requires { CanClose D.address (chunks_of draft.old.chunks) 1 inner.items (option_to_list (option_map ref_of named)) }
     ensures ok { (rows : List Item) → IsClosing D.address (chunks_of draft.old.chunks) 1 inner.items (option_to_list (option_map ref_of named)) rows
-        → IfOk result (λ root. IsTree D.address (chunks_of draft.new.chunks) root.0 rows) }
+        → IfOk result (λ top. IsAbove D.address (chunks_of draft.new.chunks) top.0 rows) }
     ensures grows { Grows is_node draft.old draft.new }
     ensures cause { IfErr result (IsReason D.address (chunks_of draft.new.chunks)) }
 {

@@ -8,6 +8,7 @@
 mod builds;
 mod chunks;
 mod closings;
+mod descents;
 mod inners;
 mod leaves;
 mod towers;

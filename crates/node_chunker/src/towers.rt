@@ -11,12 +11,13 @@ ghost use Rattle.chunk_store.specs.Drafts.{Grows, chunks_of};
 ghost use Rattle.chunk_store.specs.Kinds.{is_node};
 ghost use Rattle.chunk_store.specs.Standing.{IsTree};
 ghost use Rattle.chunk_store.specs.Clashes.{IsReason};
-ghost use Rattle.node_chunker.specs.Growth.{CanPush, FitsLevel, IsTower, WasPushed};
+ghost use Rattle.node_chunker.specs.Growth.{CanPush, FitsLevel, IsTower};
 ghost use Rattle.node_chunker.specs.Steps.{IsPushedAt};
-ghost use Rattle.node_chunker.specs.Subtrees.{CanPushRef, IsSubtree, is_clear};
+ghost use Rattle.node_chunker.specs.Subtrees.{CanPushRef, IsPart, IsSubtree, IsWhole, WasPushed, is_clear};
 ghost use Rattle.node_chunker.specs.Towers.{is_empty};
 
 use crate::closings::close_levels;
+use crate::descents::lowest;
 use crate::inners::OpenInner;
 use crate::leaves::OpenLeaf;
 use chunk_store::{Draft, PutFault};
@@ -108,7 +109,8 @@ impl Tower {
 
     /// Pushes the rows below an item of this level at once, without reading them, where no lower level has an item.
     ///
-    /// The node that the item names is left as it is, and so is each node below it.
+    /// The node that the item names is left as it is, and so is each node below it. Where it ended by the boundary rule, and so did the
+    /// last node at each level below it, anything may be pushed after it; otherwise nothing may follow but [`Tower::finish`].
     pub fn push_ref<D: Digester>(
         &mut self,
         draft: &mut Draft<D>,
@@ -119,6 +121,9 @@ impl Tower {
         ensures ok { (rows below : List Item) → IsTower D.address (chunks_of draft.old.chunks) self.old rows
             → IsSubtree D.address (chunks_of draft.old.chunks) level (ref_of item.now) below → AreRows (rows ++ below)
             → OnOk result (IsTower D.address (chunks_of draft.new.chunks) self.new (rows ++ below)) }
+        ensures last { (rows below : List Item) → IsTower D.address (chunks_of draft.old.chunks) self.old rows
+            → IsPart D.address (chunks_of draft.old.chunks) level (ref_of item.now) below → AreRows (rows ++ below)
+            → OnOk result (IsWhole D.address (chunks_of draft.new.chunks) self.new (rows ++ below)) }
         ensures grows { Grows is_node draft.old draft.new }
         ensures cause { IfErr result (IsReason D.address (chunks_of draft.new.chunks)) }
     {
@@ -139,6 +144,9 @@ impl Tower {
         ensures ok { (rows below : List Item) → IsTower D.address (chunks_of draft.old.chunks) self.old rows
             → IsSubtree D.address (chunks_of draft.old.chunks) level (ref_of item.now) below → AreRows (rows ++ below)
             → OnOk result (IsTower D.address (chunks_of draft.new.chunks) self.new (rows ++ below)) }
+        ensures last { (rows below : List Item) → IsTower D.address (chunks_of draft.old.chunks) self.old rows
+            → IsPart D.address (chunks_of draft.old.chunks) level (ref_of item.now) below → AreRows (rows ++ below)
+            → OnOk result (IsWhole D.address (chunks_of draft.new.chunks) self.new (rows ++ below)) }
         ensures grows { Grows is_node draft.old draft.new }
         ensures cause { IfErr result (IsReason D.address (chunks_of draft.new.chunks)) }
     {
@@ -147,10 +155,13 @@ impl Tower {
         push_kept_name(&mut self.inner, &mut self.room, draft, place, item, steps)
     }
 
-    /// Puts what is left into the draft: the root's address.
+    /// Puts what is left into the draft: the root's address. A subtree that was pushed alone may be a chain of nodes of one name; the
+    /// root is then below it.
     pub fn finish<D: Digester>(self, draft: &mut Draft<D>) -> Result<Address, PutFault>
         requires { WasPushed D.address (chunks_of draft.old.chunks) self }
         ensures ok { (rows : List Item) → IsTower D.address (chunks_of draft.old.chunks) self rows
+            → IfOk result (λ root. IsTree D.address (chunks_of draft.new.chunks) root.0 rows) }
+        ensures last { (rows : List Item) → IsWhole D.address (chunks_of draft.old.chunks) self rows
             → IfOk result (λ root. IsTree D.address (chunks_of draft.new.chunks) root.0 rows) }
         ensures grows { Grows is_node draft.old draft.new }
         ensures cause { IfErr result (IsReason D.address (chunks_of draft.new.chunks)) }
@@ -165,7 +176,9 @@ impl Tower {
             return Ok(named.address);
         }
         let carry = leaf.close(&mut room, draft)?;
-        close_levels(inner, room, draft, carry)
+        let top = close_levels(inner, room, draft, carry)?;
+        let root = lowest(draft, top);
+        Ok(root)
     }
 }
 

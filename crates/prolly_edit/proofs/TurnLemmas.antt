@@ -9,6 +9,7 @@ use Rattle.tuple_codec.specs.declared.edits.Edit.{Edit}
 use Rattle.chunk_store.specs.Chunks.{Chunks, Extends}
 use Rattle.node_chunker.specs.Growth.{IsTower}
 use Rattle.node_chunker.specs.Subtrees.{CanPushRef, IsSubtree, is_clear}
+use Rattle.node_chunker.proofs.SubtreeLemmas.{part_of}
 use Rattle.prolly_tree.specs.Found.{IsEnded, Nodes, each_of, items_of, nodes_in, rows_at}
 use Rattle.prolly_tree.specs.Standing.{IsNodeFound, IsStored}
 use Rattle.prolly_tree.proofs.Standing.{trees_have_roots, trees_lead}
@@ -87,7 +88,7 @@ module _ (a : List ℕ → List ℕ) (start chunks : Chunks) (nodes : List (List
       rows = awaits.pushed;
       below = below;
       tower = awaits.tower;
-      subtree = subtree;
+      subtree = part_of a chunks (suc level) item below subtree;
       follow = next_rows a chunks nodes below (edited (rest (nodes_in start) front) edits) whole awaits;
       clear = clear;
     }

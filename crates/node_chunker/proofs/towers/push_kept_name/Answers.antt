@@ -14,14 +14,16 @@ overflow_cast-level g c =
     let a = g.D.Digester.address in
     let old = chunks_of c.args.draft.now.chunks in
     let nodes = c.args.inner.now.items in
-    omega (arith, climb_low a _ _ old nodes c.args.place (ref_of c.args.named.now) (climb_begins a old nodes c.args.place (ref_of c.args.named.now) c.requires.fits))
+    let within : c.args.place < length nodes = omega arith in
+    omega (arith, climb_low a _ _ old nodes c.args.place (ref_of c.args.named.now) (climb_begins a old nodes c.args.place (ref_of c.args.named.now) c.requires.fits) within)
 
 pub overflow_add-level : goal.overflow_add-level
 overflow_add-level g c =
     let a = g.D.Digester.address in
     let old = chunks_of c.args.draft.now.chunks in
     let nodes = c.args.inner.now.items in
-    omega (arith, climb_low a _ _ old nodes c.args.place (ref_of c.args.named.now) (climb_begins a old nodes c.args.place (ref_of c.args.named.now) c.requires.fits))
+    let within : c.args.place < length nodes = omega arith in
+    omega (arith, climb_low a _ _ old nodes c.args.place (ref_of c.args.named.now) (climb_begins a old nodes c.args.place (ref_of c.args.named.now) c.requires.fits) within)
 
 pub push-requires-clause-fits : goal.push-requires-clause-fits
 push-requires-clause-fits g c κs live =

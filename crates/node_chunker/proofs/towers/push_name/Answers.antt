@@ -12,11 +12,13 @@ use Rattle.node_chunker.proofs.towers.push_name.Goals as goal
 
 pub overflow_cast-level : goal.overflow_cast-level
 overflow_cast-level g c =
-    omega (arith, climb_low g.D.Digester.address _ _ (chunks_of c.loop-at.draft.chunks) c.loop-at.inner.items c.loop-at.at (ref_of c.loop-at.item) c.loop-at.invariant.climbing)
+    let within : c.loop-at.at < length c.loop-at.inner.items = omega arith in
+    omega (arith, climb_low g.D.Digester.address _ _ (chunks_of c.loop-at.draft.chunks) c.loop-at.inner.items c.loop-at.at (ref_of c.loop-at.item) c.loop-at.invariant.climbing within)
 
 pub overflow_add-level : goal.overflow_add-level
 overflow_add-level g c =
-    omega (arith, climb_low g.D.Digester.address _ _ (chunks_of c.loop-at.draft.chunks) c.loop-at.inner.items c.loop-at.at (ref_of c.loop-at.item) c.loop-at.invariant.climbing)
+    let within : c.loop-at.at < length c.loop-at.inner.items = omega arith in
+    omega (arith, climb_low g.D.Digester.address _ _ (chunks_of c.loop-at.draft.chunks) c.loop-at.inner.items c.loop-at.at (ref_of c.loop-at.item) c.loop-at.invariant.climbing within)
 
 pub push-requires-clause-fits : goal.push-requires-clause-fits
 push-requires-clause-fits g c κs live =

@@ -1,4 +1,4 @@
-use Rattle.std.proofs.Common.{◌≡◌, ◌<◌, ◌^◌, ◌∷◌, [], ℕ, suc, List, Option, length, sym, subst, arith}
+use Rattle.std.proofs.Common.{◌≡◌, ◌<◌, ◌^◌, ◌∷◌, [], ℕ, suc, List, Option, inl, length, sym, subst, arith}
 use Rattle.std.specs.Prelude.{IfSome, MatchOption}
 use Rattle.node_format.specs.Outlasting.{Outlasts}
 use Rattle.prolly_edit.specs.Names.{item_of}
@@ -106,10 +106,11 @@ finish-requires-after_bounds g c κs within =
     let start = chunks_of c.args.draft.now.chunks in
     let whole = edited c.requires.0 c.args.edits.now in (
       whole,
-      awaits_none g.D.Digester.address (chunks_of c.put_edits.new.draft.chunks) c.put_edits.new.tower whole
+      inl
+          (awaits_none g.D.Digester.address (chunks_of c.put_edits.new.draft.chunks) c.put_edits.new.tower whole
           (c.in_ok-put_edits.ensures.ok whole
           (subst (λ (f : Front). Awaits g.D.Digester.address (chunks_of c.parts.draft.chunks) c.parts.tower (edited (rest (nodes_in start) f) c.parts.left.now) whole) over
-          (c.parts.invariant.going c.requires.0 c.requires.1).awaits)),
+          (c.parts.invariant.going c.requires.0 c.requires.1).awaits))),
     )
 
 pub returns-clause-ok : goal.returns-clause-ok
