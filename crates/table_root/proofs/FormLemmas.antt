@@ -1,5 +1,5 @@
 -- What is written is read again, so each form has one spelling.
-use Rattle.std.proofs.Common.{◌≡◌, ℕ, ◌^◌, ◌<◌, ◌≤◌, Bool, true, List, [], ◌∷◌, ◌++◌, drop, length, map, slice_index_or, take, Option, Some, None, refl, sym, ap, subst, ◌∙◌, append_assoc, append-nil, arith}
+use Rattle.std.proofs.Common.{◌≡◌, ℕ, ◌^◌, ◌<◌, ◌≤◌, Bool, true, cond, List, [], ◌∷◌, ◌++◌, drop, length, map, slice_index_or, take, Option, Some, None, refl, sym, ap, subst, ◌∙◌, append_assoc, append-nil, arith}
 use Rattle.std.specs.Prelude.{◌&&◌}
 use Rattle.std.specs.List.{flat_map, list_all}
 use Rattle.std.specs.Option.{option_map}
@@ -21,7 +21,7 @@ use Rattle.schema_model.specs.declared.schemas.Schema.{Schema}
 use Rattle.schema_model.proofs.PartLemmas.{IsReader, Takes, Takes-then, address_again, address_takes, addresses_again, bind_some, items_again, short_again, short_reader}
 use Rattle.table_root.specs.Branches.{IsBranch, is_address_or_none}
 use Rattle.table_root.specs.Databases.{AreListed, IsFirstListed, IsStoredDatabase, entry_of, fits_name, has_address, named_bytes, written_database}
-use Rattle.table_root.specs.Reading.{as_four, as_two, branch_of, database_of, four_at, merging_of, named_at, schema_text, table_of, two_at}
+use Rattle.table_root.specs.Reading.{alone, as_four, as_two, branch_of, database_of, four_at, if_database, merging_at, named_at, schema_text, table_of, two_at}
 use Rattle.table_root.specs.Tables.{IsStoredTable, written_table}
 use Rattle.table_root.specs.declared.records.StoredTable.{StoredTable}
 use Rattle.table_root.specs.declared.records.TableEntry.{TableEntry}
@@ -47,16 +47,16 @@ text_again t h =
     ap (λ (o : Option (ℕ × List ℕ)). o >>= λ size. bytes_at size.0 size.1) (four_again (length text) (text ++ roots_bytes t) h.size)
     ∙ bytes_again (length text) text (roots_bytes t) refl
 
-abbrev made : Schema → Address → List Address → Address → Address → StoredTable
+abbrev pub made : Schema → Address → List Address → Address → Address → StoredTable
 made schema rows indexes conflicts violations = record { schema = schema; rows = rows; indexes = indexes; conflicts = conflicts; violations = violations }
 
-abbrev after_conflicts : Schema → Address → List Address → Address × List ℕ → Option StoredTable
-after_conflicts schema rows indexes conflicts = address_at conflicts.1 >>= λ violations. Some (made schema rows indexes conflicts.0 violations.0)
+abbrev pub after_conflicts : Schema → Address → List Address → Address × List ℕ → Option StoredTable
+after_conflicts schema rows indexes conflicts = address_at conflicts.1 >>= λ violations. alone (made schema rows indexes conflicts.0 violations.0, violations.1)
 
-abbrev after_indexes : Schema → Address → List Address × List ℕ → Option StoredTable
+abbrev pub after_indexes : Schema → Address → List Address × List ℕ → Option StoredTable
 after_indexes schema rows indexes = address_at indexes.1 >>= after_conflicts schema rows indexes.0
 
-abbrev after_rows : Schema → Address × List ℕ → Option StoredTable
+abbrev pub after_rows : Schema → Address × List ℕ → Option StoredTable
 after_rows schema rows = items_at address_at (length schema.indexes) rows.1 >>= after_indexes schema rows.0
 
 pub roots_again : (t : StoredTable) → IsStoredTable t → table_of t.schema (roots_bytes t) ≡ Some t
@@ -67,18 +67,18 @@ roots_again t h =
     ap (λ (o : Option (Address × List ℕ)). o >>= after_rows t.schema) (address_again t.rows first h.roots.rows)
     ∙ ap (λ (o : Option (List Address × List ℕ)). o >>= after_indexes t.schema t.rows) (addresses_again (length t.schema.indexes) t.indexes second h.count h.roots.indexes)
     ∙ ap (λ (o : Option (Address × List ℕ)). o >>= after_conflicts t.schema t.rows t.indexes) (address_again t.conflicts t.violations.0 h.roots.conflicts)
-    ∙ ap (λ (o : Option (Address × List ℕ)). o >>= λ violations. Some (made t.schema t.rows t.indexes t.conflicts violations.0))
+    ∙ ap (λ (o : Option (Address × List ℕ)). o >>= λ violations. alone (made t.schema t.rows t.indexes t.conflicts violations.0, violations.1))
     (ap address_at (sym (append-nil t.violations.0)) ∙ address_again t.violations [] h.roots.violations)
 
 -- ---- databases
 
-abbrev made_named : List ℕ → Address × List ℕ → Option (TableEntry × List ℕ)
+abbrev pub made_named : List ℕ → Address × List ℕ → Option (TableEntry × List ℕ)
 made_named name table = Some (record { name = name; table = table.0 }, table.1)
 
-abbrev after_name : List ℕ × List ℕ → Option (TableEntry × List ℕ)
+abbrev pub after_name : List ℕ × List ℕ → Option (TableEntry × List ℕ)
 after_name name = address_at name.1 >>= made_named name.0
 
-abbrev is_named : TableEntry → Bool
+abbrev pub is_named : TableEntry → Bool
 is_named named = fits_name named && has_address named
 
 named_again : (n : TableEntry) (rest : List ℕ) → is_named n ≡ true → named_at (named_bytes n ++ rest) ≡ Some (n, rest)
@@ -98,14 +98,11 @@ named_takes bytes x fit e =
     let t = address_takes b.0.1 m.0 s.rest_fits m.1 in
     subst (λ (y : TableEntry × List ℕ). Takes bytes (named_bytes y.0) y.1) (some_is _ x m.2) (Takes-then bytes (short b.0.0) b.0.1 m.0.0.0 m.0.1 s t)
 
-named_reader : IsReader named_bytes is_named named_at
+pub named_reader : IsReader named_bytes is_named named_at
 named_reader = record { takes = named_takes; again = named_again }
 
-abbrev tables_in : List TableEntry × List ℕ → Option (List TableEntry)
-tables_in tables = Some tables.0
-
-abbrev after_count : ℕ × List ℕ → Option (List TableEntry)
-after_count count = items_at named_at count.0 count.1 >>= tables_in
+abbrev pub after_count : ℕ × List ℕ → Option (List TableEntry)
+after_count count = items_at named_at count.0 count.1 >>= if_database
 
 -- the tables' bytes, as the form has them and as they are read
 entries_are : (tables : List TableEntry) → flat_map (λ (entry : WrittenEntry). short entry.name ++ entry.address) (map entry_of tables) ≡ flat_map named_bytes tables
@@ -124,9 +121,10 @@ database_again tables h =
     let text = flat_map named_bytes tables in
     ap database_of (database_is tables)
     ∙ ap (λ (o : Option (ℕ × List ℕ)). o >>= after_count) (two_again (length tables) text h.few)
-    ∙ ap (λ (l : List ℕ). items_at named_at (length tables) l >>= tables_in) (sym (append-nil text))
-    ∙ ap (λ (o : Option (List TableEntry × List ℕ)). o >>= tables_in)
+    ∙ ap (λ (l : List ℕ). items_at named_at (length tables) l >>= if_database) (sym (append-nil text))
+    ∙ ap (λ (o : Option (List TableEntry × List ℕ)). o >>= if_database)
     (items_again named_bytes is_named named_at named_reader tables [] (both_all fits_name has_address tables h.names h.addresses))
+    ∙ ap (λ (b : Bool). cond b (Some tables) None) h.rise
 
 -- ---- the tables of a database, one after another
 
@@ -186,22 +184,28 @@ cut bytes size rest e (first ∷ others) h =
 
 -- ---- branch records
 
-merging_again : (merging : Option Address) → is_address_or_none merging ≡ true → merging_of (merging_bytes merging) ≡ Some merging
+abbrev pub as_commit : Address × List ℕ → Option Address × List ℕ
+as_commit x = (Some x.0, x.1)
+
+merging_again : (merging : Option Address) → is_address_or_none merging ≡ true → merging_at (merging_bytes merging) ≡ Some (merging, [])
 merging_again None h = refl
 merging_again (Some commit) h =
-    ap (λ (l : List ℕ). option_map (λ (x : Address × List ℕ). Some x.0) (address_at l)) (sym (append-nil commit.0))
-    ∙ ap (λ (o : Option (Address × List ℕ)). option_map (λ (x : Address × List ℕ). Some x.0) o) (address_again commit [] h)
+    ap (λ (l : List ℕ). option_map as_commit (address_at l)) (sym (append-nil commit.0))
+    ∙ ap (λ (o : Option (Address × List ℕ)). option_map as_commit o) (address_again commit [] h)
 
-abbrev made_branch : Address → Address → Address → Option Address → Option BranchRecord
-made_branch head working staged merging = Some (record { head = head; working = working; staged = staged; merging = merging })
+abbrev pub made_branch : Address → Address → Address → Option Address → BranchRecord
+made_branch head working staged merging = record { head = head; working = working; staged = staged; merging = merging }
 
-abbrev after_staged : Address → Address → Address × List ℕ → Option BranchRecord
-after_staged head working staged = merging_of staged.1 >>= made_branch head working staged.0
+abbrev pub after_merging : Address → Address → Address → Option Address × List ℕ → Option BranchRecord
+after_merging head working staged merging = alone (made_branch head working staged merging.0, merging.1)
 
-abbrev after_working : Address → Address × List ℕ → Option BranchRecord
+abbrev pub after_staged : Address → Address → Address × List ℕ → Option BranchRecord
+after_staged head working staged = merging_at staged.1 >>= after_merging head working staged.0
+
+abbrev pub after_working : Address → Address × List ℕ → Option BranchRecord
 after_working head working = address_at working.1 >>= after_staged head working.0
 
-abbrev after_head : Address × List ℕ → Option BranchRecord
+abbrev pub after_head : Address × List ℕ → Option BranchRecord
 after_head head = address_at head.1 >>= after_working head.0
 
 pub branch_again : (b : BranchRecord) → IsBranch b → branch_of (branch_bytes b) ≡ Some b
@@ -213,7 +217,7 @@ branch_again b h =
     ap (λ (o : Option (Address × List ℕ)). o >>= after_head) (address_again b.head first h.head)
     ∙ ap (λ (o : Option (Address × List ℕ)). o >>= after_working b.head) (address_again b.working second h.working)
     ∙ ap (λ (o : Option (Address × List ℕ)). o >>= after_staged b.head b.working) (address_again b.staged third h.staged)
-    ∙ ap (λ (o : Option (Option Address)). o >>= made_branch b.head b.working b.staged) (merging_again b.merging h.merging)
+    ∙ ap (λ (o : Option (Option Address × List ℕ)). o >>= after_merging b.head b.working b.staged) (merging_again b.merging h.merging)
 
 pub databases_one : (a b : List TableEntry) → IsStoredDatabase a → IsStoredDatabase b → written_database a ≡ written_database b → a ≡ b
 databases_one a b ha hb same = some_is a b (sym (database_again a ha) ∙ ap database_of same ∙ database_again b hb)

@@ -6,6 +6,8 @@ mod ReadLemmas
 pub mod ReadingLemmas
 pub mod RowLemmas
 mod RowVectors
+mod SpellingLemmas
 mod StandingLemmas
+pub mod TakenLemmas
 mod WriteLemmas
 pub mod WritingLemmas

@@ -1,40 +1,20 @@
--- What code finds where the form of a thing is found.
-use Rattle.std.proofs.Common.{◌≡◌, ◌≤◌, ◌-◌, ℕ, true, List, ◌∷◌, ◌++◌, drop, length, map, take, Option, Some, None, Result, Ok, Err, refl, sym, ap, ◌∙◌, append_assoc, arith}
+-- What is read where the form of a table is found.
+use Rattle.std.proofs.Common.{◌≡◌, ◌≤◌, ◌-◌, ℕ, true, List, ◌∷◌, ◌++◌, drop, length, map, take, Some, refl, sym, ap, ◌∙◌, append_assoc, arith}
 use Rattle.std.specs.Int.{w32, to_be_bytes}
 use Rattle.std.specs.List.{flat_map}
 use Rattle.std.proofs.lemmas.Bool.{eqb-true}
 use Rattle.std.proofs.lemmas.List.{drop_at, length-append, take_at}
 use Rattle.tuple_codec.proofs.Options.{some_is}
-use Rattle.tuple_codec.specs.Fronts.{Gives}
 use Rattle.schema_model.specs.SchemaBytes.{schema_bytes}
 use Rattle.schema_model.specs.Schemas.{is_schema}
 use Rattle.schema_model.specs.Spellings as spelled
 use Rattle.schema_model.specs.declared.schemas.Schema.{Schema}
-use Rattle.schema_model.proofs.PartLemmas.{nothing}
-use Rattle.table_root.specs.Finds.{Finds}
 use Rattle.table_root.specs.Reading.{schema_text, table_of}
 use Rattle.tuple_codec.specs.declared.addresses.Address.{Address}
 use Rattle.table_root.specs.Tables.{HasRoots, IsStoredTable, recorded_roots, written_table}
 use Rattle.table_root.specs.declared.records.RecordedRoots.{RecordedRoots}
 use Rattle.table_root.specs.declared.records.StoredTable.{StoredTable}
-use Rattle.tuple_codec.specs.declared.unread.Unread.{Unread}
-use Rattle.tuple_codec.specs.declared.unread.Unread.TheVariants.{Memory, Malformed}
 use Rattle.table_root.proofs.FormLemmas.{roots_again, roots_bytes, text_again}
-
--- what isn't read isn't there
-pub is_there : {X : Type 0} (o : Option X) (x : X) → o ≡ Some x → o ≡ None → ⊥
-is_there o x found none = nothing x (sym none ∙ found)
-
--- code finds what reading gives
-pub finds : {X Y : Type 0} (view : X → Y) (read : Result X Unread) (o : Option Y) (y : Y) → Gives view read o → o ≡ Some y → Finds view read y
-finds view (Ok x) o y gives found = some_is (view x) y (sym gives ∙ found)
-finds view (Err Memory) o y gives found = tt
-finds view (Err Malformed) o y gives found = is_there o y found gives
-
--- where a part isn't read, nothing more is found
-pub finds_none : {X Y Z W : Type 0} (view : X → Y) (other : Z → W) (e : Unread) (o : Option Y) (y : Y) (w : W) → Gives view (Err e) o → o ≡ Some y → Finds other (Err e) w
-finds_none view other Memory o y w gives found = tt
-finds_none view other Malformed o y w gives found = is_there o y found gives
 
 -- ---- tables
 

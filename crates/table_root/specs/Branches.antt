@@ -17,6 +17,10 @@ pub record IsBranch (branch : BranchRecord) : Type 0 where
   pub staged : is_address branch.staged ≡ true
   pub merging : is_address_or_none branch.merging ≡ true
 
+-- these are the record's bytes
+abbrev pub IsBranchIn : List ℕ → BranchRecord → Type 0
+IsBranchIn bytes branch = IsBranch branch × (branch_bytes branch ≡ bytes)
+
 -- the record's bytes are found at the address
 pub record IsBranchFound (chunks : Chunks) (k : List ℕ) (branch : BranchRecord) : Type 0 where
   pub is_branch : IsBranch branch

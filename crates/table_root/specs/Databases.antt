@@ -44,6 +44,10 @@ pub record IsStoredDatabase (tables : List TableEntry) : Type 0 where
   pub addresses : list_all has_address tables ≡ true
   pub rise : names_rise tables ≡ true
 
+-- these are the database's bytes
+abbrev pub IsDatabaseIn : List ℕ → List TableEntry → Type 0
+IsDatabaseIn bytes tables = IsStoredDatabase tables × (written_database tables ≡ bytes)
+
 -- the database's bytes are found at the address
 pub record IsDatabaseFound (chunks : Chunks) (k : List ℕ) (tables : List TableEntry) : Type 0 where
   pub is_database : IsStoredDatabase tables

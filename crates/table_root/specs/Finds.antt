@@ -1,10 +1,11 @@
 -- What code found.
-use Rattle.std.specs.Prelude.{◌≡◌, Result, Ok, Err}
+use Rattle.std.specs.Prelude.{None, Some, Result, Ok, Err}
 use Rattle.tuple_codec.specs.declared.unread.Unread.{Unread}
 use Rattle.tuple_codec.specs.declared.unread.Unread.TheVariants as unread
+use Rattle.table_root.specs.Spellings.{Reads}
 
--- code found this, unless memory ran out
-abbrev pub Finds : {X Y : Type 0} → (X → Y) → Result X Unread → Y → Type 0
-Finds view (Ok x) y = view x ≡ y
-Finds view (Err unread.Memory) y = Unit {0}
-Finds view (Err unread.Malformed) y = ⊥
+-- code found what is there, unless memory ran out
+abbrev pub Finds : {A : Type 0} → (A → Type 0) → Result A Unread → Type 0
+Finds Is (Ok x) = Reads Is (Some x)
+Finds Is (Err unread.Memory) = Unit {0}
+Finds Is (Err unread.Malformed) = Reads Is None

@@ -1,5 +1,5 @@
 -- Reading tables, databases and branch records from left to right.
-use Rattle.std.specs.Prelude.{ℕ, ◌==◌, if◌then◌else◌, List, [], ◌∷◌, length, Option, None, Some}
+use Rattle.std.specs.Prelude.{ℕ, ◌==◌, ◌&&◌, if◌then◌else◌, List, [], ◌∷◌, length, Option, None, Some}
 use Rattle.std.specs.Int.{w16, w32, from_be_bytes}
 use Rattle.std.specs.Option.{option_map}
 use Rattle.tuple_codec.specs.Fields.{bytes_at, short_at}
@@ -7,6 +7,7 @@ use Rattle.tuple_codec.specs.declared.addresses.Address.{Address}
 use Rattle.tuple_codec.specs.declared.records.BranchRecord.{BranchRecord}
 use Rattle.schema_model.specs.Reading.{◌>>=◌, address_at, items_at}
 use Rattle.schema_model.specs.declared.schemas.Schema.{Schema}
+use Rattle.table_root.specs.Databases.{names_rise}
 use Rattle.table_root.specs.declared.records.StoredTable.{StoredTable}
 use Rattle.table_root.specs.declared.records.TableEntry.{TableEntry}
 
@@ -29,6 +30,10 @@ abbrev pub after_kind : ℕ → List ℕ → Option (List ℕ)
 after_kind kind [] = None
 after_kind kind (first ∷ rest) = if first == kind then Some rest else None
 
+-- nothing may follow
+abbrev pub alone : {A : Type 0} → A × List ℕ → Option A
+alone x = if length x.1 == 0 then Some x.0 else None
+
 -- a table's name and address
 unfoldable pub named_at : List ℕ → Option (TableEntry × List ℕ)
 named_at bytes = do
@@ -50,21 +55,25 @@ table_of schema bytes = do
   indexes ← items_at address_at (length schema.indexes) rows.1
   conflicts ← address_at indexes.1
   violations ← address_at conflicts.1
-  Some (record { schema = schema; rows = rows.0; indexes = indexes.0; conflicts = conflicts.0; violations = violations.0 })
+  alone (record { schema = schema; rows = rows.0; indexes = indexes.0; conflicts = conflicts.0; violations = violations.0 }, violations.1)
+
+-- nothing may follow, and the names rise
+abbrev pub if_database : List TableEntry × List ℕ → Option (List TableEntry)
+if_database x = if length x.1 == 0 && names_rise x.0 then Some x.0 else None
 
 unfoldable pub database_of : List ℕ → Option (List TableEntry)
 database_of bytes = do
   rest ← after_kind 4 bytes
   count ← two_at rest
   tables ← items_at named_at count.0 count.1
-  Some tables.0
+  if_database tables
 
 -- the commit of a merge in progress, if there is one
-abbrev pub merging_of : List ℕ → Option (Option Address)
-merging_of [] = None
-merging_of (flag ∷ rest) =
-    if flag == 0 then Some None
-    else (if flag == 1 then option_map (λ commit. Some commit.0) (address_at rest) else None)
+abbrev pub merging_at : List ℕ → Option (Option Address × List ℕ)
+merging_at [] = None
+merging_at (flag ∷ rest) =
+    if flag == 0 then Some (None, rest)
+    else (if flag == 1 then option_map (λ commit. (Some commit.0, commit.1)) (address_at rest) else None)
 
 unfoldable pub branch_of : List ℕ → Option BranchRecord
 branch_of bytes = do
@@ -72,5 +81,5 @@ branch_of bytes = do
   head ← address_at rest
   working ← address_at head.1
   staged ← address_at working.1
-  merging ← merging_of staged.1
-  Some (record { head = head.0; working = working.0; staged = staged.0; merging = merging })
+  merging ← merging_at staged.1
+  alone (record { head = head.0; working = working.0; staged = staged.0; merging = merging.0 }, merging.1)

@@ -36,6 +36,10 @@ pub record IsStoredTable (table : StoredTable) : Type 0 where
   pub count : length table.indexes ≡ length table.schema.indexes
   pub roots : HasRoots table
 
+-- these are the table's bytes
+abbrev pub IsTableIn : List ℕ → StoredTable → Type 0
+IsTableIn bytes table = IsStoredTable table × (written_table table ≡ bytes)
+
 -- the table's bytes are found at the address
 pub record IsTableFound (chunks : Chunks) (k : List ℕ) (table : StoredTable) : Type 0 where
   pub is_table : IsStoredTable table

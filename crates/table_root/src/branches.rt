@@ -1,19 +1,21 @@
 //! Branch records written into drafts, and read back.
 
 ghost use Rattle.std.specs.Prelude.{◌≡◌, ◌≤◌, ◌++◌, [], ◌∷◌, true, length, OnOk, OnErr, IfOk, IfErr};
-ghost use Rattle.tuple_codec.specs.Fronts.{Gives};
+ghost use Rattle.std.specs.Option.{option_map};
+ghost use Rattle.schema_model.specs.Reading.{address_at};
 ghost use Rattle.schema_model.specs.WrittenForms.{branch_bytes, merging_bytes};
 ghost use Rattle.chunk_store.specs.Drafts.{Grows, Puts, chunks_of};
 ghost use Rattle.chunk_store.specs.Kinds.{is_branch};
-ghost use Rattle.table_root.specs.Branches.{HasBranch, IsBranch, IsBranchFound, is_address_or_none};
-ghost use Rattle.table_root.specs.Reading.{branch_of, merging_of};
+ghost use Rattle.table_root.specs.Branches.{HasBranch, IsBranch, IsBranchFound, IsBranchIn, is_address_or_none};
+ghost use Rattle.table_root.specs.Reading.{after_kind, branch_of, merging_at};
+ghost use Rattle.table_root.specs.Spellings.{Reads};
 
-use crate::fields::{after_kind, push_address};
+use crate::fields::push_address;
 use chunk_store::{Draft, PutFault, law_of_growth};
-use schema_model::{FormBytes, address_at};
+use schema_model::FormBytes;
 use smallvec::SmallVec;
 use std::alloc::{AllocError, Global};
-use tuple_codec::{Address, BranchRecord, Digester, Unread};
+use tuple_codec::{Address, BranchRecord, Digester};
 
 /// Puts the record's written form into the draft: the address is the record's.
 pub fn write_branch<D: Digester>(
@@ -62,52 +64,80 @@ fn push_merging(out: &mut FormBytes, merging: &Option<Address>) -> Result<(), Al
     }
 }
 
-/// The branch record whose written form is found at the address.
-pub fn read_branch<D: Digester>(
-    draft: &Draft<D>,
-    address: &Address,
-) -> Result<BranchRecord, AllocError>
+/// The branch record whose written form is found at the address. It takes no memory.
+pub fn read_branch<D: Digester>(draft: &Draft<D>, address: &Address) -> BranchRecord
     requires { HasBranch (chunks_of draft.now.chunks) address.now.0 }
-    ensures { IfOk result (λ branch. IsBranchFound (chunks_of draft.now.chunks) address.now.0 branch) }
+    ensures { IsBranchFound (chunks_of draft.now.chunks) address.now.0 result }
 {
     let Some(bytes) = draft.get(address) else {
         unreachable!()
     };
-    match branch_of(bytes) {
-        Ok(branch) => Ok(branch),
-        Err(Unread::Memory) => Err(AllocError),
-        Err(Unread::Malformed) => unreachable!(),
+    match read_branch_bytes(bytes) {
+        Some(branch) => branch,
+        None => unreachable!(),
     }
 }
 
-/// The branch record that has these bytes.
-#[tactic(auto, unfolding(crate::specs::Reading::branch_of))]
-fn branch_of(bytes: &[u8]) -> Result<BranchRecord, Unread>
-    ensures { Gives (λ branch. branch) result (branch_of bytes.now) }
+/// The branch record that has these bytes, all of them, or None where none has them: for whoever reads bytes of unknown origin.
+pub fn read_branch_bytes(bytes: &[u8]) -> Option<BranchRecord>
+    ensures { Reads (IsBranchIn bytes.now) result }
 {
-    let rest = after_kind(6, bytes)?;
-    let (head, rest) = address_at(rest)?;
-    let (working, rest) = address_at(rest)?;
-    let (staged, rest) = address_at(rest)?;
-    let merging = merging_of(rest)?;
-    Ok(BranchRecord {
-        head,
-        working,
-        staged,
-        merging,
-    })
+    branch_of(bytes)
 }
 
-/// The commit of a merge in progress, if there is one.
-fn merging_of(bytes: &[u8]) -> Result<Option<Address>, Unread>
-    ensures { Gives (λ merging. merging) result (merging_of bytes.now) }
+/// The branch record of these bytes, all of them.
+#[tactic(auto, unfolding(crate::specs::Reading::branch_of))]
+fn branch_of(bytes: &[u8]) -> Option<BranchRecord>
+    ensures { result ≡ branch_of bytes.now }
+{
+    let rest = behind_kind(bytes)?;
+    let (head, rest) = address_in(rest)?;
+    let (working, rest) = address_in(rest)?;
+    let (staged, rest) = address_in(rest)?;
+    let (merging, rest) = merging_in(rest)?;
+    if rest.is_empty() {
+        Some(BranchRecord {
+            head,
+            working,
+            staged,
+            merging,
+        })
+    } else {
+        None
+    }
+}
+
+/// The bytes after the one that tells a branch record from other chunks.
+fn behind_kind(bytes: &[u8]) -> Option<&[u8]>
+    ensures { option_map (λ rest. rest.now) result ≡ after_kind 6 bytes.now }
 {
     match bytes {
-        [0, ..] => Ok(None),
-        [1, rest @ ..] => {
-            let (commit, _) = address_at(rest)?;
-            Ok(Some(commit))
-        }
-        _ => Err(Unread::Malformed),
+        [6, rest @ ..] => Some(rest),
+        _ => None,
     }
+}
+
+/// The commit of a merge in progress, if there is one, and the bytes after it.
+fn merging_in(bytes: &[u8]) -> Option<(Option<Address>, &[u8])>
+    ensures { option_map (λ x. (x.0, x.1.now)) result ≡ merging_at bytes.now }
+{
+    match bytes {
+        [0, rest @ ..] => Some((None, rest)),
+        [1, rest @ ..] => {
+            let (commit, rest) = address_in(rest)?;
+            Some((Some(commit), rest))
+        }
+        _ => None,
+    }
+}
+
+/// An address, which has 20 bytes, and the bytes after it.
+fn address_in(bytes: &[u8]) -> Option<(Address, &[u8])>
+    ensures { option_map (λ x. (x.0, x.1.now)) result ≡ address_at bytes.now }
+{
+    if bytes.len() < 20 {
+        return None;
+    }
+    let (front, rest) = bytes.split_at(20);
+    Some((Address::from_slice(front), rest))
 }

@@ -3,11 +3,15 @@
 ghost use Rattle.std.specs.Prelude.{◌≡◌, ◌<◌, ◌≤◌, ◌++◌, [], ◌∷◌, true, List, length, MatchOption, OnOk, OnErr, IfOk, IfErr, IfSome};
 ghost use Rattle.std.specs.Int.{w16, to_be_bytes};
 ghost use Rattle.std.specs.List.{list_all};
+ghost use Rattle.std.specs.Option.{option_map};
+ghost use Rattle.std.specs.Ordering.{is_lt, nat_cmp};
+ghost use Rattle.std.specs.Cmp.Lexicographic.{slice_cmp};
 ghost use Rattle.tuple_codec.specs.Fronts.{Gives};
 ghost use Rattle.chunk_store.specs.Drafts.{Grows, Puts, chunks_of};
 ghost use Rattle.chunk_store.specs.Kinds.{is_database};
-ghost use Rattle.table_root.specs.Databases.{AreListed, HasDatabase, IsDatabaseFound, IsFirstListed, IsStoredDatabase, has_short_name, names_rise, written_database};
+ghost use Rattle.table_root.specs.Databases.{AreListed, HasDatabase, IsDatabaseFound, IsDatabaseIn, IsFirstListed, IsStoredDatabase, has_short_name, names_rise, written_database};
 ghost use Rattle.table_root.specs.Reading.{database_of};
+ghost use Rattle.table_root.specs.Spellings.{Reads};
 
 use crate::fields::{after_kind, two_at};
 use crate::parts::push_tables;
@@ -83,22 +87,61 @@ pub fn read_database<D: Digester>(
     let Some(bytes) = draft.get(address) else {
         unreachable!()
     };
-    match database_of(alloc, bytes) {
-        Ok(tables) => Ok(tables),
-        Err(Unread::Memory) => Err(AllocError),
-        Err(Unread::Malformed) => unreachable!(),
+    match read_database_bytes(alloc, bytes)? {
+        Some(tables) => Ok(tables),
+        None => unreachable!(),
     }
 }
 
-/// The database that has these bytes.
+/// The tables of the database that has these bytes, all of them, or None where none has them: for whoever reads bytes of unknown origin.
+pub fn read_database_bytes(
+    alloc: Global,
+    bytes: &[u8],
+) -> Result<Option<Vec<TableEntry>>, AllocError>
+    ensures { IfOk result (λ found. Reads (IsDatabaseIn bytes.now) (option_map (λ tables. tables.items) found)) }
+{
+    match database_of(alloc, bytes) {
+        Ok(tables) => Ok(Some(tables)),
+        Err(Unread::Malformed) => Ok(None),
+        Err(Unread::Memory) => Err(AllocError),
+    }
+}
+
+/// The database of these bytes, all of them.
 #[tactic(auto, unfolding(crate::specs::Reading::database_of))]
 fn database_of(alloc: Global, bytes: &[u8]) -> Result<Vec<TableEntry>, Unread>
     ensures { Gives (λ tables. tables.items) result (database_of bytes.now) }
 {
     let rest = after_kind(4, bytes)?;
     let (count, rest) = two_at(rest)?;
-    let (tables, _) = items_at(alloc, usize::from(count), rest)?;
-    Ok(tables.into_vec())
+    let (tables, rest) = items_at(alloc, usize::from(count), rest)?;
+    if rest.is_empty() && names_rise(tables.as_slice()) {
+        Ok(tables.into_vec())
+    } else {
+        Err(Unread::Malformed)
+    }
+}
+
+/// Whether each name comes strictly before the next.
+fn names_rise(tables: &[TableEntry]) -> bool
+    ensures { result ≡ names_rise tables.now }
+{
+    let mut left = tables;
+    'tables: while let [named, rest @ ..] = left {
+        if let [next, ..] = rest {
+            if !comes_before(named, next) {
+                return false;
+            }
+        }
+        left = rest;
+    }
+    true
+}
+
+fn comes_before(some: &TableEntry, other: &TableEntry) -> bool
+    ensures { result ≡ is_lt (slice_cmp nat_cmp some.now.name other.now.name) }
+{
+    some.name.as_slice().cmp(other.name.as_slice()).is_lt()
 }
 
 /// The bytes of the tables in the database whose written form is found at the address, one after another. They are read in place, by

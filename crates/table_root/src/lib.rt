@@ -19,8 +19,10 @@ mod row_laws;
 mod tables;
 mod types;
 
-pub use branches::{read_branch, write_branch};
-pub use databases::{first_listed, listed_tables, read_database, write_database};
+pub use branches::{read_branch, read_branch_bytes, write_branch};
+pub use databases::{
+    first_listed, listed_tables, read_database, read_database_bytes, write_database,
+};
 pub use heads::{BranchHead, HeadList, Heads, Look};
 pub use items::{row_item, row_items, row_of};
 pub use laws::{law_of_databases, law_of_tables, law_of_written_forms};
@@ -28,4 +30,4 @@ pub use names::BranchName;
 pub use reading::read_rows;
 pub use records::{RecordedRoots, StoredTable, TableEntry};
 pub use row_laws::law_of_row_items;
-pub use tables::{read_table, recorded_roots, write_table};
+pub use tables::{read_table, read_table_bytes, recorded_roots, write_table};

@@ -10,7 +10,8 @@ ghost use Rattle.chunk_store.specs.Drafts.{Grows, Puts, chunks_of};
 ghost use Rattle.chunk_store.specs.Kinds.{is_table};
 ghost use Rattle.table_root.specs.Finds.{Finds};
 ghost use Rattle.table_root.specs.Reading.{schema_text, table_of};
-ghost use Rattle.table_root.specs.Tables.{HasRoots, HasTable, IsStoredTable, IsTableFound, recorded_roots, written_table};
+ghost use Rattle.table_root.specs.Spellings.{Reads};
+ghost use Rattle.table_root.specs.Tables.{HasRoots, HasTable, IsStoredTable, IsTableFound, IsTableIn, recorded_roots, written_table};
 
 use crate::fields::{after_kind, four_at, push_address};
 use crate::parts::push_addresses;
@@ -93,10 +94,20 @@ pub fn read_table<D: Digester>(
     let Some(bytes) = draft.get(address) else {
         unreachable!()
     };
-    match table_at(alloc, bytes) {
-        Ok(table) => Ok(table),
+    match read_table_bytes(alloc, bytes)? {
+        Some(table) => Ok(table),
+        None => unreachable!(),
+    }
+}
+
+/// The table that has these bytes, all of them, or None where none has them: for whoever reads bytes of unknown origin.
+pub fn read_table_bytes(alloc: Global, bytes: &[u8]) -> Result<Option<StoredTable>, AllocError>
+    ensures { IfOk result (λ table. Reads (IsTableIn bytes.now) table) }
+{
+    match table_in(alloc, bytes) {
+        Ok(table) => Ok(Some(table)),
+        Err(Unread::Malformed) => Ok(None),
         Err(Unread::Memory) => Err(AllocError),
-        Err(Unread::Malformed) => unreachable!(),
     }
 }
 
@@ -125,9 +136,9 @@ fn roots_at_end(bytes: &[u8]) -> RecordedRoots
     }
 }
 
-/// The table that has these bytes.
-fn table_at(alloc: Global, bytes: &[u8]) -> Result<StoredTable, Unread>
-    ensures { (table : StoredTable) → IsStoredTable table → bytes.now ≡ written_table table → Finds (λ found. found) result table }
+/// The table of these bytes, all of them.
+fn table_in(alloc: Global, bytes: &[u8]) -> Result<StoredTable, Unread>
+    ensures { Finds (IsTableIn bytes.now) result }
 {
     law_of_schemas();
     let (text, roots) = schema_text(bytes)?;
@@ -147,7 +158,7 @@ fn schema_text(bytes: &[u8]) -> Result<(&[u8], &[u8]), Unread>
     bytes_at(size as usize, rest)
 }
 
-/// The table of this schema whose roots these are.
+/// The table of this schema whose roots these are, without any bytes after them.
 #[tactic(auto, unfolding(crate::specs::Reading::table_of))]
 fn table_of(alloc: Global, schema: Schema, bytes: &[u8]) -> Result<StoredTable, Unread>
     ensures { Gives (λ table. table) result (table_of schema bytes.now) }
@@ -155,12 +166,16 @@ fn table_of(alloc: Global, schema: Schema, bytes: &[u8]) -> Result<StoredTable, 
     let (rows, rest) = address_at(bytes)?;
     let (indexes, rest) = items_at(alloc, schema.indexes.as_slice().len(), rest)?;
     let (conflicts, rest) = address_at(rest)?;
-    let (violations, _) = address_at(rest)?;
-    Ok(StoredTable {
-        schema,
-        rows,
-        indexes,
-        conflicts,
-        violations,
-    })
+    let (violations, rest) = address_at(rest)?;
+    if rest.is_empty() {
+        Ok(StoredTable {
+            schema,
+            rows,
+            indexes,
+            conflicts,
+            violations,
+        })
+    } else {
+        Err(Unread::Malformed)
+    }
 }
