@@ -5,7 +5,7 @@ ghost use Rattle.std.specs.Prelude.{◌≡◌, ◌^◌, ◌-◌, length, min, na
 ghost use Rattle.std.specs.List.{flat_map, list_all};
 ghost use Rattle.tuple_codec.specs.Fields.{short};
 ghost use Rattle.schema_model.specs.SchemaBytes.{check_bytes, column_bytes, default_bytes, foreign_bytes, index_bytes, schema_bytes, type_bytes};
-ghost use Rattle.schema_model.specs.Limits.{has_short_names, is_short_name, is_within_limits};
+ghost use Rattle.schema_model.specs.Limits.{has_short_names, is_short_name, is_within_limits, most_schema_bytes};
 
 use schema_model::limits::{
     MOST_CHECKS, MOST_COLUMNS, MOST_FOREIGN_KEYS, MOST_INDEXES, MOST_NAME_BYTES, MOST_SCHEMA_BYTES,
@@ -134,7 +134,7 @@ fn schema_size(schema: &Schema) -> u64
 }
 
 fn has_few_bytes(schema: &Schema) -> bool
-    ensures { result ≡ nat_le (length (schema_bytes schema.now)) 32768 }
+    ensures { result ≡ nat_le (length (schema_bytes schema.now)) most_schema_bytes }
 {
     schema_size(schema) <= MOST_SCHEMA_BYTES
 }

@@ -24,7 +24,7 @@ use Rattle.sql_write.specs.Putting.{AreListed, AreListedAt, address_in, readdres
 
 -- ---- a database that keeps the limits
 
-pub few_read : (database : PlainDatabase) → length database ≤ 256 → length database < 2 ^ 16
+pub few_read : (database : PlainDatabase) → length database ≤ most_tables → length database < 2 ^ 16
 few_read database few = omega arith
 
 pub kept_short : (database : PlainDatabase) → is_database_within_limits database ≡ true → list_all (λ (named : plain.NamedTable). is_short_name named.name) database ≡ true
@@ -132,7 +132,7 @@ listed_put address old new more laws tables made name database contents k are at
     names = names_by is_name name contents database are.is_database.names;
     rise = names_rise name contents database are.is_database.rise;
   };
-  few = subst (λ n. n ≤ 256) (sym (length_same name contents database)) are.few;
+  few = subst (λ n. n ≤ most_tables) (sym (length_same name contents database)) are.few;
   short = names_by is_short_name name contents database are.short;
   stand = tables_are (λ (t : PlainTable). IsTableAt address new (table_address address t) t) name contents database
       (subst (λ (a : List ℕ). IsTableAt address new a contents) (sym at.named) at)

@@ -4,7 +4,7 @@ use Rattle.std.specs.List.{AllByRecursion, list_all}
 use Rattle.tuple_codec.specs.Rows.{Cells}
 use Rattle.tuple_codec.specs.declared.addresses.Address.{Address}
 use Rattle.tuple_codec.specs.declared.edits.Edit.{Edit}
-use Rattle.schema_model.specs.Limits.{is_short_name, is_within_limits}
+use Rattle.schema_model.specs.Limits.{is_short_name, is_within_limits, most_tables}
 use Rattle.schema_model.specs.PlainTables as plain
 use Rattle.schema_model.specs.PlainTables.{PlainDatabase, PlainTable}
 use Rattle.schema_model.specs.WrittenForms.{table_address}
@@ -18,7 +18,7 @@ use Rattle.plain_writes.specs.Violations.{table_in}
 -- this list names the tables of a database, which stand; there are as many as there may be, and their names are as long as they may be
 pub record AreListed (address : List ℕ → List ℕ) (chunks : Chunks) (tables : List TableEntry) (database : PlainDatabase) : Type 0 where
   pub is_database : plain.IsDatabase database
-  pub few : length database ≤ 256
+  pub few : length database ≤ most_tables
   pub short : list_all (λ named. is_short_name named.name) database ≡ true
   pub stand : AllByRecursion (λ named. IsTableAt address chunks (table_address address named.table) named.table) database
   pub listed : tables ≡ named_tables address database
