@@ -25,7 +25,7 @@ use Rattle.sql_write.specs.Putting.{AreListed, AreListedAt, address_in, readdres
 -- ---- a database that keeps the limits
 
 pub few_read : (database : PlainDatabase) → length database ≤ most_tables → length database < 2 ^ 16
-few_read database few = omega arith
+few_read database few = let most : length database ≤ 256 = few in omega (arith, most)
 
 pub kept_short : (database : PlainDatabase) → is_database_within_limits database ≡ true → list_all (λ (named : plain.NamedTable). is_short_name named.name) database ≡ true
 kept_short database h = short_in database (right_so (nat_le (length database) most_tables) (list_all is_named_within_limits database) h)
