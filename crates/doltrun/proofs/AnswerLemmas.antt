@@ -10,7 +10,8 @@ use Rattle.script_text.specs.declared.scripts.Script.{Script}
 use Rattle.std.specs.Io.KnownBytes.{Appends}
 use Rattle.std.specs.Prelude.{Option, Some, length, ◌<◌}
 use Rattle.wire_io.specs.Moves.{AppendsFront}
-use Rattle.script_run.specs.Following.{IsStoppedAt, ReplaysAs}
+use Rattle.run_laws.specs.Stops.{IsStoppedAt}
+use Rattle.script_run.specs.Following.{ReplaysAs}
 use Rattle.script_run.specs.declared.following.Replayed.{Replayed}
 use Rattle.script_run.specs.declared.following.Replayed.TheVariants as replayed
 use Rattle.shared_db.specs.Opening.{IsOpeningFault}

@@ -1,5 +1,5 @@
 -- No session answers more statements than it has, so the number of each is told by its line.
-use Rattle.std.proofs.Common.{◌≡◌, refl, sym, ap, subst, ◌∙◌, ℕ, ℤ, zero, suc, ◌+◌, ◌<◌, ◌≤◌, ◌==◌, ◌^◌, Bool, true, false, nat_lt, List, [], ◌∷◌, ◌++◌, length, map, Option, Some, None, slice_get, slice_set, IfSome, option_map, option_and_then, arith, if◌then◌else◌}
+use Rattle.std.proofs.Common.{◌≡◌, refl, sym, ap, subst, ◌∙◌, ℕ, ℤ, zero, suc, ◌+◌, ◌<◌, ◌≤◌, ◌==◌, ◌&&◌, ◌^◌, Bool, true, false, nat_lt, List, [], ◌∷◌, ◌++◌, length, map, Option, Some, None, slice_get, slice_set, IfSome, option_map, option_and_then, arith, if◌then◌else◌}
 use Rattle.std.specs.List.{AllByRecursion, list_all}
 use Rattle.std.specs.Option.{option_map_or}
 use Rattle.std.proofs.lemmas.Bool.{and_from}
@@ -16,7 +16,7 @@ use Rattle.script_text.specs.declared.scripts.Script.{Script}
 use Rattle.plain_sessions.specs.Commands.{command}
 use Rattle.plain_sessions.specs.Moments.{After, Past, Still, alone, moment_at}
 use Rattle.plain_sessions.specs.Records.{Shared}
-use Rattle.plain_sessions.specs.Runs.{Runner, Shortages, State, advance, commands_of, is_over, opened, plain_run, put_runner, runners_of, step, step_of, steps_along, went_on}
+use Rattle.plain_sessions.specs.Runs.{Runner, Shortages, State, advance, commands_of, is_over, needs_moment, opened, plain_run, put_runner, runners_of, step, step_of, steps_along, went_on}
 use Rattle.plain_sessions.specs.Sessions.{Session, new_session}
 use Rattle.plain_sessions.specs.declared.commands.Command.{Command}
 use Rattle.run_laws.proofs.OrderLemmas.{count_fits}
@@ -48,7 +48,7 @@ went answers session asked todo replies (Still transaction place) = refl
 stepped : (address : List ℕ → List ℕ) (epoch : ℤ) (answers : ℕ → Option Shortage) (number : ℕ) (shared : Shared) (session : Session) (replies : List Reply) (todo : List Command)
     → IfSome (step_of address epoch answers number shared session replies todo) (λ (next : Shared × Runner). statements_of next.1 ≡ length replies + length todo)
 stepped address epoch answers number shared session replies [] = tt
-stepped address epoch answers number shared session replies (asked ∷ todo) = by_number (session.statement == number) (moment_at address epoch (answers session.statement) shared session asked)
+stepped address epoch answers number shared session replies (asked ∷ todo) = by_number (session.statement == number && needs_moment (answers session.statement) session asked) (moment_at address epoch (answers session.statement) shared session asked)
   where
     by_number : (test : Bool) (found : Option (Shared × After))
         → IfSome (if test then option_map (λ (after : Shared × After). (after.0, went_on answers session asked todo replies after.1)) found else None)

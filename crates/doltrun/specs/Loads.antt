@@ -8,7 +8,7 @@ use Rattle.script_text.specs.Collisions.{AllTellTruly}
 use Rattle.script_text.specs.Output.{shortages_in}
 use Rattle.script_text.specs.Shown.{IsShown}
 use Rattle.script_text.specs.declared.outputs.RunText.{RunText}
-use Rattle.shared_db.specs.Opening.{IsOpeningClash}
+use Rattle.plain_sessions.specs.Opening.{IsOpeningClash}
 use Rattle.wire_io.specs.Moves.{AppendsFront}
 use Rattle.script_text.specs.Lines.{collision_line}
 use Rattle.doltrun.specs.declared.words.LoadRun.{LoadRun}

@@ -8,9 +8,9 @@ use Rattle.chunk_store.specs.declared.faults.Clash.{Clash}
 use Rattle.script_text.specs.Shown.{IsSameStop, IsShownStop}
 use Rattle.script_text.specs.declared.outputs.StopText.{StopText}
 use Rattle.script_text.specs.declared.scripts.Script.{Script}
-use Rattle.script_run.specs.Following.{IsStoppedAt}
+use Rattle.run_laws.specs.Stops.{IsStoppedAt}
 use Rattle.wire_io.specs.Moves.{AppendsFront}
-use Rattle.shared_db.specs.Opening.{IsOpeningClash}
+use Rattle.plain_sessions.specs.Opening.{IsOpeningClash}
 use Rattle.script_text.specs.Lines.{collision_line, fault_line}
 use Rattle.doltrun.specs.Headline.{HasScript, IsAnswer}
 use Rattle.doltrun.specs.declared.answering.NoAnswer.{NoAnswer}

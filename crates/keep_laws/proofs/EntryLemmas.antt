@@ -21,7 +21,7 @@ use Rattle.plain_writes.specs.Violations.{table_in}
 use Rattle.plain_sessions.specs.Branching.{put_table}
 use Rattle.plain_sessions.specs.Merging.{Worked}
 use Rattle.plain_sessions.specs.Records.{BranchState}
-use Rattle.plain_sessions.specs.SystemTables.{behind, conflict_columns, conflict_row, conflicts_front, delete_by, delete_conflicts, delete_entries, delete_violations, entries_left, entry_if, entry_left, tests_on, violation_columns, violation_row, violations_front, with_table, without_conflicts, without_violations}
+use Rattle.plain_sessions.specs.SystemTables.{behind, conflict_columns, conflict_row, conflicts_front, delete_by, delete_conflicts, delete_entries, delete_violations, entries_left, entry_if, entry_left, tests_on, violation_columns, violation_row, violations_front, with_table, keeping_conflicts, without_violations}
 use Rattle.plain_writes.proofs.DatabaseLemmas.{IsKeptTable, limits_so}
 use Rattle.plain_writes.proofs.RowOrderLemmas.{both_so, two, violation_total}
 use Rattle.plain_writes.proofs.OutcomeLemmas.{found_so, then_so}
@@ -116,13 +116,13 @@ conflicts_kept : (own : BranchState) (delete : Delete) (name : List ℕ) (table 
     → delete_conflicts own delete name table ≡ Ok w → IsKeptWork w
 conflicts_kept own delete name table w o found e =
     let tests = then_so (tests_on (conflict_columns table.schema) delete) (λ tests.
-    and_then (entries_left tests (conflict_row table.schema) table.conflicts) (λ left. Ok (without_conflicts own name table left))) w e in
-    let left = then_so (entries_left tests.0 (conflict_row table.schema) table.conflicts) (λ left. Ok (without_conflicts own name table left)) w tests.2 in
+    and_then (entries_left tests (conflict_row table.schema) table.conflicts) (λ left. Ok (keeping_conflicts own name table left))) w e in
+    let left = then_so (entries_left tests.0 (conflict_row table.schema) table.conflicts) (λ left. Ok (keeping_conflicts own name table left)) w tests.2 in
     let kept = found_kept own name table o found in
     let is = kept.is_table in
     let limits = limits_so table kept.within in
     let all = λ (p : Conflict → Bool) (h : list_all p table.conflicts ≡ true). left_all tests.0 (conflict_row table.schema) p table.conflicts left.0 h left.1 in
-    ok_has IsKeptWork (without_conflicts own name table left.0) w
+    ok_has IsKeptWork (keeping_conflicts own name table left.0) w
     (table_kept own name table (record table { conflicts = left.0 }) o found (record {
       is_table = record {
         schema = is.schema;

@@ -11,7 +11,7 @@ use Rattle.sql_procedures.specs.declared.requests.CheckoutRequest.TheVariants as
 use Rattle.sql_procedures.specs.declared.requests.NewBranch.{NewBranch}
 use Rattle.expr_eval.specs.Binding.{Outcome}
 use Rattle.plain_sql.specs.Lists.{or_refuse, unless}
-use Rattle.plain_sessions.specs.Branching.{branch_step, checked_out, checkout_step, create_branch, is_branch_there, is_checked_out, made_at, point_in}
+use Rattle.plain_sessions.specs.Branching.{branch_step, placed_on, checkout_step, create_branch, is_branch_there, is_checked_out, made_at, point_in}
 use Rattle.plain_sessions.specs.Moments.{Change, changed_by, commits_with, with_change}
 use Rattle.plain_sessions.specs.Records.{Branch, BranchState, Shared, added_at, branch_cmp, clean_at, first_commit, is_branch, is_same_commit, no_commits, root_of, state_of, with_branch, without_branch}
 use Rattle.plain_sessions.specs.Sessions.{Session}
@@ -103,13 +103,13 @@ branch_kept shared session (branch.Delete name) left kept e =
 
 checkout_kept : (shared : Shared) (session : Session) (request : CheckoutRequest) (left : Shared) → IsKeptShared shared → checkout_step shared session request ≡ Ok left → IsKeptShared left
 checkout_kept shared session (checkout.Existing name) left kept e =
-    let whole : Outcome Shared = Ok (checked_out session name shared) in
+    let whole : Outcome Shared = Ok (placed_on session name shared) in
     let there = unless_so (not (is_branch_there shared name)) 9004 whole left e in
-    ok_has IsKeptShared (checked_out session name shared) left (record { branches = kept.branches; commits = kept.commits }) there.1
+    ok_has IsKeptShared (placed_on session name shared) left (record { branches = kept.branches; commits = kept.commits }) there.1
 checkout_kept shared session (checkout.New request) left kept e =
-    let made = then_so (create_branch shared session request) (λ made. Ok (checked_out session request.name made)) left e in
+    let made = then_so (create_branch shared session request) (λ made. Ok (placed_on session request.name made)) left e in
     let new = created_kept shared session request made.0 kept made.1 in
-    ok_has IsKeptShared (checked_out session request.name made.0) left (record { branches = new.branches; commits = new.commits }) made.2
+    ok_has IsKeptShared (placed_on session request.name made.0) left (record { branches = new.branches; commits = new.commits }) made.2
 
 -- ---- all
 

@@ -20,7 +20,7 @@ use Rattle.plain_writes.specs.Writes.{Effect}
 use Rattle.plain_sessions.specs.Branching.{add, is_open, may_reset, may_stage, names_in, reset_to, says_something, staged_as, staged_first, taking_all, to_commit}
 use Rattle.plain_sessions.specs.Merging.{Worked, verified}
 use Rattle.plain_sessions.specs.Records.{BranchState, clean_at, database_in, root_of}
-use Rattle.plain_sessions.specs.Statements.{changed, changed_by}
+use Rattle.plain_sessions.specs.Statements.{changed, written_by}
 use Rattle.plain_writes.specs.WriteLaws.{IsKept}
 use Rattle.plain_writes.proofs.OutcomeLemmas.{then_so, unless_so}
 use Rattle.keep_laws.specs.StateLaws.{AreKeptCommits, IsKeptState, IsKeptWork}
@@ -46,7 +46,7 @@ clean_kept head database kept = record { working = kept; staged = kept }
 -- ---- writes
 
 pub changed_kept : (own : BranchState) (effect : Outcome Effect) → IsKeptState own → IfOk effect (λ (made : Effect). IsKept made.database) → (w : Worked) → changed own effect ≡ Ok w → IsKeptWork w
-changed_kept own (Ok made) o kept w e = ok_has IsKeptWork (changed_by own made) w (record { working = kept; staged = o.staged }) e
+changed_kept own (Ok made) o kept w e = ok_has IsKeptWork (written_by own made) w (record { working = kept; staged = o.staged }) e
 changed_kept own (Err number) o kept w e = cc
 
 -- ---- staging

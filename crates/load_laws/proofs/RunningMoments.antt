@@ -1,5 +1,5 @@
 -- The moments of the workload: each BEGIN and each COMMIT, and what the session comes to behind it.
-use Rattle.std.proofs.Common.{◌≡◌, ◌≢◌, refl, sym, ◌∙◌, ap, subst, ℕ, ℤ, ◌+◌, ◌<◌, true, false, ◌==◌, List, [], ◌∷◌, ◌++◌, map, Option, Some, None, Ok, inl, inr, ◌⊎◌, codes, if◌then◌else◌}
+use Rattle.std.proofs.Common.{◌≡◌, ◌≢◌, refl, sym, ◌∙◌, ap, subst, ℕ, ℤ, ◌+◌, ◌<◌, true, false, ◌==◌, ◌&&◌, List, [], ◌∷◌, ◌++◌, map, Option, Some, None, Ok, inl, inr, ◌⊎◌, codes, if◌then◌else◌}
 use Rattle.std.specs.List.{list_all}
 use Rattle.std.specs.Option.{option_and_then, option_map}
 use Rattle.tuple_codec.proofs.Lists.{all_append}
@@ -9,7 +9,7 @@ use Rattle.plain_sessions.specs.CommitRule.{decide}
 use Rattle.plain_sessions.specs.Moments.{After, Past, moment_at, past_moment, ruled, settled, without_commit}
 use Rattle.plain_sessions.specs.Records.{Branch, BranchState, Shared, state_of, with_branch}
 use Rattle.plain_sessions.specs.Replies.{done}
-use Rattle.plain_sessions.specs.Runs.{Runner, advance, nothing_refused, step_of, went_on}
+use Rattle.plain_sessions.specs.Runs.{Runner, advance, needs_moment, nothing_refused, step_of, went_on}
 use Rattle.plain_sessions.specs.Sessions.{Session, Transaction, first_variables, head_of, over, started_at, within}
 use Rattle.plain_sessions.specs.declared.commands.Command.{Command}
 use Rattle.plain_sessions.specs.declared.commands.Command.TheVariants.{Begin, CommitAll}
@@ -66,7 +66,7 @@ step_is : (address : List ℕ → List ℕ) (epoch : ℤ) (place number : ℕ) (
     → moment_at address epoch None shared session command ≡ Some after → step_of address epoch (nothing_refused place) number shared session replies (command ∷ todo) ≡ Some next
     → (after.0, went_on (nothing_refused place) session command todo replies after.1) ≡ next
 step_is address epoch place number shared session replies command todo after next goes =
-    elim (session.statement == number) as (λ test. (if test then option_map (λ (made : Shared × After). (made.0, went_on (nothing_refused place) session command todo replies made.1)) (moment_at address epoch None shared session command) else None) ≡ Some next
+    elim (session.statement == number && needs_moment None session command) as (λ test. (if test then option_map (λ (made : Shared × After). (made.0, went_on (nothing_refused place) session command todo replies made.1)) (moment_at address epoch None shared session command) else None) ≡ Some next
     → (after.0, went_on (nothing_refused place) session command todo replies after.1) ≡ next) [
       | true ↦ λ h. some_is (after.0, went_on (nothing_refused place) session command todo replies after.1) next
           (sym (ap (option_map (λ (made : Shared × After). (made.0, went_on (nothing_refused place) session command todo replies made.1))) goes) ∙ h)

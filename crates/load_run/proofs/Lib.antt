@@ -1,5 +1,6 @@
 mod FullLemmas
 mod CountLemmas
+mod SpelledLemmas
 mod LoadLemmas
 mod TextLemmas
 mod Vectors

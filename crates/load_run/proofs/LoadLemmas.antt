@@ -19,6 +19,7 @@ use Rattle.workload.proofs.WorkloadLemmas.{line_count, lines_within, names_disti
 use Rattle.load_laws.specs.Laws.{LoadEnds, TableIsFull}
 use Rattle.load_run.specs.Loading.{IsLoaded, rows_in}
 use Rattle.load_run.proofs.FullLemmas.{all_is_there, refused_by_cause}
+use Rattle.load_run.proofs.SpelledLemmas.{lines_spelled}
 
 -- ---- the script
 
@@ -29,6 +30,7 @@ sound_workload seed =
       names = names_shown;
       distinct = names_distinct;
       sessions = lines_within seed;
+      statements = lines_spelled seed;
       spoken = subst (λ (n : ℕ). 8 ≤ n) (sym many) (omega arith);
       few = subst (λ (n : ℕ). n ≤ most_statements) (sym many) (omega arith);
     }

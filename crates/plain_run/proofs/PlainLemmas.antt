@@ -31,7 +31,8 @@ use Rattle.plain_sessions.specs.Records.{Shared}
 use Rattle.run_laws.proofs.HistoryLemmas.{as_many_runners}
 use Rattle.run_laws.specs.Orders.{IsTextOrder, asked_moment, asked_order}
 use Rattle.run_laws.specs.Replaying.{CantGoOn, IsStopped}
-use Rattle.script_run.specs.Following.{IsReplayed, IsStoppedAt, ReplaysAs}
+use Rattle.run_laws.specs.Stops.{IsStoppedAt}
+use Rattle.script_run.specs.Following.{IsReplayed, ReplaysAs}
 use Rattle.script_run.specs.declared.following.Replayed.{Replayed}
 use Rattle.script_run.specs.declared.following.Replayed.TheVariants as replayed
 use Rattle.script_run.specs.Scripts.{IsSoundScript}

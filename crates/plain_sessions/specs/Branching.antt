@@ -26,8 +26,8 @@ use Rattle.expr_eval.specs.Binding.{Outcome, and_then}
 use Rattle.plain_sql.specs.Lists.{each, in_order, or_refuse, unless}
 use Rattle.plain_writes.specs.Violations.{table_in}
 use Rattle.plain_schemas.specs.Effects.{without_table}
-use Rattle.plain_sessions.specs.Records.{Branch, BranchState, Shared, clean_at, root_of, state_of, with_branch, without_branch}
-use Rattle.plain_sessions.specs.Sessions.{Head, Session}
+use Rattle.plain_sessions.specs.Records.{BranchState, Shared, clean_at, root_of, state_of, with_branch, without_branch}
+use Rattle.plain_sessions.specs.Sessions.{Head, Session, heads_in}
 use Rattle.script_text.specs.declared.replies.Reply.{Reply}
 use Rattle.plain_sessions.specs.Replies.{Field, number_field, one_row, text_field}
 use Rattle.plain_sessions.specs.CommitRule.{has_conflicts, has_violations, is_none}
@@ -131,9 +131,6 @@ resolved heads commits name = or_commit commits name (find (λ head. bytes_eq he
 
 -- ---- DOLT_BRANCH, at its moment
 
-abbrev pub heads_in : List Branch → List Head
-heads_in branches = map (λ branch. record { name = branch.name; commit = branch.state.head }) branches
-
 -- the point's commit; without one, the head of the session's branch at that moment
 abbrev pub point_in : Shared → Session → NewBranch → Option (List ℕ)
 point_in shared session request =
@@ -168,14 +165,14 @@ branch_step shared session (branch.Delete name) = delete_branch shared name
 
 -- ---- DOLT_CHECKOUT, at its moment
 
-abbrev pub checked_out : Session → List ℕ → Shared → Shared
-checked_out session name shared = record shared { places = set shared.places session.number name }
+abbrev pub placed_on : Session → List ℕ → Shared → Shared
+placed_on session name shared = record shared { places = set shared.places session.number name }
 
 abbrev pub checkout_step : Shared → Session → CheckoutRequest → Outcome Shared
 checkout_step shared session (checkout.Existing name) =
-    unless (not (is_branch_there shared name)) 9004 (Ok (checked_out session name shared))
+    unless (not (is_branch_there shared name)) 9004 (Ok (placed_on session name shared))
 checkout_step shared session (checkout.New request) =
-    and_then (create_branch shared session request) (λ made. Ok (checked_out session request.name made))
+    and_then (create_branch shared session request) (λ made. Ok (placed_on session request.name made))
 
 abbrev pub checkout_name : CheckoutRequest → List ℕ
 checkout_name (checkout.Existing name) = name

@@ -1,4 +1,5 @@
 pub mod Records
+pub mod Opening
 pub mod Replies
 pub mod Sessions
 pub mod Commands

@@ -1,5 +1,5 @@
 -- Runs: sessions that go through their statements, alone or by moments on the shared state, along an order.
-use Rattle.std.specs.Prelude.{ℕ, ℤ, Bool, true, false, ◌==◌, ◌+◌, List, [], ◌∷◌, ◌++◌, Option, None, Some, if◌then◌else◌}
+use Rattle.std.specs.Prelude.{ℕ, ℤ, Bool, true, false, ◌==◌, ◌&&◌, ◌+◌, is_none, List, [], ◌∷◌, ◌++◌, Option, None, Some, if◌then◌else◌}
 use Rattle.std.specs.Prelude.{slice_get, slice_set}
 use Rattle.std.specs.Option.{option_map, option_map_or, option_and_then}
 use Rattle.std.specs.List.{list_all}
@@ -50,11 +50,15 @@ went_on answers session command todo replies (Still transaction place) =
 
 -- ---- one moment
 
--- the moment of a session at this statement, and its way on
+-- what the statement asks isn't answered without one
+abbrev pub needs_moment : Option Shortage → Session → Command → Bool
+needs_moment answer session command = is_none (alone answer session command)
+
+-- the moment of a session that needs one at this statement, and its way on
 abbrev pub step_of : (List ℕ → List ℕ) → ℤ → (ℕ → Option Shortage) → ℕ → Shared → Session → List Reply → List Command → Option (Shared × Runner)
 step_of address epoch answers number shared session replies [] = None
 step_of address epoch answers number shared session replies (command ∷ todo) =
-    if session.statement == number
+    if session.statement == number && needs_moment (answers session.statement) session command
     then option_map (λ after. (after.0, went_on answers session command todo replies after.1)) (moment_at address epoch (answers session.statement) shared session command)
     else None
 

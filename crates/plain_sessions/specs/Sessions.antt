@@ -56,8 +56,11 @@ Said = Session × Reply
 abbrev pub head_of : Branch → Head
 head_of branch = record { name = branch.name; commit = branch.state.head }
 
+abbrev pub heads_in : List Branch → List Head
+heads_in branches = map head_of branches
+
 abbrev pub started_at : Shared → BranchState → Transaction
-started_at shared state = record { start = state; heads = map head_of shared.branches; commits = shared.commits; own = state }
+started_at shared state = record { start = state; heads = heads_in shared.branches; commits = shared.commits; own = state }
 
 -- a start: the session's branch in the shared state
 abbrev pub taken : Shared → Session → Option Transaction

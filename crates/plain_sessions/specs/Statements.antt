@@ -35,11 +35,11 @@ counted_or_done (Some rows) = counted rows
 counted_or_done None = done
 
 -- the working database becomes the effect's
-abbrev pub changed_by : BranchState → Effect → Worked
-changed_by own effect = Answers (counted_or_done effect.count) (record own { working = effect.database })
+abbrev pub written_by : BranchState → Effect → Worked
+written_by own effect = Answers (counted_or_done effect.count) (record own { working = effect.database })
 
 abbrev pub changed : BranchState → Outcome Effect → Outcome Worked
-changed own effect = and_then effect (λ made. Ok (changed_by own made))
+changed own effect = and_then effect (λ made. Ok (written_by own made))
 
 -- a DELETE of entries, or of a table's rows
 abbrev pub or_of_rows : BranchState → Delete → Option (Outcome Worked) → Outcome Worked

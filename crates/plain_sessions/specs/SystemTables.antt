@@ -226,8 +226,8 @@ abbrev pub with_table : BranchState → List ℕ → PlainTable → BranchState
 with_table own name table = record own { working = put_table name (Some table) own.working }
 
 -- the reply counts those that went
-abbrev pub without_conflicts : BranchState → List ℕ → PlainTable → List Conflict → Worked
-without_conflicts own name table left =
+abbrev pub keeping_conflicts : BranchState → List ℕ → PlainTable → List Conflict → Worked
+keeping_conflicts own name table left =
     Answers (counted (length table.conflicts - length left)) (with_table own name (record table { conflicts = left }))
 
 abbrev pub without_violations : BranchState → List ℕ → PlainTable → List Violation → Worked
@@ -237,7 +237,7 @@ without_violations own name table left =
 abbrev pub delete_conflicts : BranchState → Delete → List ℕ → PlainTable → Outcome Worked
 delete_conflicts own delete name table =
     and_then (tests_on (conflict_columns table.schema) delete) (λ tests.
-    and_then (entries_left tests (conflict_row table.schema) table.conflicts) (λ left. Ok (without_conflicts own name table left)))
+    and_then (entries_left tests (conflict_row table.schema) table.conflicts) (λ left. Ok (keeping_conflicts own name table left)))
 
 abbrev pub delete_violations : BranchState → Delete → List ℕ → PlainTable → Outcome Worked
 delete_violations own delete name table =

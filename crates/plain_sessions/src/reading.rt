@@ -1,6 +1,7 @@
 //! A text read as what it asks.
 
-ghost use Rattle.std.specs.Prelude.{◌≡◌, ◌<◌, ◌^◌, length, IfOk};
+ghost use Rattle.std.specs.Prelude.{◌≡◌, ◌<◌, ◌^◌, true, length, IfOk};
+ghost use Rattle.tuple_codec.specs.Texts.{is_utf8};
 ghost use Rattle.sql_procedures.specs.Arguments.{request_of};
 ghost use Rattle.plain_sessions.specs.Commands.{call_command, command, misused, request_command, requested, select_command, statement_command};
 ghost use Rattle.plain_sessions.specs.Fitness.{IsFitCommand};
@@ -11,19 +12,16 @@ use sql_laws::law_of_sound_statements;
 use sql_parse::parse;
 use sql_procedures::{Procedure, Request, arguments_of, procedure_named};
 use std::alloc::{AllocError, Global};
-use tuple_codec::{Boxed, Text, is_text};
+use tuple_codec::{Boxed, Text};
 
-/// What a text asks, in a box, since trees that are owned in a function over any digester are dear to prove. A text that isn't UTF-8 would be
-/// answered by want of memory; no script has one.
+/// What a text asks, in a box, since trees that are owned in a function over any digester are dear to prove.
 pub fn read_command(alloc: Global, text: &[u8]) -> Result<Boxed<Command>, AllocError>
-    requires { length text.now < 2 ^ 32 }
+    requires size { length text.now < 2 ^ 32 }
+    requires utf8 { is_utf8 text.now ≡ true }
     ensures is { IfOk result (λ asked. asked ≡ command text.now) }
     ensures fit { IfOk result IsFitCommand }
 {
     law_of_sound_statements();
-    if !is_text(text) {
-        return Err(AllocError);
-    }
     let asked = command_in(alloc, text)?;
     Boxed::new(alloc, asked)
 }

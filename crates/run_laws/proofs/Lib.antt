@@ -1,5 +1,6 @@
 pub mod ListLemmas
 pub mod Steps
+mod WaitLemmas
 pub mod Resting
 pub mod LineLemmas
 pub mod OrderLemmas

@@ -17,13 +17,13 @@ use Rattle.plain_sessions.specs.declared.commands.Command.{Command}
 use Rattle.plain_sessions.specs.declared.commands.Command.TheVariants.{Data}
 use Rattle.plain_sessions.specs.declared.commands.Work.{Work}
 use Rattle.plain_sessions.specs.Moments.{After, Past, Still, alone, moment_at, past}
-use Rattle.plain_sessions.specs.Runs.{Runner, Shortages, State, advance, awaiting, commands_of, has_none_left, is_over, opened, plain_run, put_runner, runners_of, step, step_of, steps_along, went_on}
+use Rattle.plain_sessions.specs.Runs.{Runner, Shortages, State, advance, awaiting, commands_of, has_none_left, is_over, needs_moment, opened, plain_run, put_runner, runners_of, step, step_of, steps_along, went_on}
 use Rattle.run_laws.specs.Replaying.{AgreesWith, AgreesWithAll, Along, AreWaiting, CantGoOn, IsStopped, WaitsAt, all_replies, dropped, first_runners, is_at, is_next, pending_by, reply_of, seen, seen_all, seen_at}
 use Rattle.run_laws.specs.Laws.{shown_of}
 use Rattle.run_laws.proofs.ListLemmas.{get_put, get_put_other, if_false, put_same}
 use Rattle.run_laws.proofs.SeenLemmas.{seen_found, seen_put}
-use Rattle.run_laws.proofs.SessionLemmas.{Comes, agrees_unstarted, decision_back, decision_waits, dropped_back, dropped_stays, local_stays, moment_comes, moment_waits, start_back, start_comes, start_is_waited}
-use Rattle.run_laws.proofs.Steps.{step_here}
+use Rattle.run_laws.proofs.SessionLemmas.{Comes, agrees_unstarted, decision_back, decision_waits, dropped_back, dropped_stays, local_stays, moment_comes, moment_needed, moment_waits, start_back, start_comes, start_is_waited, start_needed}
+use Rattle.run_laws.proofs.Steps.{behind_waits, step_here}
 
 -- ---- who agrees with more replies agrees with fewer
 
@@ -102,8 +102,9 @@ step_of_other : (address : List ℕ → List ℕ) (epoch : ℤ) (answers : ℕ �
     → (not (has_none_left todo) && session.statement == number) ≡ false → step_of address epoch answers number shared session replies todo ≡ None
 step_of_other address epoch answers number shared session replies [] other = refl
 step_of_other address epoch answers number shared session replies (command ∷ todo) other =
-    if_false (session.statement == number)
-    (option_map (λ (made : Shared × After). (made.0, went_on answers session command todo replies made.1)) (moment_at address epoch (answers session.statement) shared session command)) None other
+    if_false (session.statement == number && needs_moment (answers session.statement) session command)
+    (option_map (λ (made : Shared × After). (made.0, went_on answers session command todo replies made.1)) (moment_at address epoch (answers session.statement) shared session command)) None
+    (ap (λ (here : Bool). here && needs_moment (answers session.statement) session command) other)
 
 pub step_refused : (address : List ℕ → List ℕ) (epoch : ℤ) (answers : Shortages) (shared : Shared) (runners : List Runner) (moment : Moment)
     → is_next runners moment ≡ false → step address epoch answers moment (record { shared = shared; runners = runners }) ≡ None
@@ -145,15 +146,16 @@ module _ (reads : List ℕ → Command) (address : List ℕ → List ℕ) (epoch
       → slice_get runners place ≡ Some (record { session = session; replies = replies; todo = command ∷ todo })
       → ((answers : Shortages) → AgreesWith (answers place) next → AgreesWith (answers place) (record { session = session; replies = replies; todo = command ∷ todo }))
       → ((answers : Shortages) → AgreesWith (answers place) next → seen (answers place) (record { session = session; replies = replies; todo = command ∷ todo }) ≡ record { session = session; replies = replies; todo = command ∷ todo })
+      → ((answers : Shortages) → AgreesWith (answers place) next → alone (answers place session.statement) session command ≡ None)
       → ((answers : Shortages) → AgreesWith (answers place) next → Comes address epoch (answers place) shared session replies command todo left next)
       → Along reads address epoch script order shared runners
       → Along reads address epoch script (order ++ record { session = place; statement = session.statement } ∷ []) left (slice_set runners place next)
-  keeps_moment order shared left runners place session replies command todo next h back waits goes =
+  keeps_moment order shared left runners place session replies command todo next h back waits needs goes =
       keeps order (record { session = place; statement = session.statement } ∷ []) shared left runners place (record { session = session; replies = replies; todo = command ∷ todo }) next h back
       (λ answers more agrees. let went = goes answers agrees in
       ap (option_and_then (steps_along address epoch answers more))
       (step_here address epoch answers (record { session = place; statement = session.statement }) shared (seen_all answers 0 runners) session replies command todo (left, went.0)
-      (seen_here answers runners place (record { session = session; replies = replies; todo = command ∷ todo }) h ∙ ap (λ (r : Runner). Some r) (waits answers agrees)) refl went.1
+      (seen_here answers runners place (record { session = session; replies = replies; todo = command ∷ todo }) h ∙ ap (λ (r : Runner). Some r) (waits answers agrees)) refl (needs answers agrees) went.1
       ∙ ap (λ (r : Runner). Some (record { shared = left; runners = slice_set (seen_all answers 0 runners) place r })) went.2))
 
   -- ---- the four ways on
@@ -177,6 +179,7 @@ module _ (reads : List ℕ → Command) (address : List ℕ → List ℕ) (epoch
       keeps_moment order shared left runners place session replies command todo (record { session = said.0; replies = replies ++ said.1 ∷ []; todo = todo }) h
       (λ answers agrees. agrees_unstarted (answers place) session said.0 replies said.1 command todo before agrees)
       (λ answers agrees. moment_waits (answers place) session replies command todo said number before waits agrees)
+      (λ answers agrees. moment_needed (answers place) session replies command todo said number waits agrees)
       (λ answers agrees. moment_comes (answers place) session replies command todo address epoch shared left said number is agrees)
 
   -- the decision behind a start
@@ -189,6 +192,7 @@ module _ (reads : List ℕ → Command) (address : List ℕ → List ℕ) (epoch
       keeps_moment order shared left runners place session replies command todo (record { session = said.0; replies = replies ++ said.1 ∷ []; todo = todo }) h
       (λ answers agrees. decision_back (answers place) session replies command todo said number well agrees)
       (λ answers agrees. decision_waits (answers place) session replies command todo said number between well agrees)
+      (λ answers agrees. behind_waits (answers place session.statement) session command between)
       (λ answers agrees. moment_comes (answers place) session replies command todo address epoch shared left said number
       (subst (λ answer. moment_at address epoch answer shared session command ≡ Some (left, Past said)) (sym well) is) agrees)
 
@@ -203,6 +207,7 @@ module _ (reads : List ℕ → Command) (address : List ℕ → List ℕ) (epoch
       keeps_moment order shared shared runners at session replies (Data work) todo next h
       (λ answers agrees. start_back (answers at) session replies work todo transaction place before agrees)
       (λ answers agrees. start_is_waited (answers at) session replies work todo transaction place before none between agrees)
+      (λ answers agrees. start_needed (answers at) session replies work todo transaction place none between agrees)
       (λ answers agrees. start_comes (answers at) session replies work todo transaction place address epoch shared before none is between agrees)
 
   -- an answer 2 or 3 in place of the decision
@@ -258,10 +263,13 @@ module _ (reads : List ℕ → Command) (address : List ℕ → List ℕ) (epoch
 
   pub replay_stopped : (order : List Moment) (count : ℕ) (shared : Shared) (runners : List Runner) → AreWaiting runners → Along reads address epoch script (take count order) shared runners → count ≤ length order
       → CantGoOn address epoch (shortages_in (all_replies runners)) (record { shared = shared; runners = runners }) (slice_get order count)
-      → IsStopped reads address epoch script order count (shortages_in (all_replies runners))
-  replay_stopped order count shared runners waiting along within stopped = record {
-    state = record { shared = shared; runners = runners };
-    within = within;
-    followed = replay_state (take count order) shared runners waiting along;
-    stopped = stopped;
-  }
+      → (stop : IsStopped reads address epoch script order count (shortages_in (all_replies runners))) × (all_replies stop.state.runners ≡ all_replies runners)
+  replay_stopped order count shared runners waiting along within stopped = (
+    record {
+      state = record { shared = shared; runners = runners };
+      within = within;
+      followed = replay_state (take count order) shared runners waiting along;
+      stopped = stopped;
+    },
+    refl,
+  )

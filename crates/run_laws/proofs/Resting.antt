@@ -15,7 +15,8 @@ use Rattle.plain_sessions.specs.Runs.{Runner, Shortages, advance, awaiting, comm
 use Rattle.run_laws.specs.Turns.{Turn, ServedIn, TurnsFollow, moment_of_turn, moments_of}
 use Rattle.run_laws.specs.Lines.{Spoken, answered_at, new_spoken, resting, state_before}
 use Rattle.run_laws.proofs.ListLemmas.{get_put, if_false, put_same}
-use Rattle.run_laws.proofs.Steps.{step_here}
+use Rattle.run_laws.proofs.Steps.{behind_waits, step_here}
+use Rattle.run_laws.proofs.WaitLemmas.{behind_start}
 
 abbrev runner_of : (List ℕ → Command) → Shortages → List Line → ℕ → Session × List Reply → Runner
 runner_of reads answers lines place one = advance (answers place) (commands_of reads place lines) one.1 one.0
@@ -129,7 +130,7 @@ by_moment : (reads : List ℕ → Command) (address : List ℕ → List ℕ) (ep
     ≡ Some (state_before reads answers lines turn.left (answered_at line.session said replies spoken))
 by_moment reads address epoch answers line lines turn spoken session replies said h served =
     step_here address epoch answers (moment_of_turn line.session turn) turn.found (resting reads answers (line ∷ lines) 0 spoken) session replies (reads line.statement)
-    (commands_of reads line.session lines) (turn.left, Past said) (waits reads answers line lines spoken session replies h served.waits) (sym served.numbered) served.answered
+    (commands_of reads line.session lines) (turn.left, Past said) (waits reads answers line lines spoken session replies h served.waits) (sym served.numbered) served.waits served.answered
     ∙ ap (λ runners. Some (record { shared = turn.left; runners = runners }))
     (put_behind reads answers line lines spoken (session, replies) (said.0, replies ++ said.1 ∷ []) h)
 
@@ -148,12 +149,15 @@ by_moments reads address epoch answers line lines start decision spoken session 
     let first : step address epoch answers (moment_of_turn line.session start) (state_before reads answers (line ∷ lines) start.found spoken)
     ≡ Some (record { shared = start.left; runners = slice_set runners line.session pending })
     = step_here address epoch answers (moment_of_turn line.session start) start.found runners session replies (reads line.statement)
-    todo (start.left, Still served.transaction served.place) waiting (sym served.numbered) served.started in
+    todo (start.left, Still served.transaction served.place) waiting (sym served.numbered) served.waits served.started in
     let there : slice_get (slice_set runners line.session pending) line.session ≡ Some pending = get_put runners line.session before pending waiting in
     ap (option_and_then (step address epoch answers (moment_of_turn line.session decision))) first
     ∙ ap (λ shared. step address epoch answers (moment_of_turn line.session decision) (record { shared = shared; runners = slice_set runners line.session pending })) (sym follows)
     ∙ step_here address epoch answers (moment_of_turn line.session decision) decision.found (slice_set runners line.session pending) (awaiting session served.transaction served.place) replies (reads line.statement)
-    todo (decision.left, Past said) there (sym served.numbered_again) served.answered
+    todo (decision.left, Past said) there (sym served.numbered_again)
+    (behind_waits (answers line.session session.statement) (awaiting session served.transaction served.place) (reads line.statement)
+    (behind_start address epoch (answers line.session session.statement) start.found session (reads line.statement) start.left served.transaction served.place served.started))
+    served.answered
     ∙ ap (λ runners. Some (record { shared = decision.left; runners = runners }))
     (set-set runners line.session pending (advance (answers line.session) todo (replies ++ said.1 ∷ []) said.0)
     ∙ put_behind reads answers line lines spoken (session, replies) (said.0, replies ++ said.1 ∷ []) h)

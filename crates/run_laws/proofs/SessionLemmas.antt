@@ -89,12 +89,17 @@ module _ (answers : ℕ → Option Shortage) (session : Session) (replies : List
       seen_pending answers session replies command todo between
       ∙ ap (pending_by answers session replies command todo) (known answers session (dropped session) replies (reply_of short) todo number agrees ∙ told_short short)
 
+  pub moment_needed : (said : Said) → session.statement ≡ length replies + 1 → alone (shortage said.1) session command ≡ None
+      → AgreesWith answers (record { session = said.0; replies = replies ++ said.1 ∷ []; todo = todo })
+      → alone (answers session.statement) session command ≡ None
+  moment_needed said number waits agrees =
+      subst (λ answer. alone answer session command ≡ None) (sym (known answers session said.0 replies said.1 todo number agrees)) waits
+
   pub moment_waits : (said : Said) → session.statement ≡ length replies + 1 → is_before_statement session.place ≡ true → alone (shortage said.1) session command ≡ None
       → AgreesWith answers (record { session = said.0; replies = replies ++ said.1 ∷ []; todo = todo })
       → seen answers (record { session = session; replies = replies; todo = command ∷ todo }) ≡ record { session = session; replies = replies; todo = command ∷ todo }
   moment_waits said number before waits agrees =
-      waiting_seen answers session replies command todo before
-      (subst (λ answer. alone answer session command ≡ None) (sym (known answers session said.0 replies said.1 todo number agrees)) waits)
+      waiting_seen answers session replies command todo before (moment_needed said number waits agrees)
 
   pub moment_comes : (address : List ℕ → List ℕ) (epoch : ℤ) (shared left : Shared) (said : Said) → session.statement ≡ length replies + 1
       → moment_at address epoch (shortage said.1) shared session command ≡ Some (left, Past said)
@@ -125,11 +130,16 @@ module _ (answers : ℕ → Option Shortage) (session : Session) (replies : List
       → AgreesWith answers (record { session = session; replies = replies; todo = Data work ∷ todo })
   start_back before agrees = record { told = agrees.told; started = λ other. let apart : true ≡ false = sym before ∙ other in absurd (cc) }
 
+  pub start_needed : session.transaction ≡ None → is_before_statement place ≡ false
+      → AgreesWith answers (record { session = awaiting session transaction place; replies = replies; todo = Data work ∷ todo })
+      → alone (answers session.statement) session (Data work) ≡ None
+  start_needed none between agrees = start_waits session work none (answers session.statement) (agrees.started between)
+
   pub start_is_waited : is_before_statement session.place ≡ true → session.transaction ≡ None → is_before_statement place ≡ false
       → AgreesWith answers (record { session = awaiting session transaction place; replies = replies; todo = Data work ∷ todo })
       → seen answers (record { session = session; replies = replies; todo = Data work ∷ todo }) ≡ record { session = session; replies = replies; todo = Data work ∷ todo }
   start_is_waited before none between agrees =
-      waiting_seen answers session replies (Data work) todo before (start_waits session work none (answers session.statement) (agrees.started between))
+      waiting_seen answers session replies (Data work) todo before (start_needed none between agrees)
 
   pub start_comes : (address : List ℕ → List ℕ) (epoch : ℤ) (shared : Shared) → is_before_statement session.place ≡ true → session.transaction ≡ None
       → moment_at address epoch None shared session (Data work) ≡ Some (shared, Still transaction place) → is_before_statement place ≡ false

@@ -1,6 +1,8 @@
 -- One step of the machine, and what a session says to its statement.
-use Rattle.std.proofs.Common.{◌≡◌, sym, ◌∙◌, ap, ℕ, ℤ, Bool, true, false, ◌==◌, List, [], ◌∷◌, Option, Some, None, slice_get, slice_set, arith, if◌then◌else◌}
+use Rattle.std.proofs.Common.{◌≡◌, sym, ◌∙◌, ap, ℕ, ℤ, Bool, true, false, ◌==◌, ◌&&◌, List, [], ◌∷◌, Option, Some, None, slice_get, slice_set, arith, if◌then◌else◌}
 use Rattle.std.specs.Option.{option_map, option_and_then}
+use Rattle.std.specs.Prelude.{is_none}
+use Rattle.std.proofs.lemmas.Bool.{and_from}
 use Rattle.std.proofs.lemmas.Bool.Decides.{nat_tests}
 use Rattle.tuple_codec.proofs.Truths.{if_true}
 use Rattle.script_text.specs.Output.{Shortage}
@@ -10,30 +12,36 @@ use Rattle.plain_sessions.specs.Records.{Shared}
 use Rattle.plain_sessions.specs.Sessions.{Said, Session, is_before_statement}
 use Rattle.plain_sessions.specs.declared.commands.Command.{Command}
 use Rattle.plain_sessions.specs.Moments.{After, Past, Still, alone, alone_by, moment_at, moment_in, past, past_moment}
-use Rattle.plain_sessions.specs.Runs.{Runner, Shortages, put_runner, step, step_of, went_on}
+use Rattle.plain_sessions.specs.Runs.{Runner, Shortages, needs_moment, put_runner, step, step_of, went_on}
 use Rattle.run_laws.specs.Turns.{Turn, IsPast, ServedIn}
 
 -- a runner that waits, at the moment of its statement
 pub step_of_waiting : (address : List ℕ → List ℕ) (epoch : ℤ) (answers : ℕ → Option Shortage) (number : ℕ) (shared : Shared) (session : Session) (replies : List Reply) (command : Command) (todo : List Command) (after : Shared × After)
-    → session.statement ≡ number → moment_at address epoch (answers session.statement) shared session command ≡ Some after
+    → session.statement ≡ number → alone (answers session.statement) session command ≡ None
+    → moment_at address epoch (answers session.statement) shared session command ≡ Some after
     → step_of address epoch answers number shared session replies (command ∷ todo) ≡ Some (after.0, went_on answers session command todo replies after.1)
-step_of_waiting address epoch answers number shared session replies command todo after same went =
-    let test : (session.statement == number) ≡ true = grind (arith, nat_tests) in
-    if_true (session.statement == number)
+step_of_waiting address epoch answers number shared session replies command todo after same waits went =
+    let here : (session.statement == number) ≡ true = grind (arith, nat_tests) in
+    if_true (session.statement == number && needs_moment (answers session.statement) session command)
     (option_map (λ (made : Shared × After). (made.0, went_on answers session command todo replies made.1)) (moment_at address epoch (answers session.statement) shared session command))
-    None test
+    None (and_from (session.statement == number) (needs_moment (answers session.statement) session command) here (ap (λ (said : Option Said). is_none said) waits))
     ∙ ap (option_map (λ (made : Shared × After). (made.0, went_on answers session command todo replies made.1))) went
 
 pub step_here : (address : List ℕ → List ℕ) (epoch : ℤ) (answers : Shortages) (moment : Moment) (shared : Shared) (runners : List Runner) (session : Session) (replies : List Reply) (command : Command) (todo : List Command) (after : Shared × After)
     → slice_get runners moment.session ≡ Some (record { session = session; replies = replies; todo = command ∷ todo }) → session.statement ≡ moment.statement
+    → alone (answers moment.session session.statement) session command ≡ None
     → moment_at address epoch (answers moment.session session.statement) shared session command ≡ Some after
     → step address epoch answers moment (record { shared = shared; runners = runners })
     ≡ Some (record { shared = after.0; runners = slice_set runners moment.session (went_on (answers moment.session) session command todo replies after.1) })
-step_here address epoch answers moment shared runners session replies command todo after there same went =
+step_here address epoch answers moment shared runners session replies command todo after there same waits went =
     ap (option_and_then (λ (runner : Runner). option_map (put_runner moment.session runners)
     (step_of address epoch (answers moment.session) moment.statement shared runner.session runner.replies runner.todo))) there
     ∙ ap (option_map (put_runner moment.session runners))
-    (step_of_waiting address epoch (answers moment.session) moment.statement shared session replies command todo after same went)
+    (step_of_waiting address epoch (answers moment.session) moment.statement shared session replies command todo after same waits went)
+
+-- a session that stands behind a statement's start isn't answered without its decision
+pub behind_waits : (answer : Option Shortage) (session : Session) (command : Command) → is_before_statement session.place ≡ false → alone answer session command ≡ None
+behind_waits answer session command behind = ap (λ (test : Bool). option_map (past session.statement) (if test then alone_by answer session command else None)) behind
 
 -- ---- the number goes up by one
 

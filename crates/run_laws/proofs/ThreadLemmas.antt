@@ -12,8 +12,8 @@ use Rattle.plain_sessions.specs.Runs.{Runner, advance, awaiting, step_of}
 use Rattle.run_laws.specs.Replaying.{AgreesWith, dropped, reply_of, seen}
 use Rattle.run_laws.specs.Histories.{GoesTold, ToldTurn, Way}
 use Rattle.run_laws.proofs.SeenLemmas.{seen_before}
-use Rattle.run_laws.proofs.SessionLemmas.{Comes, agrees_unstarted, decision_back, decision_waits, dropped_back, dropped_stays, local_stays, moment_comes, moment_waits, start_back, start_comes, start_is_waited}
-use Rattle.run_laws.proofs.Steps.{step_of_waiting}
+use Rattle.run_laws.proofs.SessionLemmas.{Comes, agrees_unstarted, decision_back, decision_waits, dropped_back, dropped_stays, local_stays, moment_comes, moment_needed, moment_waits, start_back, start_comes, start_is_waited, start_needed}
+use Rattle.run_laws.proofs.Steps.{behind_waits, step_of_waiting}
 
 goes_on_told : {Words : Type 0} (Stands : Words → Shared → Type 0) (address : List ℕ → List ℕ) (epoch : ℤ) (answers : ℕ → Option Shortage) (runner next last : Runner) (told more : List (ToldTurn Words))
     → GoesTold Stands address epoch answers runner told next → GoesTold Stands address epoch answers next more last → GoesTold Stands address epoch answers runner (told ++ more) last
@@ -38,10 +38,11 @@ module _ {Words : Type 0} (Stands : Words → Shared → Type 0) (address : List
       → Stands before found → Stands behind left
       → ((answers : ℕ → Option Shortage) → AgreesWith answers next → AgreesWith answers (record { session = session; replies = replies; todo = command ∷ todo }))
       → ((answers : ℕ → Option Shortage) → AgreesWith answers next → seen answers (record { session = session; replies = replies; todo = command ∷ todo }) ≡ record { session = session; replies = replies; todo = command ∷ todo })
+      → ((answers : ℕ → Option Shortage) → AgreesWith answers next → alone (answers session.statement) session command ≡ None)
       → ((answers : ℕ → Option Shortage) → AgreesWith answers next → Comes address epoch answers found session replies command todo left next)
       → Way Stands address epoch first all told (record { session = session; replies = replies; todo = command ∷ todo })
       → Way Stands address epoch first all (told ++ record { statement = session.statement; found = before; left = behind } ∷ []) next
-  way_turn told before behind found left session replies command todo next found_stands left_stands back waits comes way answers agrees =
+  way_turn told before behind found left session replies command todo next found_stands left_stands back waits needs comes way answers agrees =
       let runner : Runner = record { session = session; replies = replies; todo = command ∷ todo } in
       let came = comes answers agrees in
       goes_on_told Stands address epoch answers (advance answers all [] first) (seen answers runner) (seen answers next) told (record { statement = session.statement; found = before; left = behind } ∷ [])
@@ -52,7 +53,7 @@ module _ {Words : Type 0} (Stands : Words → Shared → Type 0) (address : List
         found_stands,
         left_stands,
         ap (λ (r : Runner). step_of address epoch answers session.statement found r.session r.replies r.todo) (waits answers agrees)
-            ∙ (step_of_waiting address epoch answers session.statement found session replies command todo (left, came.0) refl came.1
+            ∙ (step_of_waiting address epoch answers session.statement found session replies command todo (left, came.0) refl (needs answers agrees) came.1
             ∙ ap (λ (r : Runner). Some (left, r)) came.2),
         refl,
       )
@@ -88,6 +89,7 @@ module _ {Words : Type 0} (Stands : Words → Shared → Type 0) (address : List
         way_turn told before behind found left session replies command todo (record { session = said.0; replies = replies ++ said.1 ∷ []; todo = todo }) found_stands left_stands
         (λ answers agrees. agrees_unstarted answers session said.0 replies said.1 command todo unstarted agrees)
         (λ answers agrees. moment_waits answers session replies command todo said number unstarted waits agrees)
+        (λ answers agrees. moment_needed answers session replies command todo said number waits agrees)
         (λ answers agrees. moment_comes answers session replies command todo address epoch found left said number is agrees)
 
     -- the start of a database statement whose decision is to come
@@ -100,6 +102,7 @@ module _ {Words : Type 0} (Stands : Words → Shared → Type 0) (address : List
         way_turn told before behind found found session replies (Data work) todo (record { session = awaiting session transaction place; replies = replies; todo = Data work ∷ todo }) found_stands left_stands
         (λ answers agrees. start_back answers session replies work todo transaction place unstarted agrees)
         (λ answers agrees. start_is_waited answers session replies work todo transaction place unstarted none between agrees)
+        (λ answers agrees. start_needed answers session replies work todo transaction place none between agrees)
         (λ answers agrees. start_comes answers session replies work todo transaction place address epoch found unstarted none is between agrees)
 
     -- the decision behind a start
@@ -112,5 +115,6 @@ module _ {Words : Type 0} (Stands : Words → Shared → Type 0) (address : List
         way_turn told before behind found left session replies command todo (record { session = said.0; replies = replies ++ said.1 ∷ []; todo = todo }) found_stands left_stands
         (λ answers agrees. decision_back answers session replies command todo said number well agrees)
         (λ answers agrees. decision_waits answers session replies command todo said number between well agrees)
+        (λ answers agrees. behind_waits (answers session.statement) session command between)
         (λ answers agrees. moment_comes answers session replies command todo address epoch found left said number
         (subst (λ answer. moment_at address epoch answer found session command ≡ Some (left, Past said)) (sym well) is) agrees)

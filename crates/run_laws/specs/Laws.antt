@@ -110,4 +110,4 @@ pub record OrdersAreFollowed : Type 0 where
   pub stopped : (reads : List ℕ → Command) (address : List ℕ → List ℕ) (epoch : ℤ) (script : Script) (order : List Moment) (count : ℕ) (shared : Shared) (runners : List Runner)
       → AreWaiting runners → Along reads address epoch script (take count order) shared runners → count ≤ length order
       → CantGoOn address epoch (shortages_in (all_replies runners)) (record { shared = shared; runners = runners }) (slice_get order count)
-      → IsStopped reads address epoch script order count (shortages_in (all_replies runners))
+      → (stop : IsStopped reads address epoch script order count (shortages_in (all_replies runners))) × (all_replies stop.state.runners ≡ all_replies runners)

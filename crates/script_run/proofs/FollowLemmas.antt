@@ -163,6 +163,7 @@ module _ {D : Type 0} (address : List ℕ → List ℕ) (old new : Parts) (share
     todo = is.todo;
     within = is.within;
     few = is.few;
+    spelled = is.spelled;
     room = is.room;
     sound = is.sound;
     truly = is.truly;

@@ -1,10 +1,11 @@
 -- One session on its way along a given order: where it stands.
 use Rattle.std.proofs.Common.{◌≡◌, refl, sym, ◌∙◌, ap, subst, ℕ, ℤ, ◌+◌, ◌-◌, ◌<◌, ◌≤◌, ◌^◌, ◌==◌, Bool, true, false, not, List, [], ◌∷◌, ◌++◌, length, map, drop, None, Some, slice_get, vec_capacity, vec_len, arith}
 use Rattle.std.specs.Prelude.{slice_index_or}
+use Rattle.std.specs.List.{list_all}
 use Rattle.std.proofs.lemmas.List.{length-append, length-drop, length-map}
 use Rattle.std.proofs.lemmas.Bool.Decides.{nat_tests}
 use Rattle.std.proofs.lemmas.Bool.{and_parts as both, and_from as join}
-use Rattle.tuple_codec.proofs.Lists.{all_append, drop_at_get, there_at}
+use Rattle.tuple_codec.proofs.Lists.{all_append, all_at, drop_at_get, there_at}
 use Rattle.script_text.specs.Collisions.{TellsTruly}
 use Rattle.script_text.specs.Output.{shortage}
 use Rattle.script_text.specs.declared.replies.Reply.{Reply}
@@ -33,6 +34,7 @@ use Rattle.serving.proofs.BegunLemmas.{started_at as begun_at, started_passes, s
 use Rattle.serving.proofs.AnswerLemmas.{same_number as number_is}
 use Rattle.script_run.specs.Following as going
 use Rattle.script_run.specs.Following.{GoesOn, IsAsked, IsFurther, IsLed, IsLedInto, IsPlayer, StandsAt, Turns, is_free, is_next_at, moments_left, starts_made}
+use Rattle.script_run.specs.Scripts.{is_statement_text}
 use Rattle.script_run.specs.declared.players.Player.{Player}
 use Rattle.script_run.specs.declared.players.Stage.{Stage}
 use Rattle.script_run.specs.declared.players.Stage.TheVariants as stage
@@ -181,6 +183,10 @@ module _ {D : Type 0} {address : List ℕ → List ℕ} {parts : Parts} {shared 
         ∙ ap (λ (first : Command). first ∷ map command (drop (length runner.replies + 1) player.texts)) (sym reads);
   }
 
+  -- which is one that a statement may be
+  pub text_of : (at : ℕ) (texts : List (List ℕ)) (text : List ℕ) → texts ≡ player.texts → at < length player.texts → text ≡ slice_index_or texts at text → is_statement_text text ≡ true
+  text_of at texts text all more e = all_at is_statement_text player.texts at text (found_at player.texts texts at text all more e) is.spelled
+
   here : (asked : Command) (rest : List Command) → runner.todo ≡ asked ∷ rest → GoesOn runner (record { session = runner.session; replies = runner.replies; todo = asked ∷ rest })
   here asked rest todo = subst (λ (left : List Command). GoesOn runner (record { session = runner.session; replies = runner.replies; todo = left })) todo (going.Stays runner)
 
@@ -202,6 +208,7 @@ module _ {D : Type 0} {address : List ℕ → List ℕ} {parts : Parts} {shared 
             ∙ ap (λ (all : List (List ℕ)). map command (drop (length (runner.replies ++ reply ∷ [])) all)) (sym texts);
         within = let all : length next.texts ≡ length player.texts = ap length texts in omega (arith, longer, more);
         few = let all : length next.texts ≡ length player.texts = ap length texts in let few : length player.texts + 2 < 2 ^ 32 = is.few in omega arith;
+        spelled = subst (λ (all : List (List ℕ)). list_all is_statement_text all ≡ true) (sym texts) is.spelled;
         room = let all : length next.texts ≡ length player.texts = ap length texts in let room : length player.texts ≤ vec_capacity player.replies = is.room in omega (arith, kept);
         sound = all_append is_sound_reply runner.replies (reply ∷ []) is.sound (join (is_sound_reply reply) true sound refl);
         truly = truly_behind address runner.replies reply is.truly truly;
@@ -233,6 +240,7 @@ module _ {D : Type 0} {address : List ℕ → List ℕ} {parts : Parts} {shared 
       todo = is.todo ∙ ap (λ (all : List (List ℕ)). map command (drop (length runner.replies) all)) (sym texts);
       within = let all : length next.texts ≡ length player.texts = ap length texts in let within : length runner.replies ≤ length player.texts = is.within in omega arith;
       few = let all : length next.texts ≡ length player.texts = ap length texts in let few : length player.texts + 2 < 2 ^ 32 = is.few in omega arith;
+      spelled = subst (λ (all : List (List ℕ)). list_all is_statement_text all ≡ true) (sym texts) is.spelled;
       room = let all : length next.texts ≡ length player.texts = ap length texts in let room : length player.texts ≤ vec_capacity player.replies = is.room in
           let kept : vec_capacity next.replies ≡ vec_capacity player.replies = ap (λ rs. vec_capacity rs) replies in omega arith;
       sound = is.sound;
@@ -287,6 +295,7 @@ module _ {D : Type 0} {address : List ℕ → List ℕ} {parts : Parts} {shared 
           todo = sym data_next ∙ is.todo ∙ ap (λ (all : List (List ℕ)). map command (drop (length runner.replies) all)) (sym texts);
           within = let all : length next.texts ≡ length player.texts = ap length texts in let within : length runner.replies ≤ length player.texts = is.within in omega arith;
           few = let all : length next.texts ≡ length player.texts = ap length texts in let few : length player.texts + 2 < 2 ^ 32 = is.few in omega arith;
+          spelled = subst (λ (all : List (List ℕ)). list_all is_statement_text all ≡ true) (sym texts) is.spelled;
           room = let all : length next.texts ≡ length player.texts = ap length texts in let room : length player.texts ≤ vec_capacity player.replies = is.room in
               let kept : vec_capacity next.replies ≡ vec_capacity player.replies = ap (λ rs. vec_capacity rs) replies in omega arith;
           sound = is.sound;

@@ -10,3 +10,4 @@ pub mod PlayerLemmas
 pub mod ReplayLemmas
 pub mod ScriptLemmas
 pub mod SpeakerLemmas
+mod StatementLemmas

@@ -21,7 +21,7 @@ use Rattle.session_state.specs.declared.sessions.Position.TheVariants as place
 use Rattle.serving.specs.Steps.{number_at}
 use Rattle.serving.proofs.AnswerLemmas.{same_number as number_is}
 use Rattle.script_run.specs.Running.{AreSpeakers, IsRunningAt, IsSpeaker, Speaks}
-use Rattle.script_run.specs.Scripts.{IsSoundScript, is_line_within}
+use Rattle.script_run.specs.Scripts.{IsSoundScript, has_statement, is_line_within, is_statement_text}
 use Rattle.script_run.specs.declared.running.Running.{Running}
 use Rattle.script_run.specs.declared.running.Speaker.{Speaker}
 use Rattle.script_run.proofs.CountLemmas.{count_rises}
@@ -92,6 +92,9 @@ module _ {D : Type 0} {address : List ℕ → List ℕ} {epoch : ℤ} {script : 
       let all : length speaker.replies.items ≡ length next.replies = ap length next.is.said in
       let len : speaker.replies.len ≡ length speaker.replies.items = speaker.replies.ok.0 in
       omega arith
+
+  pub has_text : is_statement_text line.statement ≡ true
+  has_text = all_at has_statement script.lines at line next.line_there next.sound.statements
 
   pub has_moments : 2 ≤ running.db.moments_room
   has_moments = let room : 2 * length script.lines ≤ running.db.moments_room + 2 * at = next.now.moments_room in omega (arith, next.within)

@@ -1,7 +1,9 @@
 -- Sessions before their first statements, each with its lines' texts.
 use Rattle.std.proofs.Common.{◌≡◌, ◌≢◌, refl, sym, ◌∙◌, ap, subst, ℕ, ℤ, zero, suc, ◌+◌, ◌-◌, ◌*◌, ◌<◌, ◌≤◌, ◌^◌, ◌==◌, true, false, List, [], ◌∷◌, ◌++◌, codes, drop, length, map, Some, slice_get, vec_capacity, arith, if◌then◌else◌}
 use Rattle.std.specs.Prelude.{slice_index_or, sum}
+use Rattle.std.specs.List.{list_all}
 use Rattle.std.specs.Option.{option_map}
+use Rattle.std.proofs.lemmas.Bool.{and_parts as both, and_from as join}
 use Rattle.std.proofs.lemmas.Option.{get_or_from_slice_get, same_Some, slice_get-map, slice_get_within}
 use Rattle.std.proofs.lemmas.List.{length-append}
 use Rattle.std.proofs.lemmas.Bool.Decides.{nat_tests}
@@ -22,7 +24,7 @@ use Rattle.run_laws.proofs.OrderLemmas.{count_fits as count_most}
 use Rattle.session_state.specs.Changes.{Parts, StateStands}
 use Rattle.script_run.specs.Following.{ArePlayers, IsPlayer, IsPlayingAt, StandsAt, moments_left, starts_made, texts_of}
 use Rattle.script_run.specs.Opening.{AreNewPlayers, IsNew, IsNewPlayer, counts}
-use Rattle.script_run.specs.Scripts.{IsSoundScript}
+use Rattle.script_run.specs.Scripts.{IsSoundScript, has_statement, is_statement_text}
 use Rattle.script_run.specs.declared.players.Player.{Player}
 use Rattle.script_run.specs.declared.players.Playing.{Playing}
 use Rattle.script_run.specs.declared.players.Stage.{Stage}
@@ -48,6 +50,15 @@ texts_asked place (line ∷ lines) =
     ≡ (if test then command line.statement ∷ commands_of command place lines else commands_of command place lines)) [
       | true ↦ ap (λ (more : List Command). command line.statement ∷ more) (texts_asked place lines)
       | false ↦ texts_asked place lines
+    ]
+
+texts_spelled : (place : ℕ) (lines : List Line) → list_all has_statement lines ≡ true → list_all is_statement_text (texts_of place lines) ≡ true
+texts_spelled place [] all = refl
+texts_spelled place (line ∷ lines) all =
+    let parts = both (has_statement line) (list_all has_statement lines) all in
+    elim (line.session == place) as (λ test. list_all is_statement_text (if test then line.statement ∷ texts_of place lines else texts_of place lines) ≡ true) [
+      | true ↦ join (has_statement line) (list_all is_statement_text (texts_of place lines)) parts.0 (texts_spelled place lines parts.1)
+      | false ↦ texts_spelled place lines parts.1
     ]
 
 -- ---- one more session, at the place behind the others
@@ -161,6 +172,7 @@ module _ {D : Type 0} (address : List ℕ → List ℕ) (epoch : ℤ) (script : 
         todo = sym (ap (map command) new.texts ∙ texts_asked place script.lines);
         within = omega arith;
         few = omega arith;
+        spelled = subst (λ (all : List (List ℕ)). list_all is_statement_text all ≡ true) (sym new.texts) (texts_spelled place script.lines sound.statements);
         room = subst (λ n. n ≤ vec_capacity player.replies) (sym texts) new.room;
         sound = refl;
         truly = tt;

@@ -25,12 +25,13 @@ use Rattle.plain_sessions.specs.declared.commands.Command.{Command}
 use Rattle.run_laws.specs.Laws.{OrdersAreFollowed, shown_of}
 use Rattle.run_laws.specs.Orders.{asked_order}
 use Rattle.run_laws.specs.Replaying.{AreWaiting, CantGoOn, IsStopped, IsWaiting, WaitsAt, all_replies, is_at, is_next}
+use Rattle.run_laws.specs.Stops.{IsStoppedAt}
 use Rattle.session_state.specs.Changes.{Parts}
 use Rattle.serving.specs.Serving.{is_sound_reply}
 use Rattle.serving.specs.Steps.{number_at}
 use Rattle.serving.specs.declared.meeting.Pending.TheVariants as pending
 use Rattle.serving.proofs.AnswerLemmas.{same_number as number_is}
-use Rattle.script_run.specs.Following.{AreAlong, CantFollow, IsPlayer, IsPlayingAt, IsReplayed, IsStoppedAt, StandsAt, is_free, is_next_at, is_settled, is_through}
+use Rattle.script_run.specs.Following.{AreAlong, CantFollow, IsPlayer, IsPlayingAt, IsReplayed, StandsAt, is_free, is_next_at, is_settled, is_through}
 use Rattle.script_run.specs.Scripts.{IsSoundScript}
 use Rattle.script_run.specs.declared.players.Player.{Player}
 use Rattle.script_run.specs.declared.players.Playing.{Playing}
@@ -293,15 +294,18 @@ pub is_stopped : {D : Type 0} (address : List ℕ → List ℕ) (epoch : ℤ) (s
 is_stopped address epoch script playing count item replies laws sound fits now within settled cant left said numbered =
     let order : List Moment = asked_order script in
     let same : all_replies now.runners ≡ replies = sym (said ∙ replies_are address script (take count order) playing.db.parts playing.players.items (along_of now)) in
+    let stopped : (stop : IsStopped command address epoch script order count (shortages_in replies)) × (all_replies stop.state.runners ≡ replies)
+    = subst (λ (rs : List (List Reply)). (stop : IsStopped command address epoch script order count (shortages_in rs)) × (all_replies stop.state.runners ≡ rs)) same
+    (laws.stopped command address epoch script order count now.shared now.runners (are_waiting address script (take count order) playing.db.parts playing.players.items (along_of now) settled) now.along within
+    (option_cases (λ (found : Option Moment). CantGoOn address epoch (shortages_in (all_replies now.runners)) (record { shared = now.shared; runners = now.runners }) found) (slice_get order count)
+    (λ none. are_over address script (take count order) playing.db.parts playing.players.items (along_of now) ∙ left (behind_last order count within none))
+    (λ moment there. laws.refused address epoch (shortages_in (all_replies now.runners)) now.shared now.runners moment
+    (none_next address script (take count order) playing.db.parts playing.players.items (along_of now) moment (cant moment there))))) in
     record {
       count = count;
       item = numbered;
-      stopped = subst (λ (rs : List (List Reply)). IsStopped command address epoch script order count (shortages_in rs)) same
-          (laws.stopped command address epoch script order count now.shared now.runners (are_waiting address script (take count order) playing.db.parts playing.players.items (along_of now) settled) now.along within
-          (option_cases (λ (found : Option Moment). CantGoOn address epoch (shortages_in (all_replies now.runners)) (record { shared = now.shared; runners = now.runners }) found) (slice_get order count)
-          (λ none. are_over address script (take count order) playing.db.parts playing.players.items (along_of now) ∙ left (behind_last order count within none))
-          (λ moment there. laws.refused address epoch (shortages_in (all_replies now.runners)) now.shared now.runners moment
-          (none_next address script (take count order) playing.db.parts playing.players.items (along_of now) moment (cant moment there)))));
+      stopped = stopped.0;
+      said = sym stopped.1;
       names = refl;
       shown = subst (λ (rs : List (List Reply)). IsShownStop (record { item = item; names = script.names; replies = rs })) same
           (is_shown_stop address script (take count order) playing.db.parts playing.players.items (along_of now) item fits sound);

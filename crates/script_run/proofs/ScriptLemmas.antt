@@ -15,7 +15,8 @@ use Rattle.script_text.specs.Shown.{is_shown_name}
 use Rattle.script_text.specs.declared.scripts.Line.{Line}
 use Rattle.script_text.specs.declared.scripts.OrderItem.{OrderItem}
 use Rattle.script_text.specs.declared.scripts.Script.{Script}
-use Rattle.script_run.specs.Scripts.{IsSoundScript, is_line_within}
+use Rattle.script_run.specs.Scripts.{IsSoundScript, has_statement, is_line_within, is_statement_text}
+use Rattle.script_run.proofs.StatementLemmas.{text_said}
 
 name_bytes : (bytes : List ℕ) → list_all is_name_byte (take_while is_name_byte bytes) ≡ true
 name_bytes [] = refl
@@ -75,8 +76,9 @@ distinct_push (first ∷ names) name h apart =
 within_more : (read next : Script) → length read.names ≤ length next.names → (line : Line) → is_line_within read line ≡ true → is_line_within next line ≡ true
 within_more read next more line h = let test : nat_lt line.session (length read.names) ≡ true = h in grind (arith, nat_tests)
 
-statement_sound : (read : Script) (parts : SpokenLine) → is_shown_name parts.name ≡ true → nat_le most_statements (length read.lines) ≡ false → IsSoundScript read → IsSoundScript (with_statement read parts)
-statement_sound read parts name room sound =
+statement_sound : (read : Script) (parts : SpokenLine) → is_shown_name parts.name ≡ true → is_statement_text parts.statement ≡ true → nat_le most_statements (length read.lines) ≡ false
+    → IsSoundScript read → IsSoundScript (with_statement read parts)
+statement_sound read parts name spelled room sound =
     let place : ℕ = position_or_len (λ other. bytes_eq other parts.name) read.names in
     let few : length read.lines + 1 ≤ 20000 = grind (arith, nat_tests) in
     elim (nat_lt place (length read.names)) as (λ test. nat_lt place (length read.names) ≡ test → IsSoundScript (record {
@@ -89,6 +91,8 @@ statement_sound read parts name room sound =
         distinct = sound.distinct;
         sessions = all_append (is_line_within read) read.lines ((record { session = place; statement = parts.statement }) ∷ []) sound.sessions
             (join (nat_lt place (length read.names)) true test refl);
+        statements = all_append has_statement read.lines ((record { session = place; statement = parts.statement }) ∷ []) sound.statements
+            (join (is_statement_text parts.statement) true spelled refl);
         spoken = let spoken = sound.spoken in omega (arith, spoken, length_push read.lines (let line : Line = record { session = place; statement = parts.statement } in line));
         few = omega (arith, length_push read.lines (let line : Line = record { session = place; statement = parts.statement } in line));
       }
@@ -107,46 +111,57 @@ statement_sound read parts name room sound =
             sessions = all_append (is_line_within next) read.lines ((record { session = length read.names; statement = parts.statement }) ∷ [])
                 (all_weaker (is_line_within read) (is_line_within next) (within_more read next more) read.lines sound.sessions)
                 (join (nat_lt (length read.names) (length (read.names ++ parts.name ∷ []))) true last refl);
+            statements = all_append has_statement read.lines ((record { session = length read.names; statement = parts.statement }) ∷ []) sound.statements
+                (join (is_statement_text parts.statement) true spelled refl);
             spoken = let spoken = sound.spoken in
                 omega (arith, spoken, length_push read.names parts.name, length_push read.lines (let line : Line = record { session = length read.names; statement = parts.statement } in line));
             few = omega (arith, length_push read.lines (let line : Line = record { session = length read.names; statement = parts.statement } in line));
           }
     ] refl
 
+no_longer : (bytes : ℕ) → nat_lt most_statement_bytes bytes ≡ false → nat_le bytes most_statement_bytes ≡ true
+no_longer bytes short = grind (arith, nat_tests)
+
 -- a sound script with more statements and the same order
 abbrev IsGrown : Script → Script → Type 0
 IsGrown read next = IsSoundScript next × (next.order ≡ read.order)
 
-added : (number : ℕ) (read : Script) (parts : SpokenLine) (next : Script) → is_shown_name parts.name ≡ true → IsSoundScript read → add_statement number read parts ≡ Ok next → IsGrown read next
-added number read parts next name sound h =
-    elim (nat_lt most_statement_bytes (length parts.statement)) as (λ test. (if test then bad number 4 else (
+added : (number : ℕ) (read : Script) (parts : SpokenLine) (next : Script) → is_shown_name parts.name ≡ true → is_utf8 parts.statement ≡ true → IsSoundScript read
+    → add_statement number read parts ≡ Ok next → IsGrown read next
+added number read parts next name text sound h =
+    elim (nat_lt most_statement_bytes (length parts.statement)) as (λ long. nat_lt most_statement_bytes (length parts.statement) ≡ long → (if long then bad number 4 else (
     if is_one_too_many read.names parts.name then bad number 5 else (
     if nat_le most_statements (length read.lines) then bad number 6 else
     Ok (with_statement read parts)))) ≡ Ok next → IsGrown read next) [
-      | true ↦ λ e. absurd (cc)
-      | false ↦ elim (is_one_too_many read.names parts.name) as (λ test. (if test then bad number 5 else (
+      | true ↦ λ long e. absurd (cc)
+      | false ↦ λ short. elim (is_one_too_many read.names parts.name) as (λ test. (if test then bad number 5 else (
           if nat_le most_statements (length read.lines) then bad number 6 else
           Ok (with_statement read parts))) ≡ Ok next → IsGrown read next) [
             | true ↦ λ e. absurd (cc)
             | false ↦ λ e. elim (nat_le most_statements (length read.lines)) as (λ test. nat_le most_statements (length read.lines) ≡ test → (if test then bad number 6 else Ok (with_statement read parts)) ≡ Ok next → IsGrown read next) [
               | true ↦ λ room f. absurd (cc)
-              | false ↦ λ room f. let made : with_statement read parts ≡ next = cc in subst (λ (s : Script). IsGrown read s) made (statement_sound read parts name room sound, refl)
+              | false ↦ λ room f. let made : with_statement read parts ≡ next = cc in subst (λ (s : Script). IsGrown read s) made (
+                statement_sound read parts name
+                    (join (is_utf8 parts.statement) (nat_le (length parts.statement) most_statement_bytes) text (no_longer (length parts.statement) short)) room sound,
+                refl,
+              )
             ] refl e
           ]
-    ] h
+    ] refl h
 
 line_added : (number : ℕ) (read : Script) (line : List ℕ) (next : Script) → IsSoundScript read → add_line number read line ≡ Ok next → IsGrown read next
 line_added number read line next sound h =
-    elim (not (is_utf8 line)) as (λ test. (if test then bad number 2 else (if is_skipped line then Ok read else option_map_or (add_statement number read) (parts_of line) (bad number 3))) ≡ Ok next → IsGrown read next) [
-      | true ↦ λ e. absurd (cc)
-      | false ↦ elim (is_skipped line) as (λ test. (if test then Ok read else option_map_or (add_statement number read) (parts_of line) (bad number 3)) ≡ Ok next → IsGrown read next) [
+    elim (is_utf8 line) as (λ text. is_utf8 line ≡ text
+    → (if not text then bad number 2 else (if is_skipped line then Ok read else option_map_or (add_statement number read) (parts_of line) (bad number 3))) ≡ Ok next → IsGrown read next) [
+      | false ↦ λ other e. absurd (cc)
+      | true ↦ λ text. elim (is_skipped line) as (λ test. (if test then Ok read else option_map_or (add_statement number read) (parts_of line) (bad number 3)) ≡ Ok next → IsGrown read next) [
         | true ↦ λ e. let same : read ≡ next = cc in subst (λ (s : Script). IsGrown read s) same (sound, refl)
         | false ↦ λ e. elim (parts_of line) as (λ found. parts_of line ≡ found → option_map_or (add_statement number read) found (bad number 3) ≡ Ok next → IsGrown read next) [
           | None ↦ λ _ f. absurd (cc)
-          | Some parts ↦ λ found f. added number read parts next (named line parts found) sound f
+          | Some parts ↦ λ found f. added number read parts next (named line parts found) (text_said line parts text found) sound f
         ] refl e
       ]
-    ] h
+    ] refl h
 
 read_from : (number : ℕ) (read : Script) (lines : List (List ℕ)) (next : Script) → IsSoundScript read → script_from number read lines ≡ Ok next → IsGrown read next
 read_from number read [] next sound h = let same : read ≡ next = cc in subst (λ (s : Script). IsGrown read s) same (sound, refl)
@@ -161,7 +176,7 @@ read_from number read (line ∷ lines) next sound h =
 
 empty_sound : (order : Option (List OrderItem)) → IsSoundScript (record { names = []; lines = []; order = order })
 unfolding IsDistinct
-empty_sound order = record { names = refl; distinct = tt; sessions = refl; spoken = omega arith; few = omega arith }
+empty_sound order = record { names = refl; distinct = tt; sessions = refl; statements = refl; spoken = omega arith; few = omega arith }
 
 ordered_read : (number : ℕ) (lines : List (List ℕ)) (read : Script) → ordered_from number lines ≡ Ok read → IsSoundScript read × (read.order ≢ None)
 ordered_read number [] read h = absurd (cc)

@@ -2,10 +2,9 @@
 use Rattle.std.specs.Prelude.{◌≡◌, ◌≢◌, ℕ, ℤ, ◌+◌, ◌-◌, ◌*◌, ◌<◌, ◌≤◌, ◌^◌, ◌==◌, Bool, true, false, ◌&&◌, not, List, [], ◌∷◌, ◌++◌, length, map, sum, drop, Option, None, Some, slice_get, vec_capacity, if◌then◌else◌}
 use Rattle.std.specs.List.{AllByRecursion, list_all}
 use Rattle.script_text.specs.Collisions.{AllTellTruly, TellsTruly}
-use Rattle.script_text.specs.Output.{Shortage, AtOnce, shortage, shortages_in}
-use Rattle.script_text.specs.Shown.{IsPrintable, IsShown, IsShownStop, is_shown_moment}
+use Rattle.script_text.specs.Output.{Shortage, AtOnce, shortage}
+use Rattle.script_text.specs.Shown.{IsPrintable, IsShown, is_shown_moment}
 use Rattle.script_text.specs.declared.outputs.RunText.{RunText}
-use Rattle.script_text.specs.declared.outputs.StopText.{StopText}
 use Rattle.script_text.specs.declared.replies.Reply.{Reply}
 use Rattle.script_text.specs.declared.scripts.Line.{Line}
 use Rattle.script_text.specs.declared.scripts.Moment.{Moment}
@@ -21,14 +20,16 @@ use Rattle.plain_sessions.specs.Sessions.{Said, Transaction, is_before_statement
 use Rattle.plain_sessions.specs.declared.commands.Command.{Command}
 use Rattle.plain_sessions.specs.declared.commands.Command.TheVariants.{Data}
 use Rattle.plain_sessions.specs.declared.commands.Work.{Work}
-use Rattle.run_laws.specs.Orders.{IsGivenOrder, asked_order}
-use Rattle.run_laws.specs.Replaying.{Along, IsStopped, dropped, reply_of}
+use Rattle.run_laws.specs.Orders.{IsGivenOrder}
+use Rattle.run_laws.specs.Replaying.{Along, dropped, reply_of}
+use Rattle.run_laws.specs.Stops.{IsStoppedAt}
 use Rattle.session_state.specs.Changes.{Parts, StateStands}
 use Rattle.session_state.specs.declared.sessions.Session.{Session}
 use Rattle.serving.specs.Serving.{is_sound_reply}
 use Rattle.serving.specs.Serving.{IsBefore, IsBetween, Passes}
 use Rattle.serving.specs.Starting.{IsStarted}
 use Rattle.serving.specs.Steps.{number_at}
+use Rattle.script_run.specs.Scripts.{is_statement_text}
 use Rattle.script_run.specs.declared.following.Replayed.{Replayed}
 use Rattle.script_run.specs.declared.following.Replayed.TheVariants as replayed
 use Rattle.script_run.specs.declared.going.Led.{Led}
@@ -74,6 +75,7 @@ pub record IsPlayer {D : Type 0} (address : List ℕ → List ℕ) (parts : Part
   pub todo : runner.todo ≡ map command (drop (length runner.replies) player.texts)
   pub within : length runner.replies ≤ length player.texts
   pub few : length player.texts + 2 < 2 ^ 32
+  pub spelled : list_all is_statement_text player.texts ≡ true
   pub room : length player.texts ≤ vec_capacity player.replies
   pub sound : list_all is_sound_reply runner.replies ≡ true
   pub truly : AllByRecursion (TellsTruly address) runner.replies
@@ -227,16 +229,6 @@ pub record IsReplayed (address : List ℕ → List ℕ) (epoch : ℤ) (script : 
   pub order : IsGivenOrder script run.order
   pub printable : IsPrintable run
   pub shown : IsShown run
-
--- the items before the one told are followed, with the wants of memory and collisions that the replies tell, and that one can't be, or is missing
--- while a moment is left
-pub record IsStoppedAt (address : List ℕ → List ℕ) (epoch : ℤ) (script : Script) (stop : StopText) : Type 0 where
-  pub count : ℕ
-  pub item : stop.item ≡ count + 1
-  pub stopped : IsStopped command address epoch script (asked_order script) count (shortages_in stop.replies)
-  pub names : stop.names ≡ script.names
-  pub shown : IsShownStop stop
-  pub truly : AllTellTruly address stop.replies
 
 abbrev pub ReplaysAs : (List ℕ → List ℕ) → ℤ → Script → Replayed → Type 0
 ReplaysAs address epoch script (replayed.Run run) = IsReplayed address epoch script run

@@ -9,6 +9,7 @@ ghost use Rattle.plain_sessions.specs.Sessions as plain;
 ghost use Rattle.serving.specs.Serving.{is_sound_reply};
 ghost use Rattle.serving.specs.Serving.{IsBefore, Serves};
 ghost use Rattle.serving.specs.Steps.{number_at};
+ghost use Rattle.script_run.specs.Scripts.{is_statement_text};
 
 use chunk_store::PutFault;
 use plain_sessions::{Command, read_command};
@@ -18,9 +19,6 @@ use session_state::Session;
 use shared_db::SharedDb;
 use std::alloc::{AllocError, Global};
 use tuple_codec::{Boxed, Digester};
-
-/// No line of a script has a longer statement.
-const MOST_BYTES: usize = 65_536;
 
 /// Serves a statement by its text. One that can't be read for want of memory is passed over.
 pub fn serve_text<D: Digester>(
@@ -35,6 +33,7 @@ pub fn serve_text<D: Digester>(
     requires place { number_at session.old.position + 1 < 2 ^ 32 }
     requires moments { 2 ≤ db.old.moments_room }
     requires segments { 2 ≤ db.old.segments_room }
+    requires spelled { is_statement_text text.now ≡ true }
     ensures served { (p : plain.Session) (shared : Shared) → IsBefore D.address session.old db.old.parts p shared
         → Serves D.address epoch p (command text.now) shared db.old.parts db.new.parts session.new result }
     ensures sound { is_sound_reply result ≡ true }
@@ -48,13 +47,11 @@ pub fn serve_text<D: Digester>(
     }
 }
 
-/// What a text asks. A text that is longer than a statement may be would be answered by want of memory; no script has one.
+/// What a statement of a script asks.
 pub(crate) fn asked_by(alloc: Global, text: &[u8]) -> Result<Boxed<Command>, AllocError>
+    requires { is_statement_text text.now ≡ true }
     ensures is { IfOk result (λ asked. asked ≡ command text.now) }
     ensures fit { IfOk result IsFitCommand }
 {
-    if text.len() > MOST_BYTES {
-        return Err(AllocError);
-    }
     read_command(alloc, text)
 }

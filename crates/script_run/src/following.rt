@@ -7,7 +7,8 @@ ghost use Rattle.script_text.specs.declared.scripts.Moment.{Moment};
 ghost use Rattle.script_text.specs.declared.scripts.Script.{Script};
 ghost use Rattle.shared_db.specs.Opening.{IsOpeningFault};
 ghost use Rattle.run_laws.specs.Orders.{asked_moment, asked_order};
-ghost use Rattle.script_run.specs.Following.{AreSettledTo, CantFollow, IsPlayingAt, IsReplayed, IsStoppedAt, ReplaysAs, is_settled, is_through};
+ghost use Rattle.run_laws.specs.Stops.{IsStoppedAt};
+ghost use Rattle.script_run.specs.Following.{AreSettledTo, CantFollow, IsPlayingAt, IsReplayed, ReplaysAs, is_settled, is_through};
 ghost use Rattle.script_run.specs.Scripts.{IsSoundScript};
 
 use crate::going::{follow, go_on};

@@ -1,6 +1,6 @@
 //! The run of a script, line by line.
 
-ghost use Rattle.std.specs.Prelude.{◌≡◌, ◌+◌, ◌<◌, ◌≤◌, ◌^◌, ◌≤ℤ◌, pos, map, length, vec_len, vec_capacity, IfOk, IfErr};
+ghost use Rattle.std.specs.Prelude.{◌≡◌, ◌+◌, ◌<◌, ◌≤◌, ◌^◌, ◌≤ℤ◌, pos, true, map, length, vec_len, vec_capacity, IfOk, IfErr};
 ghost use Rattle.script_text.specs.Collisions.{AllTellTruly};
 ghost use Rattle.script_text.specs.Shown.{IsPrintable, IsShown};
 ghost use Rattle.plain_sessions.specs.Commands.{command};
@@ -12,7 +12,7 @@ ghost use Rattle.serving.specs.Serving.{IsBefore};
 ghost use Rattle.serving.specs.Steps.{number_at};
 ghost use Rattle.shared_db.specs.Opening.{IsOpeningFault};
 ghost use Rattle.script_run.specs.Running.{IsRunningAt, Speaks};
-ghost use Rattle.script_run.specs.Scripts.{IsSoundScript};
+ghost use Rattle.script_run.specs.Scripts.{IsSoundScript, is_statement_text};
 
 use crate::asking::serve_text;
 use crate::opening::open;
@@ -116,6 +116,7 @@ fn speak<D: Digester, P: Pacer>(
     requires moments { 2 ≤ db.old.moments_room }
     requires segments { 2 ≤ db.old.segments_room }
     requires room { vec_len speaker.old.replies < vec_capacity speaker.old.replies }
+    requires spelled { is_statement_text text.now ≡ true }
     ensures speaks { (p : plain.Session) (shared : Shared) → IsBefore D.address speaker.old.session db.old.parts p shared
         → Speaks D.address epoch p (command text.now) shared db.old.parts db.new.parts speaker.old speaker.new }
     ensures moments { db.old.moments_room ≤ db.new.moments_room + 2 }

@@ -105,8 +105,8 @@ effect_stays own (Err number) = refl
 conflicts_stay : (own : BranchState) (delete : Delete) (name : List ℕ) (table : PlainTable) → is_closing (delete_conflicts own delete name table) ≡ false
 conflicts_stay own delete name table =
     stays_then (system.tests_on (system.conflict_columns table.schema) delete) (λ tests.
-    and_then (system.entries_left tests (system.conflict_row table.schema) table.conflicts) (λ left. Ok (system.without_conflicts own name table left))) (λ tests.
-    stays_then (system.entries_left tests (system.conflict_row table.schema) table.conflicts) (λ left. Ok (system.without_conflicts own name table left)) (λ left. refl))
+    and_then (system.entries_left tests (system.conflict_row table.schema) table.conflicts) (λ left. Ok (system.keeping_conflicts own name table left))) (λ tests.
+    stays_then (system.entries_left tests (system.conflict_row table.schema) table.conflicts) (λ left. Ok (system.keeping_conflicts own name table left)) (λ left. refl))
 
 violations_stay : (own : BranchState) (delete : Delete) (name : List ℕ) (table : PlainTable) → is_closing (delete_violations own delete name table) ≡ false
 violations_stay own delete name table =

@@ -70,8 +70,8 @@ answers_then (Err number) f each = tt
 delete_conflicts_by : (own : BranchState) (delete : Delete) (name : List ℕ) (table : PlainTable) → IsAnswer (delete_conflicts own delete name table)
 delete_conflicts_by own delete name table =
     answers_then (system.tests_on (system.conflict_columns table.schema) delete) (λ tests.
-    and_then (system.entries_left tests (system.conflict_row table.schema) table.conflicts) (λ left. Ok (system.without_conflicts own name table left))) (λ tests.
-    answers_then (system.entries_left tests (system.conflict_row table.schema) table.conflicts) (λ left. Ok (system.without_conflicts own name table left)) (λ left. refl))
+    and_then (system.entries_left tests (system.conflict_row table.schema) table.conflicts) (λ left. Ok (system.keeping_conflicts own name table left))) (λ tests.
+    answers_then (system.entries_left tests (system.conflict_row table.schema) table.conflicts) (λ left. Ok (system.keeping_conflicts own name table left)) (λ left. refl))
 
 delete_violations_by : (own : BranchState) (delete : Delete) (name : List ℕ) (table : PlainTable) → IsAnswer (delete_violations own delete name table)
 delete_violations_by own delete name table =

@@ -181,7 +181,7 @@ fewer n k l e = omega (arith, e)
 
 module _ (own : BranchState) (delete : Delete) (name : List ℕ) (table : PlainTable) (put : (new : PlainTable) → put_table name (Some new) own.working ≡ replaced name new own.working) where
   abbrev of_conflicts : List Conflict → Worked
-  of_conflicts left = plain.without_conflicts own name table left
+  of_conflicts left = plain.keeping_conflicts own name table left
 
   conflicts_by : (tests : List Meaning) → Chosen (conflict_entry table.schema) tests table.conflicts
       → and_then (entries_left tests (conflict_row table.schema) table.conflicts) (λ left. Ok (of_conflicts left))

@@ -14,9 +14,9 @@ use Rattle.commit_graph.specs.Commits.{IsCommitFound, HasCommit, is_commit_found
 use Rattle.table_root.specs.Kept.{IsKeptAt}
 use Rattle.table_root.specs.Standing.{IsDatabaseAt}
 use Rattle.plain_writes.proofs.InsertionLemmas.{two, clash, left_so, right_so}
-use Rattle.plain_sessions.specs.Branching.{commit_named, heads_in, or_commit, resolved}
+use Rattle.plain_sessions.specs.Branching.{commit_named, or_commit, resolved}
 use Rattle.plain_sessions.specs.Records.{Branch, clean_at, database_in, root_of}
-use Rattle.plain_sessions.specs.Sessions.{Head, Session, new_session}
+use Rattle.plain_sessions.specs.Sessions.{Head, Session, heads_in, new_session}
 use Rattle.script_text.specs.declared.outputs.BranchLine.{BranchLine}
 use Rattle.session_state.specs.Changes.{BranchStands, Paired}
 use Rattle.session_state.specs.Commits.{CommitsAreThere}

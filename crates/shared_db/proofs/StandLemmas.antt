@@ -19,9 +19,9 @@ use Rattle.script_text.specs.declared.outputs.BranchLine.{BranchLine}
 use Rattle.expr_eval.specs.Binding.{Outcome, and_then}
 use Rattle.plain_sql.specs.Lists.{has, in_order, or_refuse, placed, unless}
 use Rattle.plain_writes.proofs.InsertionLemmas.{both_so, clash, left_not, left_so, neither_so, placed_any, placed_length, placed_past, placed_rises, placed_stop, right_not, right_so, two}
-use Rattle.plain_sessions.specs.Branching.{checked_out, checkout_step, commit_named, create_branch, delete_branch, heads_in, is_branch_there, is_checked_out, made_at, or_commit, point_in, resolved}
+use Rattle.plain_sessions.specs.Branching.{checkout_step, commit_named, create_branch, delete_branch, is_branch_there, is_checked_out, made_at, or_commit, placed_on, point_in, resolved}
 use Rattle.plain_sessions.specs.Records.{Branch, BranchState, Shared, branch_cmp, clean_at, is_branch, root_of, state_of, with_branch, without_branch}
-use Rattle.plain_sessions.specs.Sessions.{Head, Session}
+use Rattle.plain_sessions.specs.Sessions.{Head, Session, heads_in}
 use Rattle.sql_procedures.specs.declared.requests.CheckoutRequest.TheVariants as checkout
 use Rattle.table_root.specs.Names.{is_branch_name}
 use Rattle.session_state.specs.Changes.{BranchStands, Paired, Parts, StateStands, lines_rise}
@@ -324,9 +324,9 @@ module _ (address : List ℕ → List ℕ) (old : Parts) (shared : Shared) (stan
 
   module _ (number : ℕ) (session : Session) (same : session.number ≡ number) (name : List ℕ) where
     pub moved_stands : (after : Parts) → is_some (record_at name old.branches) ≡ true → after.branches ≡ old.branches → after.places ≡ set old.places number name → after.chunks ≡ old.chunks
-        → StateStands address after (checked_out session name shared)
+        → StateStands address after (placed_on session name shared)
     moved_stands after there branches places chunks =
-        restated address (record old { places = set shared.places session.number name }) after (checked_out session name shared) (record {
+        restated address (record old { places = set shared.places session.number name }) after (placed_on session name shared) (record {
           branches = stands.branches;
           rise = stands.rise;
           few = stands.few;
@@ -342,9 +342,9 @@ module _ (address : List ℕ → List ℕ) (old : Parts) (shared : Shared) (stan
         → Ends address (checkout_step shared session (checkout.Existing name)) answer after
     check_out_ends answer after is done branches chunks = two (is_some (record_at name old.branches))
         (λ e. let well : answer ≡ reply.Done = is ∙ ap (λ b. cond b reply.Done reply.NoSuch) e in
-        subst (λ b. Ends address (unless (not b) 9004 (Ok (checked_out session name shared))) answer after) (sym (sym (there_same name) ∙ e))
+        subst (λ b. Ends address (unless (not b) 9004 (Ok (placed_on session name shared))) answer after) (sym (sym (there_same name) ∙ e))
         (well, moved_stands after e branches (done well) chunks))
-        (λ e. subst (λ b. Ends address (unless (not b) 9004 (Ok (checked_out session name shared))) answer after) (sym (sym (there_same name) ∙ e))
+        (λ e. subst (λ b. Ends address (unless (not b) 9004 (Ok (placed_on session name shared))) answer after) (sym (sym (there_same name) ∙ e))
         (ap number_of (is ∙ ap (λ b. cond b reply.Done reply.NoSuch) e)))
 
 pub ends_restated : (address : List ℕ → List ℕ) (outcome : Outcome Shared) (answer : BranchReply) (old new : Parts) → Ends address outcome answer old → new.branches ≡ old.branches → new.places ≡ old.places
@@ -356,7 +356,7 @@ ends_restated address (Err number) answer old new ends branches places chunks = 
 pub then_moved : (address : List ℕ → List ℕ) (number : ℕ) (session : Session) → session.number ≡ number → (name : List ℕ) (outcome : Outcome Shared) (answer : BranchReply) (middle after : Parts)
     → Ends address outcome answer middle → (answer ≡ reply.Done → is_some (record_at name middle.branches) ≡ true) → after.branches ≡ middle.branches
     → (answer ≡ reply.Done → after.places ≡ set middle.places number name) → after.chunks ≡ middle.chunks
-    → Ends address (and_then outcome (λ made. Ok (checked_out session name made))) answer after
+    → Ends address (and_then outcome (λ made. Ok (placed_on session name made))) answer after
 then_moved address number session same name (Ok left) answer middle after ends there branches places chunks =
     (ends.0, moved_stands address middle left ends.1 number session same name after (there ends.0) branches (places ends.0) chunks)
 then_moved address number session same name (Err refusal) answer middle after ends there branches places chunks = ends

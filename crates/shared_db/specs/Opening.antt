@@ -5,23 +5,16 @@ use Rattle.chunk_store.specs.Chunks.{AreNamed, Chunk, IsSingle, Lists, chunk_byt
 use Rattle.chunk_store.specs.Drafts.{DraftParts}
 use Rattle.chunk_store.specs.Kinds.{is_commit}
 use Rattle.chunk_store.specs.Standing.{IsThere}
-use Rattle.chunk_store.specs.declared.faults.Clash.{Clash}
-use Rattle.script_text.specs.Collisions.{IsCollision}
 use Rattle.chunk_store.specs.declared.faults.PutFault.{PutFault}
 use Rattle.chunk_store.specs.declared.faults.PutFault.TheVariants.{Memory, Collision}
 use Rattle.schema_model.specs.PlainCommits.{commit_address, plain_commit_bytes}
 use Rattle.schema_model.specs.WrittenForms.{database_address, database_bytes}
+use Rattle.plain_sessions.specs.Opening.{IsOpeningClash}
 use Rattle.plain_sessions.specs.Records.{first_commit}
 
 -- a draft that has the empty database alone
 abbrev pub empty_alone : (List ℕ → List ℕ) → DraftParts
 empty_alone address = record { base = []; own = (database_address address [], database_bytes address []) ∷ [] }
-
--- the empty database and the first commit have one address
-pub record IsOpeningClash (address : List ℕ → List ℕ) (epoch : ℤ) (clash : Clash) : Type 0 where
-  pub database : clash.first ≡ database_bytes address []
-  pub commit : clash.second ≡ plain_commit_bytes address (first_commit epoch)
-  pub collision : IsCollision address clash
 
 -- why no database was opened: memory was wanted, or its two chunks have one address
 abbrev pub IsOpeningFault : (List ℕ → List ℕ) → ℤ → PutFault → Type 0

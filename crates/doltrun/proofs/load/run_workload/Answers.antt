@@ -1,7 +1,8 @@
 use Rattle.std.proofs.Common.{ℤ, refl, subst, w64}
 use Rattle.std.proofs.lemmas.Int.{to_z-of_z}
 use Rattle.chunk_store.specs.declared.faults.PutFault.{PutFault}
-use Rattle.shared_db.specs.Opening.{IsOpeningClash, IsOpeningFault}
+use Rattle.plain_sessions.specs.Opening.{IsOpeningClash}
+use Rattle.shared_db.specs.Opening.{IsOpeningFault}
 use Rattle.load_run.specs.Loading.{load_text}
 use Rattle.script_text.specs.Lines.{collision_line}
 use Rattle.doltrun.specs.Loads.{Clashes, Tells}

@@ -7,4 +7,4 @@ use Rattle.plain_sessions.proofs.reading.read_command.Goals as goal
 pub returns-clause-fit : goal.returns-clause-fit
 returns-clause-fit c =
     kept_fits c.in_ok-asked.asked c.new.result c.new.ensures
-    (subst (λ (asked : Command). IsFitCommand asked) (sym c.in_ok-asked.ensures) (command_fits c.law_of_sound_statements.ensures.texts c.args.text.now (sym c.if-not-is_text.ensures)))
+    (subst (λ (asked : Command). IsFitCommand asked) (sym c.in_ok-asked.ensures) (command_fits c.law_of_sound_statements.ensures.texts c.args.text.now c.requires.utf8))

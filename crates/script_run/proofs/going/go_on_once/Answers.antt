@@ -1,7 +1,8 @@
-use Rattle.std.proofs.Common.{◌≡◌, ◌∙◌, refl, sym, ap, length, arith}
+use Rattle.std.proofs.Common.{◌≡◌, ◌∙◌, refl, sym, ap, subst, true, List, ℕ, length, arith}
 use Rattle.plain_sessions.specs.Commands.{command}
 use Rattle.plain_sessions.specs.Sessions.{is_before_statement}
-use Rattle.script_run.proofs.GoingLemmas.{answers, as_many, asked_of, before_of, fails_for, free_is, has_room, may_number, next_asks, said_of}
+use Rattle.script_run.specs.Scripts.{is_statement_text}
+use Rattle.script_run.proofs.GoingLemmas.{answers, as_many, asked_of, before_of, fails_for, free_is, has_room, may_number, next_asks, said_of, text_of}
 use Rattle.script_run.proofs.LeftLemmas.{at_less, fewer_left, said_less, settled_at_end, settled_waiting, still, unsettled}
 use Rattle.script_run.proofs.going.go_on_once.Goals as goal
 
@@ -20,6 +21,12 @@ returns-then-at-all-clause-settled g c = λ stops.
     let there : c.len-at.result ≡ length c.args.player.now.replies.items = c.len-at.ensures ∙ c.args.player.now.replies.ok.0 in
     let all : length c.as_slice-all.result.now ≡ length c.args.player.now.texts = ap length c.as_slice-all.ensures in
     settled_at_end c.args.player.now (omega (arith, c.if-at-all.true, as_many is, is.within))
+
+pub asked_by-requires : goal.asked_by-requires
+asked_by-requires g c κs within =
+    subst (λ (text : List ℕ). is_statement_text text ≡ true) (sym c.as_slice-2.ensures)
+    (text_of c.requires.player.4 c.len-at.result c.as_slice.result.now c.index-as_slice-at.result c.as_slice.ensures
+    (at_less c.args.player.now c.len-at.result c.as_slice-all.result.now c.as_slice-all.ensures c.if-at-all.false) c.index-as_slice-at.is)
 
 pub come-requires-clause-player : goal.come-requires-clause-player
 come-requires-clause-player g c κs within =

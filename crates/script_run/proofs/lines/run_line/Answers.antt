@@ -1,8 +1,9 @@
-use Rattle.std.proofs.Common.{◌≡◌, List, ℕ, ℤ, length, refl, subst, arith, w64}
+use Rattle.std.proofs.Common.{◌≡◌, List, ℕ, ℤ, length, refl, subst, sym, true, arith, w64}
 use Rattle.std.proofs.lemmas.Int.{to_z-of_z}
 use Rattle.plain_sessions.specs.Commands.{command}
 use Rattle.script_run.specs.Running.{Speaks}
-use Rattle.script_run.proofs.LineLemmas.{has_moments, has_room, has_segments, may_number, next_of, run_further, session_there}
+use Rattle.script_run.specs.Scripts.{is_statement_text}
+use Rattle.script_run.proofs.LineLemmas.{has_moments, has_room, has_segments, has_text, may_number, next_of, run_further, session_there}
 use Rattle.script_run.proofs.lines.run_line.Goals as goal
 
 pub index_mut-speaker-requires : goal.index_mut-speaker-requires
@@ -35,6 +36,11 @@ pub speak-requires-clause-room : goal.speak-requires-clause-room
 speak-requires-clause-room g c κs within =
     let next = next_of g.D.Digester.address c.args.epoch c.args.script.now c.args.at c.args.running.now c.as_slice.result.now c.index-as_slice-at.result c.index_mut-speaker.result.now c.requires.sound c.requires.there c.as_slice.ensures c.index-as_slice-at.is c.requires.before c.index_mut-speaker.ensures.value in
     has_room next
+
+pub speak-requires-clause-spelled : goal.speak-requires-clause-spelled
+speak-requires-clause-spelled g c κs within =
+    let next = next_of g.D.Digester.address c.args.epoch c.args.script.now c.args.at c.args.running.now c.as_slice.result.now c.index-as_slice-at.result c.index_mut-speaker.result.now c.requires.sound c.requires.there c.as_slice.ensures c.index-as_slice-at.is c.requires.before c.index_mut-speaker.ensures.value in
+    subst (λ (text : List ℕ). is_statement_text text ≡ true) (sym c.as_slice-2.ensures) (has_text next)
 
 pub returns : goal.returns
 returns g c =
