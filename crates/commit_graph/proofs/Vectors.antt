@@ -2,7 +2,7 @@
 use Rattle.std.proofs.Common.{◌≡◌, ℕ, pos, List, [], ◌∷◌, ◌++◌, replicate, take, Some, None, refl}
 use Rattle.schema_model.specs.Reading as read
 use Rattle.schema_model.specs.WrittenForms.{CommitParts, commit_bytes}
-use Rattle.commit_graph.specs.Reading.{commit_of}
+use Rattle.commit_graph.specs.Reading.{commit_at, commit_of}
 
 merge : CommitParts
 merge = record {
@@ -24,13 +24,13 @@ unfolding merge merge_bytes
 written = refl
 
 read_back : commit_of merge_bytes ≡ Some merge
-unfolding commit_of merge merge_bytes read.items_at
+unfolding commit_at merge merge_bytes read.items_at
 read_back = refl
 
 cut_short : commit_of (take 89 merge_bytes) ≡ None
-unfolding commit_of merge_bytes read.items_at
+unfolding commit_at merge_bytes read.items_at
 cut_short = refl
 
 other_kind : commit_of (6 ∷ []) ≡ None
-unfolding commit_of
+unfolding commit_at
 other_kind = refl

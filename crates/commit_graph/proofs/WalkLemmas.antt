@@ -1,7 +1,7 @@
 -- What is left of a walk, and how it steps.
 use Rattle.std.proofs.Common.{◌≡◌, refl, sym, ◌∙◌, ap, subst, ◌⊎◌, inl, inr, ℕ, zero, suc, ◌+◌, ◌*◌, ◌^◌, ◌<◌, ◌≤◌, Bool, true, false, cond, ◌||◌, eqb-true, List, [], ◌∷◌, ◌++◌, length, map, Option, None, Some, is_lt, arith}
-use Rattle.std.specs.Prelude.{bytes_eq, is_some}
-use Rattle.std.specs.List.{flat_map, list_all}
+use Rattle.std.specs.Prelude.{◌↔◌, IfSome, IsSome, bytes_eq, is_some}
+use Rattle.std.specs.List.{flat_map, list_all, slice_get}
 use Rattle.std.specs.BTreeSet.{insert_key}
 use Rattle.std.specs.Cmp.Lexicographic.{slice_cmp}
 use Rattle.std.specs.Ordering.{nat_cmp, is_eq, match_ordering, ordering_then}
@@ -15,11 +15,11 @@ use Rattle.tuple_codec.proofs.ByteLemmas.{bytes_itself as itself, same_bytes as 
 use Rattle.tuple_codec.proofs.Arithmetic.{at_least}
 use Rattle.schema_model.specs.PlainTables.{rises}
 use Rattle.schema_model.specs.PlainCommits.{AncestorsFollow, AreGrown, Commits, IsAncestor, IsAncestorBy, PlainCommit, ancestors, commit_cmp, greatest, has_address, height_in, height_of, is_known, parents_in, parents_of, put_commit}
-use Rattle.schema_model.proofs.AncestorLemmas.{before_all, has_ordered, has_put, in_all, in_some, ordered_rises, put_rises, rest_rises, parent_lower}
+use Rattle.schema_model.proofs.AncestorLemmas.{before_all, has_ordered, has_put, in_all, in_some, not_before, not_itself, ordered_rises, put_rises, rest_rises, parent_lower}
 use Rattle.tuple_codec.specs.declared.addresses.Address.{Address}
-use Rattle.commit_graph.specs.Walks.{AreRanks, Steps, Waits, WalksAncestors, address_in, addresses_of, first_address, height_at, is_rank, left, weight, weight_of}
+use Rattle.commit_graph.specs.Walks.{AreRanks, KeepsLeft, Steps, Waits, WaitsForSome, WalksAncestors, address_in, addresses_of, first_address, height_at, is_rank, left, weight, weight_of}
 use Rattle.commit_graph.specs.declared.walks.Rank.{Rank}
-use Rattle.commit_graph.proofs.OrderLemmas.{before_later, front_rises, higher_first, same_lists}
+use Rattle.commit_graph.proofs.OrderLemmas.{before_later, front_rises, higher_first, same_lists, true_false}
 
 -- ---- places among those that wait
 
@@ -262,6 +262,25 @@ module _ (laws : AncestorsFollow) (commits : Commits) (grown : AreGrown commits)
         (parents_light_by commits grown (address_in r) (commits (address_in r)) refl known few) in
         omega (arith, light, below)
 
+  -- some parents of a commit that waits come to wait, so the walk comes to the same
+  module _ (r : Rank) (rs new : List Rank) (some : WaitsForSome commits (parents_of commits (address_in r)) (r ∷ rs) new) where
+    same_before : (x : List ℕ) → has_address (left commits new) x ≡ true → has_address (left commits (r ∷ rs)) x ≡ true
+    same_before x h =
+        let found = from_left new x h in
+        elim (either (has_address (parents_of commits (address_in r)) found.0) (has_address (addresses_of (r ∷ rs)) found.0) (some.only found.0 found.1)) [
+          | inl parent ↦ to_left (r ∷ rs) (address_in r) x (or_left _ _ (itself (address_in r))) (suc found.2.0, (found.0, parent, found.2.1))
+          | inr there ↦ to_left (r ∷ rs) found.0 x there found.2
+        ]
+
+    same_after : (x : List ℕ) → has_address (left commits (r ∷ rs)) x ≡ true → has_address (left commits new) x ≡ true
+    same_after x h = let found = from_left (r ∷ rs) x h in to_left new found.0 x (some.kept found.0 found.1) found.2
+
+    pub left_kept : KeepsLeft commits (r ∷ rs) new
+    left_kept = record {
+      ranks = some.ranks;
+      all = same_lists commits (left commits new) (left commits (r ∷ rs)) (left_rises new) (left_rises (r ∷ rs)) (λ x. alike_truths _ _ (same_before x) (same_after x));
+    }
+
   -- ---- the beginning
 
   only_one : (k : List ℕ) (walk : List Rank) (other : List ℕ) → Waits commits (k ∷ []) [] walk → has_address (addresses_of walk) other ≡ true → other ≡ k
@@ -290,6 +309,104 @@ rest_ranks commits r rs h = record { each = (and_parts _ _ h.each).1; rise = res
 
 pub first_known : (commits : Commits) (r : Rank) (rs : List Rank) → AreRanks commits (r ∷ rs) → is_known commits (address_in r) ≡ true
 first_known commits r rs h = known_rank commits r (and_parts _ _ h.each).0
+
+-- ---- the first of those that wait
+
+rank_is : (r x : Rank) → Some r ≡ Some x → r ≡ x
+rank_is r x e = cc
+
+pub first_of : (ranks : List Rank) (r : Rank) → Some r ≡ slice_get ranks 0 → (rest : List Rank) × (ranks ≡ r ∷ rest)
+first_of [] r e = absurd cc
+first_of (x ∷ rest) r e = (rest, ap (λ (y : Rank). y ∷ rest) (sym (rank_is r x e)))
+
+pub none_of : (ranks : List Rank) → None ≡ slice_get ranks 0 → ranks ≡ []
+none_of [] e = refl
+none_of (x ∷ rest) e = absurd cc
+
+-- a walk that waits for nothing
+pub ends : (commits : Commits) (ranks : List Rank) → AreRanks commits ranks → None ≡ slice_get ranks 0 → Steps commits ranks ranks None
+ends commits ranks h e = let none = none_of ranks e in record { ranks = h; came = (none, ap (left commits) none) }
+
+-- a part of these came to wait
+pub waits_some : (commits : Commits) (ks more all : List (List ℕ)) (old new : List Rank) → ks ++ more ≡ all → Waits commits ks old new → WaitsForSome commits all old new
+waits_some commits ks more all old new e waits = record {
+  ranks = waits.ranks;
+  kept = λ k h. waits.has k ∙ or_right _ _ h;
+  only = λ k h. elim (either (has_address ks k) (has_address (addresses_of old) k) (sym (waits.has k) ∙ h)) [
+    | inl here ↦ or_left _ _ (ap (λ l. has_address l k) (sym e) ∙ list_any-append (bytes_eq k) ks more ∙ or_left _ _ here)
+    | inr there ↦ or_right _ _ there
+  ];
+}
+
+-- ---- the first goes once its parents wait
+
+module _ (commits : Commits) (grown : AreGrown commits) (r first : Rank) (rs rest : List Rank) (ranks : AreRanks commits (r ∷ rs))
+    (waits : Waits commits (parents_of commits (address_in r)) (r ∷ rs) (first ∷ rest)) where
+  -- all that wait are the commit, or come after it
+  from_commit : (x : List ℕ) → has_address (addresses_of (first ∷ rest)) x ≡ true → (x ≡ address_in r) ⊎ (is_lt (commit_cmp commits (address_in r) x) ≡ true)
+  from_commit x h = elim (either (has_address (parents_of commits (address_in r)) x) (has_address (addresses_of (r ∷ rs)) x) (sym (waits.has x) ∙ h)) [
+    | inl parent ↦ inr (parent_later commits grown (address_in r) x parent)
+    | inr there ↦ elim (either (bytes_eq x (address_in r)) (has_address (addresses_of rs) x) there) [
+      | inl same ↦ inl (same_address x (address_in r) same)
+      | inr later ↦ inr (before_all commits (address_in r) (addresses_of rs) x ranks.rise later)
+    ]
+  ]
+
+  still : has_address (addresses_of (first ∷ rest)) (address_in r) ≡ true
+  still = waits.has (address_in r) ∙ or_right _ _ (or_left _ _ (itself (address_in r)))
+
+  is_first : address_in first ≡ address_in r
+  is_first = elim (from_commit (address_in first) (or_left _ _ (itself (address_in first)))) [
+    | inl same ↦ same
+    | inr later ↦ elim (either (bytes_eq (address_in r) (address_in first)) (has_address (addresses_of rest) (address_in r)) still) [
+      | inl same ↦ sym (same_address (address_in r) (address_in first) same)
+      | inr behind ↦ true_false _ (before_all commits (address_in first) (addresses_of rest) (address_in r) waits.ranks.rise behind)
+          (not_before commits (address_in r) (address_in first) later)
+    ]
+  ]
+
+  -- what comes after the commit isn't the first
+  behind_first : (x : List ℕ) → is_lt (commit_cmp commits (address_in r) x) ≡ true → has_address (addresses_of (first ∷ rest)) x ≡ true → has_address (addresses_of rest) x ≡ true
+  behind_first x later h = elim (either (bytes_eq x (address_in first)) (has_address (addresses_of rest) x) h) [
+    | inl same ↦ true_false _ (subst (λ y. is_lt (commit_cmp commits (address_in r) y) ≡ true) (same_address x (address_in first) same ∙ is_first) later)
+        (not_itself commits (address_in r))
+    | inr there ↦ there
+  ]
+
+  into : (x : List ℕ) → has_address (addresses_of rest) x ≡ true → (has_address (parents_of commits (address_in r)) x || has_address (addresses_of rs) x) ≡ true
+  into x h = elim (either (has_address (parents_of commits (address_in r)) x) (has_address (addresses_of (r ∷ rs)) x) (sym (waits.has x) ∙ or_right _ _ h)) [
+    | inl parent ↦ or_left _ _ parent
+    | inr there ↦ elim (either (bytes_eq x (address_in r)) (has_address (addresses_of rs) x) there) [
+      | inl same ↦ true_false _
+          (subst (λ y. is_lt (commit_cmp commits (address_in first) y) ≡ true) (same_address x (address_in r) same ∙ sym is_first)
+          (before_all commits (address_in first) (addresses_of rest) x waits.ranks.rise h))
+          (not_itself commits (address_in first))
+      | inr later ↦ or_right _ _ later
+    ]
+  ]
+
+  out : (x : List ℕ) → (has_address (parents_of commits (address_in r)) x || has_address (addresses_of rs) x) ≡ true → has_address (addresses_of rest) x ≡ true
+  out x h = elim (either (has_address (parents_of commits (address_in r)) x) (has_address (addresses_of rs) x) h) [
+    | inl parent ↦ behind_first x (parent_later commits grown (address_in r) x parent) (waits.has x ∙ or_left _ _ parent)
+    | inr later ↦ behind_first x (before_all commits (address_in r) (addresses_of rs) x ranks.rise later) (waits.has x ∙ or_right _ _ (or_right _ _ later))
+  ]
+
+  pub first_gone : Waits commits (parents_of commits (address_in r)) rs rest
+  first_gone =
+      let high : height_at first ≡ height_at r =
+      rank_height commits first (and_parts _ _ waits.ranks.each).0 ∙ ap (height_of commits) is_first ∙ sym (rank_height commits r (and_parts _ _ ranks.each).0) in
+      let parents = weight (map (height_of commits) (parents_of commits (address_in r))) in
+      let light : 3 ^ height_at r + weight_of rest ≤ parents + (3 ^ height_at r + weight_of rs) =
+      subst (λ n. 3 ^ n + weight_of rest ≤ parents + (3 ^ height_at r + weight_of rs)) high waits.light in
+      record { ranks = rest_ranks commits first rest waits.ranks; has = λ x. alike_truths _ _ (into x) (out x); light = omega (arith, light) }
+
+pub gone : (commits : Commits) → AreGrown commits → (r : Rank) (rs all rest : List Rank) (popped : Option Rank) → AreRanks commits (r ∷ rs)
+    → Waits commits (parents_of commits (address_in r)) (r ∷ rs) all → IfSome popped (λ k. all ≡ k ∷ rest) → (IsSome popped ↔ (0 < length all))
+    → Waits commits (parents_of commits (address_in r)) rs rest
+gone commits grown r rs all rest (Some first) ranks waits front there =
+    first_gone commits grown r first rs rest ranks (subst (Waits commits (parents_of commits (address_in r)) (r ∷ rs)) front waits)
+gone commits grown r rs [] rest None ranks waits front there = true_false _ (or_right _ _ (or_left _ _ (itself (address_in r)))) (sym (waits.has (address_in r)))
+gone commits grown r rs (x ∷ xs) rest None ranks waits front there = true_false false (there.1 (omega arith)) refl
 
 -- a step from the first of those that wait
 pub steps : (laws : AncestorsFollow) (commits : Commits) → AreGrown commits → (old new rs : List Rank) (r : Rank) (k : Address) → old ≡ r ∷ rs → k.0 ≡ address_in r

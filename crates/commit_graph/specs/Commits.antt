@@ -37,6 +37,20 @@ pub record KeepsLimits (commit : CommitParts) : Type 0 where
   pub committer : length commit.committer ≤ most_committer_bytes
   pub message : length commit.message ≤ most_message_bytes
 
+-- what the fields of a commit's form hold, whether or not it keeps the limits on data: at most two parents, a date from 1970 on
+pub record FitsForm (commit : CommitParts) : Type 0 where
+  pub addresses : HasAddresses commit
+  pub few : length commit.parents ≤ most_parents
+  pub height : commit.height < 2 ^ 64
+  pub date : pos 0 ≤ℤ commit.date
+  pub date_fits : fits_bits 63 commit.date ≡ true
+  pub committer : length commit.committer < 2 ^ 16
+  pub message : length commit.message < 2 ^ 16
+
+-- these are the bytes of such a commit
+abbrev pub IsCommitIn : List ℕ → CommitParts → Type 0
+IsCommitIn bytes commit = FitsForm commit × (commit_bytes commit ≡ bytes)
+
 -- what a commit is
 pub record IsCommit (commit : CommitParts) : Type 0 where
   pub addresses : HasAddresses commit

@@ -63,3 +63,14 @@ pub record Waits (commits : Commits) (ks : List (List ℕ)) (old new : List Rank
   pub ranks : AreRanks commits new
   pub has : (k : List ℕ) → has_address (addresses_of new) k ≡ (has_address ks k || has_address (addresses_of old) k)
   pub light : weight_of new ≤ weight (map (height_of commits) ks) + weight_of old
+
+-- some of these came to those that wait
+pub record WaitsForSome (commits : Commits) (ks : List (List ℕ)) (old new : List Rank) : Type 0 where
+  pub ranks : AreRanks commits new
+  pub kept : (k : List ℕ) → has_address (addresses_of old) k ≡ true → has_address (addresses_of new) k ≡ true
+  pub only : (k : List ℕ) → has_address (addresses_of new) k ≡ true → (has_address ks k || has_address (addresses_of old) k) ≡ true
+
+-- what a walk still comes to is as it was
+pub record KeepsLeft (commits : Commits) (old new : List Rank) : Type 0 where
+  pub ranks : AreRanks commits new
+  pub all : left commits new ≡ left commits old

@@ -18,6 +18,6 @@ pub use ancestry::ancestors;
 pub use commits::CommitRecord;
 pub use laws::{law_of_commits, law_of_standing_commits};
 pub use parts::{height, is_commit, root_of};
-pub use reading::read_commit;
+pub use reading::{read_commit, read_commit_bytes};
 pub use walks::{AncestorWalk, Rank};
 pub use writing::write_commit;

@@ -5,7 +5,7 @@ ghost use Rattle.std.specs.List.{list_all, slice_get};
 ghost use Rattle.schema_model.specs.PlainCommits.{Commits, is_known};
 ghost use Rattle.chunk_store.specs.Drafts.{chunks_of};
 ghost use Rattle.commit_graph.specs.Standing.{CommitsStand};
-ghost use Rattle.commit_graph.specs.Walks.{AreRanks, Steps, Waits, WalksAncestors};
+ghost use Rattle.commit_graph.specs.Walks.{AreRanks, KeepsLeft, Steps, Waits, WaitsForSome, WalksAncestors};
 
 use crate::parts::height;
 use crate::reading::read_commit;
@@ -66,7 +66,8 @@ impl AncestorWalk {
         self.waiting.first().copied()
     }
 
-    /// The next commit, where there is one. After an error ancestors may be passed over.
+    /// The next commit, where there is one. After an error the walk still comes to the same commits, though some may wait already that
+    /// would have come to wait later.
     pub fn next<D: Digester>(
         &mut self,
         alloc: Global,
@@ -76,15 +77,17 @@ impl AncestorWalk {
         ensures ok { (commits : Commits) → CommitsStand D.address (chunks_of draft.now.chunks) commits → AreRanks commits self.old
             → IfOk result (Steps commits self.old self.new) }
         ensures err { (commits : Commits) → CommitsStand D.address (chunks_of draft.now.chunks) commits → AreRanks commits self.old
-            → OnErr result (AreRanks commits self.new) }
+            → OnErr result (KeepsLeft commits self.old self.new) }
     {
         law_of_ancestors();
-        let Some(rank) = self.waiting.pop_first() else {
+        let Some(rank) = self.first() else {
             return Ok(None);
         };
         let address = Address(rank.address);
         let commit = read_commit(alloc, draft, &address)?;
         self.put_all(draft, commit.parents.as_slice())?;
+        // its parents come after it, so it is still the first
+        let _ = self.waiting.pop_first();
         Ok(Some(address))
     }
 
@@ -98,7 +101,7 @@ impl AncestorWalk {
         ensures ok { (commits : Commits) → CommitsStand D.address (chunks_of draft.now.chunks) commits → AreRanks commits self.old
             → list_all (is_known commits) (map (λ k. k.0) addresses.now) ≡ true → OnOk result (Waits commits (map (λ k. k.0) addresses.now) self.old self.new) }
         ensures err { (commits : Commits) → CommitsStand D.address (chunks_of draft.now.chunks) commits → AreRanks commits self.old
-            → list_all (is_known commits) (map (λ k. k.0) addresses.now) ≡ true → OnErr result (AreRanks commits self.new) }
+            → list_all (is_known commits) (map (λ k. k.0) addresses.now) ≡ true → OnErr result (WaitsForSome commits (map (λ k. k.0) addresses.now) self.old self.new) }
     {
         for address in addresses {
             self.put(draft, address)?;

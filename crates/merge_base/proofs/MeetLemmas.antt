@@ -15,7 +15,7 @@ use Rattle.commit_graph.specs.Walks.{AreRanks, Steps, WalksAncestors, address_in
 use Rattle.commit_graph.specs.declared.walks.Rank.{Rank}
 use Rattle.tuple_codec.specs.declared.addresses.Address.{Address}
 use Rattle.commit_graph.proofs.OrderLemmas.{true_false}
-use Rattle.commit_graph.proofs.WalkLemmas.{first_known, first_or_later, left_rises, rank_cmp, same_cmp, to_left}
+use Rattle.commit_graph.proofs.WalkLemmas.{first_known, first_of, first_or_later, left_rises, none_of, rank_cmp, same_cmp, to_left}
 use Rattle.merge_base.specs.Common.{HasCommon}
 
 -- the base is still to come, in both walks
@@ -56,17 +56,6 @@ passed_theirs k (x ∷ ks) others h =
 
 pub common_first : (k : List ℕ) (ks others : List (List ℕ)) → first_in (k ∷ ks) (k ∷ others) ≡ Some k
 common_first k ks others = first_by (bytes_eq k k || has_address others k) true k (first_in ks (k ∷ others)) (or_left _ _ (itself k))
-
-rank_is : (r x : Rank) → Some r ≡ Some x → r ≡ x
-rank_is r x e = cc
-
-pub first_of : (ranks : List Rank) (r : Rank) → Some r ≡ slice_get ranks 0 → (rest : List Rank) × (ranks ≡ r ∷ rest)
-first_of [] r e = absurd cc
-first_of (x ∷ rest) r e = (rest, ap (λ (y : Rank). y ∷ rest) (sym (rank_is r x e)))
-
-pub none_of : (ranks : List Rank) → None ≡ slice_get ranks 0 → ranks ≡ []
-none_of [] e = refl
-none_of (x ∷ rest) e = absurd cc
 
 no_rank : (r : Rank) (rs : List Rank) → r ∷ rs ≡ [] → ⊥
 no_rank r rs e = cc
