@@ -1,5 +1,5 @@
 -- A session after a call that stages tables or sets them back.
-use Rattle.std.proofs.Common.{◌≡◌, refl, sym, ◌∙◌, ap, subst, inl, inr, ℕ, true, List, length, nat_lt, Option, Some, Ok, Err}
+use Rattle.std.proofs.Common.{◌≡◌, refl, sym, ◌∙◌, ap, subst, inl, inr, ℕ, true, true≢false, List, length, nat_lt, Option, Some, Ok, Err}
 use Rattle.tuple_codec.proofs.Options.{some_there as has_one}
 use Rattle.tuple_codec.specs.declared.addresses.Address.{Address}
 use Rattle.tuple_codec.specs.declared.records.BranchRecord.{BranchRecord}
@@ -27,7 +27,7 @@ use Rattle.sql_procedures.specs.declared.requests.Tables.TheVariants as tables
 use Rattle.plain_sessions.specs.Branching.{add, is_open, may_reset, may_stage, reset_to, staged_as, taking_all}
 use Rattle.plain_sessions.specs.Moments.{is_in_transaction}
 use Rattle.plain_sessions.specs.Records.{BranchState, clean_at, root_of}
-use Rattle.plain_sessions.specs.Replies.{refused}
+use Rattle.plain_sessions.specs.Replies.{is_refusal, refused}
 use Rattle.plain_sessions.specs.Sessions as plain
 use Rattle.plain_sessions.specs.Sessions.{Said, Transaction, own_root, with_own, within}
 use Rattle.plain_sessions.specs.Statements.{staged, worked}
@@ -260,3 +260,13 @@ pub settled_truly : (address : List ℕ → List ℕ) (mid new : Drafting) (befo
     → TellsTruly address reply
 settled_truly address mid new before after mark (cand.Record rec) reply s = status_truly address reply s.2
 settled_truly address mid new before after mark (cand.Refused number) reply s = due_truly address 1 (Refused number) reply s.2
+
+-- ---- a refusal leaves the session as it was
+
+pub left_by : (address : List ℕ → List ℕ) (old new : Drafting) (before after : BranchRecord) (wanted : Outcome BranchState) (reply : Reply) → Stages address old new before after wanted reply
+    → is_refusal reply ≡ true → (after ≡ before) × (new.chunks ≡ old.chunks)
+left_by address old new before after wanted reply (inl done) h = absurd (true≢false (sym h ∙ ap is_refusal done.reply_is))
+left_by address old new before after wanted reply (inr undone) h = (undone.record_is, undone.chunks)
+
+pub left_at : {D : Type 0} (old : Session D) (d : Drafting) (own : BranchRecord) → own ≡ old.own → with_record old own d ≡ record old { draft = d }
+left_at old d own back = ap (λ (rec : BranchRecord). with_record old rec d) back

@@ -9,6 +9,7 @@ ghost use Rattle.chunk_store.specs.Laws.{ChunksFollow, DraftsFollow, DraftsGrow}
 ghost use Rattle.script_text.specs.Collisions.{TellsTruly};
 ghost use Rattle.plain_sessions.specs.Moments.{is_in_transaction};
 ghost use Rattle.plain_sessions.specs.Records.{BranchState, root_of};
+ghost use Rattle.plain_sessions.specs.Replies.{is_refusal};
 ghost use Rattle.plain_sessions.specs.Sessions as plain;
 ghost use Rattle.plain_sessions.specs.declared.commands.Command.TheVariants as command;
 ghost use Rattle.root_merge.specs.States.{IsCandidate};
@@ -29,7 +30,8 @@ use session_state::{Session, law_of_records, law_of_transactions};
 use std::alloc::Global;
 use tuple_codec::{BranchRecord, Digester};
 
-/// Answers a DOLT_ADD or a DOLT_RESET. Where it is refused, or there is no memory, the session stands for what it stood for.
+/// Answers a DOLT_ADD or a DOLT_RESET. Where it is refused, or there is no memory, the session is as it was, but that its pool may
+/// have more pages.
 pub fn branch_local<D: Digester>(alloc: Global, session: &mut Session<D>, asked: &Work) -> Reply
     requires stands { IsInTransaction D.address session.old }
     requires stages { stages asked.now ≡ true }
@@ -39,6 +41,8 @@ pub fn branch_local<D: Digester>(alloc: Global, session: &mut Session<D>, asked:
     ensures truly { TellsTruly D.address result }
     ensures base { session.new.draft.chunks.base ≡ session.old.draft.chunks.base }
     ensures pages { pages_in session.old.draft ≤ pages_in session.new.draft }
+    ensures same { is_refusal result ≡ true → session.new ≡ record session.old { draft = session.new.draft } }
+    ensures draft { is_refusal result ≡ true → session.new.draft.chunks ≡ session.old.draft.chunks }
 {
     match status_reply(alloc) {
         Ok(reply) => staged(alloc, session, asked, reply),
@@ -57,6 +61,8 @@ fn staged<D: Digester>(alloc: Global, session: &mut Session<D>, asked: &Work, re
     ensures truly { TellsTruly D.address result }
     ensures base { session.new.draft.chunks.base ≡ session.old.draft.chunks.base }
     ensures pages { pages_in session.old.draft ≤ pages_in session.new.draft }
+    ensures same { is_refusal result ≡ true → session.new ≡ record session.old { draft = session.new.draft } }
+    ensures draft { is_refusal result ≡ true → session.new.draft.chunks ≡ session.old.draft.chunks }
 {
     laws();
     let mut own = session.own;

@@ -26,6 +26,7 @@ use Rattle.plain_writes.specs.Violations.{first_violation, is_called}
 use Rattle.plain_sessions.specs.Branching.{is_in}
 use Rattle.plain_sessions.specs.Merging.{Answers, breaks_index, breaks_null, database_after, has_too_many_rows, may_settle, names_meant, resolve, table_after, takes_bad_row, unless_violated}
 use Rattle.plain_sessions.specs.Records.{BranchState}
+use Rattle.plain_sessions.specs.Replies.{is_refusal}
 use Rattle.plain_sessions.specs.Statements.{resolve_worked}
 use Rattle.root_merge.proofs.MergedLemmas.{within_named as all_within}
 use Rattle.script_text.specs.declared.replies.Reply.{Reply}
@@ -230,6 +231,7 @@ module _ (address : List ℕ → List ℕ) (chunks : Chunks) (commits : Commits)
         own = record state { working = after };
         is = ap (resolve_worked state) comes ∙ ap (λ (r : Reply). Ok (Answers r (record state { working = after }))) (sym reply_is);
         plain = ap is_plain_reply reply_is;
+        well = ap is_refusal reply_is;
         stands = subst (λ (r : BranchRecord). RecordStands address chunks commits r (record state { working = after })) (sym rec_is) (record {
           head = stands.head;
           working = record { stands = (let there = can.at in there.stands); within = kept.within };

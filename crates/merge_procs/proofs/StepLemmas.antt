@@ -1,5 +1,5 @@
 -- What calls that aren't decided on make of a session's own record, and the session after them.
-use Rattle.std.proofs.Common.{◌≡◌, refl, sym, ◌∙◌, ap, subst, inl, ℕ, Bool, true, not, List, [], length, codes, Option, None, Some, is_some, Result, Ok, Err, IfOk, IfErr, if◌then◌else◌}
+use Rattle.std.proofs.Common.{◌≡◌, refl, sym, ◌∙◌, ap, subst, inl, ℕ, Bool, true, true≢false, not, List, [], length, codes, Option, None, Some, is_some, Result, Ok, Err, IfOk, IfErr, if◌then◌else◌}
 use Rattle.std.specs.Option.{option_map}
 use Rattle.tuple_codec.proofs.Options.{some_there as has_one}
 use Rattle.tuple_codec.specs.declared.addresses.Address.{Address}
@@ -26,7 +26,7 @@ use Rattle.schema_merge.specs.RootMerge.{MergedDatabase}
 use Rattle.plain_sessions.specs.Merging.{Worked, Answers, Closes, Joining, base_root, in_progress, merge, merge_made, merge_message, merge_reply, merged_with}
 use Rattle.plain_sessions.specs.Moments.{is_in_transaction}
 use Rattle.plain_sessions.specs.Records.{BranchState, clean_at, root_of}
-use Rattle.plain_sessions.specs.Replies.{refused}
+use Rattle.plain_sessions.specs.Replies.{is_refusal, refused}
 use Rattle.plain_sessions.specs.Sessions as plain
 use Rattle.plain_sessions.specs.Sessions.{Transaction, own_root, with_own, within}
 use Rattle.plain_sessions.specs.Statements.{worked}
@@ -105,6 +105,7 @@ aborts address session p t root made stands there h read is =
       own = clean_at t.own.head (own_root t);
       is = ap (λ (b : Bool). unless (not b) 9012 done) (ap is_some (sym kept.merging) ∙ some_there session.own.merging h);
       plain = refl;
+      well = refl;
       stands = record { head = kept.head; working = at; staged = at; merging = refl; head_known = kept.head_known; merging_known = refl };
     })
 
@@ -116,7 +117,7 @@ pub stays : {D : Type 0} (address : List ℕ → List ℕ) (session : Session D)
     → IsStep address (chunks_of session.draft.chunks) t.commits made wanted
 stays address session p t made wanted stands there comes is =
     subst (λ (s : Step). IsStep address (chunks_of session.draft.chunks) t.commits s wanted) (sym is)
-    (record { own = t.own; is = comes; plain = refl; stands = own_stands address session p t stands there })
+    (record { own = t.own; is = comes; plain = refl; well = refl; stands = own_stands address session p t stands there })
 
 -- the databases of the three
 pub three_roots : (address : List ℕ → List ℕ) (chunks : Chunks) (t : Transaction) (request : MergeOf) (three : Three) → IsThree address chunks t request three
@@ -137,6 +138,7 @@ opens address old new own p t request three working made drafts growth records s
       is = is.is p ∙ ap (λ (o : Outcome MergedDatabase). and_then o (λ merged. Ok (merge_made p t request three.other.0 merged))) comes
           ∙ ap (λ (b : Bool). let o : Outcome Worked = Ok (if b then closes else answers) in o) clean;
       plain = refl;
+      well = refl;
       stands = record { head = after.head; working = kept; staged = after.staged; merging = refl; head_known = after.head_known; merging_known = is.other_known };
     })
 
@@ -254,3 +256,21 @@ settles_truly address old mid new mark (Ok (step.Refused number)) reply chunks d
 settles_truly address old mid new mark (Err Memory) reply chunks drafts growth named sound grows plain reason settled = subst (λ (r : Reply). TellsTruly address r) (sym settled.1) tt
 settles_truly address old mid new mark (Err (Collision clash)) reply chunks drafts growth named sound grows plain reason settled =
     collides_truly address old.draft mid.draft clash reply chunks drafts growth named sound grows reason settled.1
+
+-- ---- a refusal leaves the session as it was
+
+is_left : {D : Type 0} (old mid new : Session D) (mark : ℕ) → DraftsFollow → DraftsGrow → mark ≡ length old.draft.chunks.own → IsSame old mid → Grows is_data old.draft mid.draft
+    → IsBack mark mid new → IsSame old new × (new.draft.chunks ≡ old.draft.chunks)
+is_left old mid new mark drafts growth at same grows back = (
+  back.same ∙ ap (λ s. with_draft s new.draft) same,
+  back.chunks ∙ ap (λ (n : ℕ). cut_to n mid.draft.chunks) at ∙ drafts.comes_back old.draft.chunks mid.draft.chunks (growth.is_longer is_data old.draft mid.draft grows),
+)
+
+pub left_by : {D : Type 0} (address : List ℕ → List ℕ) (old mid new : Session D) (mark : ℕ) (commits : Commits) (wanted : Outcome Worked) (result : Result Step PutFault) (reply : Reply)
+    → DraftsFollow → DraftsGrow → mark ≡ length old.draft.chunks.own → IsSame old mid → Grows is_data old.draft mid.draft
+    → IfOk result (λ s. IsStep address (chunks_of mid.draft.chunks) commits s wanted) → Settles mark mid new result reply → is_refusal reply ≡ true
+    → IsSame old new × (new.draft.chunks ≡ old.draft.chunks)
+left_by address old mid new mark commits wanted (Ok (step.Made made)) reply drafts growth at same grows is settled h = absurd (true≢false (sym h ∙ ap is_refusal settled.1 ∙ is.well))
+left_by address old mid new mark commits wanted (Ok (step.Refused number)) reply drafts growth at same grows is settled h = is_left old mid new mark drafts growth at same grows settled.0
+left_by address old mid new mark commits wanted (Err Memory) reply drafts growth at same grows is settled h = is_left old mid new mark drafts growth at same grows settled.0
+left_by address old mid new mark commits wanted (Err (Collision clash)) reply drafts growth at same grows is settled h = is_left old mid new mark drafts growth at same grows settled.0

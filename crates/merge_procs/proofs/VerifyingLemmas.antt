@@ -14,7 +14,7 @@ use Rattle.plain_writes.specs.CheckTexts.{checks}
 use Rattle.plain_sessions.specs.CommitRule.{is_none}
 use Rattle.plain_sessions.specs.Merging.{Worked, Answers, found_in, verified, verify}
 use Rattle.plain_sessions.specs.Records.{BranchState}
-use Rattle.plain_sessions.specs.Replies.{number_field, one_row}
+use Rattle.plain_sessions.specs.Replies.{is_refusal, number_field, one_row}
 use Rattle.plain_writes.specs.Violations.{violations}
 use Rattle.session_state.specs.Records.{RecordStands}
 use Rattle.session_plan.specs.Showing.{is_plain_reply}
@@ -47,6 +47,7 @@ verified_so address old new commits own state working way list reply more laws s
       own = after;
       is = ap (λ (r : Reply). let o : Outcome Worked = Ok (Answers r after) in o) (sym (is ∙ ap told (found_as list state.working same)));
       plain = ap is_plain_reply is ∙ found_plain (not (is_none list));
+      well = ap is_refusal is;
       stands = record {
         head = stands.head;
         working = kept;

@@ -8,6 +8,7 @@ use Rattle.expr_eval.specs.Binding.{Outcome}
 use Rattle.schema_model.specs.PlainCommits.{Commits}
 use Rattle.plain_sessions.specs.Merging.{Worked, Answers}
 use Rattle.plain_sessions.specs.Records.{BranchState}
+use Rattle.plain_sessions.specs.Replies.{is_refusal}
 use Rattle.plain_sessions.specs.declared.commands.Work.{Work}
 use Rattle.plain_sessions.specs.declared.commands.Work.TheVariants as work
 use Rattle.script_text.specs.declared.replies.Reply.{Reply}
@@ -31,6 +32,7 @@ pub record IsMade (address : List ℕ → List ℕ) (chunks : Chunks) (commits :
   pub own : BranchState
   pub is : wanted ≡ Ok (Answers made.reply own)
   pub plain : is_plain_reply made.reply ≡ true
+  pub well : is_refusal made.reply ≡ false
   pub stands : RecordStands address chunks commits made.rec own
 
 abbrev pub IsStep : (List ℕ → List ℕ) → Chunks → Commits → Step → Outcome Worked → Type 0

@@ -7,6 +7,7 @@ ghost use Rattle.chunk_store.specs.Kinds.{is_data};
 ghost use Rattle.chunk_store.specs.Laws.{ChunksFollow, DraftsFollow, DraftsGrow};
 ghost use Rattle.plain_sessions.specs.Merging.{merge, merge_reply};
 ghost use Rattle.plain_sessions.specs.Moments.{is_in_transaction};
+ghost use Rattle.plain_sessions.specs.Replies.{is_refusal};
 ghost use Rattle.plain_sessions.specs.Sessions as plain;
 ghost use Rattle.plain_sessions.specs.Statements.{worked};
 ghost use Rattle.plain_sessions.specs.declared.commands.Command.TheVariants as command;
@@ -37,7 +38,7 @@ use std::alloc::{AllocError, Global};
 use tuple_codec::{Address, BranchRecord, Digester};
 
 /// Answers a DOLT_MERGE that has no decision, a DOLT_CONFLICTS_RESOLVE or a DOLT_VERIFY_CONSTRAINTS. Where it is refused, or there is no memory, the session
-/// stands for what it stood for. A DOLT_MERGE that has its decision is answered want of memory here.
+/// is as it was, but that its pool may have more pages. A DOLT_MERGE that has its decision is answered want of memory here.
 pub fn merge_local<D: Digester>(alloc: Global, session: &mut Session<D>, asked: &Work) -> Reply
     requires stands { IsInTransaction D.address session.old }
     requires merges { merges asked.now ≡ true }
@@ -47,6 +48,8 @@ pub fn merge_local<D: Digester>(alloc: Global, session: &mut Session<D>, asked: 
     ensures truly { TellsTruly D.address result }
     ensures base { session.new.draft.chunks.base ≡ session.old.draft.chunks.base }
     ensures pages { pages_in session.old.draft ≤ pages_in session.new.draft }
+    ensures same { is_refusal result ≡ true → session.new ≡ record session.old { draft = session.new.draft } }
+    ensures draft { is_refusal result ≡ true → session.new.draft.chunks ≡ session.old.draft.chunks }
 {
     laws();
     let mark = session.draft.mark();

@@ -2,6 +2,7 @@
 use Rattle.std.proofs.Common.{◌≡◌, refl, ◌∙◌, sym, ap, subst, ℕ, ◌+◌, Bool, true, false, not, ◌&&◌, ◌||◌, List, Option, Some, None, IfSome, is_some, slice_get, if◌then◌else◌}
 use Rattle.std.specs.Option.{option_and_then}
 use Rattle.chunk_store.specs.Chunks.{Chunk, Lists}
+use Rattle.chunk_store.specs.Drafts.{Drafting}
 use Rattle.chunk_store.specs.declared.faults.PutFault.{PutFault}
 use Rattle.script_text.specs.Output.{shortage}
 use Rattle.script_text.specs.declared.replies.Reply.{Reply}
@@ -20,6 +21,7 @@ use Rattle.sql_procedures.specs.declared.requests.CheckoutRequest.{CheckoutReque
 use Rattle.sql_procedures.specs.declared.requests.MergeRequest.TheVariants as merging
 use Rattle.session_state.specs.Changes.{Parts}
 use Rattle.session_state.specs.Standing.{IsInTransaction, SessionStands}
+use Rattle.session_state.specs.declared.sessions.Position.{Position}
 use Rattle.session_state.specs.declared.sessions.Position.TheVariants as place
 use Rattle.session_state.specs.declared.sessions.Session.{Session}
 use Rattle.session_plan.specs.Answering.{AnswersAlone}
@@ -152,3 +154,26 @@ module _ {D : Type 0} (address : List ℕ → List ℕ) (session : Session D) (p
   -- the transaction in which a session with a start is
   pub started_in : is_some session.start ≡ true → IsInTransaction address session
   started_in is = in_transaction address session p stands (sym started_is ∙ is)
+
+-- ---- what a refusal leaves
+
+abbrev with_draft : {D : Type 0} → Session D → Drafting → Session D
+with_draft session d = record session { draft = d }
+
+abbrev at_place : {D : Type 0} → Session D → Position → Session D
+at_place session at = record session { position = at }
+
+module _ {D : Type 0} (old new : Session D) where
+  -- the session went on, and nothing else became of it
+  pub went_on : (at : Position) → new ≡ at_place old at → new ≡ at_place old new.position
+  went_on at is = is ∙ ap (at_place old) (sym (ap (λ (s : Session D). s.position) is))
+
+module _ {D : Type 0} (old mid new : Session D) (same : mid ≡ with_draft old mid.draft) where
+  pub moved_on : (at : Position) → new ≡ at_place mid at → new ≡ at_place (with_draft old new.draft) new.position
+  moved_on at is =
+      is ∙ ap (λ (s : Session D). at_place s at) same ∙ ap (at_place (with_draft old mid.draft)) (sym (ap (λ (s : Session D). s.position) is))
+      ∙ ap (λ (d : Drafting). at_place (with_draft old d) new.position) (sym (ap (λ (s : Session D). s.draft) is))
+
+  -- first it only looked
+  pub looked_first : new ≡ with_draft mid new.draft → new ≡ with_draft old new.draft
+  looked_first last = last ∙ ap (λ (s : Session D). with_draft s new.draft) same

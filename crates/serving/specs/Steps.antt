@@ -1,5 +1,5 @@
 -- Steps of a statement: the decision on an open transaction, and replies to faults.
-use Rattle.std.specs.Prelude.{◌≡◌, ℕ, ◌==◌, ◌≤◌, Bool, List, [], ◌∷◌, ◌++◌, None, Some, Ok, Err, if◌then◌else◌}
+use Rattle.std.specs.Prelude.{◌≡◌, ℕ, ◌==◌, ◌≤◌, Bool, true, List, [], ◌∷◌, ◌++◌, Option, None, Some, Ok, Err, if◌then◌else◌}
 use Rattle.chunk_store.specs.Chunks.{Lists}
 use Rattle.chunk_store.specs.declared.faults.PutFault.{PutFault}
 use Rattle.chunk_store.specs.declared.faults.PutFault.TheVariants.{Memory, Collision}
@@ -9,7 +9,7 @@ use Rattle.script_text.specs.declared.replies.Reply.{Reply}
 use Rattle.script_text.specs.declared.replies.Reply.TheVariants.{Collided, Done, Refused}
 use Rattle.plain_sessions.specs.CommitRule.{decide}
 use Rattle.plain_sessions.specs.Records.{BranchState, Shared, state_of, with_branch}
-use Rattle.plain_sessions.specs.Replies.{done, refused}
+use Rattle.plain_sessions.specs.Replies.{done, is_refusal, refused}
 use Rattle.plain_sessions.specs.Sessions as plain
 use Rattle.session_state.specs.Changes.{Parts, StateStands}
 use Rattle.session_state.specs.declared.sessions.Position.{Position}
@@ -63,3 +63,8 @@ fault_reply (Collision clash) = Collided clash
 abbrev pub ended_with : {D : Type 0} → Bool → Reply → Session D → Session D
 ended_with on Done session = record session { start = None; autocommit = on }
 ended_with on other session = record session { start = None }
+
+-- it was refused, or hasn't been answered
+abbrev pub is_undone : Option Reply → Bool
+is_undone None = true
+is_undone (Some reply) = is_refusal reply

@@ -4,6 +4,7 @@ ghost use Rattle.std.specs.Prelude.{◌≡◌, false, true};
 ghost use Rattle.script_text.specs.Collisions.{TellsTruly};
 ghost use Rattle.plain_sessions.specs.Fitness.{IsFitCommand};
 ghost use Rattle.plain_sessions.specs.Moments.{is_in_transaction};
+ghost use Rattle.plain_sessions.specs.Replies.{is_refusal};
 ghost use Rattle.plain_sessions.specs.Sessions as plain;
 ghost use Rattle.plain_sessions.specs.declared.commands.Command.TheVariants as command;
 ghost use Rattle.session_state.specs.Standing.{IsInTransaction, SessionStands};
@@ -34,6 +35,8 @@ pub(crate) fn answer_alone<D: Digester>(
     ensures sound { is_sound_reply result ≡ true }
     ensures truly { TellsTruly D.address result }
     ensures base { session.new.draft.chunks.base ≡ session.old.draft.chunks.base }
+    ensures same { is_refusal result ≡ true → session.new ≡ record session.old { draft = session.new.draft } }
+    ensures draft { is_refusal result ≡ true → session.new.draft.chunks ≡ session.old.draft.chunks }
 {
     if calls(asked) {
         call(alloc, session, asked)
@@ -51,6 +54,8 @@ fn call<D: Digester>(alloc: Global, session: &mut Session<D>, asked: &Command) -
     ensures sound { is_sound_reply result ≡ true }
     ensures truly { TellsTruly D.address result }
     ensures base { session.new.draft.chunks.base ≡ session.old.draft.chunks.base }
+    ensures same { is_refusal result ≡ true → session.new ≡ record session.old { draft = session.new.draft } }
+    ensures draft { is_refusal result ≡ true → session.new.draft.chunks ≡ session.old.draft.chunks }
 {
     match asked {
         Command::Data(work) => call_local(alloc, session, work),
@@ -74,6 +79,8 @@ fn call_local<D: Digester>(alloc: Global, session: &mut Session<D>, asked: &Work
     ensures sound { is_sound_reply result ≡ true }
     ensures truly { TellsTruly D.address result }
     ensures base { session.new.draft.chunks.base ≡ session.old.draft.chunks.base }
+    ensures same { is_refusal result ≡ true → session.new ≡ record session.old { draft = session.new.draft } }
+    ensures draft { is_refusal result ≡ true → session.new.draft.chunks ≡ session.old.draft.chunks }
 {
     match asked {
         Work::Add(_) | Work::ResetTo(_) => branch_local(alloc, session, asked),

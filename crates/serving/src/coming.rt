@@ -15,7 +15,7 @@ ghost use Rattle.session_plan.specs.Answering.{AnswersAlone};
 ghost use Rattle.session_plan.specs.Showing.{is_sound_reply};
 ghost use Rattle.serving.specs.Kinds.{is_alone, is_in_place, may_close};
 ghost use Rattle.serving.specs.Serving.{IsBefore, PassesAlone};
-ghost use Rattle.serving.specs.Steps.{number_at};
+ghost use Rattle.serving.specs.Steps.{is_undone, number_at};
 
 use crate::alone::answer_alone;
 use crate::courses::{Course, find_course};
@@ -49,6 +49,8 @@ pub fn come_to<D: Digester>(
     ensures place { result ≡ None → session.new.position ≡ session.old.position }
     ensures sound { IfSome result (λ reply. is_sound_reply reply ≡ true) }
     ensures truly { IfSome result (TellsTruly D.address) }
+    ensures same { is_undone result ≡ true → session.new ≡ record session.old { position = session.new.position; draft = session.new.draft } }
+    ensures draft { is_undone result ≡ true → session.new.draft.chunks ≡ session.old.draft.chunks }
 {
     let number = number_of(session.position);
     let reply = answer_at_once(alloc, session, asked)?;
@@ -70,6 +72,8 @@ fn answer_at_once<D: Digester>(
     ensures sound { IfSome result (λ reply. is_sound_reply reply ≡ true) }
     ensures truly { IfSome result (TellsTruly D.address) }
     ensures base { session.new.draft.chunks.base ≡ session.old.draft.chunks.base }
+    ensures same { is_undone result ≡ true → session.new ≡ record session.old { draft = session.new.draft } }
+    ensures draft { is_undone result ≡ true → session.new.draft.chunks ≡ session.old.draft.chunks }
 {
     match asked {
         Command::Checkout(_) => changed_alone(session),
@@ -100,6 +104,8 @@ fn work_at_once<D: Digester>(
     ensures sound { IfSome result (λ reply. is_sound_reply reply ≡ true) }
     ensures truly { IfSome result (TellsTruly D.address) }
     ensures base { session.new.draft.chunks.base ≡ session.old.draft.chunks.base }
+    ensures same { is_undone result ≡ true → session.new ≡ record session.old { draft = session.new.draft } }
+    ensures draft { is_undone result ≡ true → session.new.draft.chunks ≡ session.old.draft.chunks }
 {
     match work {
         Work::Commit(_) | Work::Merge(MergeRequest::Merge(_)) => closing_at_once(
@@ -130,6 +136,8 @@ fn in_place_at_once<D: Digester>(
     ensures sound { IfSome result (λ reply. is_sound_reply reply ≡ true) }
     ensures truly { IfSome result (TellsTruly D.address) }
     ensures base { session.new.draft.chunks.base ≡ session.old.draft.chunks.base }
+    ensures same { is_undone result ≡ true → session.new ≡ record session.old { draft = session.new.draft } }
+    ensures draft { is_undone result ≡ true → session.new.draft.chunks ≡ session.old.draft.chunks }
 {
     if is_alone(session, asked) {
         Some(answer_alone(alloc, session, asked))
@@ -166,6 +174,8 @@ fn closing_at_once<D: Digester>(
     ensures sound { IfSome result (λ reply. is_sound_reply reply ≡ true) }
     ensures truly { IfSome result (TellsTruly D.address) }
     ensures base { session.new.draft.chunks.base ≡ session.old.draft.chunks.base }
+    ensures same { is_undone result ≡ true → session.new ≡ record session.old { draft = session.new.draft } }
+    ensures draft { is_undone result ≡ true → session.new.draft.chunks ≡ session.old.draft.chunks }
 {
     if session.start.is_none() {
         return None;

@@ -1,5 +1,5 @@
 -- Statements that write, in a transaction.
-use Rattle.std.proofs.Common.{◌≡◌, refl, sym, ◌∙◌, ap, subst, inl, inr, ℕ, true, List, length, Option, None, Some, Ok, Err}
+use Rattle.std.proofs.Common.{◌≡◌, refl, sym, ◌∙◌, ap, subst, inl, inr, ℕ, true, false, true≢false, List, length, Option, None, Some, Ok, Err}
 use Rattle.tuple_codec.proofs.Options.{some_there as has_one}
 use Rattle.tuple_codec.specs.declared.addresses.Address.{Address}
 use Rattle.chunk_store.specs.Chunks.{Chunk, Chunks}
@@ -24,7 +24,7 @@ use Rattle.sql_write.specs.declared.writing.Written.{Written}
 use Rattle.script_text.specs.Output.{shortage}
 use Rattle.plain_sessions.specs.Moments.{is_in_transaction}
 use Rattle.plain_sessions.specs.Records.{BranchState}
-use Rattle.plain_sessions.specs.Replies.{refused}
+use Rattle.plain_sessions.specs.Replies.{is_refusal, refused}
 use Rattle.plain_sessions.specs.Sessions as plain
 use Rattle.plain_sessions.specs.Sessions.{Said, Transaction, with_own, within}
 use Rattle.plain_sessions.specs.declared.commands.Command.TheVariants as command
@@ -173,3 +173,17 @@ changes address old d root p w reply drafts growth records follow inside stands 
     let kept = own_kept address old p found.0 stands found.1 in
     changes_in address old d root p found.0 w reply drafts growth records follow (well_kept address (chunks_of old.draft.chunks) old.own.working.0 found.0.own.working kept) found.1 stands
     (turns found.0.own.working kept)
+
+-- ---- a refusal leaves the session as it was
+
+answers_well : (count : Option ℕ) → is_refusal (counted_or_done count) ≡ false
+answers_well None = refl
+answers_well (Some rows) = refl
+
+pub left_by : (address : List ℕ → List ℕ) (old new : Drafting) (before after : Address) (effect : Outcome Effect) (reply : Reply) → TurnsRoot address old new before after effect reply
+    → is_refusal reply ≡ true → (after ≡ before) × (new.chunks ≡ old.chunks)
+left_by address old new before after effect reply (inl done) h = absurd (true≢false (sym h ∙ ap is_refusal done.reply_is ∙ answers_well done.made.count))
+left_by address old new before after effect reply (inr undone) h = (undone.root, undone.chunks)
+
+pub left_at : {D : Type 0} (old : Session D) (d : Drafting) (root : Address) → root ≡ old.own.working → at_root old root d ≡ record old { draft = d }
+left_at old d root back = ap (λ (k : Address). at_root old k d) back

@@ -20,3 +20,10 @@ is_local p (command.Data (work.Change write)) = is_in_transaction p
 is_local p (command.Data other) = false
 is_local p (command.OnBranches request) = false
 is_local p (command.Checkout request) = false
+
+-- nothing refuses it, and it takes no memory: COMMIT of nothing, ROLLBACK and SET
+abbrev pub is_always_done : Command → Bool
+is_always_done command.CommitAll = true
+is_always_done command.Rollback = true
+is_always_done (command.Switch setting) = true
+is_always_done other = false

@@ -6,13 +6,13 @@ ghost use Rattle.script_text.specs.Collisions.{TellsTruly};
 ghost use Rattle.script_text.specs.declared.replies.Reply.TheVariants.{Done};
 ghost use Rattle.plain_sessions.specs.Fitness.{IsFitCommand};
 ghost use Rattle.plain_sessions.specs.Moments.{ends_by_set};
-ghost use Rattle.plain_sessions.specs.Replies.{refused_by};
+ghost use Rattle.plain_sessions.specs.Replies.{is_refusal, refused_by};
 ghost use Rattle.plain_sessions.specs.Sessions as plain;
 ghost use Rattle.plain_sessions.specs.Sessions.{over, with_variable};
 ghost use Rattle.plain_sessions.specs.declared.commands.Command.TheVariants as command;
 ghost use Rattle.session_state.specs.Standing.{SessionStands};
 ghost use Rattle.session_plan.specs.Answering.{AnswersAlone};
-ghost use Rattle.session_txn.specs.Answering.{is_local};
+ghost use Rattle.session_txn.specs.Answering.{is_always_done, is_local};
 ghost use Rattle.session_plan.specs.Showing.{IsDue, is_sound_reply};
 
 use crate::selecting::{ask, say};
@@ -25,8 +25,8 @@ use sql_ast::{Refusal, Setting};
 use std::alloc::Global;
 use tuple_codec::Digester;
 
-/// Answers a statement that needs no moment, or whose start was taken. Where it is refused, or there is no memory, the session stands
-/// for what it stood for; so it does at a statement that isn't the session's alone, which gets want of memory.
+/// Answers a statement that needs no moment, or whose start was taken. Where it is refused, or there is no memory, the session is as it was, but that
+/// its pool may have more pages; so it is at a statement that isn't the session's alone, which gets want of memory.
 pub fn local<D: Digester>(alloc: Global, session: &mut Session<D>, asked: &Command) -> Reply
     requires stands { (p : plain.Session) × SessionStands D.address session.old p × (is_local p asked.now ≡ true) }
     requires fit { IsFitCommand asked.now }
@@ -37,6 +37,9 @@ pub fn local<D: Digester>(alloc: Global, session: &mut Session<D>, asked: &Comma
     ensures base { session.new.draft.chunks.base ≡ session.old.draft.chunks.base }
     ensures pages { pages_in session.old.draft ≤ pages_in session.new.draft }
     ensures rollback { asked.now ≡ command.Rollback → session.new.draft.taken ≡ 0 }
+    ensures done { is_always_done asked.now ≡ true → result ≡ Done }
+    ensures same { is_refusal result ≡ true → session.new ≡ record session.old { draft = session.new.draft } }
+    ensures draft { is_refusal result ≡ true → session.new.draft.chunks ≡ session.old.draft.chunks }
 {
     match asked {
         Command::Faulty(refusal) => refuse(*refusal),
@@ -58,6 +61,8 @@ fn do_work<D: Digester>(alloc: Global, session: &mut Session<D>, work: &Work) ->
     ensures truly { TellsTruly D.address result }
     ensures base { session.new.draft.chunks.base ≡ session.old.draft.chunks.base }
     ensures pages { pages_in session.old.draft ≤ pages_in session.new.draft }
+    ensures same { is_refusal result ≡ true → session.new ≡ record session.old { draft = session.new.draft } }
+    ensures draft { is_refusal result ≡ true → session.new.draft.chunks ≡ session.old.draft.chunks }
 {
     match work {
         Work::Ask(select) => ask(alloc, session, select),

@@ -8,6 +8,7 @@ ghost use Rattle.table_root.specs.Kept.{HasKeptAt, IsKeptAt};
 ghost use Rattle.schema_model.specs.PlainTables.{PlainDatabase};
 ghost use Rattle.script_text.specs.Collisions.{TellsTruly};
 ghost use Rattle.plain_sessions.specs.Moments.{is_in_transaction};
+ghost use Rattle.plain_sessions.specs.Replies.{is_refusal};
 ghost use Rattle.plain_sessions.specs.Sessions as plain;
 ghost use Rattle.plain_sessions.specs.declared.commands.Command.TheVariants as command;
 ghost use Rattle.plain_sessions.specs.declared.commands.Work.TheVariants as work;
@@ -47,6 +48,8 @@ pub(crate) fn change<D: Digester>(
     ensures truly { TellsTruly D.address result }
     ensures base { session.new.draft.chunks.base ≡ session.old.draft.chunks.base }
     ensures pages { pages_in session.old.draft ≤ pages_in session.new.draft }
+    ensures same { is_refusal result ≡ true → session.new ≡ record session.old { draft = session.new.draft } }
+    ensures draft { is_refusal result ≡ true → session.new.draft.chunks ≡ session.old.draft.chunks }
 {
     laws();
     let mut root = session.own.working;

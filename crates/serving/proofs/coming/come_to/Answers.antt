@@ -1,4 +1,6 @@
-use Rattle.serving.proofs.ComingLemmas.{passes_by}
+use Rattle.std.proofs.Common.{◌+◌}
+use Rattle.session_state.specs.declared.sessions.Position.TheVariants as place
+use Rattle.serving.proofs.ComingLemmas.{moved_on, passes_by}
 use Rattle.serving.proofs.coming.come_to.Goals as goal
 
 -- src/coming.rt
@@ -7,3 +9,7 @@ returns-clause-alone g c = λ parts p shared before.
     passes_by g.D.Digester.address c.args.session.now c.answer_at_once.new.session parts p shared before c.args.asked.now c.in_ok-reply.reply
     c.go_on.new.session c.number_of-number.result c.number_of-number.ensures c.go_on.ensures
     (c.in_ok-reply.ensures.alone p before.session_stands) c.in_ok-reply.ensures.base
+
+pub returns-clause-same : goal.returns-clause-same
+returns-clause-same g c = λ refused.
+    moved_on c.args.session.now c.answer_at_once.new.session c.go_on.new.session (c.in_ok-reply.ensures.same refused) (place.Before (c.number_of-number.result + 1)) c.go_on.ensures
