@@ -42,7 +42,7 @@ unfolding flat name
 empty_leaf = refl
 
 one_row : root flat (row 1 ∷ []) ≡ replicate 19 0 ++ 309 ∷ []
-unfolding flat row name
+unfolding flat row ends closes name
 one_row = refl
 
 -- the leaf's name, and that of the one above it in a chain
