@@ -196,7 +196,7 @@ restated address old new shared s branches places chunks =
     (record { branches = s.branches; rise = s.rise; few = s.few; places = s.places; placed = s.placed; commits = s.commits; named = s.named; single = s.single })
 
 module _ (address : List ℕ → List ℕ) (old : Parts) (shared : Shared) (stands : StateStands address old shared) where
-  there_same : (name : List ℕ) → is_some (record_at name old.branches) ≡ is_branch_there shared name
+  pub there_same : (name : List ℕ) → is_some (record_at name old.branches) ≡ is_branch_there shared name
   there_same name =
       line_there_is old.branches name ∙ there_in_both address old.chunks shared.commits name old.branches shared.branches stands.branches ∙ sym (there_is shared.branches name)
 

@@ -113,6 +113,8 @@ pub record KeepsRest (old new : Db) : Type 0 where
   pub chunks : new.parts.chunks ≡ old.parts.chunks
   pub moments_room : new.moments_room ≡ old.moments_room
   pub segments_room : new.segments_room ≡ old.segments_room
+  pub segments : new.segments ≡ old.segments
+  pub is_tidy : new.is_tidy ≡ old.is_tidy
 
 abbrev pub line_cmp : BranchLine → BranchLine → Ordering
 line_cmp a b = slice_cmp nat_cmp a.name b.name

@@ -11,5 +11,5 @@ mod shared;
 mod steps;
 
 pub use changes::{BranchReply, BranchStep, DecisionPlan, Point, RecordChange, Settled};
-pub use laws::law_of_steps;
+pub use laws::{law_of_fit_records, law_of_settles, law_of_steps};
 pub use shared::SharedDb;

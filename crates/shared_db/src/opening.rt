@@ -3,7 +3,7 @@
 ghost use Rattle.std.specs.Prelude.{◌≡◌, ◌≢◌, ◌≤ℤ◌, ◌*◌, ◌≤◌, ◌<◌, ◌^◌, ℕ, List, [], pos, length, sum, None, Some, IfOk, IfErr, OnOk};
 ghost use Rattle.std.specs.Option.{option_map};
 ghost use Rattle.chunk_store.specs.Drafts.{chunks_of};
-ghost use Rattle.chunk_store.specs.Stores.{all_chunks};
+ghost use Rattle.chunk_store.specs.Stores.{AreFew, all_chunks};
 ghost use Rattle.chunk_store.specs.declared.faults.PutFault.TheVariants as PutFault;
 ghost use Rattle.commit_graph.specs.Commits.{KeepsLimits, parts_of};
 ghost use Rattle.plain_sessions.specs.Records.{first_commit};
@@ -29,6 +29,7 @@ pub struct Opened {
 pub fn open_store<D: Digester>(alloc: Global, epoch: i64) -> Result<Opened, PutFault>
     requires { pos 0 ≤ℤ epoch }
     ensures opened { IfOk result (λ opened. IsOpened D.address epoch (all_chunks opened.store) opened.rec) }
+    ensures few { IfOk result (λ opened. AreFew opened.store.segments) }
     ensures fault { IfErr result (IsOpeningFault D.address epoch) }
 {
     law_of_chunks();
@@ -118,10 +119,11 @@ fn first_commit(alloc: Global, database: Address, epoch: i64) -> Result<CommitRe
 }
 
 /// A store with just the chunks of a draft that has no store below it.
-#[tactic(auto, using(crate::proofs::OpeningLemmas::just_sealed))]
+#[tactic(auto, using(crate::proofs::OpeningLemmas::just_sealed, crate::proofs::SegmentLemmas::first_few))]
 fn store_of<D: Digester>(alloc: Global, draft: Draft<D>) -> Result<Store, PutFault>
     requires { draft.segments ≡ [] }
     ensures chunks { IfOk result (λ store. HasJust draft.chunks.own (all_chunks store)) }
+    ensures few { IfOk result (λ store. AreFew store.segments) }
     ensures fault { IfErr result (λ fault. fault ≡ PutFault.Memory) }
 {
     let Ok((segment, _pool)) = draft.seal() else {

@@ -5,7 +5,7 @@ ghost use Rattle.std.specs.Arc.{arc_value};
 ghost use Rattle.std.specs.Option.{option_map, option_map_or};
 ghost use Rattle.chunk_store.specs.Chunks.{IsSingle, chunk_bytes};
 ghost use Rattle.chunk_store.specs.Clashes.{Differ, IsClash};
-ghost use Rattle.chunk_store.specs.Stores.{all_chunks};
+ghost use Rattle.chunk_store.specs.Stores.{AreFew, all_chunks, joined};
 ghost use Rattle.plain_sessions.specs.Branching.{checkout_step, create_branch, delete_branch, point_in, resolved};
 ghost use Rattle.plain_sessions.specs.Records.{Shared, opening};
 ghost use Rattle.plain_sessions.specs.Sessions.{Session, heads_in};
@@ -13,7 +13,8 @@ ghost use Rattle.schema_model.specs.Limits.{most_branches};
 ghost use Rattle.session_state.specs.Changes.{StateStands, lines_rise};
 ghost use Rattle.session_state.specs.Laws.{head_in};
 ghost use Rattle.shared_db.specs.Opening.{IsOpeningFault};
-ghost use Rattle.shared_db.specs.Shared.{IfCollided, IfMoved, IsSettled, KeepsRoom, noted, record_at};
+ghost use Rattle.shared_db.specs.Settling.{StateGoesOn};
+ghost use Rattle.shared_db.specs.Shared.{AreAppended, IfCollided, IfMoved, IsSettled, KeepsRoom, KeepsSegments, noted, record_at};
 ghost use Rattle.shared_db.specs.Stepping.{HasState, IsCleanAt, IsPlaced, IsPlainStep, IsStepped, KeepsRest, new_asked, places_after, plain_step};
 ghost use Rattle.shared_db.specs.declared.changes.BranchReply.TheVariants as answer;
 ghost use Rattle.shared_db.specs.declared.changes.Settled.TheVariants as settled;
@@ -23,6 +24,7 @@ use crate::branches::{
     Member, NamedBranch, all_on_main, branch_lines, change_record, heads_of, main_alone, record_of,
 };
 use crate::changes::{BranchReply, BranchStep, Point, RecordChange, Settled};
+use crate::laws::law_of_settles;
 use crate::opening::{Opened, all_moments, open_store};
 use crate::segments::append_sealed;
 use crate::steps::{clean_at, commit_at, is_there, make_branch, move_to, place_in, remove_branch};
@@ -35,8 +37,8 @@ use std::sync::Arc;
 use table_root::{BranchName, Look};
 use tuple_codec::{Address, BranchRecord, Digester, Sequence};
 
-/// The shared state as values; the chunks in which it stands are the store's. A contract sees its parts, and for how many
-/// moments, branches and segments more it has room.
+/// The shared state as values; the chunks in which it stands are the store's. A contract sees its parts, how its chunks lie in
+/// segments, and for how many moments, branches and segments more it has room.
 #[derive(Drop)]
 pub struct SharedDb {
     /// By the bytes of their names.
@@ -44,12 +46,14 @@ pub struct SharedDb {
     members: Vec<Member>,
     moments: Vec<Moment>,
     store: Store,
+    /// Whether the store has few segments: memory was found to join those that came in last.
+    is_tidy: bool,
 }
 
 impl Model for SharedDb {
     ghost use Rattle.std.specs.Prelude.{◌≡◌, ◌-◌, ◌≤◌, true, vec_len};
     ghost use Rattle.std.specs.Vec.{vec_capacity};
-    ghost use Rattle.chunk_store.specs.Stores.{all_chunks};
+    ghost use Rattle.chunk_store.specs.Stores.{AreFew, all_chunks};
     ghost use Rattle.schema_model.specs.Limits.{most_branches};
     ghost use Rattle.session_state.specs.Changes.{lines_rise};
     ghost use Rattle.shared_db.specs.Members.{lines_of, numbers_of, places_of};
@@ -59,12 +63,14 @@ impl Model for SharedDb {
 
     ghost view = { λ d. record {
       parts = record { branches = lines_of d.branches.items; places = places_of d.members.items; numbers = numbers_of d.members.items; moments = d.moments.items; chunks = all_chunks d.store };
+      segments = d.store.segments;
+      is_tidy = d.is_tidy;
       moments_room = vec_capacity d.moments - vec_len d.moments;
       branches_room = vec_capacity d.branches - vec_len d.branches;
       segments_room = d.store.room;
     } };
 
-    ghost invariant = { λ d. (lines_rise (lines_of d.branches.items) ≡ true) × (most_branches ≤ vec_capacity d.branches) };
+    ghost invariant = { λ d. (lines_rise (lines_of d.branches.items) ≡ true) × (most_branches ≤ vec_capacity d.branches) × (d.is_tidy ≡ true → AreFew d.store.segments) };
 }
 
 impl SharedDb {
@@ -81,6 +87,7 @@ impl SharedDb {
         ensures numbers { IfOk result (λ db. db.parts.numbers ≡ statements.now) }
         ensures room { IfOk result (λ db. (2 * sum statements.now ≤ db.moments_room) × (2 * sum statements.now ≤ db.segments_room)) }
         ensures branches { IfOk result (λ db. most_branches ≤ db.branches_room + length db.parts.branches) }
+        ensures tidy { IfOk result (λ db. db.is_tidy ≡ true) }
         ensures fault { IfErr result (IsOpeningFault D.address epoch) }
     {
         let Some(room) = all_moments(statements) else {
@@ -94,6 +101,7 @@ impl SharedDb {
             members: all_on_main(alloc, statements)?,
             moments: Vec::with_capacity(alloc, room as usize)?,
             store,
+            is_tidy: true,
         })
     }
 
@@ -104,6 +112,7 @@ impl SharedDb {
         ensures there { IfOk result (λ look. record_at branch.now self.now.parts.branches ≡ Some look.rec) }
         ensures heads { IfOk result (λ look. look.heads ≡ map head_in self.now.parts.branches) }
         ensures chunks { IfOk result (λ look. all_chunks look.store ≡ self.now.parts.chunks) }
+        ensures segments { IfOk result (λ look. look.store.segments ≡ self.now.segments) }
     {
         let Some(rec) = record_of(self.branches.as_slice(), branch) else {
             unreachable!()
@@ -116,9 +125,12 @@ impl SharedDb {
         })
     }
 
-    /// Chunks of one address have the same bytes. For proofs: call it where one needs that; it does nothing.
+    /// What every shared database has, for proofs: chunks of one address have the same bytes, and the segments have these chunks and are few, but
+    /// where memory was wanting to join them. It does nothing.
     pub fn tell(&self)
-        ensures { IsSingle self.now.parts.chunks }
+        ensures single { IsSingle self.now.parts.chunks }
+        ensures chunks { joined self.now.segments ≡ self.now.parts.chunks }
+        ensures few { self.now.is_tidy ≡ true → AreFew self.now.segments }
     {
         self.store.tell();
     }
@@ -142,12 +154,13 @@ impl SharedDb {
         requires { 0 < self.old.moments_room }
         ensures parts { self.new.parts ≡ noted session statement self.old.parts }
         ensures room { KeepsRoom 0 self.old self.new }
+        ensures segments { KeepsSegments self.old self.new }
     {
         self.note(session, statement);
     }
 
-    /// Settles a decision that was planned on a look, where the branch's record is still the one looked at. It takes no memory but to hold
-    /// a collision.
+    /// Settles a decision that was planned on a look, where the branch's record is still the one looked at. It needs no memory but to hold
+    /// a collision: where memory is wanting to join the store's last segments, they stay as they are until the next segment comes in.
     pub fn settle(
         &mut self,
         session: u32,
@@ -160,11 +173,14 @@ impl SharedDb {
         requires segments { 0 < self.old.segments_room }
         requires there { record_at look.now.branch self.old.parts.branches ≢ None }
         ensures done { result ≡ settled.Done → IsSettled session statement look.now.branch change (option_map arc_value sealed) self.old.parts self.new.parts }
+        ensures appended { result ≡ settled.Done → AreAppended (option_map arc_value sealed) self.old.is_tidy self.old.segments self.new.is_tidy self.new.segments }
+        ensures stands { result ≡ settled.Done → StateGoesOn look.now change (option_map_or arc_value sealed []) self.old.parts self.new.parts }
         ensures looked { result ≡ settled.Done → record_at look.now.branch self.old.parts.branches ≡ Some look.now.rec }
         ensures moved { IfMoved result (λ rec. (record_at look.now.branch self.old.parts.branches ≡ Some rec) × (rec ≢ look.now.rec)) }
         ensures collision { IfCollided result (IsClash (chunk_bytes self.old.parts.chunks) (chunk_bytes (option_map_or arc_value sealed []))) }
         ensures memory { result ≡ settled.Memory → Differ (chunk_bytes self.old.parts.chunks) (chunk_bytes (option_map_or arc_value sealed [])) }
         ensures same { result ≢ settled.Done → self.new.parts ≡ self.old.parts }
+        ensures segments { result ≢ settled.Done → KeepsSegments self.old self.new }
         ensures kept { result ≢ settled.Done → (self.old.moments_room ≤ self.new.moments_room) × (self.old.segments_room ≤ self.new.segments_room) }
         ensures room { KeepsRoom 1 self.old self.new }
     {
@@ -174,13 +190,15 @@ impl SharedDb {
         if found != look.rec {
             return Settled::Moved(found);
         }
-        match append_sealed(&mut self.store, sealed) {
+        match append_sealed(&mut self.store, self.is_tidy, sealed) {
             Err(PutFault::Collision(clash)) => return Settled::Collision(clash),
             Err(PutFault::Memory) => return Settled::Memory,
-            Ok(()) => {}
+            Ok(is_tidy) => self.is_tidy = is_tidy,
         }
         change_record(&mut self.branches, &look.branch, change);
         self.note(session, statement);
+        law_of_settles();
+        self.tell();
         Settled::Done
     }
 
@@ -192,6 +210,7 @@ impl SharedDb {
         ensures plain { IsPlainStep session (λ shared p. plain_step shared p step.now) result self.old.parts self.new.parts }
         ensures stepped { IsStepped session statement step.now result self.old.parts self.new.parts }
         ensures room { KeepsRoom 0 self.old self.new }
+        ensures segments { KeepsSegments self.old self.new }
     {
         let reply = self.step(session, step);
         self.note(session, statement);
@@ -308,7 +327,8 @@ impl SharedDb {
         requires { 0 < self.old.moments_room }
         ensures parts { self.new.parts ≡ noted session statement self.old.parts }
         ensures room { self.old.moments_room ≤ self.new.moments_room + 1 }
-        ensures segments { self.new.segments_room ≡ self.old.segments_room }
+        ensures segments_room { self.new.segments_room ≡ self.old.segments_room }
+        ensures segments { KeepsSegments self.old self.new }
     {
         self.moments.push_reserved(Moment { session, statement });
     }

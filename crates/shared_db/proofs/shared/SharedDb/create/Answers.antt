@@ -14,6 +14,7 @@ invariant_of-self c = (
   more_lines_rise c.args.name.now c.in-Some.rec (lines_of c.self.inside.branches.items) (lines_of c.make_branch.new.branches.items) c.make_branch.result c.make_branch.ensures.reply
       c.make_branch.ensures.done c.make_branch.ensures.same c.self.invariant.0,
   omega (arith, c.make_branch.ensures.capacity, c.self.invariant.1),
+  c.self.invariant.2,
 )
 
 pub returns-in-Some-clause-plain : goal.returns-in-Some-clause-plain

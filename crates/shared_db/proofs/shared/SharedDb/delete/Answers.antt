@@ -12,6 +12,7 @@ invariant_of-self c = (
   fewer_lines_rise c.args.name.now (lines_of c.self.inside.branches.items) (lines_of c.remove_branch.new.branches.items) c.remove_branch.result c.remove_branch.ensures.done
       c.remove_branch.ensures.same c.self.invariant.0,
   subst (λ n. most_branches ≤ n) (sym c.remove_branch.ensures.capacity) c.self.invariant.1,
+  c.self.invariant.2,
 )
 
 pub returns-clause-plain : goal.returns-clause-plain
