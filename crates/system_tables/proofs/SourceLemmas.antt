@@ -1,20 +1,24 @@
 -- The system tables that a SELECT names, one after another.
 use Rattle.std.proofs.Common.{◌≡◌, refl, ◌∙◌, ap, sym, ℕ, Bool, true, false, cond, List, [], ◌∷◌, ◌++◌, map, bytes_eq, append_assoc, append-nil}
-use Rattle.std.specs.Prelude.{OnOk, Result, Ok, Err}
-use Rattle.std.specs.List.{list_all, list_any}
+use Rattle.std.specs.Prelude.{OnOk, Result, Ok, Err, Option, Some, ◌||◌}
+use Rattle.std.specs.List.{find, list_all, list_any}
 use Rattle.std.specs.Cmp.Lexicographic.{bytes_decides}
 use Rattle.std.proofs.lemmas.Bool.{and_from, and_parts, or_parts as neither, or_from as of_neither}
 use Rattle.tuple_codec.proofs.Truths.{two}
 use Rattle.plain_sessions.specs.SystemTables.{conflicts, conflicts_of, constraint_violations, violations_of}
 use Rattle.schema_model.specs.PlainTables.{NamedTable, PlainDatabase}
 use Rattle.sql_ast.specs.declared.selects.Join.{Join}
+use Rattle.expr_eval.specs.Binding.{Outcome, and_then}
+use Rattle.plain_sql.specs.Lists.{or_refuse}
+use Rattle.plain_sql.specs.Plans.{is_known_as}
 use Rattle.plain_sql.specs.declared.sources.Known.{Known}
+use Rattle.tuple_codec.specs.declared.answers.Answer.{Answer}
 use Rattle.sql_ast.specs.declared.selects.FromClause.{FromClause}
 use Rattle.sql_select.specs.Sources.{is_read}
 use Rattle.sql_select.specs.declared.sources.NamedAnswer.{NamedAnswer}
 use Rattle.system_tables.specs.Entries.{front_of, list_shown}
-use Rattle.system_tables.specs.Known.{as_named, entry_tables_of, named_read}
-use Rattle.system_tables.specs.Naming.{is_entry_name, reads_entries}
+use Rattle.system_tables.specs.Known.{answer_of, as_named, entry_tables_of, first_answer, named_read}
+use Rattle.system_tables.specs.Naming.{is_entry_name, reads_entries, source_of}
 use Rattle.system_tables.specs.declared.entries.Listed.{Listed}
 use Rattle.system_tables.specs.declared.entries.Listed.TheVariants as listed
 
@@ -125,3 +129,17 @@ all_unread from (k ∷ ks) h g =
 pub none_added : (from : FromClause) (database : PlainDatabase) (old new : List NamedAnswer) → reads_entries from ≡ false → new ≡ old → new ≡ old ++ named_read from (entry_tables_of database)
 none_added from database old new none is =
     is ∙ sym (append-nil old) ∙ ap (λ (l : List NamedAnswer). old ++ l) (sym (all_unread from (entry_tables_of database) none (entries_are database)))
+
+-- ---- the table of a name
+
+abbrev answered : Option Known → Outcome Answer
+answered found = and_then (or_refuse 1146 found) (λ known. Ok (answer_of known))
+
+one_more : (b : Bool) (x : Known) (read : List NamedAnswer) (found : Option Known) → first_answer read ≡ answered found
+    → first_answer (cond (b || false) (as_named x ∷ read) read) ≡ answered (cond b (Some x) found)
+one_more true x read found is = refl
+one_more false x read found is = is
+
+pub first_read : (name : List ℕ) (tables : List Known) → first_answer (named_read (source_of name) tables) ≡ answered (find (is_known_as name) tables)
+first_read name [] = refl
+first_read name (x ∷ xs) = one_more (bytes_eq x.name name) x (named_read (source_of name) xs) (find (is_known_as name) xs) (first_read name xs)

@@ -1,5 +1,5 @@
 -- What a SELECT finds under a name.
-use Rattle.std.specs.Prelude.{ℕ, List, ◌∷◌, [], ◌++◌, filter, map, Ok}
+use Rattle.std.specs.Prelude.{ℕ, List, ◌∷◌, [], ◌++◌, filter, map, Ok, Err}
 use Rattle.std.specs.List.{find}
 use Rattle.expr_eval.specs.Binding.{Outcome, and_then}
 use Rattle.plain_sessions.specs.Sessions.{Transaction}
@@ -56,3 +56,8 @@ named_read from tables = filter (λ named. is_read from named.name) (map as_name
 -- the system table of a name, refused with 1146 where there is none
 abbrev pub system_answer : Transaction → List ℕ → Outcome Answer
 system_answer t name = and_then (or_refuse 1146 (find (is_known_as name) (system_tables t))) (λ known. Ok (answer_of known))
+
+-- what the first of a SELECT's sources shows, refused with 1146 where there is none
+abbrev pub first_answer : List NamedAnswer → Outcome Answer
+first_answer [] = Err 1146
+first_answer (named ∷ others) = Ok named.answer

@@ -19,4 +19,4 @@ mod violations;
 
 pub use entries::{ListEntry, Listed};
 pub use lists::{columns_of, entries_of};
-pub use sources::system_sources;
+pub use sources::{system_rows, system_sources};

@@ -6,15 +6,17 @@ ghost use Rattle.plain_sessions.specs.Sessions as plain;
 ghost use Rattle.plain_sessions.specs.Sessions.{Transaction};
 ghost use Rattle.plain_sessions.specs.SystemTables as shown;
 ghost use Rattle.session_state.specs.Standing.{IsInTransaction, SessionStands};
+ghost use Rattle.sql_select.specs.Gives.{Answers};
 ghost use Rattle.sql_select.specs.Sources.{is_read};
-ghost use Rattle.system_tables.specs.Known.{as_named, kinds_of, named_read, names_of, system_tables};
+ghost use Rattle.system_tables.specs.Known.{as_named, first_answer, kinds_of, named_read, names_of, system_answer, system_tables};
+ghost use Rattle.system_tables.specs.Naming.{source_of};
 
 use crate::listing::push_entries;
 use crate::tables::{shown_ancestors, shown_branches, shown_log, shown_status};
 use plain_sql::{Known, NamedType};
 use session_state::Session;
-use sql_ast::{FromClause, Join};
-use sql_select::NamedAnswer;
+use sql_ast::{FromClause, Join, TableSource};
+use sql_select::{AskFault, NamedAnswer};
 use std::alloc::{AllocError, Global};
 use tuple_codec::{Answer, Digester, Sequence, SqlType, Text};
 
@@ -154,4 +156,42 @@ pub fn system_sources<D: Digester>(
     push_ancestors(alloc, session, from, &mut sources)?;
     push_entries(alloc, session, from, &mut sources)?;
     Ok(sources)
+}
+
+/// The FROM of a SELECT that names this table alone.
+fn source_of(alloc: Global, name: &[u8]) -> Result<FromClause, AllocError>
+    ensures { IfOk result (λ from. from ≡ source_of name.now) }
+{
+    Ok(FromClause {
+        first: TableSource {
+            table: Text::from_slice(alloc, name)?,
+            alias: None,
+        },
+        joins: Sequence::new(alloc),
+    })
+}
+
+fn first_answer(sources: Sequence<NamedAnswer>) -> Result<Answer, AskFault>
+    ensures { Answers result (first_answer sources) }
+{
+    let mut sources = sources.into_vec();
+    if sources.is_empty() {
+        return Err(AskFault::Refused(1146));
+    }
+    Ok(sources.swap_remove(0).answer)
+}
+
+/// The system table of this name, for those that want its rows without a SELECT. It refuses with 1146 where the database of
+/// the transaction has no such table.
+pub fn system_rows<D: Digester>(
+    alloc: Global,
+    session: &Session<D>,
+    name: &[u8],
+) -> Result<Answer, AskFault>
+    requires { IsInTransaction D.address session.now }
+    ensures { (p : plain.Session) (t : Transaction) → SessionStands D.address session.now p → p.transaction ≡ Some t
+        → Answers result (system_answer t name.now) }
+{
+    let from = source_of(alloc, name)?;
+    first_answer(system_sources(alloc, session, &from)?)
 }
