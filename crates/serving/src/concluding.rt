@@ -1,6 +1,6 @@
 //! The decision behind a statement's start, whatever other sessions did in between.
 
-ghost use Rattle.std.specs.Prelude.{◌≡◌, ◌<◌, ◌≤ℤ◌, ◌+◌, ◌^◌, ℤ, pos, true, IfErr, IfOk, OnErr};
+ghost use Rattle.std.specs.Prelude.{◌≡◌, ◌<◌, ◌≤ℤ◌, ◌+◌, ◌^◌, ℤ, pos, true, None, IfErr, IfOk, OnErr};
 ghost use Rattle.script_text.specs.Collisions.{IsFault, TellsTruly};
 ghost use Rattle.plain_sessions.specs.Fitness.{IsFitCommand};
 ghost use Rattle.plain_sessions.specs.Records.{Shared};
@@ -175,6 +175,7 @@ pub fn drop_started<D: Digester>(session: &mut Session<D>, fault: PutFault) -> R
         → Drops D.address q shared parts session.new result }
     ensures sound { is_sound_reply result ≡ true }
     ensures truly { TellsTruly D.address result }
+    ensures same { session.new ≡ record session.old { start = None; position = session.new.position } }
 {
     let number = number_of(session.position);
     session.start = None;

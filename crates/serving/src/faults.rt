@@ -52,6 +52,7 @@ pub fn answer_fault<D: Digester>(session: &mut Session<D>, fault: PutFault) -> R
         → PassesAlone D.address p asked shared parts session.new result }
     ensures sound { is_sound_reply result ≡ true }
     ensures truly { TellsTruly D.address result }
+    ensures same { session.new ≡ record session.old { position = session.new.position } }
 {
     let number = number_of(session.position);
     go_on(session, number);
