@@ -111,7 +111,7 @@ spoken_utf8 name rest parts utf8 =
     ]
 
 parts_utf8 : (line : List ℕ) (parts : SpokenLine) → IsUtf8 line → parts_of line ≡ Some parts → IsUtf8 parts.statement
-parts_utf8 [] parts utf8 is = absurd (cc)
+parts_utf8 [] parts utf8 = λ is. absurd (cc)
 parts_utf8 (byte ∷ bytes) parts utf8 =
     elim (byte == 64) as (λ test. (byte == 64) ≡ test
     → (if test then parts_after (take_while is_name_byte bytes) (drop (length (take_while is_name_byte bytes)) bytes) else None) ≡ Some parts → IsUtf8 parts.statement) [

@@ -23,7 +23,7 @@ returns-then-at-all-clause-settled g c = λ stops.
     settled_at_end c.args.player.now (omega (arith, c.if-at-all.true, as_many is, is.within))
 
 pub asked_by-requires : goal.asked_by-requires
-asked_by-requires g c κs within =
+asked_by-requires g c =
     subst (λ (text : List ℕ). is_statement_text text ≡ true) (sym c.as_slice-2.ensures)
     (text_of c.requires.player.4 c.len-at.result c.as_slice.result.now c.index-as_slice-at.result c.as_slice.ensures
     (at_less c.args.player.now c.len-at.result c.as_slice-all.result.now c.as_slice-all.ensures c.if-at-all.false) c.index-as_slice-at.is)
