@@ -1,0 +1,5 @@
+pub mod Meant
+pub mod Named
+pub mod Laws
+pub mod Moments
+pub mod Runs
