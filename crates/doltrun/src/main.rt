@@ -4,23 +4,13 @@
 //!
 //! With `load` it reads nothing: it runs a workload that is made from a seed, in threads, and writes what came of it in a few lines.
 //!
-//! What it promises stands on `run`, which takes any source and sink. `main` gives it the standard streams.
+//! What it promises stands on `run` of `program_run`, which takes any source and sink. `main` gives it the standard streams.
 #![tactic(auto)]
 
-mod answering;
-mod load;
-#[cfg(test)]
-mod tests;
-mod top;
-mod words;
-mod writing;
-
-pub use script_text::Status;
-use script_text::given_words;
+use program_run::run;
+use script_text::{Status, given_words};
 use std::process::ExitCode;
-pub use top::{run, run_with};
 use wire_io::{NoPace, StdSink, StdSource};
-pub use words::{Invocation, LoadRun, Mode, MomentOrder, ScriptRun, Task};
 
 fn main(rt: HostRuntime) -> ExitCode {
     let Ok(words) = given_words(&rt) else {

@@ -1,0 +1,1 @@
+@a SELECT date FROM dolt_log;

@@ -1,6 +1,0 @@
-mod FullLemmas
-mod CountLemmas
-mod SpelledLemmas
-mod LoadLemmas
-mod TextLemmas
-mod Vectors

@@ -1,5 +1,0 @@
-use Rattle.std.proofs.Common.{length}
-use Rattle.load_run.proofs.counting.+rows_among.Given as goal
-
-abbrev pub decreases-rows_among : goal.decreases-rows_among
-decreases-rows_among g l = length l.tables.now
