@@ -4,7 +4,7 @@ ghost use Rattle.std.specs.Prelude.{◌<◌, ◌+◌, ◌-◌, ◌^◌, IfOk, On
 ghost use Rattle.chunk_store.specs.Drafts.{chunks_of};
 ghost use Rattle.unit_tests.specs.Samples.{AreEditsBelow, AreFewEdits, IsFit, StandsForFew};
 
-use crate::samples::{draft_of, key_of, tree_of, value_of};
+use crate::samples::{Rows, draft_of, key_of, tree_of, value_of};
 use chunk_store::{Draft, PutFault, Sha512Cut};
 use prolly_edit::apply;
 use std::alloc::{AllocError, Global};
@@ -45,7 +45,7 @@ fn value_at(alloc: Global, byte: Option<u8>) -> Result<Option<Blob>, AllocError>
 {
     match byte {
         None => Ok(None),
-        Some(byte) => Ok(Some(value_of(alloc, byte)?)),
+        Some(byte) => Ok(Some(value_of(alloc, Rows::Long, byte)?)),
     }
 }
 
@@ -59,7 +59,7 @@ fn add_edit(
     requires are { AreEditsBelow number edits.old.items }
     ensures { OnOk result (AreEditsBelow (number + 1) edits.new.items) }
 {
-    let key = key_of(alloc, number)?;
+    let key = key_of(alloc, Rows::Long, number)?;
     let value = value_at(alloc, byte)?;
     edits.push(Edit { key, value })?;
     Ok(())
@@ -85,7 +85,9 @@ fn built(
     ensures { IfOk result (λ root. StandsForFew (chunks_of draft.new.chunks) root.0) }
 {
     let end = span.to.max(2 * count as u32 + 1);
-    tree_of(alloc, draft, end, |number| byte_at(count, span, number))
+    tree_of(alloc, draft, Rows::Long, end, |number| {
+        byte_at(count, span, number)
+    })
 }
 
 /// Whether the tree of so many rows, edited, has the address of the tree that is built of the edited rows.

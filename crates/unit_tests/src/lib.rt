@@ -14,9 +14,13 @@ mod lookups;
 #[cfg(test)]
 mod node_bytes;
 #[cfg(test)]
+mod records;
+#[cfg(test)]
 mod regions;
 #[cfg(test)]
 mod samples;
+#[cfg(test)]
+mod schemas;
 #[cfg(test)]
 mod streams;
 #[cfg(test)]

@@ -4,7 +4,7 @@ ghost use Rattle.chunk_store.specs.Digests.{cut_address};
 ghost use Rattle.chunk_store.specs.Drafts.{chunks_of};
 ghost use Rattle.prolly_tree.specs.Lists.{StandsForRows};
 
-use crate::samples::{draft_of, key_of, tree_of};
+use crate::samples::{Rows, draft_of, key_of, tree_of};
 use chunk_store::{Draft, PutFault, Sha512Cut};
 use prolly_tree::{count, get, scan_from};
 use std::alloc::{AllocError, Global};
@@ -42,7 +42,7 @@ fn byte_found(
 ) -> Result<Option<u8>, AllocError>
     requires { StandsForRows cut_address (chunks_of draft.now.chunks) root.now.0 }
 {
-    let key = key_of(alloc, number)?;
+    let key = key_of(alloc, Rows::Long, number)?;
     match get(draft, root, key.as_slice()) {
         Some([byte, ..]) => Ok(Some(*byte)),
         _ => Ok(None),
@@ -67,7 +67,7 @@ fn keys_from(
 ) -> Result<[Option<u16>; 2], AllocError>
     requires { StandsForRows cut_address (chunks_of draft.now.chunks) root.now.0 }
 {
-    let key = key_of(alloc, number)?;
+    let key = key_of(alloc, Rows::Long, number)?;
     let mut scan = scan_from(alloc, draft, root, key.as_slice())?;
     Ok([key_end(scan.next()), key_end(scan.next())])
 }
@@ -79,7 +79,10 @@ fn found(
     number: u32,
 ) -> Result<(u64, Option<u8>, [Option<u16>; 2]), PutFault> {
     let mut draft = draft_of::<Sha512Cut>(alloc)?;
-    let root = tree_of(alloc, &mut draft, 2 * rows as u32, |number| byte_at(number))?;
+    let end = 2 * rows as u32;
+    let root = tree_of(alloc, &mut draft, Rows::Long, end, |number| {
+        byte_at(number)
+    })?;
     let byte = byte_found(alloc, &draft, &root, number)?;
     let keys = keys_from(alloc, &draft, &root, number)?;
     Ok((count(&draft, &root), byte, keys))

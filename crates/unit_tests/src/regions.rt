@@ -4,30 +4,41 @@ use chunk_region::{PagePool, Region};
 use std::alloc::AllocError;
 use std::test::Fail;
 
-/// How many pages are free where all of two are full, gone back to the first mark, and behind one more piece and a refill.
-fn free_at_each_step(region: &mut Region) -> Result<[u32; 4], AllocError> {
+/// Whether a third piece was refused, for which memory is taken, where both pages of the pool are full; and how many pages are free then, gone back
+/// to the first mark, behind one more piece, and after a refill.
+fn free_at_each_step(region: &mut Region) -> Result<(bool, [u32; 4]), AllocError> {
     let first = region.mark();
     let page = [7u8; 65_536];
     region.place(&page)?;
     region.place(&page)?;
     let full = region.free_pages();
-    region.place(b"!")?;
+    let refused = region.place(b"!").is_err();
     region.back_to(first);
     let back = region.free_pages();
     region.place(&page)?;
     let used = region.free_pages();
     region.refill(16)?;
-    Ok([full, back, used, region.free_pages()])
+    Ok((refused, [full, back, used, region.free_pages()]))
 }
 
+// A run in which that piece's memory is refused passes, too.
 #[test]
 fn pages_come_from_the_pool_and_go_back_to_it(rt: HostRuntime) -> Result<(), Fail> {
     let mut region = Region::new(PagePool::with_pages(rt.alloc(), 2)?);
-    assert!(rt; free_at_each_step(&mut region)? == [0, 3, 2, 16]);
+    let (refused, free) = free_at_each_step(&mut region)?;
+    let wanted = if refused {
+        [0, 2, 1, 16]
+    } else {
+        [0, 3, 2, 16]
+    };
+    assert!(rt; free == wanted);
     region.clear();
     let mut pool = region.release();
     pool.refill(3)?;
     assert!(rt; pool.free_pages() == 17);
+    let mut two = PagePool::with_pages(rt.alloc(), 2)?;
+    two.refill(16)?;
+    assert!(rt; two.free_pages() == 16);
     Ok(())
 }
 

@@ -1,12 +1,11 @@
 //! What several tests have: a new draft, rows whose keys are numbers, and the tree of such rows.
 
 ghost use Rattle.std.specs.Prelude.{◌≡◌, ◌≤◌, ◌<◌, ◌+◌, ◌-◌, ◌^◌, ℕ, map, length, IfOk, OnOk};
-ghost use Rattle.std.specs.Int.{w64, to_be_bytes};
 ghost use Rattle.chunk_store.specs.Digests.{cut_address};
 ghost use Rattle.chunk_store.specs.Drafts.{Longer, chunks_of};
 ghost use Rattle.node_format.specs.Views.{leaf_of};
 ghost use Rattle.prolly_tree.specs.Lists.{StandsForRows};
-ghost use Rattle.unit_tests.specs.Samples.{AreBelow, AreFewRows, StandsForFew};
+ghost use Rattle.unit_tests.specs.Samples.{AreBelow, AreFewRows, StandsForFew, number_key};
 
 use chunk_region::PagePool;
 use chunk_store::{Draft, PutFault, Sha512Cut, Store};
@@ -21,39 +20,67 @@ pub fn draft_of<D: Digester>(alloc: Global) -> Result<Draft<D>, AllocError> {
     Ok(Draft::new(Store::new(alloc), pool))
 }
 
-pub fn key_of(alloc: Global, number: u32) -> Result<Blob, AllocError>
-    ensures { IfOk result (λ key. key ≡ to_be_bytes w64 number) }
-{
-    Ok(Blob::from_vec(Vec::from_slice(alloc, &(number as u64).to_be_bytes())?))
+/// What is added to a BIGINT in a key, so that those below 0 come first.
+const RAISED: u64 = 9_223_372_036_854_775_808;
+
+/// How a row is made of a number and a byte.
+#[derive(Clone, Copy)]
+pub enum Rows {
+    /// The number in eight bytes; the byte 300 times.
+    Long,
+    /// A BIGINT, which is the primary key, and a VARCHAR(8), in which the byte stands eight times.
+    Short,
 }
 
-pub fn value_of(alloc: Global, byte: u8) -> Result<Blob, AllocError>
+pub fn key_of(alloc: Global, kind: Rows, number: u32) -> Result<Blob, AllocError>
+    ensures { IfOk result (λ key. key ≡ number_key kind number) }
+{
+    match kind {
+        Rows::Long => Ok(Blob::from_vec(Vec::from_slice(alloc, &(number as u64).to_be_bytes())?)),
+        Rows::Short => {
+            let mut key = Vec::from_slice(alloc, &[1])?;
+            key.extend_from_slice(&(number as u64 + RAISED).to_be_bytes())?;
+            Ok(Blob::from_vec(key))
+        }
+    }
+}
+
+pub fn value_of(alloc: Global, kind: Rows, byte: u8) -> Result<Blob, AllocError>
     ensures { IfOk result (λ value. length {A = ℕ} value ≤ 300) }
 {
-    Ok(Blob::from_vec(Vec::from_slice(alloc, &[byte; 300])?))
+    match kind {
+        Rows::Long => Ok(Blob::from_vec(Vec::from_slice(alloc, &[byte; 300])?)),
+        Rows::Short => {
+            let mut value = Vec::from_slice(alloc, &[1, 0, 8])?;
+            value.extend_from_slice(&[byte; 8])?;
+            Ok(Blob::from_vec(value))
+        }
+    }
 }
 
 fn add_row(
     alloc: Global,
     rows: &mut Vec<LeafItem>,
+    kind: Rows,
     number: u32,
     byte: Option<u8>,
 ) -> Result<(), AllocError>
     requires few { number < 2 ^ 32 - 1 }
-    requires are { AreBelow number (map leaf_of rows.old.items) }
-    ensures { OnOk result (AreBelow (number + 1) (map leaf_of rows.new.items)) }
+    requires are { AreBelow kind number (map leaf_of rows.old.items) }
+    ensures { OnOk result (AreBelow kind (number + 1) (map leaf_of rows.new.items)) }
 {
     if let Some(byte) = byte {
-        let key = key_of(alloc, number)?;
-        let value = value_of(alloc, byte)?;
+        let key = key_of(alloc, kind, number)?;
+        let value = value_of(alloc, kind, byte)?;
         rows.push(LeafItem { key, value })?;
     }
     Ok(())
 }
 
-/// A row for each number below the end that has a byte: the number in eight bytes, and the byte 300 times.
+/// A row for each number below the end that has a byte.
 fn rows_of<F: Fn(u32) -> Option<u8>>(
     alloc: Global,
+    kind: Rows,
     end: u32,
     byte_at: F,
 ) -> Result<Vec<LeafItem>, AllocError>
@@ -62,7 +89,7 @@ fn rows_of<F: Fn(u32) -> Option<u8>>(
 {
     let mut rows = Vec::new(alloc);
     for number in 0..end {
-        add_row(alloc, &mut rows, number, byte_at(number))?;
+        add_row(alloc, &mut rows, kind, number, byte_at(number))?;
     }
     Ok(rows)
 }
@@ -71,6 +98,7 @@ fn rows_of<F: Fn(u32) -> Option<u8>>(
 pub fn tree_of<F: Fn(u32) -> Option<u8>>(
     alloc: Global,
     draft: &mut Draft<Sha512Cut>,
+    kind: Rows,
     end: u32,
     byte_at: F,
 ) -> Result<Address, PutFault>
@@ -79,6 +107,6 @@ pub fn tree_of<F: Fn(u32) -> Option<u8>>(
     ensures tree { IfOk result (λ root. StandsForRows cut_address (chunks_of draft.new.chunks) root.0) }
     ensures longer { Longer draft.old.chunks draft.new.chunks }
 {
-    let rows = rows_of(alloc, end, byte_at)?;
+    let rows = rows_of(alloc, kind, end, byte_at)?;
     build(alloc, draft, &rows)
 }

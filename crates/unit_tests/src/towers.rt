@@ -1,6 +1,6 @@
 //! Trees built row by row, with their addresses.
 
-use crate::samples::{draft_of, tree_of};
+use crate::samples::{Rows, draft_of, tree_of};
 use chunk_store::{PutFault, Sha512Cut};
 use std::alloc::Global;
 use std::test::*;
@@ -22,6 +22,7 @@ fn root_below(alloc: Global, count: u32) -> Result<Address, PutFault> {
     tree_of(
         alloc,
         &mut draft,
+        Rows::Long,
         count,
         |number| Some((number % 256) as u8),
     )

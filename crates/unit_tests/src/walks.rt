@@ -5,18 +5,19 @@ ghost use Rattle.chunk_store.specs.Digests.{cut_address};
 ghost use Rattle.chunk_store.specs.Drafts.{Longer, chunks_of};
 ghost use Rattle.prolly_tree.specs.Lists.{StandsForRows};
 
-use crate::samples::{draft_of, tree_of};
+use crate::samples::{Rows, draft_of, tree_of};
 use chunk_store::{Draft, PutFault, Sha512Cut};
 use pair_walk::{ItemChange, ReadCount, changes};
 use std::alloc::Global;
 use std::test::*;
 use tuple_codec::Address;
 
-/// So many rows, whose keys are even numbers, or odd ones, and whose values have one byte, but for one row's.
+/// So many rows, whose keys are even numbers, or odd ones, and whose values are made of one byte, but for one row's.
 #[derive(Clone, Copy)]
 struct Sample {
     count: u16,
     odd: bool,
+    kind: Rows,
     byte: u8,
     marked: Option<u32>,
 }
@@ -25,6 +26,7 @@ fn even_rows(count: u16) -> Sample {
     Sample {
         count,
         odd: false,
+        kind: Rows::Long,
         byte: 7,
         marked: None,
     }
@@ -47,7 +49,9 @@ fn root_of(alloc: Global, draft: &mut Draft<Sha512Cut>, sample: Sample) -> Resul
     ensures longer { Longer draft.old.chunks draft.new.chunks }
 {
     let end = 2 * sample.count as u32;
-    tree_of(alloc, draft, end, |number| byte_at(sample, number))
+    tree_of(alloc, draft, sample.kind, end, |number| {
+        byte_at(sample, number)
+    })
 }
 
 /// How many rows were added, removed and replaced.
@@ -80,12 +84,16 @@ fn changes_are_found_and_few_nodes_are_read(rt: HostRuntime) -> Result<(), Fail>
     keys.odd = true;
     let mut one = even_rows(3_000);
     one.marked = Some(2_000);
+    let mut short = even_rows(30_000);
+    short.kind = Rows::Short;
+    let mut longer = even_rows(30_001);
+    longer.kind = Rows::Short;
     for (old, new, kinds, least, most) in [
         (even_rows(500), even_rows(500), [0, 0, 0], 0, 0),
         (even_rows(0), even_rows(3), [3, 0, 0], 2, 2),
         (even_rows(3), even_rows(0), [0, 3, 0], 2, 2),
         // one more row, at the end
-        (even_rows(30_000), even_rows(30_001), [1, 0, 0], 2, 40),
+        (short, longer, [1, 0, 0], 2, 40),
         // two nodes on each of three levels
         (even_rows(3_000), one, [0, 0, 1], 6, 6),
         (even_rows(500), values, [0, 0, 500], 2, u64::MAX),
