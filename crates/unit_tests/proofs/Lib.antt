@@ -1,7 +1,8 @@
-mod SampleRows
+mod CommitVectors
 mod SampleEdits
-mod TupleVectors
+mod SampleRows
 mod TowerVectors
 mod TreeVectors
+mod TupleVectors
 mod WalkVectors
 mod WireVectors
