@@ -9,4 +9,7 @@ mod KindVectors
 pub mod Nodes
 pub mod Operations
 pub mod Ranges
+mod SpelledTokens
 pub mod Sums
+pub mod TokenLemmas
+mod TokenPlaces

@@ -1,3 +1,4 @@
 pub mod CheckLaws
 pub mod KindLaws
 pub mod Kinds
+pub mod LongestTokens
