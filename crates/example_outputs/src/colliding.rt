@@ -25,19 +25,31 @@ impl Digester for OneForAll {
 const OPENING_LINE: &[u8] =
     b"collision 00000000000000000000000000000000 040000 05000000000000000000000000000000000000000000000000000000000100000000000000007646f6c7472756e001a496e697469616c697a652064617461207265706f7369746f7279\n";
 
-/// Whether the two chunks of one address are told before a script runs, and before a workload, and a broken rule before them.
+/// Whether the two chunks of one address are told before a script runs.
 pub fn opening_is_told<R: Threads + Wait + Sync>(
     rt: &R,
     alloc: Global,
 ) -> Result<bool, AllocError> {
-    let ordered = ended_with::<OneForAll, R, NoPace>(rt, alloc, "ordered", b"", &NoPace)?;
-    let load = ended_with::<OneForAll, R, NoPace>(rt, alloc, "load --seed 7", b"", &NoPace)?;
-    let bad = ended_with::<OneForAll, R, NoPace>(rt, alloc, "ordered", b"@a SELECT 1", &NoPace)?;
-    Ok(
-        ordered.is(Status::Collision, OPENING_LINE)
-            && load.is(Status::Collision, OPENING_LINE)
-            && bad.is(Status::Script, b"script line 1 rule 3\n"),
-    )
+    let ending = ended_with::<OneForAll, R, NoPace>(rt, alloc, "ordered", b"", &NoPace)?;
+    Ok(ending.is(Status::Collision, OPENING_LINE))
+}
+
+/// Whether they are told before a workload.
+pub fn opening_of_a_workload_is_told<R: Threads + Wait + Sync>(
+    rt: &R,
+    alloc: Global,
+) -> Result<bool, AllocError> {
+    let ending = ended_with::<OneForAll, R, NoPace>(rt, alloc, "load --seed 7", b"", &NoPace)?;
+    Ok(ending.is(Status::Collision, OPENING_LINE))
+}
+
+/// Whether a broken rule is told before them.
+pub fn rule_is_told_first<R: Threads + Wait + Sync>(
+    rt: &R,
+    alloc: Global,
+) -> Result<bool, AllocError> {
+    let ending = ended_with::<OneForAll, R, NoPace>(rt, alloc, "ordered", b"@a SELECT 1", &NoPace)?;
+    Ok(ending.is(Status::Script, b"script line 1 rule 3\n"))
 }
 
 /// Names bytes by the first of them, so that the databases of a run are alike, and nothing else.

@@ -13,7 +13,9 @@ mod running;
 ghost use Rattle.std.specs.Prelude.{◌≡◌, ◌↔◌, Some, true};
 
 use calls::ended;
-use colliding::{opening_is_told, statement_is_refused};
+use colliding::{
+    opening_is_told, opening_of_a_workload_is_told, rule_is_told_first, statement_is_refused,
+};
 use comparing::first_difference;
 use cutting::{each_failing_read_is_told, each_failing_write_is_told, each_front_runs_or_is_told};
 use pacing::{is_replayed, statements_are_told, threads_meet, workload_is_told};
@@ -163,6 +165,16 @@ fn are_told<R: Files + AllocGlobal + Print + Threads + Wait + Sync>(
         each_failing_write_is_told(rt, alloc)?,
     )?;
     let opening = told(rt, "two chunks of one address", opening_is_told(rt, alloc)?)?;
+    let workload = told(
+        rt,
+        "two chunks of one address before a workload",
+        opening_of_a_workload_is_told(rt, alloc)?,
+    )?;
+    let rule = told(
+        rt,
+        "a broken rule before two chunks of one address",
+        rule_is_told_first(rt, alloc)?,
+    )?;
     let clash = told(
         rt,
         "a collision in a statement",
@@ -185,7 +197,8 @@ fn are_told<R: Files + AllocGlobal + Print + Threads + Wait + Sync>(
         "the order of threads in replay",
         is_replayed(rt, alloc)?,
     )?;
-    Ok(fronts && reads && writes && opening && clash && calls && load && threads && replayed)
+    let first = fronts && reads && writes && opening && workload && rule;
+    Ok(first && clash && calls && load && threads && replayed)
 }
 
 fn told<R: Print>(rt: &R, what: &str, is_so: bool) -> anyhow::Result<bool> {
