@@ -9,8 +9,8 @@ use Rattle.chunk_store.specs.Digests.{cut_address}
 use Rattle.chunk_store.specs.Standing.{IsTree}
 use Rattle.node_chunker.specs.Growth.{last_after}
 use Rattle.prolly_edit.specs.Editing.{AreEdits}
-use Rattle.unit_tests.specs.declared.samples.Rows.{Rows}
-use Rattle.unit_tests.specs.declared.samples.Rows.TheVariants.{Long, Short}
+use Rattle.unit_tests.specs.declared.rows.Rows.{Rows}
+use Rattle.unit_tests.specs.declared.rows.Rows.TheVariants.{Long, Short}
 use Rattle.tuple_codec.specs.declared.values.SqlType.{SqlType}
 use Rattle.tuple_codec.specs.declared.values.SqlType.TheVariants as kind
 use Rattle.schema_model.specs.declared.schemas.Schema.{Schema}

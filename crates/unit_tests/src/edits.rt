@@ -4,7 +4,8 @@ ghost use Rattle.std.specs.Prelude.{◌<◌, ◌+◌, ◌-◌, ◌^◌, IfOk, On
 ghost use Rattle.chunk_store.specs.Drafts.{chunks_of};
 ghost use Rattle.unit_tests.specs.Samples.{AreEditsBelow, AreFewEdits, IsFit, StandsForFew};
 
-use crate::samples::{Rows, draft_of, key_of, tree_of, value_of};
+use crate::rows::Rows;
+use crate::samples::{draft_of, key_of, tree_of, value_of};
 use chunk_store::{Draft, PutFault, Sha512Cut};
 use prolly_edit::apply;
 use std::alloc::{AllocError, Global};

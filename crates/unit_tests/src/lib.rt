@@ -17,6 +17,7 @@ mod node_bytes;
 mod records;
 #[cfg(test)]
 mod regions;
+mod rows;
 #[cfg(test)]
 mod samples;
 #[cfg(test)]

@@ -4,7 +4,8 @@ ghost use Rattle.chunk_store.specs.Digests.{cut_address};
 ghost use Rattle.chunk_store.specs.Drafts.{chunks_of};
 ghost use Rattle.prolly_tree.specs.Lists.{StandsForRows};
 
-use crate::samples::{Rows, draft_of, key_of, tree_of};
+use crate::rows::Rows;
+use crate::samples::{draft_of, key_of, tree_of};
 use chunk_store::{Draft, PutFault, Sha512Cut};
 use prolly_tree::{count, get, scan_from};
 use std::alloc::{AllocError, Global};

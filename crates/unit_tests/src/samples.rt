@@ -7,6 +7,7 @@ ghost use Rattle.node_format.specs.Views.{leaf_of};
 ghost use Rattle.prolly_tree.specs.Lists.{StandsForRows};
 ghost use Rattle.unit_tests.specs.Samples.{AreBelow, AreFewRows, StandsForFew, number_key};
 
+use crate::rows::Rows;
 use chunk_region::PagePool;
 use chunk_store::{Draft, PutFault, Sha512Cut, Store};
 use node_chunker::build;
@@ -22,15 +23,6 @@ pub fn draft_of<D: Digester>(alloc: Global) -> Result<Draft<D>, AllocError> {
 
 /// What is added to a BIGINT in a key, so that those below 0 come first.
 const RAISED: u64 = 9_223_372_036_854_775_808;
-
-/// How a row is made of a number and a byte.
-#[derive(Clone, Copy)]
-pub enum Rows {
-    /// The number in eight bytes; the byte 300 times.
-    Long,
-    /// A BIGINT, which is the primary key, and a VARCHAR(8), in which the byte stands eight times.
-    Short,
-}
 
 pub fn key_of(alloc: Global, kind: Rows, number: u32) -> Result<Blob, AllocError>
     ensures { IfOk result (λ key. key ≡ number_key kind number) }

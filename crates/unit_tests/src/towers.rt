@@ -1,6 +1,7 @@
 //! Trees built row by row, with their addresses.
 
-use crate::samples::{Rows, draft_of, tree_of};
+use crate::rows::Rows;
+use crate::samples::{draft_of, tree_of};
 use chunk_store::{PutFault, Sha512Cut};
 use std::alloc::Global;
 use std::test::*;

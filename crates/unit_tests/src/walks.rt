@@ -5,7 +5,8 @@ ghost use Rattle.chunk_store.specs.Digests.{cut_address};
 ghost use Rattle.chunk_store.specs.Drafts.{Longer, chunks_of};
 ghost use Rattle.prolly_tree.specs.Lists.{StandsForRows};
 
-use crate::samples::{Rows, draft_of, tree_of};
+use crate::rows::Rows;
+use crate::samples::{draft_of, tree_of};
 use chunk_store::{Draft, PutFault, Sha512Cut};
 use pair_walk::{ItemChange, ReadCount, changes};
 use std::alloc::Global;
