@@ -15,8 +15,8 @@ use Rattle.node_format.specs.declared.items.LeafItem.{LeafItem}
 use Rattle.node_format.specs.Views.{leaf_of}
 use Rattle.node_chunker.specs.Growth.{last_after}
 use Rattle.unit_tests.specs.Samples.{AreBelow, number_key}
-use Rattle.unit_tests.specs.declared.samples.Rows.{Rows}
-use Rattle.unit_tests.specs.declared.samples.Rows.TheVariants.{Long, Short}
+use Rattle.unit_tests.specs.declared.rows.Rows.{Rows}
+use Rattle.unit_tests.specs.declared.rows.Rows.TheVariants.{Long, Short}
 use Rattle.node_chunker.proofs.TowerLemmas.{all_join}
 use Rattle.node_chunker.proofs.GrowthLemmas.{after_less, last_join, rise_join}
 
