@@ -22,11 +22,11 @@ chain_join : (first middle last : Parts) (a b : List Entry) → Chain first a mi
 chain_join first middle last [] b chain more = subst (λ parts. Chain parts b last) (sym chain) more
 chain_join first middle last (e ∷ a) b chain more = (chain.0, chain.1, chain_join chain.0 middle last a b chain.2 more)
 
-chain_split : (first last : Parts) (a b : List Entry) → Chain first (a ++ b) last → (middle : Parts) × Chain first a middle × Chain middle b last
+pub chain_split : (first last : Parts) (a b : List Entry) → Chain first (a ++ b) last → (middle : Parts) × Chain first a middle × Chain middle b last
 chain_split first last [] b chain = (first, refl, chain)
 chain_split first last (e ∷ a) b chain = let rest = chain_split chain.0 last a b chain.2 in (rest.0, (chain.0, chain.1, rest.1), rest.2)
 
-chain_left : (first last : Parts) (log : List Entry) → Chain first log last → spelling_of last ≡ left_last (spelling_of first) log
+pub chain_left : (first last : Parts) (log : List Entry) → Chain first log last → spelling_of last ≡ left_last (spelling_of first) log
 chain_left first last [] chain = ap spelling_of (sym chain)
 chain_left first last (e ∷ log) chain = chain_left chain.0 last log chain.2 ∙ ap (λ before. left_last before log) chain.1.left
 

@@ -1,2 +1,11 @@
-pub mod SpellingLemmas
+pub mod AheadLemmas
 pub mod FittingLemmas
+pub mod FoundLemmas
+pub mod LoneLemmas
+pub mod OwnLemmas
+pub mod ReadingLemmas
+pub mod RoomLemmas
+pub mod SettleLemmas
+pub mod ShownLemmas
+pub mod SpellingLemmas
+pub mod TurnLemmas
