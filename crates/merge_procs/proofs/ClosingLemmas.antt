@@ -1,6 +1,5 @@
 -- Whether a merge has its decision, and a session that was only looked at.
-use Rattle.std.proofs.Common.{◌≡◌, refl, sym, ap, ◌∙◌, subst, ℕ, Bool, true, false, not, is_some, cond, List, ◌++◌, length, Ok, Err}
-use Rattle.tuple_codec.specs.declared.addresses.Address.{Address}
+use Rattle.std.proofs.Common.{◌≡◌, refl, sym, ap, ◌∙◌, subst, ℕ, Bool, true, false, not, is_some, List, ◌++◌, length, Ok}
 use Rattle.chunk_store.specs.Chunks.{Chunks}
 use Rattle.chunk_store.specs.Clashes.{IsReason}
 use Rattle.chunk_store.specs.Drafts.{Drafting, DraftParts, Grows, IsNamed, IsSound, chunks_of, cut_to}
@@ -8,33 +7,27 @@ use Rattle.chunk_store.specs.Kinds.{is_data}
 use Rattle.chunk_store.specs.Laws.{ChunksFollow, DraftsFollow, DraftsGrow}
 use Rattle.chunk_store.specs.declared.faults.PutFault.{PutFault}
 use Rattle.chunk_store.specs.declared.faults.PutFault.TheVariants.{Memory, Collision}
-use Rattle.expr_eval.specs.Binding.{Outcome, and_then}
-use Rattle.schema_merge.specs.RootMerge.{MergedDatabase}
-use Rattle.plain_sessions.specs.Merging.{Worked, Answers, Closes, Ending, Forwarding, base_root, is_clean, merge, merge_made, merged_with}
-use Rattle.plain_sessions.specs.Records.{BranchState, root_of}
+use Rattle.expr_eval.specs.Binding.{Outcome}
+use Rattle.plain_sessions.specs.Merging.{Worked, Answers, Closes}
+use Rattle.plain_sessions.specs.Records.{BranchState}
 use Rattle.plain_sessions.specs.Sessions as plain
-use Rattle.plain_sessions.specs.Sessions.{Transaction, own_root}
+use Rattle.plain_sessions.specs.Sessions.{Transaction}
 use Rattle.plain_sessions.specs.Statements.{worked}
 use Rattle.plain_sessions.specs.declared.commands.Work.TheVariants as work
 use Rattle.plain_sql.specs.Lists.{unless}
-use Rattle.root_merge.specs.Merging.{AreRoots}
 use Rattle.script_text.specs.Collisions.{IsFault}
 use Rattle.script_text.specs.declared.replies.Reply.{Reply}
 use Rattle.session_state.specs.Commits.{HasNoCommit}
 use Rattle.session_state.specs.Transactions.{StartStands}
 use Rattle.session_state.specs.Standing.{SessionStands}
 use Rattle.session_state.specs.declared.sessions.Session.{Session}
-use Rattle.sql_procedures.specs.declared.requests.MergeOf.{MergeOf}
-use Rattle.sql_procedures.specs.declared.requests.MergeRequest.{MergeRequest}
 use Rattle.sql_procedures.specs.declared.requests.MergeRequest.TheVariants as merging
 use Rattle.merge_procs.specs.Closing.{IsAsBefore, is_closing}
-use Rattle.merge_procs.specs.Databases.{IsMet, comes_clean, is_clean_met}
-use Rattle.merge_procs.specs.Ways.{IsThree, IsWay}
-use Rattle.merge_procs.specs.declared.databases.Met.{Met}
-use Rattle.merge_procs.specs.declared.databases.Met.TheVariants as met
-use Rattle.merge_procs.specs.declared.ways.Three.{Three}
-use Rattle.merge_procs.specs.declared.ways.Way.{Way}
-use Rattle.merge_procs.specs.declared.ways.Way.TheVariants as way
+use Rattle.merge_procs.specs.Courses.{IsMergeCourse, is_decided}
+use Rattle.merge_procs.specs.declared.courses.MergeCourse.{MergeCourse}
+use Rattle.merge_procs.specs.declared.courses.MergeCourse.TheVariants as course
+use Rattle.merge_procs.specs.declared.steps.Step.TheVariants as step
+use Rattle.schema_model.specs.PlainCommits.{Commits}
 
 -- ---- a session that was only looked at
 
@@ -74,11 +67,6 @@ fails_truly address old mid (Collision clash) chunks drafts growth named sound g
 
 -- ---- what closes
 
-pub clean_told : (address : List ℕ → List ℕ) (chunks : Chunks) (found : Met) (wanted : Outcome MergedDatabase) → IsMet address chunks found wanted → is_clean_met found ≡ comes_clean wanted
-clean_told address chunks (met.Refused number) wanted is = sym (ap comes_clean is)
-clean_told address chunks (met.Clean root) wanted is = sym (ap comes_clean is.1 ∙ is.2)
-clean_told address chunks (met.Open working) wanted is = sym (ap comes_clean is.1 ∙ is.2)
-
 pub abort_stays : (p : plain.Session) (t : Transaction) → false ≡ is_closing (worked p t (work.Merge merging.Abort))
 unfolding worked
 abort_stays p t = by _ _ (is_some t.own.merging) where
@@ -86,49 +74,8 @@ abort_stays p t = by _ _ (is_some t.own.merging) where
   by reply own true = refl
   by reply own false = refl
 
-worked_merge : (p : plain.Session) (t : Transaction) (request : MergeRequest) → worked p t (work.Merge request) ≡ merge p t request
-unfolding worked
-worked_merge p t request = refl
-
-closes_as : (p : plain.Session) (t : Transaction) (request : MergeOf) (outcome : Outcome Worked) → merge p t (merging.Merge request) ≡ outcome
-    → is_closing (worked p t (work.Merge (merging.Merge request))) ≡ is_closing outcome
-closes_as p t request outcome is = ap is_closing (worked_merge p t (merging.Merge request) ∙ is)
-
-module _ (address : List ℕ → List ℕ) (chunks : Chunks) (p : plain.Session) (t : Transaction) (request : MergeOf) where
-  pub refused_stays : (found : Way) (number : ℕ) → found ≡ way.Refused number → IsWay address chunks t request found → false ≡ is_closing (worked p t (work.Merge (merging.Merge request)))
-  refused_stays found number is leads =
-      let own : IsWay address chunks t request (way.Refused number) = subst (λ (w : Way). IsWay address chunks t request w) is leads in
-      sym (closes_as p t request (Err number) (own p))
-
-  pub up_to_date_stays : (found : Way) → found ≡ way.UpToDate → IsWay address chunks t request found → false ≡ is_closing (worked p t (work.Merge (merging.Merge request)))
-  up_to_date_stays found is leads =
-      let own : IsWay address chunks t request way.UpToDate = subst (λ (w : Way). IsWay address chunks t request w) is leads in
-      sym (ap is_closing (worked_merge p t (merging.Merge request) ∙ own p))
-
-  pub forward_closes : (found : Way) (other : Address) → found ≡ way.Forward other → IsWay address chunks t request found → true ≡ is_closing (worked p t (work.Merge (merging.Merge request)))
-  forward_closes found other is leads =
-      let own : IsWay address chunks t request (way.Forward other) = subst (λ (w : Way). IsWay address chunks t request w) is leads in
-      sym (closes_as p t request (Ok (Closes (Forwarding other.0))) (own.1 p))
-
-  pub three_is : (found : Way) (three : Three) → found ≡ way.Merge three → IsWay address chunks t request found → IsThree address chunks t request three
-  three_is found three is leads = subst (λ (w : Way). IsWay address chunks t request w) is leads
-
-  pub three_roots : (three : Three) → IsThree address chunks t request three
-      → AreRoots address chunks three.base three.ours three.theirs (base_root t three.other.0) (own_root t) (root_of t.commits three.other.0)
-  three_roots three leads = record { base_root = leads.base; our_root = leads.ours; their_root = leads.theirs }
-
-  made_closes : (other : List ℕ) (merged : MergedDatabase) → is_closing (Ok (merge_made p t request other merged)) ≡ is_clean merged
-  made_closes other merged = by _ _ _ (is_clean merged) where
-    by : (ending : Ending) (reply : Reply) (own : BranchState) (b : Bool) → is_closing (Ok (cond b (Closes ending) (Answers reply own))) ≡ b
-    by ending reply own true = refl
-    by ending reply own false = refl
-
-  outcome_closes : (other : List ℕ) (outcome : Outcome MergedDatabase) → is_closing (and_then outcome (λ merged. Ok (merge_made p t request other merged))) ≡ comes_clean outcome
-  outcome_closes other (Ok merged) = made_closes other merged
-  outcome_closes other (Err number) = refl
-
-  pub three_closes : (three : Three) (clean : Bool) → IsThree address chunks t request three → clean ≡ comes_clean (merged_with t three.other.0)
-      → clean ≡ is_closing (worked p t (work.Merge (merging.Merge request)))
-  three_closes three clean leads told =
-      told ∙ sym (closes_as p t request (and_then (merged_with t three.other.0) (λ merged. Ok (merge_made p t request three.other.0 merged))) (leads.is p)
-      ∙ outcome_closes three.other.0 (merged_with t three.other.0))
+pub course_told : (address : List ℕ → List ℕ) (chunks : Chunks) (commits : Commits) (found : MergeCourse) (wanted : Outcome Worked) → IsMergeCourse address chunks commits found wanted
+    → is_decided found ≡ is_closing wanted
+course_told address chunks commits (course.Closes found) wanted is = sym (ap is_closing is.1)
+course_told address chunks commits (course.Stays (step.Made made)) wanted is = sym (ap is_closing is.is)
+course_told address chunks commits (course.Stays (step.Refused number)) wanted is = sym (ap is_closing is)

@@ -23,7 +23,7 @@ use Rattle.script_text.specs.declared.replies.Reply.{Reply}
 use Rattle.sql_procedures.specs.declared.requests.MergeOf.{MergeOf}
 use Rattle.table_root.specs.Standing.{DatabasesStand, IsDatabaseAt}
 use Rattle.table_root.specs.declared.heads.Look.{Look}
-use Rattle.plain_sessions.specs.Merging.{Joining, base_root, merge_message}
+use Rattle.plain_sessions.specs.Merging.{Joining, base_root}
 use Rattle.plain_sessions.specs.Moments.{closed, forwarded, merged_as, unless_moved}
 use Rattle.plain_sessions.specs.Records.{BranchState, Shared, commit_on, is_same_state, root_of, with_new_commit}
 use Rattle.plain_sessions.specs.Sessions as plain
@@ -51,6 +51,10 @@ use Rattle.merge_procs.specs.declared.ways.Three.{Three}
 use Rattle.merge_procs.proofs.PlanningLemmas.{goes_on}
 
 -- ---- the decision
+
+-- the state of a merged database of which a commit is to be made
+abbrev pub joining_state : Address → Address → PlainDatabase → BranchState
+joining_state head other database = record { head = head.0; working = database; staged = database; merging = Some other.0 }
 
 module _ {D : Type 0} (address : List ℕ → List ℕ) (chunks : ChunksFollow) (records : RecordsFollow) (commits : CommitsFollow) (session : Session D) (look start : Look) (started : session.start ≡ Some start)
     (work : Drafting) (w : IsWorkOf session look work) (p : plain.Session) (t : Transaction) (shared : Shared) (present : BranchState)
@@ -118,6 +122,24 @@ module _ {D : Type 0} (address : List ℕ → List ℕ) (chunks : ChunksFollow) 
     other_known = known_now three.other.0 is.other_known;
   }
 
+  -- a database that was merged in the session's draft, and the record of which a commit is to be made
+
+  pub found_kept : DatabasesStand → (root : Address) (database : PlainDatabase) → IsKeptAt address (chunks_of session.draft.chunks) root.0 database
+      → IsKeptAt address (chunks_of work.chunks) root.0 database
+  found_kept databases root database kept = kept_later address (chunks_of session.draft.chunks) (chunks_of work.chunks) more databases root.0 database kept
+
+  pub can_commit_found : DatabasesStand → (root other : Address) (database : PlainDatabase) → IsKeptAt address (chunks_of session.draft.chunks) root.0 database → is_known t.commits other.0 ≡ true
+      → CanCommit address work.chunks (joining_record session.own.head root other) session.own.head shared.commits (joining_state session.own.head other database)
+  can_commit_found databases root other database kept known =
+      let own = stands.own_stands in
+      let now = found_kept databases root database kept in
+      record {
+        stands = record { head = refl; working = now; staged = now; merging = refl };
+        all_there = all_there;
+        present_known = known_now session.own.head.0 (ap (is_known t.commits) own.head ∙ own.head_known);
+        merging_known = known_now other.0 known;
+      }
+
   module _ (drafts : DraftsFollow) where
     of_store : (after : Drafting) → after.segments ≡ look.store.segments → joined after.segments ≡ store_of
     of_store after same = ap joined same
@@ -159,19 +181,19 @@ module _ {D : Type 0} (address : List ℕ → List ℕ) (chunks : ChunksFollow) 
 
     -- ---- a clean merge
 
-    module _ (databases : DatabasesStand) (three : Three) (known : is_known t.commits three.other.0 ≡ true) (epoch : ℤ) (message : List ℕ) (database : PlainDatabase) where
+    module _ (databases : DatabasesStand) (other : Address) (known : is_known t.commits other.0 ≡ true) (epoch : ℤ) (message : List ℕ) (database : PlainDatabase) where
       -- as it was written, and as the session has it
       abbrev written_as : PlainCommit
-      written_as = commit_on shared.commits epoch session.name database (session.own.head.0 ∷ three.other.0 ∷ []) message
+      written_as = commit_on shared.commits epoch session.name database (session.own.head.0 ∷ other.0 ∷ []) message
 
       abbrev commit : PlainCommit
-      commit = commit_on shared.commits epoch p.name database (t.own.head ∷ three.other.0 ∷ []) message
+      commit = commit_on shared.commits epoch p.name database (t.own.head ∷ other.0 ∷ []) message
 
       same_commit : written_as ≡ commit
       same_commit =
           let named = d.session_stands in
           let own = stands.own_stands in
-          λ i. commit_on shared.commits epoch (named.name i) database (own.head i ∷ three.other.0 ∷ []) message
+          λ i. commit_on shared.commits epoch (named.name i) database (own.head i ∷ other.0 ∷ []) message
 
       own_known : is_known shared.commits t.own.head ≡ true
       own_known = let own = stands.own_stands in known_now t.own.head own.head_known
@@ -239,12 +261,12 @@ module _ {D : Type 0} (address : List ℕ → List ℕ) (chunks : ChunksFollow) 
             }
 
         is_grown : IsGrown shared.commits commit
-        is_grown = record { parents = λ i. own_known i && (known_now three.other.0 known i && true); height = refl }
+        is_grown = record { parents = λ i. own_known i && (known_now other.0 known i && true); height = refl }
 
         with_it : (left : Commits) × (with_new_commit address commit shared.commits ≡ Some left) × CommitsAreThere address at_now left
         with_it =
             commits.with_one address store_of now.chunks.own shared.commits commit d.look_is.commits is_there is_grown root_kept.within t.own.head
-            (ap (λ (b : Bool). b || list_any (bytes_eq t.own.head) (three.other.0 ∷ [])) (bytes_same t.own.head t.own.head refl))
+            (ap (λ (b : Bool). b || list_any (bytes_eq t.own.head) (other.0 ∷ [])) (bytes_same t.own.head t.own.head refl))
             (only_one address met.chunks now.chunks commit joining.k joining.written no_commit_met)
 
         abbrev sealed_so : IsBrought now.segments now.chunks.own (brought plan)
@@ -293,15 +315,15 @@ module _ {D : Type 0} (address : List ℕ → List ℕ) (chunks : ChunksFollow) 
     plans_forward sound other known moved told is (Ok plan) made =
         goes_on address look t shared present moved told (forwarded shared.commits other.0) plan is (forwards sound other (known_now other.0 known) plan made)
 
-    pub plans_joined : (databases : DatabasesStand) (three : Three) (known : is_known t.commits three.other.0 ≡ true) (request : MergeOf) (epoch : ℤ) (message : List ℕ) (database : PlainDatabase)
-        → message ≡ merge_message p request → (moved : Bool) → moved ≡ not (is_same_state present t.start) → moved ≡ false → (result : Result DecisionPlan PutFault)
-        → IfOk result (λ plan. IsMergeCommitted address work (commit_on shared.commits epoch session.name database (session.own.head.0 ∷ three.other.0 ∷ []) message) plan)
-        → IfOk result (λ plan. PlanIs address look shared.commits plan (closed address epoch shared.commits p t present (Joining database three.other.0 (merge_message p request))))
-    plans_joined databases three known request epoch message database says moved told is (Err fault) made = tt
-    plans_joined databases three known request epoch message database says moved told is (Ok plan) made =
-        subst (λ (m : List ℕ). PlanIs address look shared.commits plan (closed address epoch shared.commits p t present (Joining database three.other.0 m))) says
-        (goes_on address look t shared present moved told (merged_as address (commit_on shared.commits epoch p.name database (t.own.head ∷ three.other.0 ∷ []) message)) plan is
-        (joins_written databases three known epoch message database plan made))
+    pub plans_joined : (databases : DatabasesStand) (other : Address) (known : is_known t.commits other.0 ≡ true) (epoch : ℤ) (message wanted : List ℕ) (database : PlainDatabase)
+        → message ≡ wanted → (moved : Bool) → moved ≡ not (is_same_state present t.start) → moved ≡ false → (result : Result DecisionPlan PutFault)
+        → IfOk result (λ plan. IsMergeCommitted address work (commit_on shared.commits epoch session.name database (session.own.head.0 ∷ other.0 ∷ []) message) plan)
+        → IfOk result (λ plan. PlanIs address look shared.commits plan (closed address epoch shared.commits p t present (Joining database other.0 wanted)))
+    plans_joined databases other known epoch message wanted database says moved told is (Err fault) made = tt
+    plans_joined databases other known epoch message wanted database says moved told is (Ok plan) made =
+        subst (λ (m : List ℕ). PlanIs address look shared.commits plan (closed address epoch shared.commits p t present (Joining database other.0 m))) says
+        (goes_on address look t shared present moved told (merged_as address (commit_on shared.commits epoch p.name database (t.own.head ∷ other.0 ∷ []) message)) plan is
+        (joins_written databases other known epoch message database plan made))
 
 -- ---- what was written
 
@@ -321,10 +343,7 @@ joined_told address work after wanted root at k reply (Ok plan) written segments
 -- a commit of the merged database can be written
 module _ (address : List ℕ → List ℕ) (work met : Drafting) (grown : Grows is_data work met) (head root : Address) (three : Three) (commits : Commits) (b o t : PlainDatabase)
     (can : CanMergeRoots address work.chunks head three commits b o t) (database : PlainDatabase) (kept : IsKeptAt address (chunks_of met.chunks) root.0 database) where
-  abbrev pub joining_state : BranchState
-  joining_state = record { head = head.0; working = database; staged = database; merging = Some three.other.0 }
-
-  pub can_commit : CanCommit address met.chunks (joining_record head root three.other) head commits joining_state
+  pub can_commit : CanCommit address met.chunks (joining_record head root three.other) head commits (joining_state head three.other database)
   can_commit = record {
     stands = record { head = refl; working = kept; staged = kept; merging = refl };
     all_there = subst (λ (base : List Chunk). CommitsAreThere address (chunk_bytes base) commits) (sym grown.base) can.all_there;

@@ -3,6 +3,7 @@ mod WayNames
 mod WayLemmas
 mod DatabasesLemmas
 pub mod ClosingLemmas
+mod BackLemmas
 mod VerifyingLemmas
 mod PlanningLemmas
 mod DecidingLemmas

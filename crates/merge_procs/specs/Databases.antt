@@ -1,5 +1,5 @@
 -- Three databases merged, and what is recorded of what comes of them.
-use Rattle.std.specs.Prelude.{◌≡◌, ℕ, Bool, true, false, List, Ok, Err}
+use Rattle.std.specs.Prelude.{◌≡◌, ℕ, true, false, List, Ok, Err}
 use Rattle.std.specs.List.{flat_map}
 use Rattle.chunk_store.specs.Chunks.{Chunks}
 use Rattle.table_root.specs.Kept.{IsKeptAt}
@@ -31,14 +31,3 @@ IsMet address chunks (met.Clean root) wanted =
     (merged : MergedDatabase) × (wanted ≡ Ok merged) × (is_clean merged ≡ true) × IsKeptAt address chunks root.0 merged.database
 IsMet address chunks (met.Open working) wanted =
     (merged : MergedDatabase) × (wanted ≡ Ok merged) × (is_clean merged ≡ false) × IsKeptAt address chunks working.0 (recorded merged.database)
-
--- ---- without conflicts and violations
-
-abbrev pub is_clean_met : Met → Bool
-is_clean_met (met.Refused number) = false
-is_clean_met (met.Clean root) = true
-is_clean_met (met.Open working) = false
-
-abbrev pub comes_clean : Outcome MergedDatabase → Bool
-comes_clean (Ok merged) = is_clean merged
-comes_clean (Err number) = false

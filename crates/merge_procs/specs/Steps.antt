@@ -1,7 +1,7 @@
 -- What a call that isn't decided on makes of the session's own record.
 use Rattle.std.specs.Prelude.{◌≡◌, ℕ, Bool, true, false, List, Result, Ok, Err}
 use Rattle.chunk_store.specs.Chunks.{Chunks}
-use Rattle.chunk_store.specs.Drafts.{cut_to}
+use Rattle.chunk_store.specs.Drafts.{Drafting, cut_to, pages_in}
 use Rattle.chunk_store.specs.declared.faults.PutFault.{PutFault}
 use Rattle.chunk_store.specs.declared.faults.PutFault.TheVariants.{Memory, Collision}
 use Rattle.expr_eval.specs.Binding.{Outcome}
@@ -15,7 +15,7 @@ use Rattle.script_text.specs.declared.replies.Reply.{Reply}
 use Rattle.script_text.specs.declared.replies.Reply.TheVariants.{Refused, Collided}
 use Rattle.session_state.specs.Records.{RecordStands}
 use Rattle.session_state.specs.declared.sessions.Session.{Session}
-use Rattle.session_plan.specs.Showing.{IsDue, is_plain_reply}
+use Rattle.session_plan.specs.Showing.{is_plain_reply}
 use Rattle.merge_procs.specs.declared.steps.Made.{Made}
 use Rattle.merge_procs.specs.declared.steps.Step.{Step}
 use Rattle.merge_procs.specs.declared.steps.Step.TheVariants as step
@@ -41,24 +41,27 @@ IsStep address chunks commits (step.Refused number) wanted = wanted ≡ Err numb
 
 -- ---- how a step is taken
 
--- the reply to what was made can be printed and read back
-abbrev pub IsPlain : Result Step PutFault → Type 0
-IsPlain (Ok (step.Made made)) = is_plain_reply made.reply ≡ true
-IsPlain (Ok (step.Refused number)) = Unit {0}
-IsPlain (Err fault) = Unit {0}
+-- a record was made
+abbrev pub is_made : Step → Bool
+is_made (step.Made made) = true
+is_made (step.Refused number) = false
+
+abbrev pub is_made_by : Result Step PutFault → Bool
+is_made_by (Ok found) = is_made found
+is_made_by (Err fault) = false
+
+-- want of memory, or the two byte strings
+abbrev pub IsToldFault : PutFault → Reply → Type 0
+IsToldFault Memory reply = reply ≡ Refused 1
+IsToldFault (Collision clash) reply = reply ≡ Collided clash
 
 -- all of the session but its draft is as it was
 abbrev pub IsSame : {D : Type 0} → Session D → Session D → Type 0
 IsSame old new = new ≡ record old { draft = new.draft }
 
--- and the draft has what it had at the mark
-pub record IsBack {D : Type 0} (mark : ℕ) (old new : Session D) : Type 0 where
-  pub same : IsSame old new
-  pub chunks : new.draft.chunks ≡ cut_to mark old.draft.chunks
-
--- the record was taken on, and the call is answered; or nothing was done, for this reason
-abbrev pub Settles : {D : Type 0} → ℕ → Session D → Session D → Result Step PutFault → Reply → Type 0
-Settles mark old new (Ok (step.Made made)) reply = (new ≡ record old { own = made.rec }) × (reply ≡ made.reply)
-Settles mark old new (Ok (step.Refused number)) reply = IsBack mark old new × IsDue 1 (Refused number) reply
-Settles mark old new (Err Memory) reply = IsBack mark old new × (reply ≡ Refused 1)
-Settles mark old new (Err (Collision clash)) reply = IsBack mark old new × (reply ≡ Collided clash)
+-- all that is in a draft stays, or it has what it had at the mark
+pub record IsBackUnless (mark : ℕ) (stays : Bool) (old new : Drafting) : Type 0 where
+  pub kept : stays ≡ true → new ≡ old
+  pub cut : stays ≡ false → new.chunks ≡ cut_to mark old.chunks
+  pub segments : new.segments ≡ old.segments
+  pub pages : pages_in new ≡ pages_in old

@@ -1,7 +1,6 @@
 //! DOLT_MERGE's decision, planned on a look.
 
-ghost use Rattle.std.specs.Prelude.{◌≡◌, ◌≤◌, ◌≤ℤ◌, ◌∷◌, ◌++◌, [], codes, IfErr, IfOk, Ok, length, not, pos, true};
-ghost use Rattle.std.specs.Option.{option_map_or};
+ghost use Rattle.std.specs.Prelude.{◌≡◌, ◌≤◌, ◌≤ℤ◌, ◌∷◌, [], IfErr, IfOk, Ok, length, not, pos, true};
 ghost use Rattle.chunk_store.specs.Chunks.{chunk_bytes};
 ghost use Rattle.chunk_store.specs.Drafts.{IsNamed, chunks_of};
 ghost use Rattle.chunk_store.specs.Laws.{ChunksFollow, DraftsFollow, DraftsGrow};
@@ -21,14 +20,16 @@ ghost use Rattle.session_state.specs.Laws.{CommitsFollow, RecordsFollow};
 ghost use Rattle.session_plan.specs.Answering.{Decides};
 ghost use Rattle.session_plan.specs.Committing.{CanCommit, IsWorkOf, parents_on};
 ghost use Rattle.shared_db.specs.Plans.{PlanIs};
-ghost use Rattle.sql_procedures.specs.Arguments.{is_message};
 ghost use Rattle.sql_procedures.specs.declared.requests.MergeRequest.TheVariants as merging;
 ghost use Rattle.table_root.specs.Standing.{DatabasesStand};
+ghost use Rattle.merge_procs.specs.Courses.{IsClosing, IsJoin, IsShort};
 ghost use Rattle.merge_procs.specs.Databases.{merged_of};
-ghost use Rattle.merge_procs.specs.Planning.{CanMergeRoots, IsForwarded, IsJoined, IsMergeCommitted, clean_record, joining_record, message_on};
+ghost use Rattle.merge_procs.specs.Planning.{CanMergeRoots, IsForwarded, IsJoined, IsMergeCommitted, clean_record, joining_record};
 ghost use Rattle.merge_procs.specs.Ways.{IsThree};
 
+use crate::courses::{Closing, Joined};
 use crate::databases::{Met, meet};
+use crate::messages::merge_message;
 use crate::replying::merge_reply;
 use crate::ways::{Three, Way, find_way};
 use chunk_store::{Draft, PutFault, law_of_chunks, law_of_drafts, law_of_growth};
@@ -36,12 +37,68 @@ use session_plan::{head_root, refused, sealed, work_of, written};
 use session_state::{Session, law_of_records, law_of_standing_commits};
 use shared_db::DecisionPlan;
 use sql_procedures::{MergeOf, MergeRequest};
-use std::alloc::{AllocError, Global};
-use table_root::{BranchName, Look, law_of_databases};
+use std::alloc::Global;
+use table_root::{Look, law_of_databases};
 use tuple_codec::{Address, BranchRecord, Digester, Text};
 
-/// What a DOLT_MERGE decides that is a fast-forward or clean. Where the branch isn't as it was at the transaction's start, it is refused 1213. The session
-/// stays as it was: where the branch has moved on before this is settled, it plans anew. A merge that is neither is answered want of memory here.
+/// Plans the decision of a DOLT_MERGE that was found. Where the branch isn't as it was at the transaction's start, it is refused 1213. The session stays as it
+/// was: where the branch has moved on before this is settled, it plans anew, and nothing is merged for it again.
+pub fn plan_closing<D: Digester>(
+    alloc: Global,
+    session: &Session<D>,
+    closing: &Closing,
+    look: &Look,
+    epoch: i64,
+) -> Result<DecisionPlan, PutFault>
+    requires decides { (p : plain.Session) × (t : plain.Transaction) × (shared : Shared) × (present : BranchState) × (ending : Ending) × Decides D.address session.now look.now p t shared present
+        × IsClosing D.address (chunks_of session.now.draft.chunks) t.commits closing.now ending }
+    requires short { IsShort closing.now }
+    requires date { pos 0 ≤ℤ epoch }
+    ensures planned { (p : plain.Session) (t : plain.Transaction) (shared : Shared) (present : BranchState) (ending : Ending) → Decides D.address session.now look.now p t shared present
+        → IsClosing D.address (chunks_of session.now.draft.chunks) t.commits closing.now ending
+        → IfOk result (λ plan. PlanIs D.address look.now shared.commits plan (closed D.address epoch shared.commits p t present ending)) }
+    ensures fault { IfErr result (IsFault D.address) }
+{
+    match closing {
+        Closing::Forward(other) => plan_forward(alloc, session, look, *other),
+        Closing::Join(merged) => plan_joined(alloc, session, look, merged, epoch),
+    }
+}
+
+/// The commit of the database that was merged, unless the branch has moved.
+fn plan_joined<D: Digester>(
+    alloc: Global,
+    session: &Session<D>,
+    look: &Look,
+    merged: &Joined,
+    epoch: i64,
+) -> Result<DecisionPlan, PutFault>
+    requires decides { (p : plain.Session) × (t : plain.Transaction) × (shared : Shared) × (present : BranchState) × (ending : Ending) × Decides D.address session.now look.now p t shared present
+        × IsJoin D.address (chunks_of session.now.draft.chunks) t.commits merged.now ending }
+    requires short { length merged.now.message ≤ 8192 }
+    requires date { pos 0 ≤ℤ epoch }
+    ensures planned { (p : plain.Session) (t : plain.Transaction) (shared : Shared) (present : BranchState) (ending : Ending) → Decides D.address session.now look.now p t shared present
+        → IsJoin D.address (chunks_of session.now.draft.chunks) t.commits merged.now ending
+        → IfOk result (λ plan. PlanIs D.address look.now shared.commits plan (closed D.address epoch shared.commits p t present ending)) }
+    ensures fault { IfErr result (IsFault D.address) }
+{
+    laws();
+    let work = work_of(session, look)?;
+    if is_moved(session, look, &work) {
+        return Ok(refused(1213));
+    }
+    joined(
+        alloc,
+        work,
+        &joining(session.own.head, merged.root, merged.other),
+        &session.name,
+        &merged.message,
+        epoch,
+    )
+}
+
+/// The same of a DOLT_MERGE whose way is still to be found: what is merged is merged in a draft of the plan's own. A merge that is neither a fast-forward nor
+/// clean is answered want of memory here.
 pub fn plan_merge<D: Digester>(
     alloc: Global,
     session: &Session<D>,
@@ -235,30 +292,6 @@ fn joining(head: Address, root: Address, other: Address) -> BranchRecord
         staged: root,
         merging: Some(other),
     }
-}
-
-/// The message that is given, or one of both names.
-fn merge_message(alloc: Global, branch: &BranchName, merge: &MergeOf) -> Result<Text, AllocError>
-    requires name { length merge.now.name ≤ 64 }
-    requires given { option_map_or is_message merge.now.message true ≡ true }
-    ensures message { IfOk result (λ message. message ≡ message_on branch.now merge.now) }
-    ensures few { IfOk result (λ message. length message ≤ 8192) }
-{
-    match &merge.message {
-        Some(message) => Text::from_slice(alloc, message.as_slice()),
-        None => both_names(alloc, merge.name.as_slice(), branch.bytes()),
-    }
-}
-
-/// `Merge NAME into BRANCH`.
-fn both_names(alloc: Global, name: &[u8], branch: &[u8]) -> Result<Text, AllocError>
-    ensures { IfOk result (λ message. message ≡ codes "Merge " ++ name.now ++ codes " into " ++ branch.now) }
-{
-    let mut message = Text::from_slice(alloc, b"Merge ")?;
-    message.extend_from_slice(name)?;
-    message.extend_from_slice(b" into ")?;
-    message.extend_from_slice(branch)?;
-    Ok(message)
 }
 
 /// What follows of chunks, drafts, databases, records and commits.

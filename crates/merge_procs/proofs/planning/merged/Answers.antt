@@ -26,7 +26,7 @@ joined-requires-clause-can g c κs within =
     let address = g.D.Digester.address in
     let after = c.meet-met.new.draft in
     let met = subst (λ (m : Met). IsMet address (chunks_of after.chunks) m (merged_of b o t)) c.in-Clean.is (c.in_ok-root.ensures.is b o t can.roots) in
-    let state = joining_state address c.args.work after c.meet-met.ensures.grows c.args.head c.in-Clean.root c.args.three.now commits b o t can met.0.database met.3 in (
+    let state = joining_state c.args.head c.args.three.now.other met.0.database in (
       commits,
       state,
       subst (λ (rec : BranchRecord). CanCommit address after.chunks rec rec.head commits state) (sym c.joining.ensures)
@@ -39,7 +39,7 @@ returns-in-Clean-clause-planned g c = λ commits b o t merged can is.
     let after = c.meet-met.new.draft in
     let met = subst (λ (m : Met). IsMet address (chunks_of after.chunks) m (merged_of b o t)) c.in-Clean.is (c.in_ok-root.ensures.is b o t can.roots) in
     let kept = is_met_clean address (chunks_of after.chunks) c.in-Clean.root (merged_of b o t) met merged is in
-    let state = joining_state address c.args.work after c.meet-met.ensures.grows c.args.head c.in-Clean.root c.args.three.now commits b o t can merged.database kept in
+    let state = joining_state c.args.head c.args.three.now.other merged.database in
     let able = subst (λ (rec : BranchRecord). CanCommit address after.chunks rec rec.head commits state) (sym c.joining.ensures)
     (can_commit address c.args.work after c.meet-met.ensures.grows c.args.head c.in-Clean.root c.args.three.now commits b o t can merged.database kept) in
     let joined = subst (λ (e : ℤ). IfOk c.joined.result (λ plan. IsJoined address after

@@ -1,4 +1,3 @@
-use Rattle.std.proofs.Common.{sym, ◌∙◌}
 use Rattle.merge_procs.proofs.WayLemmas.{all_there, led, not_told, over, refused, unknown}
 use Rattle.merge_procs.proofs.ways.find_way.Goals as goal
 

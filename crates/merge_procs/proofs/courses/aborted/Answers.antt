@@ -1,6 +1,6 @@
 use Rattle.std.proofs.Common.{◌∙◌, ap, not}
 use Rattle.merge_procs.proofs.StepLemmas.{aborts, has_head, if_so}
-use Rattle.merge_procs.proofs.local.aborted.Goals as goal
+use Rattle.merge_procs.proofs.courses.aborted.Goals as goal
 
 pub head_root-requires-after_bounds : goal.head_root-requires-after_bounds
 head_root-requires-after_bounds g c κs within = has_head g.D.Digester.address c.args.session.now c.requires
