@@ -18,10 +18,11 @@ use Rattle.plain_writes.specs.CheckTexts.{checks}
 use Rattle.plain_sessions.specs.CommitRule as rule
 use Rattle.plain_sessions.specs.CommitRule.{both_merged, candidate, decide, is_unsettled, judged, recorded, without_conflicts}
 use Rattle.plain_sessions.specs.Records.{BranchState, is_same_state}
+use Rattle.workload.specs.declared.steps.Pair.{Pair}
 use Rattle.load_laws.specs.Loaded.{load_schema, load_table, row}
 use Rattle.load_laws.specs.Parts.{MeetsAt, MeetsPairs, RowsMeet}
 use Rattle.load_laws.specs.Parts.MeetsAt.{OwnMoved, OwnStayed}
-use Rattle.load_laws.specs.Steps.{Pair, table_name}
+use Rattle.load_laws.specs.Steps.{table_name}
 use Rattle.load_laws.specs.Tables.{holding, rows_in, value_at, working}
 use Rattle.load_laws.proofs.CommitMerge.{AllMeet, same_tables, tables_meet}
 use Rattle.load_laws.proofs.CommitRows.{same_pairs}

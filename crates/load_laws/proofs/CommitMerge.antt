@@ -20,10 +20,10 @@ use Rattle.schema_merge.specs.Projecting.{projected}
 use Rattle.schema_merge.specs.KeyByKey.{all_keys, before, gathered, kept, key_among, keys_with}
 use Rattle.schema_merge.specs.TableMerge.{Three, answer_at, conflict_at, conflict_if, keys_of, row_after, row_at, sides_at, table3, table_of, three_on}
 use Rattle.table_merge.proofs.LookLemmas.{row3_kept}
+use Rattle.workload.specs.declared.steps.Pair.{Pair}
 use Rattle.load_laws.specs.Loaded.{load_schema, load_table, row}
 use Rattle.load_laws.specs.Parts.{MeetsAt}
 use Rattle.load_laws.specs.Parts.MeetsAt.{OwnMoved, OwnStayed}
-use Rattle.load_laws.specs.Steps.{Pair}
 use Rattle.load_laws.specs.Tables.{PairsRise, rows_in, value_at}
 use Rattle.load_laws.proofs.CommitRows.{keys_of_three, pair_at, pair_keys, pairs_gathered}
 use Rattle.load_laws.proofs.StatementCells.{is_eq_nat}

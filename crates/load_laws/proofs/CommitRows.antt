@@ -9,7 +9,7 @@ use Rattle.std.specs.declared.cmp.Ordering.TheVariants.{Less, Equal, Greater}
 use Rattle.std.proofs.lemmas.Bool.{cases_eq, cases_order, cond-false, cond-true, eq-eqb, eqb-true, ne_eqb, or_from, or_parts}
 use Rattle.std.proofs.lemmas.Cmp.{ranked}
 use Rattle.schema_merge.specs.KeyByKey.{all_keys, before, gathered, key_among, keys_with}
-use Rattle.load_laws.specs.Steps.{Pair}
+use Rattle.workload.specs.declared.steps.Pair.{Pair}
 use Rattle.load_laws.specs.Tables.{PairsRise, value_at}
 
 -- ---- the value at a key

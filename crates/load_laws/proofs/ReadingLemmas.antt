@@ -25,9 +25,10 @@ use Rattle.sql_statements.specs.Tables as tables
 use Rattle.plain_sessions.specs.Commands.{command, command_or_fault, statement_command}
 use Rattle.plain_sessions.specs.declared.commands.Command.TheVariants.{Begin, CommitAll, Data}
 use Rattle.plain_sessions.specs.declared.commands.Work.TheVariants.{Change}
+use Rattle.workload.specs.declared.steps.LoadStep.TheVariants.{Begins, Commits, Inserts, Makes, Updates}
+use Rattle.workload.specs.declared.steps.Pair.{Pair}
 use Rattle.workload.specs.Workload.{create_text}
 use Rattle.load_laws.specs.Parts.{StepsAreRead}
-use Rattle.load_laws.specs.Steps.{Begins, Commits, Inserts, Makes, Pair, Updates}
 use Rattle.load_laws.specs.Steps as steps
 use Rattle.load_laws.proofs.ReadingTexts.{HasPieces, insert_has, insert_pieces, update_has, update_pieces}
 

@@ -16,12 +16,13 @@ use Rattle.plain_sessions.specs.Runs.{Runner, Shortages, State, advance, command
 use Rattle.plain_sessions.specs.Sessions.{new_session}
 use Rattle.plain_sessions.specs.declared.commands.Command.{Command}
 use Rattle.run_laws.proofs.ListLemmas.{get_put, get_put_other}
+use Rattle.workload.specs.declared.steps.Pair.{Pair}
 use Rattle.workload.specs.Workload.{all_lines, names, workload}
 use Rattle.load_laws.specs.Batches.{AreBatches, Batch, after_all}
 use Rattle.load_laws.specs.Laws.{IsLoadedState, LoadEnds, is_answered}
 use Rattle.load_laws.specs.Loaded.{all_steps, last_rows, load_table, loaded}
 use Rattle.load_laws.specs.Parts.{RowsAreChanged, RowsAreInserted, RowsMeet, ScriptIsBatches, ScriptsAreBatches, TablesAreMade}
-use Rattle.load_laws.specs.Steps.{Pair, table_name}
+use Rattle.load_laws.specs.Steps.{table_name}
 use Rattle.load_laws.specs.Tables.{holding, rows_in, working}
 use Rattle.load_laws.proofs.RunningMoments.{Goes, Moved, main_at, moves, still_goes}
 use Rattle.load_laws.proofs.RunningRows.{AreBlocks, all_of_eight, no_block, nothing_whole, whole, whole_alike}

@@ -6,10 +6,11 @@ use Rattle.std.proofs.lemmas.Bool.{cases_Bool, cases_lt}
 use Rattle.tuple_codec.specs.Rows.{same_cells}
 use Rattle.schema_model.specs.Sameness.{is_same_conflict, is_same_database, is_same_option, is_same_schema, is_same_violation}
 use Rattle.plain_sessions.specs.Records.{is_same_state}
+use Rattle.workload.specs.declared.steps.Pair.{Pair}
 use Rattle.load_laws.specs.Batches.{IsOwn}
 use Rattle.load_laws.specs.Loaded.{load_schema, row}
 use Rattle.load_laws.specs.Parts.{MeetsAt, MeetsPairs, OwnMoved, OwnStayed}
-use Rattle.load_laws.specs.Steps.{Pair, table_name}
+use Rattle.load_laws.specs.Steps.{table_name}
 use Rattle.load_laws.specs.Tables.{ArePairRows, IsFree, holding, rows_in, working}
 use Rattle.load_laws.proofs.RunningRows.{AreBlocks, IsBlock, all_so, block_elsewhere, block_here, blocks_with, value_other, value_own, whole, whole_rows, with_block}
 

@@ -13,10 +13,11 @@ use Rattle.plain_sessions.specs.Runs.{Runner, advance, needs_moment, nothing_ref
 use Rattle.plain_sessions.specs.Sessions.{Session, Transaction, first_variables, head_of, over, started_at, within}
 use Rattle.plain_sessions.specs.declared.commands.Command.{Command}
 use Rattle.plain_sessions.specs.declared.commands.Command.TheVariants.{Begin, CommitAll}
+use Rattle.workload.specs.declared.steps.Pair.{Pair}
 use Rattle.load_laws.specs.Batches.{Batch, BeginsByMaking, IsOwn, after_all, changes_of, rows_of}
 use Rattle.load_laws.specs.Laws.{is_answered}
 use Rattle.load_laws.specs.Parts.{RowsAreChanged, RowsAreInserted, RowsMeet, TablesAreMade}
-use Rattle.load_laws.specs.Steps.{Pair, command_of}
+use Rattle.load_laws.specs.Steps.{command_of}
 use Rattle.load_laws.specs.Tables.{IsSmall, rows_in, working}
 use Rattle.load_laws.proofs.RunningMeeting.{they_meet}
 use Rattle.load_laws.proofs.RunningRows.{AreBlocks, IsBlock, all_behind, all_front, block_elsewhere, block_front, block_here, blocks_with, whole, with_block}

@@ -4,8 +4,8 @@ use Rattle.std.specs.List.{AllByRecursion, flat_map}
 use Rattle.std.proofs.lemmas.List.{length-append, length-map, map-append}
 use Rattle.std.proofs.lemmas.Bool.Decides.{nat_tests}
 use Rattle.tuple_codec.proofs.Truths.{if_true}
+use Rattle.workload.specs.declared.steps.Pair.{Pair}
 use Rattle.load_laws.specs.Batches.{IsOwn}
-use Rattle.load_laws.specs.Steps.{Pair}
 use Rattle.load_laws.specs.Tables.{ArePairRows, IsFree, IsSmall, PairsRise, changed, changed_one, put, value_at}
 use Rattle.run_laws.proofs.ListLemmas.{if_false}
 use Rattle.load_laws.proofs.StatementRows.{key_stays, put_length}

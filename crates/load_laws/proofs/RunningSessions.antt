@@ -20,10 +20,13 @@ use Rattle.plain_sessions.specs.declared.commands.Command.{Command}
 use Rattle.plain_sessions.specs.declared.commands.Command.TheVariants.{Begin, CommitAll, Data}
 use Rattle.plain_sessions.specs.declared.commands.Work.{Work}
 use Rattle.plain_sessions.specs.declared.commands.Work.TheVariants.{Change}
+use Rattle.workload.specs.declared.steps.LoadStep.TheVariants.{Commits as Committing, Inserts, Makes, Updates}
+use Rattle.workload.specs.declared.steps.LoadStep.{LoadStep}
+use Rattle.workload.specs.declared.steps.Pair.{Pair}
 use Rattle.load_laws.specs.Batches.{Batch, IsOwn, after_all, all_changed, changes_of, opening_steps, rows_of, steps_in}
 use Rattle.load_laws.specs.Laws.{is_answered}
 use Rattle.load_laws.specs.Parts.{RowsAreChanged, RowsAreInserted, TablesAreMade}
-use Rattle.load_laws.specs.Steps.{Commits as Committing, Inserts, LoadStep, Makes, Pair, Updates, command_of, create, insert, update}
+use Rattle.load_laws.specs.Steps.{command_of, create, insert, update}
 use Rattle.load_laws.specs.Tables.{IsSmall, changed, changed_one, changes, rows_in, working}
 use Rattle.load_laws.proofs.RunningMeeting.{state_differs}
 use Rattle.load_laws.proofs.RunningRows.{AreBlocks, IsBlock, all_behind, below_next, block_front, block_stays, blocks_with, changed_block, changed_whole, free_whole, more_rows, put_whole, room_whole, whole, whole_rows, whole_same, with_block}

@@ -3,9 +3,12 @@ use Rattle.std.proofs.Common.{◌≡◌, ◌≢◌, ℕ, suc, ◌+◌, ◌*◌, 
 use Rattle.std.specs.List.{AllByRecursion, flat_map}
 use Rattle.std.proofs.lemmas.List.{append-nil, length_push, map-append}
 use Rattle.std.proofs.lemmas.Grind.{flat_map-append}
-use Rattle.workload.specs.Workload.{drawn, each, first_key, next}
+use Rattle.workload.specs.declared.draws.Drawn.{Drawn}
+use Rattle.workload.specs.declared.steps.LoadStep.TheVariants.{Begins, Commits, Inserts, Makes, Updates}
+use Rattle.workload.specs.declared.steps.LoadStep.{LoadStep}
+use Rattle.workload.specs.declared.steps.Pair.{Pair}
+use Rattle.workload.specs.Workload.{drawn, each, first_key, next, steps_of, with_batch, with_begin, with_insert, with_inserts, with_step, with_update, with_updates}
 use Rattle.load_laws.specs.Batches.{Batch, BeginsByMaking, after, after_all, changes_of, opening_steps, rows_of, steps_in}
-use Rattle.load_laws.specs.Steps.{Begins, Commits, Drawn, Inserts, LoadStep, Makes, Pair, Updates, steps_of, with_batch, with_change, with_changes, with_opening, with_row, with_rows, with_step}
 use Rattle.load_laws.specs.Tables.{PairsRise}
 use Rattle.load_laws.proofs.ScriptEach.{all_of_both, all_so, each_follows, each_holds, has_some}
 use Rattle.load_laws.proofs.ScriptValues.{Below, From, lasting, written_on}
@@ -76,19 +79,19 @@ pushed f before pairs pair = append_assoc before (map f pairs) (f pair ∷ []) �
 none_behind : (f : Pair → LoadStep) (d : Drawn) → d ≡ behind f d.steps (no_pairs d.x)
 none_behind f d = ap (λ s. record { steps = s; x = d.x }) (sym (append-nil d.steps))
 
-rows_are : (first : ℕ) (d : Drawn) → with_rows first d ≡ behind Inserts d.steps (rows_drawn first d.x)
+rows_are : (first : ℕ) (d : Drawn) → with_inserts first d ≡ behind Inserts d.steps (rows_drawn first d.x)
 rows_are first d =
-    ap (λ e. with_rows first e) (none_behind Inserts d)
-    ∙ each_follows (behind Inserts d.steps) 50 (λ row. with_row (first + row)) (λ row. row_drawn (first + row)) (no_pairs d.x)
+    ap (λ e. with_inserts first e) (none_behind Inserts d)
+    ∙ each_follows (behind Inserts d.steps) 50 (λ row. with_insert (first + row)) (λ row. row_drawn (first + row)) (no_pairs d.x)
     (λ row f. ap (λ s. record { steps = s; x = next f.x }) (pushed Inserts d.steps f.pairs (record { key = first + row; value = drawn (next f.x) % 1000 })))
 
-changes_are : (first : ℕ) (d : Drawn) → with_changes first d ≡ behind Updates d.steps (changes_drawn first d.x)
+changes_are : (first : ℕ) (d : Drawn) → with_updates first d ≡ behind Updates d.steps (changes_drawn first d.x)
 changes_are first d =
-    ap (λ e. with_changes first e) (none_behind Updates d)
-    ∙ each_follows (behind Updates d.steps) 10 (λ turn. with_change first) (λ turn. change_drawn first) (no_pairs d.x)
+    ap (λ e. with_updates first e) (none_behind Updates d)
+    ∙ each_follows (behind Updates d.steps) 10 (λ turn. with_update first) (λ turn. change_drawn first) (no_pairs d.x)
     (λ turn f. ap (λ s. record { steps = s; x = next (next f.x) }) (pushed Updates d.steps f.pairs (record { key = first + drawn (next f.x) % 50; value = drawn (next (next f.x)) % 1000 })))
 
-opening_is : (batch : ℕ) (d : Drawn) → with_opening batch d ≡ record { steps = d.steps ++ opening_steps (batch == 0); x = d.x }
+opening_is : (batch : ℕ) (d : Drawn) → with_begin batch d ≡ record { steps = d.steps ++ opening_steps (batch == 0); x = d.x }
 opening_is batch d =
     elim (batch == 0) as (λ first. ◌≡◌ {A = Drawn} (if first then with_step Makes (with_step Begins d) else with_step Begins d) (record { steps = d.steps ++ opening_steps first; x = d.x })) [
       | true ↦ ap (λ s. record { steps = s; x = d.x }) (append_assoc d.steps (Begins ∷ []) (Makes ∷ []))
@@ -108,8 +111,8 @@ batch_is session batch b =
     let opening : List LoadStep = opening_steps (batch == 0) in
     let rows : Filled = rows_drawn first b.x in
     let changes : Filled = changes_drawn first rows.x in
-    ap (λ d. with_step Commits (with_changes first (with_rows first d))) (opening_is batch (laid b))
-    ∙ ap (λ d. with_step Commits (with_changes first d)) (rows_are first (record { steps = before ++ opening; x = b.x }))
+    ap (λ d. with_step Commits (with_updates first (with_inserts first d))) (opening_is batch (laid b))
+    ∙ ap (λ d. with_step Commits (with_updates first d)) (rows_are first (record { steps = before ++ opening; x = b.x }))
     ∙ ap (λ d. with_step Commits d) (changes_are first (record { steps = before ++ opening ++ map Inserts rows.pairs; x = rows.x }))
     ∙ ap (λ s. record { steps = s; x = changes.x }) (
     regroup before opening (map Inserts rows.pairs) (map Updates changes.pairs) (Commits ∷ [])

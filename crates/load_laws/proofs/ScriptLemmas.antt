@@ -5,11 +5,14 @@ use Rattle.std.specs.List.{AllByRecursion, flat_map}
 use Rattle.std.proofs.lemmas.Grind.{flat_map-append}
 use Rattle.plain_sessions.specs.Commands.{command}
 use Rattle.plain_sessions.specs.Runs.{commands_of}
-use Rattle.workload.specs.Workload.{all_lines}
+use Rattle.workload.specs.declared.steps.LoadStep.TheVariants.{Commits, Inserts, Updates}
+use Rattle.workload.specs.declared.steps.LoadStep.{LoadStep}
+use Rattle.workload.specs.declared.steps.Pair.{Pair}
+use Rattle.workload.specs.Workload.{all_lines, steps_of, text_of}
 use Rattle.load_laws.specs.Batches.{AreBatches, Batch, IsOwn, after_all, changes_of, opening_steps, rows_of, steps_in}
 use Rattle.load_laws.specs.Loaded.{all_steps, inserted, last_rows, written}
 use Rattle.load_laws.specs.Parts.{IsSmallStep, ScriptsAreBatches, StepsAreRead}
-use Rattle.load_laws.specs.Steps.{Commits, Inserts, LoadStep, Pair, Updates, command_of, steps_of, text_of}
+use Rattle.load_laws.specs.Steps.{command_of}
 use Rattle.load_laws.specs.Tables.{IsSmall}
 use Rattle.load_laws.proofs.ScriptBatches.{IsWithin, Stand, Within, batches_of, batches_stand, below_there, from_there, steps_are, writes_in, writes_of}
 use Rattle.load_laws.proofs.ScriptEach.{all_mapped, all_of_both, all_parts, all_so, has_some, map_where}
@@ -71,7 +74,7 @@ batch_inserted batch =
 session_written : (seed session : ℕ) → flat_map written (steps_of seed session) ≡ writes_of (batches_of seed session)
 session_written seed session = ap (flat_map written) (steps_are seed session) ∙ gathered_twice steps_in writes_in written batch_written (batches_of seed session)
 
-session_inserted : (seed session : ℕ) → flat_map inserted (steps_of seed session) ≡ rows_of (batches_of seed session)
+pub session_inserted : (seed session : ℕ) → flat_map inserted (steps_of seed session) ≡ rows_of (batches_of seed session)
 session_inserted seed session =
     ap (flat_map inserted) (steps_are seed session) ∙ gathered_twice steps_in (λ (batch : Batch). batch.rows) inserted batch_inserted (batches_of seed session)
 

@@ -3,9 +3,9 @@ use Rattle.std.proofs.Common.{◌≡◌, ◌≢◌, ℕ, suc, ◌<◌, ◌≤◌
 use Rattle.std.specs.List.{AllByRecursion}
 use Rattle.std.proofs.lemmas.List.{map-append}
 use Rattle.std.proofs.lemmas.Bool.Decides.{eqb_tells}
+use Rattle.workload.specs.declared.steps.Pair.{Pair}
 use Rattle.load_laws.specs.Batches.{all_changed}
 use Rattle.load_laws.specs.Loaded.{last_value}
-use Rattle.load_laws.specs.Steps.{Pair}
 use Rattle.load_laws.specs.Tables.{PairsRise, changed, changed_one}
 use Rattle.load_laws.proofs.ScriptEach.{all_so}
 

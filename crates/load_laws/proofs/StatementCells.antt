@@ -25,8 +25,9 @@ use Rattle.plain_sql.specs.Lists.{or_refuse}
 use Rattle.plain_sql.specs.Plans.{condition, meaning}
 use Rattle.plain_writes.specs.Violations.{own_scope}
 use Rattle.plain_writes.specs.Writes.{assigned, keyed_cmp, or_misfit}
+use Rattle.workload.specs.declared.steps.Pair.{Pair}
 use Rattle.load_laws.specs.Loaded.{big_int, load_schema, row}
-use Rattle.load_laws.specs.Steps.{Pair, number, table_name}
+use Rattle.load_laws.specs.Steps.{number, table_name}
 
 -- ---- numbers
 

@@ -20,11 +20,12 @@ use Rattle.plain_sessions.specs.Replies.{done}
 use Rattle.plain_sessions.specs.Statements.{changed as changed_database, worked, write_worked}
 use Rattle.plain_schemas.specs.Statements.{write_effect}
 use Rattle.plain_writes.specs.CheckTexts.{checks}
+use Rattle.workload.specs.declared.steps.Pair.{Pair}
 use Rattle.load_laws.proofs.StatementCells.{chosen, condition_is, constant, given_number, kept_number, key_test, number_bound, rows_same, scope}
 use Rattle.load_laws.proofs.StatementRows.{more_by_key, put_length, rising_by_key, rising_changed, rows_more}
 use Rattle.load_laws.specs.Loaded.{big_int, load_schema, load_table, row}
 use Rattle.load_laws.specs.Parts.{RowsAreChanged, RowsAreInserted, TablesAreMade}
-use Rattle.load_laws.specs.Steps.{Pair, create, insert, number, table_name, update}
+use Rattle.load_laws.specs.Steps.{create, insert, number, table_name, update}
 use Rattle.load_laws.specs.Tables.{ArePairRows, IsFree, IsSmall, changed, changed_one, changes, holding, is_other, put, rows_in, working}
 
 -- ---- CREATE
@@ -54,15 +55,15 @@ module _ (checks : Checks) where
   none_new : (old new : List Pair) → first_violation checks (holding (Some old)) (holding (Some new)) ≡ None
   none_new old new = ap₂ (λ before after. first_of (numbers_of (holding (Some old)) before after)) (none_broken old) (none_broken new)
 
-  abbrev with_rows : List Pair → ℕ → Effect
-  with_rows pairs count = record { database = holding (Some pairs); count = Some count }
+  abbrev with_inserts : List Pair → ℕ → Effect
+  with_inserts pairs count = record { database = holding (Some pairs); count = Some count }
 
-  rows_filled : (old new : List Pair) (count : ℕ) → length new ≤ 4000 → filled checks (holding (Some old)) table_name (load_table old) count (map row new) ≡ Ok (with_rows new count)
+  rows_filled : (old new : List Pair) (count : ℕ) → length new ≤ 4000 → filled checks (holding (Some old)) table_name (load_table old) count (map row new) ≡ Ok (with_inserts new count)
   rows_filled old new count few =
-      ap₂ (λ broken large. effect_if broken large (with_rows new count)) (none_new old new) (le-ltb 10000000 (length (map row new)) (let long = length-map new row in omega arith))
+      ap₂ (λ broken large. effect_if broken large (with_inserts new count)) (none_new old new) (le-ltb 10000000 (length (map row new)) (let long = length-map new row in omega arith))
 
   rows_result : (old new kept : List Pair) (count : ℕ) → by_key load_schema (map row new) ≡ Ok (map row kept) → length kept ≤ 4000
-      → result_of checks (holding (Some old)) table_name (load_table old) (map row new) count ≡ Ok (with_rows kept count)
+      → result_of checks (holding (Some old)) table_name (load_table old) (map row new) count ≡ Ok (with_inserts kept count)
   rows_result old new kept count keyed few = ap (λ rows. and_then rows (filled checks (holding (Some old)) table_name (load_table old) count)) keyed ∙ rows_filled old kept count few
 
 -- ---- UPDATE

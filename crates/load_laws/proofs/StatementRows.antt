@@ -7,9 +7,9 @@ use Rattle.tuple_codec.specs.Rows.{Cells}
 use Rattle.plain_sql.proofs.InsertionLemmas.{neither_so, placed_past, placed_stop}
 use Rattle.plain_sql.specs.Lists.{has, placed, repeats, unless}
 use Rattle.plain_writes.specs.Writes.{by_key, keyed_cmp}
+use Rattle.workload.specs.declared.steps.Pair.{Pair}
 use Rattle.load_laws.proofs.StatementCells.{rows_eq, rows_lt}
 use Rattle.load_laws.specs.Loaded.{load_schema, row}
-use Rattle.load_laws.specs.Steps.{Pair}
 use Rattle.load_laws.specs.Tables.{IsFree, PairsRise, changed, changed_one, put}
 
 abbrev order : Cells → Cells → Ordering

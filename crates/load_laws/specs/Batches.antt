@@ -1,7 +1,9 @@
 -- A session's batches, each a transaction, and the rows that they leave.
 use Rattle.std.specs.Prelude.{◌≡◌, ◌≢◌, ℕ, ◌+◌, ◌*◌, ◌<◌, ◌≤◌, true, Bool, if◌then◌else◌, List, [], ◌∷◌, ◌++◌, length, map}
 use Rattle.std.specs.List.{AllByRecursion, flat_map}
-use Rattle.load_laws.specs.Steps.{Begins, Commits, Inserts, LoadStep, Makes, Pair, Updates}
+use Rattle.workload.specs.declared.steps.LoadStep.TheVariants.{Begins, Commits, Inserts, Makes, Updates}
+use Rattle.workload.specs.declared.steps.LoadStep.{LoadStep}
+use Rattle.workload.specs.declared.steps.Pair.{Pair}
 use Rattle.load_laws.specs.Tables.{IsSmall, PairsRise, changed}
 
 pub record Batch : Type 0 where

@@ -7,7 +7,10 @@ use Rattle.tuple_codec.specs.declared.values.Value.TheVariants as cell
 use Rattle.schema_model.specs.PlainTables.{PlainTable}
 use Rattle.schema_model.specs.declared.schemas.Column.{Column}
 use Rattle.schema_model.specs.declared.schemas.Schema.{Schema}
-use Rattle.load_laws.specs.Steps.{Inserts, LoadStep, Pair, Updates, steps_of}
+use Rattle.workload.specs.declared.steps.LoadStep.TheVariants.{Inserts, Updates}
+use Rattle.workload.specs.declared.steps.LoadStep.{LoadStep}
+use Rattle.workload.specs.declared.steps.Pair.{Pair}
+use Rattle.workload.specs.Workload.{steps_of}
 
 -- ---- what a list of steps writes
 

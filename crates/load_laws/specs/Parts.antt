@@ -9,11 +9,14 @@ use Rattle.plain_sessions.specs.Sessions.{Session, Transaction, Variables}
 use Rattle.plain_sessions.specs.Statements.{worked}
 use Rattle.plain_sessions.specs.declared.commands.Work.TheVariants.{Change}
 use Rattle.sql_ast.specs.declared.statements.Write.TheVariants as write
-use Rattle.workload.specs.Workload.{workload}
+use Rattle.workload.specs.declared.steps.LoadStep.TheVariants.{Inserts, Updates}
+use Rattle.workload.specs.declared.steps.LoadStep.{LoadStep}
+use Rattle.workload.specs.declared.steps.Pair.{Pair}
+use Rattle.workload.specs.Workload.{text_of, workload}
 use Rattle.plain_sessions.specs.Runs.{commands_of}
 use Rattle.load_laws.specs.Batches.{AreBatches, Batch, after_all, steps_in}
 use Rattle.load_laws.specs.Loaded.{all_steps, last_rows}
-use Rattle.load_laws.specs.Steps.{Inserts, LoadStep, Pair, Updates, command_of, create, insert, text_of, update}
+use Rattle.load_laws.specs.Steps.{command_of, create, insert, update}
 use Rattle.load_laws.specs.Tables.{ArePairRows, IsFree, IsSmall, changed, changes, put, rows_in, value_at, working}
 
 -- ---- texts

@@ -3,8 +3,9 @@ use Rattle.std.specs.Prelude.{◌≢◌, ℕ, ◌<◌, ◌≤◌, ◌==◌, nat_
 use Rattle.std.specs.List.{AllByRecursion, count_by}
 use Rattle.schema_model.specs.PlainTables.{PlainDatabase}
 use Rattle.plain_sessions.specs.Records.{BranchState}
+use Rattle.workload.specs.declared.steps.Pair.{Pair}
 use Rattle.load_laws.specs.Loaded.{load_table}
-use Rattle.load_laws.specs.Steps.{Pair, table_name}
+use Rattle.load_laws.specs.Steps.{table_name}
 
 -- ---- rows
 

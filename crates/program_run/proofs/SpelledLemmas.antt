@@ -1,5 +1,5 @@
 -- Each statement of a workload is one that a script may have.
-use Rattle.std.proofs.Common.{◌≡◌, refl, ℕ, zero, suc, ◌+◌, ◌*◌, ◌%◌, ◌<◌, ◌≤◌, ◌^◌, ◌==◌, true, false, if◌then◌else◌, nat_le, nat_lt, List, [], ◌∷◌, ◌++◌, length, map, codes, arith}
+use Rattle.std.proofs.Common.{◌≡◌, refl, ℕ, zero, suc, ◌+◌, ◌*◌, ◌%◌, ◌<◌, ◌≤◌, ◌^◌, ◌==◌, Bool, true, false, if◌then◌else◌, nat_le, nat_lt, List, [], ◌∷◌, ◌++◌, length, map, codes, arith}
 use Rattle.std.specs.Fmt.{decimal}
 use Rattle.std.specs.List.{list_all}
 use Rattle.std.specs.Str.{IsAscii, IsUtf8}
@@ -13,8 +13,11 @@ use Rattle.tuple_codec.proofs.Utf8Lemmas.{to_test}
 use Rattle.script_text.specs.Input.{most_statement_bytes}
 use Rattle.script_text.specs.declared.scripts.Line.{Line}
 use Rattle.script_run.specs.Scripts.{has_statement, is_statement_text}
-use Rattle.workload.specs.declared.speech.Speech.{Speech}
-use Rattle.workload.specs.Workload.{all_lines, create_text, drawn, each, first_key, insert_text, line, next, silence, statements, update_text, with_batch, with_begin, with_insert, with_inserts, with_session, with_text, with_update, with_updates}
+use Rattle.workload.specs.declared.draws.Drawn.{Drawn}
+use Rattle.workload.specs.declared.steps.LoadStep.{LoadStep}
+use Rattle.workload.specs.declared.steps.LoadStep.TheVariants.{Begins, Commits, Inserts, Makes, Updates}
+use Rattle.workload.specs.Workload.{all_lines, create_text, drawn, first_key, insert_text, line, next, nothing_drawn, statements, steps_of, text_of, update_text, with_batch, with_begin, with_insert, with_inserts, with_session, with_step, with_update, with_updates}
+use Rattle.workload.proofs.WorkloadLemmas.{each_keeps}
 
 -- ---- texts
 
@@ -69,59 +72,55 @@ word_spelled text letters few = spelled 80 text (omega arith) (words text letter
 
 -- ---- what a session says
 
-abbrev AreSpelled : Speech → Type 0
-AreSpelled speech = list_all is_statement_text speech.statements ≡ true
+abbrev is_spelled : LoadStep → Bool
+is_spelled step = is_statement_text (text_of step)
 
--- what holds at first and outlives each step holds at the end
-each_keeps : {A : Type 0} (P : A → Type 0) (count : ℕ) (step : ℕ → A → A) (first : A) → P first → ((n : ℕ) (a : A) → n < count → P a → P (step n a)) → P (each count step first)
-unfolding each
-each_keeps P zero step first holds keeps = holds
-each_keeps P (suc count) step first holds keeps =
-    keeps count (each count step first) (omega arith) (each_keeps P count step first holds (λ n a below. keeps n a (omega arith)))
+abbrev AreSpelled : Drawn → Type 0
+AreSpelled so_far = list_all is_spelled so_far.steps ≡ true
 
-one_more : (speech : Speech) (text : List ℕ) → is_statement_text text ≡ true → AreSpelled speech → list_all is_statement_text (speech.statements ++ text ∷ []) ≡ true
-one_more speech text is so_far = all_append is_statement_text speech.statements (text ∷ []) so_far (join (is_statement_text text) true is refl)
+one_more : (so_far : Drawn) (step : LoadStep) → is_spelled step ≡ true → AreSpelled so_far → list_all is_spelled (so_far.steps ++ step ∷ []) ≡ true
+one_more so_far step is before = all_append is_spelled so_far.steps (step ∷ []) before (join (is_spelled step) true is refl)
 
-begin_kept : (batch : ℕ) (speech : Speech) → AreSpelled speech → AreSpelled (with_begin batch speech)
-begin_kept batch speech so_far =
-    let begun : AreSpelled (with_text (codes "BEGIN") speech) = one_more speech (codes "BEGIN") (word_spelled (codes "BEGIN") refl refl) so_far in
-    elim (batch == 0) as (λ first. AreSpelled (if first then with_text create_text (with_text (codes "BEGIN") speech) else with_text (codes "BEGIN") speech)) [
-      | true ↦ one_more (with_text (codes "BEGIN") speech) create_text (word_spelled create_text refl refl) begun
+begin_kept : (batch : ℕ) (so_far : Drawn) → AreSpelled so_far → AreSpelled (with_begin batch so_far)
+begin_kept batch so_far before =
+    let begun : AreSpelled (with_step Begins so_far) = one_more so_far Begins (word_spelled (codes "BEGIN") refl refl) before in
+    elim (batch == 0) as (λ first. AreSpelled (if first then with_step Makes (with_step Begins so_far) else with_step Begins so_far)) [
+      | true ↦ one_more (with_step Begins so_far) Makes (word_spelled create_text refl refl) begun
       | false ↦ begun
     ]
 
 module _ (first : ℕ) (low : first < 10 ^ 7) where
-  inserts_kept : (speech : Speech) → AreSpelled speech → AreSpelled (with_inserts first speech)
-  inserts_kept speech so_far =
-      each_keeps AreSpelled 50 (λ row. with_insert (first + row)) speech so_far (λ row s below so.
-      one_more s (insert_text (first + row) (drawn (next s.x) % 1000)) (insert_spelled (first + row) (drawn (next s.x) % 1000) (omega (arith, low, below)) (omega arith)) so)
+  inserts_kept : (so_far : Drawn) → AreSpelled so_far → AreSpelled (with_inserts first so_far)
+  inserts_kept so_far before =
+      each_keeps AreSpelled 50 (λ row. with_insert (first + row)) so_far before (λ row d below so.
+      one_more d (Inserts (record { key = first + row; value = drawn (next d.x) % 1000 })) (insert_spelled (first + row) (drawn (next d.x) % 1000) (omega (arith, low, below)) (omega arith)) so)
 
-  updates_kept : (speech : Speech) → AreSpelled speech → AreSpelled (with_updates first speech)
-  updates_kept speech so_far =
-      each_keeps AreSpelled 10 (λ turn. with_update first) speech so_far (λ turn s below so.
-      one_more s (update_text (first + drawn (next s.x) % 50) (drawn (next (next s.x)) % 1000))
-      (update_spelled (first + drawn (next s.x) % 50) (drawn (next (next s.x)) % 1000) (omega (arith, low)) (omega arith)) so)
+  updates_kept : (so_far : Drawn) → AreSpelled so_far → AreSpelled (with_updates first so_far)
+  updates_kept so_far before =
+      each_keeps AreSpelled 10 (λ turn. with_update first) so_far before (λ turn d below so.
+      one_more d (Updates (record { key = first + drawn (next d.x) % 50; value = drawn (next (next d.x)) % 1000 }))
+      (update_spelled (first + drawn (next d.x) % 50) (drawn (next (next d.x)) % 1000) (omega (arith, low)) (omega arith)) so)
 
-batch_kept : (session batch : ℕ) → session < 8 → batch < 10 → (speech : Speech) → AreSpelled speech → AreSpelled (with_batch session batch speech)
-batch_kept session batch few short speech so_far =
+batch_kept : (session batch : ℕ) → session < 8 → batch < 10 → (so_far : Drawn) → AreSpelled so_far → AreSpelled (with_batch session batch so_far)
+batch_kept session batch few short so_far before =
     let first : ℕ = first_key session batch in
     let low : first < 10 ^ 7 = omega (arith, few, short) in
-    let begun : Speech = with_begin batch speech in
-    let changed : Speech = with_updates first (with_inserts first begun) in
-    one_more changed (codes "COMMIT") (word_spelled (codes "COMMIT") refl refl)
-    (updates_kept first low (with_inserts first begun) (inserts_kept first low begun (begin_kept batch speech so_far)))
+    let begun : Drawn = with_begin batch so_far in
+    let changed : Drawn = with_updates first (with_inserts first begun) in
+    one_more changed Commits (word_spelled (codes "COMMIT") refl refl)
+    (updates_kept first low (with_inserts first begun) (inserts_kept first low begun (begin_kept batch so_far before)))
 
-session_spelled : (seed session : ℕ) → session < 8 → list_all is_statement_text (statements seed session) ≡ true
-unfolding statements
-session_spelled seed session few = each_keeps AreSpelled 10 (with_batch session) (silence seed session) refl (λ batch s short so. batch_kept session batch few short s so)
+session_spelled : (seed session : ℕ) → session < 8 → list_all is_spelled (steps_of seed session) ≡ true
+unfolding steps_of
+session_spelled seed session few = each_keeps AreSpelled 10 (with_batch session) (nothing_drawn seed session) refl (λ batch d short so. batch_kept session batch few short d so)
 
-own_lines : (session : ℕ) (texts : List (List ℕ)) → list_all is_statement_text texts ≡ true → list_all has_statement (map (line session) texts) ≡ true
+own_lines : (session : ℕ) (steps : List LoadStep) → list_all is_spelled steps ≡ true → list_all has_statement (map (line session) (map text_of steps)) ≡ true
 own_lines session [] all = refl
-own_lines session (text ∷ texts) all =
-    let parts = both (is_statement_text text) (list_all is_statement_text texts) all in
-    join (is_statement_text text) (list_all has_statement (map (line session) texts)) parts.0 (own_lines session texts parts.1)
+own_lines session (step ∷ steps) all =
+    let parts = both (is_spelled step) (list_all is_spelled steps) all in
+    join (is_spelled step) (list_all has_statement (map (line session) (map text_of steps))) parts.0 (own_lines session steps parts.1)
 
 pub lines_spelled : (seed : ℕ) → list_all has_statement (all_lines seed) ≡ true
 lines_spelled seed =
     each_keeps (λ (lines : List Line). list_all has_statement lines ≡ true) 8 (with_session seed) [] refl (λ session lines few so_far.
-    all_append has_statement lines (map (line session) (statements seed session)) so_far (own_lines session (statements seed session) (session_spelled seed session few)))
+    all_append has_statement lines (map (line session) (statements seed session)) so_far (own_lines session (steps_of seed session) (session_spelled seed session few)))

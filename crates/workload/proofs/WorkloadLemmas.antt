@@ -10,8 +10,10 @@ use Rattle.std.proofs.lemmas.Bool.{and_from as join}
 use Rattle.script_text.specs.Input.{most_statements}
 use Rattle.script_text.specs.Shown.{is_shown_name}
 use Rattle.script_text.specs.declared.scripts.Line.{Line}
-use Rattle.workload.specs.declared.speech.Speech.{Speech}
-use Rattle.workload.specs.Workload.{all_lines, create_text, drawn, each, first_key, line, names, next, silence, statements, with_batch, with_begin, with_insert, with_inserts, with_session, with_text, with_update, with_updates}
+use Rattle.workload.specs.declared.draws.Drawn.{Drawn}
+use Rattle.workload.specs.declared.steps.LoadStep.{LoadStep}
+use Rattle.workload.specs.declared.steps.LoadStep.TheVariants.{Begins, Commits, Makes}
+use Rattle.workload.specs.Workload.{all_lines, drawn, each, first_key, line, names, next, nothing_drawn, statements, steps_of, text_of, with_batch, with_begin, with_insert, with_inserts, with_session, with_step, with_update, with_updates}
 
 wrapped_sum : (a b : ℕ) → (a % 18446744073709551616 + b) % 18446744073709551616 ≡ (a + b) % 18446744073709551616
 wrapped_sum a b = omega arith
@@ -67,18 +69,18 @@ names_distinct = (
 )
 
 -- what holds at first and outlives each step holds at the end
-each_keeps : {A : Type 0} (P : A → Type 0) (count : ℕ) (step : ℕ → A → A) (first : A) → P first → ((n : ℕ) (a : A) → n < count → P a → P (step n a)) → P (each count step first)
+pub each_keeps : {A : Type 0} (P : A → Type 0) (count : ℕ) (step : ℕ → A → A) (first : A) → P first → ((n : ℕ) (a : A) → n < count → P a → P (step n a)) → P (each count step first)
 unfolding each
 each_keeps P zero step first holds keeps = holds
 each_keeps P (suc count) step first holds keeps =
     keeps count (each count step first) (omega arith) (each_keeps P count step first holds (λ n a below. keeps n a (omega arith)))
 
 -- the sum of what the first steps add
-unfoldable pub total : (ℕ → ℕ) → ℕ → ℕ
+unfoldable total : (ℕ → ℕ) → ℕ → ℕ
 total more zero = 0
 total more (suc count) = total more count + more count
 
-pub each_counts : {A : Type 0} (size : A → ℕ) (more : ℕ → ℕ) (count : ℕ) (step : ℕ → A → A) (first : A) → ((n : ℕ) (a : A) → size (step n a) ≡ size a + more n) → size (each count step first) ≡ size first + total more count
+each_counts : {A : Type 0} (size : A → ℕ) (more : ℕ → ℕ) (count : ℕ) (step : ℕ → A → A) (first : A) → ((n : ℕ) (a : A) → size (step n a) ≡ size a + more n) → size (each count step first) ≡ size first + total more count
 unfolding each total
 each_counts size more zero step first adds = omega arith
 each_counts size more (suc count) step first adds =
@@ -86,52 +88,55 @@ each_counts size more (suc count) step first adds =
     let before : size (each count step first) ≡ size first + total more count = each_counts size more count step first adds in
     omega arith
 
--- how many statements were said
-said : Speech → ℕ
-said speech = length speech.statements
+-- how many steps were drawn
+count_in : Drawn → ℕ
+count_in so_far = length so_far.steps
 
-one_said : (xs : List (List ℕ)) (text : List ℕ) → length (xs ++ text ∷ []) ≡ length xs + 1
-one_said xs text = length_push xs text
+one_counted : (steps : List LoadStep) (step : LoadStep) → length (steps ++ step ∷ []) ≡ length steps + 1
+one_counted steps step = length_push steps step
 
 -- one, or two in the first batch
 opening : ℕ → ℕ
 opening batch = if batch == 0 then 2 else 1
 
-begin_said : (batch : ℕ) (speech : Speech) → said (with_begin batch speech) ≡ said speech + opening batch
-unfolding said opening
-begin_said batch speech =
-    elim (batch == 0) as (λ first. length (if first then with_text create_text (with_text (codes "BEGIN") speech) else with_text (codes "BEGIN") speech).statements ≡ length speech.statements + (if first then 2 else 1)) [
+begin_counted : (batch : ℕ) (so_far : Drawn) → count_in (with_begin batch so_far) ≡ count_in so_far + opening batch
+unfolding count_in opening
+begin_counted batch so_far =
+    elim (batch == 0) as (λ first. length (if first then with_step Makes (with_step Begins so_far) else with_step Begins so_far).steps ≡ length so_far.steps + (if first then 2 else 1)) [
       | true ↦
-          let one : length (speech.statements ++ codes "BEGIN" ∷ []) ≡ length speech.statements + 1 = one_said speech.statements (codes "BEGIN") in
-          one_said (speech.statements ++ codes "BEGIN" ∷ []) create_text ∙ ap (λ n. n + 1) one ∙ add_assoc (length speech.statements) 1 1
-      | false ↦ one_said speech.statements (codes "BEGIN")
+          let one : length (so_far.steps ++ Begins ∷ []) ≡ length so_far.steps + 1 = one_counted so_far.steps Begins in
+          one_counted (so_far.steps ++ Begins ∷ []) Makes ∙ ap (λ n. n + 1) one ∙ add_assoc (length so_far.steps) 1 1
+      | false ↦ one_counted so_far.steps Begins
     ]
 
-inserts_said : (first : ℕ) (speech : Speech) → said (with_inserts first speech) ≡ said speech + 50
-unfolding said total
-inserts_said first speech = each_counts said (λ row. 1) 50 (λ row. with_insert (first + row)) speech (λ row s. one_said s.statements _)
+inserts_counted : (first : ℕ) (so_far : Drawn) → count_in (with_inserts first so_far) ≡ count_in so_far + 50
+unfolding count_in total
+inserts_counted first so_far = each_counts count_in (λ row. 1) 50 (λ row. with_insert (first + row)) so_far (λ row d. one_counted d.steps _)
 
-updates_said : (first : ℕ) (speech : Speech) → said (with_updates first speech) ≡ said speech + 10
-unfolding said total
-updates_said first speech = each_counts said (λ turn. 1) 10 (λ turn. with_update first) speech (λ turn s. one_said s.statements _)
+updates_counted : (first : ℕ) (so_far : Drawn) → count_in (with_updates first so_far) ≡ count_in so_far + 10
+unfolding count_in total
+updates_counted first so_far = each_counts count_in (λ turn. 1) 10 (λ turn. with_update first) so_far (λ turn d. one_counted d.steps _)
 
-batch_said : (session batch : ℕ) (speech : Speech) → said (with_batch session batch speech) ≡ said speech + (61 + opening batch)
-unfolding said
-batch_said session batch speech =
+batch_counted : (session batch : ℕ) (so_far : Drawn) → count_in (with_batch session batch so_far) ≡ count_in so_far + (61 + opening batch)
+unfolding count_in
+batch_counted session batch so_far =
     let first : ℕ = first_key session batch in
-    let begun : Speech = with_begin batch speech in
-    let filled : Speech = with_inserts first begun in
-    let changed : Speech = with_updates first filled in
-    let a : said begun ≡ said speech + opening batch = begin_said batch speech in
-    let b : said filled ≡ said begun + 50 = inserts_said first begun in
-    let d : said changed ≡ said filled + 10 = updates_said first filled in
-    let e : said (with_text (codes "COMMIT") changed) ≡ said changed + 1 = one_said changed.statements (codes "COMMIT") in
+    let begun : Drawn = with_begin batch so_far in
+    let filled : Drawn = with_inserts first begun in
+    let changed : Drawn = with_updates first filled in
+    let a : count_in begun ≡ count_in so_far + opening batch = begin_counted batch so_far in
+    let b : count_in filled ≡ count_in begun + 50 = inserts_counted first begun in
+    let d : count_in changed ≡ count_in filled + 10 = updates_counted first filled in
+    let e : count_in (with_step Commits changed) ≡ count_in changed + 1 = one_counted changed.steps Commits in
     omega arith
+
+step_count : (seed session : ℕ) → length (steps_of seed session) ≡ 621
+unfolding steps_of count_in total opening
+step_count seed session = each_counts count_in (λ batch. 61 + opening batch) 10 (with_batch session) (nothing_drawn seed session) (batch_counted session)
 
 -- each session has 621 statements
 pub statement_count : (seed session : ℕ) → length (statements seed session) ≡ 621
-unfolding statements said total opening
-statement_count seed session = each_counts said (λ batch. 61 + opening batch) 10 (with_batch session) (silence seed session) (batch_said session)
+statement_count seed session = length-map (steps_of seed session) text_of ∙ step_count seed session
 
 session_lines : (seed session : ℕ) (lines : List Line) → length (with_session seed session lines) ≡ length lines + 621
 session_lines seed session lines =

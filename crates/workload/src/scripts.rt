@@ -1,9 +1,10 @@
 //! The script of a seed.
 
 ghost use Rattle.std.specs.Prelude.{◌≡◌, ◌<◌, ◌++◌, OnOk, IfOk, map};
-ghost use Rattle.workload.specs.Workload.{all_lines, line, names, with_session, workload};
+ghost use Rattle.workload.specs.Workload.{all_lines, line, names, text_of, with_session, workload};
 
-use crate::speech::Speech;
+use crate::draws::Drawn;
+use crate::steps::LoadStep;
 use script_text::{Line, Script};
 use std::alloc::{AllocError, Global};
 use tuple_codec::{Sequence, Text};
@@ -50,19 +51,21 @@ fn add_session(
     requires { session < 8 }
     ensures { OnOk result (lines.new ≡ with_session seed session lines.old) }
 {
-    let speech = Speech::of_session(alloc, seed, session)?;
-    add_lines(lines, session, speech.statements)
+    let all = Drawn::of_session(alloc, seed, session)?;
+    add_lines(alloc, lines, session, all.steps)
 }
 
 /// The statements of a session behind all lines so far.
 fn add_lines(
+    alloc: Global,
     lines: &mut Sequence<Line>,
     session: u32,
-    statements: Sequence<Text>,
+    steps: Sequence<LoadStep>,
 ) -> Result<(), AllocError>
-    ensures { OnOk result (lines.new ≡ lines.old ++ map (line session) statements) }
+    ensures { OnOk result (lines.new ≡ lines.old ++ map (line session) (map text_of steps)) }
 {
-    for statement in statements.into_vec() {
+    for step in steps.into_vec() {
+        let statement = step.text(alloc)?;
         lines.push(Line { session, statement })?;
     }
     Ok(())

@@ -1,7 +1,7 @@
 use Rattle.workload.proofs.WorkloadLemmas.{none_yet, one_more}
 use Rattle.std.proofs.Common.{refl}
 use Rattle.workload.specs.Workload.{with_update}
-use Rattle.workload.proofs.speech.Speech.update_rows.Goals as goal
+use Rattle.workload.proofs.draws.Drawn.update_rows.Goals as goal
 
 pub loop-turn-init : goal.loop-turn-init
 loop-turn-init c = none_yet (λ turn. with_update c.args.first) _ _ refl

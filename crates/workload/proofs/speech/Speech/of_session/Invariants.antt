@@ -1,6 +1,0 @@
-use Rattle.std.proofs.Common.{◌≡◌}
-use Rattle.workload.specs.Workload.{each, with_batch}
-use Rattle.workload.proofs.speech.Speech.of_session.Given as goal
-
-abbrev pub invariant-loop-batch : goal.invariant-loop-batch
-invariant-loop-batch l = l.speech ≡ each l.batch (with_batch l.session) l.initial.speech
