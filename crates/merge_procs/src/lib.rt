@@ -19,4 +19,7 @@ mod verifying;
 mod ways;
 
 pub use closing::merge_closes;
+pub use courses::{Closing, Joined, MergeCourse, merge_course};
 pub use local::merge_local;
+pub use planning::{plan_closing, plan_merge};
+pub use steps::{Made, Step, take_step};

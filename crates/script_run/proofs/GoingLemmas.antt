@@ -19,7 +19,8 @@ use Rattle.plain_sessions.specs.Sessions.{Transaction, is_before_statement}
 use Rattle.plain_sessions.specs.declared.commands.Command.{Command}
 use Rattle.plain_sessions.specs.declared.commands.Command.TheVariants.{Data}
 use Rattle.plain_sessions.specs.declared.commands.Work.{Work}
-use Rattle.chunk_store.specs.Chunks.{Listed}
+use Rattle.chunk_store.specs.Chunks.{Chunks, Listed}
+use Rattle.chunk_store.specs.Drafts.{chunks_of}
 use Rattle.chunk_store.specs.declared.faults.PutFault.TheVariants.{Memory}
 use Rattle.run_laws.specs.Replaying.{dropped, reply_of}
 use Rattle.run_laws.proofs.Steps.{alone_past, moment_past}
@@ -83,9 +84,10 @@ needs statement player h =
       is_false false h = refl
 
 -- between the start and the decision
-pub started_at : (wanted : Pending) (q : plain.Session) (t : Transaction) (work : Work) → Awaits wanted q t work → is_before_statement q.place ≡ false
-started_at (pending.Between reply) q t work awaits = ap is_before_statement awaits.0
-started_at pending.Closing q t work awaits = ap is_before_statement awaits.0
+pub started_at : (address : List ℕ → List ℕ) (chunks : Chunks) (wanted : Pending) (q : plain.Session) (t : Transaction) (work : Work) → Awaits address chunks wanted q t work
+    → is_before_statement q.place ≡ false
+started_at address chunks (pending.Between reply) q t work awaits = ap is_before_statement awaits.0
+started_at address chunks (pending.Closing found) q t work awaits = ap is_before_statement awaits.0
 
 module _ {D : Type 0} {address : List ℕ → List ℕ} {parts : Parts} {shared : Shared} {place : ℕ} {runner : Runner} {player : Player D} (is : IsPlayer address parts shared place runner player) where
   pub stands_of : SessionStands address player.session runner.session
@@ -285,7 +287,7 @@ module _ {D : Type 0} {address : List ℕ → List ℕ} {parts : Parts} {shared 
             (record { session = waiting; replies = runner.replies; todo = Data work ∷ rest })) (sym data_next)
             (going.Starts runner.session runner.replies work rest starts.transaction starts.place before starts.outside
             (subst (λ (one : Command). moment_at address epoch None shared runner.session one ≡ Some (shared, Still starts.transaction starts.place)) starts.next.asked_is starts.started)
-            (started_at wanted waiting starts.next.transaction work starts.next.awaits));
+            (started_at address (chunks_of next.session.draft.chunks) wanted waiting starts.next.transaction work starts.next.awaits));
         is = record {
           stands = subst (λ (s : Stage). StandsAt address next new (record { session = waiting; replies = runner.replies; todo = Data work ∷ rest }) shared s) (sym stage_is)
               (starts.next, fit, (rest, ap (λ (one : Command). one ∷ rest) (sym starts.next.asked_is)));
@@ -321,7 +323,7 @@ module _ {D : Type 0} {address : List ℕ → List ℕ} {parts : Parts} {shared 
     turns = subst (λ (all : List Command). Turns address epoch shared (record { session = runner.session; replies = runner.replies; todo = all }) concludes.left
         (record { session = concludes.after; replies = runner.replies ++ reply ∷ []; todo = rest })) (sym todo)
         (going.Decides runner.session runner.replies asked rest concludes.left (concludes.after, reply) is.counted
-        (started_at wanted runner.session between.transaction between.work between.awaits) concludes.short concludes.is);
+        (started_at address (chunks_of player.session.draft.chunks) wanted runner.session between.transaction between.work between.awaits) concludes.short concludes.is);
     is = next_player asked rest todo concludes.after reply next concludes.next concludes.number
         (moment_past address epoch None shared runner.session asked concludes.left (concludes.after, reply) concludes.is).0 pushed kept texts free sound truly;
     state_stands = concludes.next.state_stands;
@@ -337,7 +339,7 @@ module _ {D : Type 0} {address : List ℕ → List ℕ} {parts : Parts} {shared 
     next = record { session = dropped runner.session; replies = runner.replies ++ reply ∷ []; todo = rest };
     goes = subst (λ (r : Reply). GoesOn runner (record { session = dropped runner.session; replies = runner.replies ++ r ∷ []; todo = rest })) (sym drops.is)
         (going.Drops runner runner.session runner.replies asked rest drops.short (here asked rest todo) is.counted
-        (started_at wanted runner.session between.transaction between.work between.awaits) drops.later);
+        (started_at address (chunks_of player.session.draft.chunks) wanted runner.session between.transaction between.work between.awaits) drops.later);
     is = next_player asked rest todo (dropped runner.session) reply next drops.next refl refl pushed kept texts free sound truly;
   }
 

@@ -7,6 +7,7 @@ use Rattle.std.proofs.lemmas.List.{length-map}
 use Rattle.std.proofs.lemmas.Option.{slice_get_within}
 use Rattle.std.proofs.lemmas.Bool.{and_parts as both, and_from as join}
 use Rattle.tuple_codec.proofs.Lists.{all_weaker, all_at, there_at}
+use Rattle.chunk_store.specs.Drafts.{chunks_of}
 use Rattle.script_text.specs.Collisions.{AllTellTruly, TellsTruly}
 use Rattle.script_text.specs.Output.{shortages_in}
 use Rattle.script_text.specs.Shown.{IsPrintable, IsShown, IsShownStop, is_printable_moment, is_printable_reply, is_shown_moment, is_shown_reply}
@@ -84,7 +85,7 @@ module _ {D : Type 0} (address : List ℕ → List ℕ) (parts : Parts) (shared 
       subst (λ (todo : List Command). Waits (is_before_statement runner.session.place) todo) (sym is.3.1)
       (subst (λ (b : Bool). Waits b (asked ∷ is.3.0)) (sym before) is.1)
   waits_by (stage.Between asked wanted) is nothing =
-      let behind : is_before_statement runner.session.place ≡ false = awaits_after wanted runner.session is.0.transaction is.0.work is.0.awaits in
+      let behind : is_before_statement runner.session.place ≡ false = awaits_after address (chunks_of player.session.draft.chunks) wanted runner.session is.0.transaction is.0.work is.0.awaits in
       subst (λ (todo : List Command). Waits (is_before_statement runner.session.place) todo) (sym is.2.1)
       (subst (λ (b : Bool). Waits b (asked ∷ is.2.0)) (sym behind) tt)
 

@@ -3,11 +3,11 @@ use Rattle.std.proofs.Common.{◌≡◌, refl, ◌∙◌, sym, ap, subst, ℕ, �
 use Rattle.std.specs.Prelude.{Result}
 use Rattle.std.specs.Arc.{arc_value}
 use Rattle.std.specs.Option.{option_map_or}
-use Rattle.chunk_store.specs.Chunks.{AreNamed, Chunk, IsSingle, Lists}
-use Rattle.chunk_store.specs.Drafts.{DraftParts, IsNamed}
+use Rattle.chunk_store.specs.Chunks.{AreNamed, Chunk, Chunks, IsSingle, Lists}
 use Rattle.chunk_store.specs.Stores.{IsUnion, all_chunks}
 use Rattle.chunk_store.specs.declared.faults.PutFault.{PutFault}
 use Rattle.expr_eval.specs.Binding.{Outcome, and_then}
+use Rattle.schema_model.specs.PlainCommits.{Commits}
 use Rattle.plain_sql.specs.Lists.{unless}
 use Rattle.script_text.specs.Collisions.{TellsTruly}
 use Rattle.script_text.specs.Output.{shortage}
@@ -28,40 +28,50 @@ use Rattle.plain_sessions.specs.Statements.{worked}
 use Rattle.plain_sessions.specs.declared.commands.Work.{Work}
 use Rattle.plain_sessions.specs.declared.commands.Work.TheVariants as work
 use Rattle.session_state.specs.Changes.{Parts, StateStands}
-use Rattle.session_state.specs.Commits.{AreAmong, HasNoCommit}
+use Rattle.session_state.specs.Commits.{AreAmong}
 use Rattle.session_state.specs.Laws.{StatesFollow, with_record}
-use Rattle.session_state.specs.Transactions.{IsLookOf, StartStands}
+use Rattle.session_state.specs.Transactions.{IsLookOf}
 use Rattle.session_state.specs.Standing.{SessionStands}
 use Rattle.session_state.specs.declared.sessions.Session.{Session}
 use Rattle.session_plan.specs.Showing.{is_sound_reply}
 use Rattle.branch_procs.specs.Closing.{IsVerdict}
-use Rattle.merge_procs.specs.Closing.{IsAsBefore, is_closing}
+use Rattle.merge_procs.specs.Courses.{IsClosing, IsShort}
+use Rattle.merge_procs.specs.declared.courses.Closing.{Closing}
 use Rattle.shared_db.specs.Plans.{PlanIs, brought}
 use Rattle.shared_db.specs.Shared.{AreWith, IsSettled, changed_lines}
 use Rattle.shared_db.specs.declared.changes.DecisionPlan.{DecisionPlan}
 use Rattle.shared_db.specs.declared.changes.RecordChange.{RecordChange}
-use Rattle.serving.specs.Closing.{ClosedAs}
-use Rattle.serving.specs.Serving.{IsBefore}
+use Rattle.serving.specs.Closing.{ClosedAs, IsCourse, IsFound, is_commit}
 use Rattle.serving.specs.Starting.{HasStarted}
+use Rattle.serving.specs.declared.courses.Course.TheVariants as course
+use Rattle.serving.specs.declared.courses.Found.{Found}
+use Rattle.serving.specs.declared.courses.Found.TheVariants as finding
 use Rattle.serving.proofs.DecisionLemmas.{brought_is, stands_still, union_with}
 use Rattle.serving.proofs.GrowthLemmas.{still_closed}
 use Rattle.serving.proofs.RuleLemmas.{refused_plainly}
 
 -- ---- how it goes on
 
-pub ending_of : (outcome : Outcome Worked) → is_closing outcome ≡ true → (ending : Ending) × (outcome ≡ Ok (Closes ending))
-ending_of (Ok (Closes ending)) is = (ending, refl)
-ending_of (Ok (Answers reply own)) is = absurd (cc)
-ending_of (Err number) is = absurd (cc)
+-- a DOLT_COMMIT that isn't refused has its decision, and one that is has none
+module _ (address : List ℕ → List ℕ) (chunks : Chunks) (commits : Commits) (request : CommitRequest) where
+  pub course_closes : (outcome : Outcome Worked) → IsVerdict None outcome → IsCourse address chunks commits (course.Closes finding.Commit) (work.Commit request) outcome
+  course_closes (Ok (Closes ending)) is = (ending, refl, refl)
+  course_closes (Ok (Answers reply own)) is = absurd is
+  course_closes (Err number) is = absurd is
 
-pub course_closes : (outcome : Outcome Worked) → IsVerdict None outcome → is_closing outcome ≡ true
-course_closes (Ok (Closes ending)) is = refl
-course_closes (Ok (Answers reply own)) is = absurd is
-course_closes (Err number) is = absurd is
+  pub course_refused : (outcome : Outcome Worked) (number : ℕ) → IsVerdict (Some number) outcome → IsCourse address chunks commits (course.Refused number) (work.Commit request) outcome
+  course_refused (Ok made) number is = absurd is
+  course_refused (Err other) number is = ap (λ (n : ℕ). Err n) (sym is)
 
-pub course_refused : (outcome : Outcome Worked) (number : ℕ) → IsVerdict (Some number) outcome → outcome ≡ Err number
-course_refused (Ok made) number is = absurd is
-course_refused (Err other) number is = ap (λ (n : ℕ). Err n) (sym is)
+-- what was found of a DOLT_MERGE
+pub merge_found : (address : List ℕ → List ℕ) (chunks : Chunks) (commits : Commits) (asked : Work) (ending : Ending) (had : Found) (closing : Closing) → had ≡ finding.Merge closing
+    → IsFound address chunks commits had asked ending → IsClosing address chunks commits closing ending × IsShort closing
+merge_found address chunks commits asked ending had closing is has = subst (λ (one : Found). IsFound address chunks commits one asked ending) is has
+
+-- and of a DOLT_COMMIT
+pub commit_found : (address : List ℕ → List ℕ) (chunks : Chunks) (commits : Commits) (asked : Work) (ending : Ending) (had : Found) → had ≡ finding.Commit
+    → IsFound address chunks commits had asked ending → is_commit asked ≡ true
+commit_found address chunks commits asked ending had is has = subst (λ (one : Found). IsFound address chunks commits one asked ending) is has
 
 abbrev ending_in : Ending → Outcome Worked → Ending
 ending_in other (Ok (Closes ending)) = ending
@@ -96,54 +106,26 @@ module _ (address : List ℕ → List ℕ) (epoch e : ℤ) (e_is : e ≡ epoch) 
   pub merge_planned : (request : MergeRequest) → asked ≡ work.Merge request → ((call : Ending) → worked p t (work.Merge request) ≡ Ok (Closes call) → IsPlannedAt e call) → IsPlannedAt epoch ending
   merge_planned request is planned = subst (λ (date : ℤ). IsPlannedAt date ending) e_is (planned ending (ap (worked p t) (sym is) ∙ work_is))
 
--- ---- a session that has only looked
+-- a plan on what was found of a DOLT_MERGE
+pub merge_dated : (address : List ℕ → List ℕ) (epoch e : ℤ) → e ≡ epoch → (look : Look) (p : plain.Session) (t : Transaction) (shared : Shared) (present : BranchState) (ending : Ending)
+    (result : Result DecisionPlan PutFault) → IfOk result (λ plan. PlanIs address look shared.commits plan (closed address e shared.commits p t present ending))
+    → IfOk result (λ plan. PlanIs address look shared.commits plan (closed address epoch shared.commits p t present ending))
+merge_dated address epoch e e_is look p t shared present ending result planned =
+    subst (λ (date : ℤ). IfOk result (λ plan. PlanIs address look shared.commits plan (closed address date shared.commits p t present ending))) e_is planned
 
-module _ {D : Type 0} {old new : Session D} (looked : IsAsBefore old new) where
-  pub as_it_was : IsAsBefore new old
-  as_it_was = record {
-    same = λ i. record (sym looked.same i) { draft = old.draft };
-    chunks = sym looked.chunks;
-    segments = sym looked.segments;
-  }
+-- ---- a session in whose draft something was merged
 
-  pub still_stands : (address : List ℕ → List ℕ) (p : plain.Session) → SessionStands address old p → SessionStands address new p
-  still_stands address p stands = subst (λ (s : Session D). SessionStands address s p) (sym looked.same) (record {
-    name = stands.name;
-    number = stands.number;
-    branch = stands.branch;
-    autocommit = stands.autocommit;
-    allow = stands.allow;
-    force = stands.force;
-    position = stands.position;
-    transaction = subst (λ (draft : DraftParts). StartStands address draft old.start old.own p.transaction) (sym looked.chunks) stands.transaction;
-    named = subst (IsNamed address) (sym looked.chunks) stands.named;
-    plain_own = subst (λ (draft : DraftParts). HasNoCommit draft.own) (sym looked.chunks) stands.plain_own;
-    committer = stands.committer;
-  })
-
-  still_later : (chunks : List Chunk) → Lists old.draft.chunks.base chunks → Lists new.draft.chunks.base chunks
-  still_later chunks later = subst (λ (draft : DraftParts). Lists draft.base chunks) (sym looked.chunks) later
-
-  pub still_before : (address : List ℕ → List ℕ) (parts : Parts) (p : plain.Session) (shared : Shared) → IsBefore address old parts p shared → IsBefore address new parts p shared
-  still_before address parts p shared before = record {
-    session_stands = still_stands address p before.session_stands;
-    before = before.before;
-    state_stands = before.state_stands;
-    placed = before.placed;
-    later = still_later parts.chunks before.later;
-  }
-
-  pub still_started : (address : List ℕ → List ℕ) (parts now : Parts) (p : plain.Session) (t : Transaction) (shared : Shared) → HasStarted address old parts now p t shared
-      → HasStarted address new parts now p t shared
-  still_started address parts now p t shared has = record {
-    old = has.old;
-    before = has.before;
-    none = has.none;
-    taken_is = has.taken_is;
-    now_is = has.now_is;
-    stands = still_stands address (within p t) has.stands;
-    later = still_later parts.chunks has.later;
-  }
+pub started_on : {D : Type 0} (address : List ℕ → List ℕ) (old new : Session D) (parts now : Parts) (p : plain.Session) (t : Transaction) (shared : Shared) → HasStarted address old parts now p t shared
+    → SessionStands address new (within p t) → new.draft.chunks.base ≡ old.draft.chunks.base → HasStarted address new parts now p t shared
+started_on address old new parts now p t shared has stands base = record {
+  old = has.old;
+  before = has.before;
+  none = has.none;
+  taken_is = has.taken_is;
+  now_is = has.now_is;
+  stands = stands;
+  later = subst (λ (cs : List Chunk). Lists cs parts.chunks) (sym base) has.later;
+}
 
 -- ---- what a decision answers
 

@@ -1,10 +1,13 @@
 -- Statements that need no moment, and how it is known of one that it needs one.
-use Rattle.std.proofs.Common.{◌≡◌, refl, ◌∙◌, sym, ap, subst, ℕ, ◌+◌, Bool, true, false, not, ◌&&◌, ◌||◌, List, Option, Some, None, IfSome, is_some, slice_get, if◌then◌else◌}
+use Rattle.std.proofs.Common.{◌≡◌, refl, ◌∙◌, sym, ap, subst, inl, inr, ℕ, ◌+◌, Bool, true, false, not, ◌&&◌, ◌||◌, List, length, Option, Some, None, Err, IfSome, is_some, slice_get, if◌then◌else◌}
 use Rattle.std.specs.Option.{option_and_then}
 use Rattle.chunk_store.specs.Chunks.{Chunk, Lists}
-use Rattle.chunk_store.specs.Drafts.{Drafting}
+use Rattle.chunk_store.specs.Drafts.{Drafting, Grows, cut_to}
+use Rattle.chunk_store.specs.Kinds.{is_data}
+use Rattle.chunk_store.specs.Laws.{DraftsFollow, DraftsGrow}
 use Rattle.chunk_store.specs.declared.faults.PutFault.{PutFault}
-use Rattle.script_text.specs.Output.{shortage}
+use Rattle.chunk_store.specs.declared.faults.PutFault.TheVariants.{Memory}
+use Rattle.script_text.specs.Output.{Shortage, shortage}
 use Rattle.script_text.specs.declared.replies.Reply.{Reply}
 use Rattle.script_text.specs.declared.replies.Reply.TheVariants as print
 use Rattle.plain_sessions.specs.Moments.{alone, alone_by, effect_alone, ends_by_set, if_answered, is_in_transaction, past}
@@ -25,12 +28,17 @@ use Rattle.session_state.specs.declared.sessions.Position.{Position}
 use Rattle.session_state.specs.declared.sessions.Position.TheVariants as place
 use Rattle.session_state.specs.declared.sessions.Session.{Session}
 use Rattle.session_plan.specs.Answering.{AnswersAlone}
+use Rattle.session_plan.specs.Showing.{IsDue}
+use Rattle.session_plan.proofs.ShowLemmas.{plain_told}
 use Rattle.session_txn.proofs.SessionLemmas.{in_transaction}
+use Rattle.merge_procs.specs.Closing.{IsAsBefore}
+use Rattle.merge_procs.specs.Steps.{IsSame}
+use Rattle.merge_procs.proofs.ClosingLemmas.{comes_back}
 use Rattle.serving.specs.Kinds.{is_alone, is_in_place, may_close}
 use Rattle.serving.specs.Serving.{Fails, IsBefore, PassesAlone}
 use Rattle.serving.specs.Steps.{IsStillAt, fault_reply, number_at}
 use Rattle.serving.proofs.AloneLemmas.{alone_before, still_alone}
-use Rattle.serving.proofs.AnswerLemmas.{same_number}
+use Rattle.serving.proofs.AnswerLemmas.{same_number, short_alone}
 use Rattle.serving.proofs.SettlingLemmas.{inside_by as started_by}
 
 -- ---- the session goes on
@@ -155,6 +163,45 @@ module _ {D : Type 0} (address : List ℕ → List ℕ) (session : Session D) (p
   pub started_in : is_some session.start ≡ true → IsInTransaction address session
   started_in is = in_transaction address session p stands (sym started_is ∙ is)
 
+-- ---- a call that may have a decision of its own
+
+-- memory or an address failed
+pub faulted_alone : {D : Type 0} (address : List ℕ → List ℕ) (session : Session D) (p : plain.Session) (t : Transaction) (asked : Work) → p.transaction ≡ Some t → (fault : PutFault) (reply : Reply)
+    → reply ≡ fault_reply fault → SessionStands address session p → AnswersAlone address p (command.Data asked) session reply
+faulted_alone address session p t asked transaction fault reply says stands = record {
+  after = p;
+  is = subst (λ (r : Reply). alone_by (shortage r) p (command.Data asked) ≡ Some (p, r)) (sym says) (short_alone fault p (command.Data asked) (ap (λ (o : Option Transaction). not (is_some o)) transaction));
+  stands = stands;
+}
+
+-- it was refused before its decision
+pub refused_alone : {D : Type 0} (address : List ℕ → List ℕ) (session : Session D) (p : plain.Session) (t : Transaction) (asked : Work) → p.transaction ≡ Some t → (number : ℕ) (reply : Reply)
+    → worked p t asked ≡ Err number → IsDue 1 (print.Refused number) reply → SessionStands address session p → AnswersAlone address p (command.Data asked) session reply
+refused_alone address session p t asked transaction number reply work_is (inl plain) stands =
+    let answered : alone_by None p (command.Data asked) ≡ Some (p, refused number) =
+    ap (λ (o : Option Transaction). option_and_then (λ u. if_answered p u (worked p u asked)) o) transaction ∙ ap (if_answered p t) work_is in
+    record {
+      after = p;
+      is = subst (λ (want : Option Shortage). alone_by want p (command.Data asked) ≡ Some (p, reply)) (sym (ap shortage plain.1 ∙ plain_told (print.Refused number) plain.0))
+          (answered ∙ ap (λ (r : Reply). Some (p, r)) (sym plain.1));
+      stands = stands;
+    }
+refused_alone address session p t asked transaction number reply work_is (inr starved) stands = faulted_alone address session p t asked transaction Memory reply starved stands
+
+-- what was made isn't answered by a refusal
+pub none_made : (made refusal : Bool) → (made ≡ true → refusal ≡ false) → refusal ≡ true → made ≡ false
+none_made true refusal told is = absurd (let clash : true ≡ false = sym is ∙ told refl in cc)
+none_made false refusal told is = refl
+
+-- what was merged for it was dropped, and it stands as it did
+pub stands_again : {D : Type 0} (address : List ℕ → List ℕ) (old mid : Session D) (back : Drafting) (mark : ℕ) → DraftsFollow → DraftsGrow → mark ≡ length old.draft.chunks.own → IsSame old mid
+    → Grows is_data old.draft mid.draft → back.chunks ≡ cut_to mark mid.draft.chunks → back.segments ≡ mid.draft.segments → IsAsBefore old (record mid { draft = back })
+stands_again {D = D} address old mid back mark drafts growth at same grows cut segments = record {
+  same = ap (λ (s : Session D). record s { draft = back }) same;
+  chunks = comes_back old.draft mid.draft back mark drafts growth at grows cut;
+  segments = segments ∙ grows.segments;
+}
+
 -- ---- what a refusal leaves
 
 abbrev with_draft : {D : Type 0} → Session D → Drafting → Session D
@@ -173,7 +220,3 @@ module _ {D : Type 0} (old mid new : Session D) (same : mid ≡ with_draft old m
   moved_on at is =
       is ∙ ap (λ (s : Session D). at_place s at) same ∙ ap (at_place (with_draft old mid.draft)) (sym (ap (λ (s : Session D). s.position) is))
       ∙ ap (λ (d : Drafting). at_place (with_draft old d) new.position) (sym (ap (λ (s : Session D). s.draft) is))
-
-  -- first it only looked
-  pub looked_first : new ≡ with_draft mid new.draft → new ≡ with_draft old new.draft
-  looked_first last = last ∙ ap (λ (s : Session D). with_draft s new.draft) same

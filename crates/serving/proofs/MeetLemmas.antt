@@ -2,7 +2,8 @@
 use Rattle.std.proofs.Common.{◌≡◌, refl, ◌∙◌, sym, ap, subst, ℕ, ◌+◌, ℤ, Bool, true, false, List, Option, Some, None, Ok, Err, IfOk, IfErr, option_map, slice_get, if◌then◌else◌}
 use Rattle.std.specs.Prelude.{Result}
 use Rattle.tuple_codec.proofs.Options.{none_mapped}
-use Rattle.chunk_store.specs.Chunks.{Lists}
+use Rattle.chunk_store.specs.Chunks.{Chunks, Lists}
+use Rattle.chunk_store.specs.Drafts.{chunks_of}
 use Rattle.chunk_store.specs.declared.faults.PutFault.{PutFault}
 use Rattle.expr_eval.specs.Binding.{Outcome, and_then}
 use Rattle.script_text.specs.Output.{Shortage}
@@ -52,6 +53,7 @@ use Rattle.serving.specs.Steps.{number_at}
 use Rattle.serving.specs.declared.meeting.Begun.{Begun}
 use Rattle.serving.specs.declared.meeting.Met.{Met}
 use Rattle.serving.specs.declared.meeting.Met.TheVariants as met
+use Rattle.serving.specs.declared.courses.Found.{Found}
 use Rattle.serving.specs.declared.meeting.Pending.{Pending}
 use Rattle.serving.specs.declared.meeting.Pending.TheVariants as pending
 use Rattle.serving.proofs.AnswerLemmas.{same_number, short_alone, went_of}
@@ -232,9 +234,9 @@ checkout_keeps address session parts asked request is p shared before waits =
 -- ---- to the next statement, or to the decision
 
 module _ {D : Type 0} (address : List ℕ → List ℕ) (epoch : ℤ) (old session : Session D) (number : ℕ) (parts new : Parts) (asked : Command) (counted : number ≡ number_at old.position) where
-  not_before : (wanted : Pending) (q : plain.Session) (t : Transaction) (one : Work) → Awaits wanted q t one → is_before_statement q.place ≡ false
-  not_before (pending.Between reply) q t one awaits = ap is_before_statement awaits.0
-  not_before pending.Closing q t one awaits = ap is_before_statement awaits.0
+  not_before : (chunks : Chunks) (wanted : Pending) (q : plain.Session) (t : Transaction) (one : Work) → Awaits address chunks wanted q t one → is_before_statement q.place ≡ false
+  not_before chunks (pending.Between reply) q t one awaits = ap is_before_statement awaits.0
+  not_before chunks (pending.Closing had) q t one awaits = ap is_before_statement awaits.0
 
   rests : (wanted : Pending) (p : plain.Session) (shared : Shared) → IsBefore address old parts p shared → HasStartedTo address epoch p asked shared parts new session wanted
       → Starts address epoch p asked shared parts new (record session { position = place.Between number }) wanted
@@ -256,7 +258,7 @@ module _ {D : Type 0} (address : List ℕ → List ℕ) (epoch : ℤ) (old sessi
               autocommit = h.session_stands.autocommit;
               allow = h.session_stands.allow;
               force = h.session_stands.force;
-              position = (statement, not_before wanted q h.transaction h.work h.awaits);
+              position = (statement, not_before (chunks_of session.draft.chunks) wanted q h.transaction h.work h.awaits);
               transaction = h.session_stands.transaction;
               named = h.session_stands.named;
               plain_own = h.session_stands.plain_own;
@@ -342,10 +344,10 @@ module _ {D : Type 0} (address : List ℕ → List ℕ) (epoch : ℤ) (old sessi
   work_concludes reply is (Ok said) told = λ q shared between. told epoch q asked shared (subst (λ (w : Pending). IsBetween address old parts q asked w shared) is between)
   work_concludes reply is (Err fault) told = tt
 
-  pub closing_concludes : (e : ℤ) → e ≡ epoch → wanted ≡ pending.Closing → (result : Result Reply PutFault)
-      → IfOk result (λ said. (q : plain.Session) (shared : Shared) → IsBetween address old parts q asked pending.Closing shared → Concluded address e q asked shared parts new session said)
+  pub closing_concludes : (had : Found) (e : ℤ) → e ≡ epoch → wanted ≡ pending.Closing had → (result : Result Reply PutFault)
+      → IfOk result (λ said. (q : plain.Session) (shared : Shared) → IsBetween address old parts q asked (pending.Closing had) shared → Concluded address e q asked shared parts new session said)
       → ConcludesAs address epoch old session parts new asked wanted result
-  closing_concludes e same is (Ok said) told = λ q shared between.
+  closing_concludes had e same is (Ok said) told = λ q shared between.
       subst (λ (n : ℤ). Concluded address n q asked shared parts new session said) same
       (told q shared (subst (λ (w : Pending). IsBetween address old parts q asked w shared) is between))
-  closing_concludes e same is (Err fault) told = tt
+  closing_concludes had e same is (Err fault) told = tt

@@ -2,6 +2,7 @@
 use Rattle.std.proofs.Common.{◌≡◌, ◌∙◌, sym, subst, ℕ, ℤ, List, Option, Some, None, Ok, Err, IfOk, OnErr, map, arith}
 use Rattle.std.specs.Prelude.{Result}
 use Rattle.chunk_store.specs.Chunks.{Lists}
+use Rattle.chunk_store.specs.Drafts.{chunks_of}
 use Rattle.chunk_store.specs.Stores.{all_chunks}
 use Rattle.chunk_store.specs.declared.faults.PutFault.{PutFault}
 use Rattle.script_text.specs.declared.replies.Reply.{Reply}
@@ -19,10 +20,11 @@ use Rattle.session_state.specs.Standing.{SessionStands}
 use Rattle.session_state.specs.declared.sessions.Session.{Session}
 use Rattle.shared_db.specs.Shared.{Db, KeepsRoom, record_at}
 use Rattle.shared_db.specs.declared.changes.DecisionPlan.{DecisionPlan}
-use Rattle.serving.specs.Closing.{ClosedAs}
-use Rattle.serving.specs.Planning.{HasLooked, IfSettled, IsPlanned, IsPlannedFor, PlansClosing, PlansCommand, PlansPending, PlansRule, UnlessSettled, by_closing, by_rule}
+use Rattle.serving.specs.Closing.{ClosedAs, IsFound}
+use Rattle.serving.specs.Planning.{HasLooked, IfSettled, IsPlanned, IsPlannedFor, PlansClosing, PlansCommand, PlansFound, PlansPending, PlansRule, UnlessSettled, by_closing, by_rule}
 use Rattle.serving.specs.Serving.{Concludes, IsBetween, IsHere}
 use Rattle.serving.specs.Steps.{Decided, HasRoomStill}
+use Rattle.serving.specs.declared.courses.Found.{Found}
 use Rattle.serving.specs.declared.meeting.Pending.{Pending}
 use Rattle.serving.proofs.PlanningLemmas.{looked_here, settled_some}
 
@@ -72,8 +74,15 @@ module _ {D : Type 0} (address : List ℕ → List ℕ) (session : Session D) (l
       → IsPlannedFor address session look plan p t (by_closing address epoch p t ending) parts shared
   for_closing epoch asked plans p t ending shared here transaction work_is = record { planned = plans p t ending here.session_stands transaction work_is; here = here; grown = grown }
 
-  pub for_command : (epoch : ℤ) (asked : Command) (work : Work) → asked ≡ Data work → PlansCommand address epoch session asked look plan → PlansClosing address epoch session work look plan
-  for_command epoch asked work is plans = subst (λ (one : Command). PlansCommand address epoch session one look plan) is plans
+  pub for_command : (epoch : ℤ) (asked : Command) (had : Found) (work : Work) → asked ≡ Data work → PlansCommand address epoch session asked had look plan
+      → PlansFound address epoch session work had look plan
+  for_command epoch asked had work is plans = subst (λ (one : Command). PlansCommand address epoch session one had look plan) is plans
+
+  pub for_found : (epoch : ℤ) (asked : Work) (had : Found) → PlansFound address epoch session asked had look plan → (p : plain.Session) (t : plain.Transaction) (ending : Ending) (shared : Shared)
+      → IsHere address session parts p shared → p.transaction ≡ Some t → worked p t asked ≡ Ok (Closes ending) → IsFound address (chunks_of session.draft.chunks) t.commits had asked ending
+      → IsPlannedFor address session look plan p t (by_closing address epoch p t ending) parts shared
+  for_found epoch asked had plans p t ending shared here transaction work_is found_is =
+      record { planned = plans p t ending here.session_stands transaction work_is found_is; here = here; grown = grown }
 
   -- what was settled so
   pub rule_settled : (new : Parts) → PlansRule address session look plan → (settled : Option Reply) (verdict : Reply) → settled ≡ Some verdict → (p : plain.Session) (t : plain.Transaction)
@@ -90,6 +99,13 @@ module _ {D : Type 0} (address : List ℕ → List ℕ) (session : Session D) (l
   closing_settled new epoch asked plans settled said is p t ending closed shared here transaction work_is =
       settled_some (λ (reply : Reply). (found : Shared) → IsPlannedFor address session look plan p t (by_closing address epoch p t ending) parts found → ClosedAs address epoch p t ending found parts new reply)
       settled said is closed shared (for_closing epoch asked plans p t ending shared here transaction work_is)
+
+  pub found_settled : (new : Parts) (epoch : ℤ) (settled : Option Reply) (said : Reply) → settled ≡ Some said → (p : plain.Session) (t : plain.Transaction) (ending : Ending)
+      → IfSettled (Ok settled) (λ reply. (shared : Shared) → IsPlannedFor address session look plan p t (by_closing address epoch p t ending) parts shared → ClosedAs address epoch p t ending shared parts new reply)
+      → (shared : Shared) → IsPlannedFor address session look plan p t (by_closing address epoch p t ending) parts shared → ClosedAs address epoch p t ending shared parts new said
+  found_settled new epoch settled said is p t ending closed =
+      settled_some (λ (reply : Reply). (found : Shared) → IsPlannedFor address session look plan p t (by_closing address epoch p t ending) parts found → ClosedAs address epoch p t ending found parts new reply)
+      settled said is closed
 
 -- ---- a look that was asked for
 
@@ -110,17 +126,17 @@ module _ {D : Type 0} (address : List ℕ → List ℕ) (session : Session D) wh
   plans_rule look (Ok plan) planned = planned
   plans_rule look (Err fault) planned = tt
 
-  pub plans_closing : (asked : Command) (work : Work) → asked ≡ Data work → (look : Look) (date epoch : ℤ) → date ≡ epoch → (result : Result DecisionPlan PutFault)
+  pub plans_found : (asked : Command) (had : Found) (work : Work) → asked ≡ Data work → (look : Look) (date epoch : ℤ) → date ≡ epoch → (result : Result DecisionPlan PutFault)
       → ((p : plain.Session) (t : plain.Transaction) (ending : Ending) → SessionStands address session p → p.transaction ≡ Some t → worked p t work ≡ Ok (Closes ending)
-      → IfOk result (λ plan. IsPlanned address session look plan p t (by_closing address date p t ending)))
-      → IfOk result (PlansCommand address epoch session asked look)
-  plans_closing asked work is look date epoch date_is (Ok plan) planned =
-      subst (λ (one : Command). PlansCommand address epoch session one look plan) (sym is) (subst (λ (e : ℤ). PlansClosing address e session work look plan) date_is planned)
-  plans_closing asked work is look date epoch date_is (Err fault) planned = tt
+      → IsFound address (chunks_of session.draft.chunks) t.commits had work ending → IfOk result (λ plan. IsPlanned address session look plan p t (by_closing address date p t ending)))
+      → IfOk result (PlansCommand address epoch session asked had look)
+  plans_found asked had work is look date epoch date_is (Ok plan) planned =
+      subst (λ (one : Command). PlansCommand address epoch session one had look plan) (sym is) (subst (λ (e : ℤ). PlansFound address e session work had look plan) date_is planned)
+  plans_found asked had work is look date epoch date_is (Err fault) planned = tt
 
-  pub plans_dated : (asked : Command) (look : Look) (date epoch : ℤ) → date ≡ epoch → (result : Result DecisionPlan PutFault) → IfOk result (PlansCommand address date session asked look)
-      → IfOk result (PlansCommand address epoch session asked look)
-  plans_dated asked look date epoch date_is result planned = subst (λ (e : ℤ). IfOk result (PlansCommand address e session asked look)) date_is planned
+  pub plans_dated : (asked : Command) (had : Found) (look : Look) (date epoch : ℤ) → date ≡ epoch → (result : Result DecisionPlan PutFault) → IfOk result (PlansCommand address date session asked had look)
+      → IfOk result (PlansCommand address epoch session asked had look)
+  plans_dated asked had look date epoch date_is result planned = subst (λ (e : ℤ). IfOk result (PlansCommand address e session asked had look)) date_is planned
 
 pub plans_of : {D : Type 0} (address : List ℕ → List ℕ) (epoch : ℤ) (session : Session D) (asked : Command) (look : Look) (wanted one : Pending) → wanted ≡ one → (result : Result DecisionPlan PutFault)
     → IfOk result (PlansPending address epoch session asked one look) → IfOk result (PlansPending address epoch session asked wanted look)

@@ -1,5 +1,5 @@
 -- The commit rule's decision from its plan to what was settled, and plans as they are made.
-use Rattle.std.proofs.Common.{◌≡◌, ◌≢◌, ◌∙◌, sym, ap, subst, ℕ, true, List, Option, Some, None, Ok, Err, IfOk, IfErr}
+use Rattle.std.proofs.Common.{◌≡◌, ◌≢◌, ◌∙◌, sym, ap, subst, ℕ, ℤ, true, List, Option, Some, None, Ok, Err, IfOk, IfErr}
 use Rattle.std.specs.Prelude.{Result}
 use Rattle.std.specs.Arc.{arc_value}
 use Rattle.std.specs.Option.{option_map}
@@ -11,6 +11,7 @@ use Rattle.chunk_store.specs.declared.faults.PutFault.TheVariants.{Memory, Colli
 use Rattle.script_text.specs.Collisions.{IsFault}
 use Rattle.script_text.specs.declared.replies.Reply.{Reply}
 use Rattle.table_root.specs.declared.heads.Look.{Look}
+use Rattle.plain_sessions.specs.Merging.{Ending}
 use Rattle.plain_sessions.specs.Records.{Shared, state_of}
 use Rattle.plain_sessions.specs.Sessions as plain
 use Rattle.session_state.specs.Changes.{Parts}
@@ -22,7 +23,7 @@ use Rattle.session_plan.specs.Showing.{is_sound_reply}
 use Rattle.shared_db.specs.Plans.{PlanIs, brought}
 use Rattle.shared_db.specs.Shared.{IsSettled, record_at}
 use Rattle.shared_db.specs.declared.changes.DecisionPlan.{DecisionPlan}
-use Rattle.serving.specs.Planning.{Deciding, HasLooked, IfSettled, IsPlanned, IsPlannedFor, by_rule}
+use Rattle.serving.specs.Planning.{Deciding, HasLooked, IfSettled, IsPlanned, IsPlannedFor, by_closing, by_rule}
 use Rattle.serving.specs.Serving.{IsHere}
 use Rattle.serving.specs.Steps.{Decided, number_at}
 use Rattle.serving.proofs.DecisionLemmas.{clash_met, planned_sound, settled_over}
@@ -48,6 +49,13 @@ module _ {D : Type 0} (address : List ℕ → List ℕ) (session : Session D) (l
       → IfOk result (λ plan. IsPlanned address session look plan p t deciding)
   planned_on deciding (Ok plan) is = record { seen = looked.seen; present = looked.is.state; decides = decides_looked; is = is }
   planned_on deciding (Err fault) is = tt
+
+-- the date is that of the call
+pub planned_dated : {D : Type 0} (address : List ℕ → List ℕ) (session : Session D) (look : Look) (p : plain.Session) (t : plain.Transaction) (ending : Ending) (date epoch : ℤ) → date ≡ epoch
+    → (result : Result DecisionPlan PutFault) → IfOk result (λ plan. IsPlanned address session look plan p t (by_closing address date p t ending))
+    → IfOk result (λ plan. IsPlanned address session look plan p t (by_closing address epoch p t ending))
+planned_dated address session look p t ending date epoch date_is result planned =
+    subst (λ (e : ℤ). IfOk result (λ plan. IsPlanned address session look plan p t (by_closing address e p t ending))) date_is planned
 
 -- on a look at the very parts
 module _ {D : Type 0} (follow : StatesFollow) (address : List ℕ → List ℕ) (session : Session D) (parts : Parts) (look : Look) (looks : Looks session parts look) where

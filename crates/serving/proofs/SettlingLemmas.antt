@@ -6,7 +6,7 @@ use Rattle.std.specs.Option.{option_and_then}
 use Rattle.tuple_codec.proofs.Options.{some_there}
 use Rattle.chunk_store.specs.Chunks.{IsSingle, chunk_bytes}
 use Rattle.chunk_store.specs.Clashes.{IsCause}
-use Rattle.chunk_store.specs.Drafts.{DraftParts}
+use Rattle.chunk_store.specs.Drafts.{DraftParts, chunks_of}
 use Rattle.chunk_store.specs.Laws.{ChunksFollow}
 use Rattle.chunk_store.specs.declared.faults.PutFault.{PutFault}
 use Rattle.chunk_store.specs.declared.faults.PutFault.TheVariants.{Memory, Collision}
@@ -41,12 +41,13 @@ use Rattle.shared_db.specs.Shared.{IsSettled, noted, record_at}
 use Rattle.shared_db.specs.declared.changes.DecisionPlan.{DecisionPlan}
 use Rattle.serving.specs.Answering.{Concluded, HasStartedTo}
 use Rattle.serving.specs.Branching.{Went}
-use Rattle.serving.specs.Closing.{ClosedAs, LeavesAs}
+use Rattle.serving.specs.Closing.{ClosedAs, IsFound, LeavesAs}
 use Rattle.serving.specs.Kinds.{may_close}
 use Rattle.serving.specs.Planning.{IfSettled, IsPlanned, IsPlannedFor, by_closing}
 use Rattle.serving.specs.Serving.{Fails, IsBefore, IsBetween, turn_at}
 use Rattle.serving.specs.Starting.{HasStarted}
 use Rattle.serving.specs.Steps.{after_start, fault_reply, number_at}
+use Rattle.serving.specs.declared.courses.Found.{Found}
 use Rattle.serving.specs.declared.meeting.Pending.TheVariants as pending
 use Rattle.serving.proofs.AnswerLemmas.{over_stands, short_alone, started_answered, went_of}
 use Rattle.serving.proofs.GrowthLemmas.{SettlingFollows, commits_among, present_again, settled_own}
@@ -129,12 +130,13 @@ module _ (address : List ℕ → List ℕ) (epoch : ℤ) where
 
 -- ---- in the open transaction
 
+-- one that has its decision isn't answered by the session itself
+pub waits_in : (p : plain.Session) (t : Transaction) (asked : Work) → p.transaction ≡ Some t → (ending : Ending) → worked p t asked ≡ Ok (Closes ending) → alone_by None p (Data asked) ≡ None
+waits_in p t asked transaction ending work_is =
+    ap (λ (o : Option Transaction). option_and_then (λ u. if_answered p u (worked p u asked)) o) transaction ∙ ap (if_answered p t) work_is
+
 module _ {D : Type 0} (address : List ℕ → List ℕ) (epoch : ℤ) (session : Session D) (parts : Parts) (p : plain.Session) (shared : Shared) (before : IsBefore address session parts p shared)
     (t : Transaction) (transaction : p.transaction ≡ Some t) (asked : Work) where
-  waits_open : (call : Ending) → worked p t asked ≡ Ok (Closes call) → alone_by None p (Data asked) ≡ None
-  waits_open call work_is =
-      ap (λ (o : Option Transaction). option_and_then (λ u. if_answered p u (worked p u asked)) o) transaction ∙ ap (if_answered p t) work_is
-
   -- it was decided on
   pub closed_open : (ending : Ending) (new : Parts) (ended : Session D) (reply : Reply) → worked p t asked ≡ Ok (Closes ending)
       → ClosedAs address epoch p t ending shared parts new reply → ended ≡ record session { start = None }
@@ -147,7 +149,7 @@ module _ {D : Type 0} (address : List ℕ → List ℕ) (epoch : ℤ) (session :
         said = over p;
         last = c.last;
         is = subst (λ (want : Option Shortage). InOneTurn address epoch want p (Data asked) (turn_at p shared c.last) (past p.statement (over p, reply))) (sym c.short)
-            (in_one_turn address epoch None shared c.last p (Data asked) (over p, reply) before.before (waits_open ending work_is) moment);
+            (in_one_turn address epoch None shared c.last p (Data asked) (over p, reply) before.before (waits_in p t asked transaction ending work_is) moment);
         session_stands = over_stands address session p before.session_stands;
         number = refl;
         state_stands = c.state_stands;
@@ -222,9 +224,9 @@ module _ {D : Type 0} (address : List ℕ → List ℕ) (epoch : ℤ) (session :
     by (inr starved) = refused_went p said (ap is_refusal starved) (Starved starved)
 
   -- its decision is to come
-  pub closing_to_come : (ending : Ending) → may_close asked ≡ true → worked (within p t) t asked ≡ Ok (Closes ending)
-      → HasStartedTo address epoch p (Data asked) shared parts now session pending.Closing
-  closing_to_come ending closes inside_is =
+  pub closing_to_come : (had : Found) (ending : Ending) → may_close asked ≡ true → worked (within p t) t asked ≡ Ok (Closes ending)
+      → IsFound address (chunks_of session.draft.chunks) t.commits had asked ending → HasStartedTo address epoch p (Data asked) shared parts now session (pending.Closing had)
+  closing_to_come had ending closes inside_is found_is =
       let work_is : worked p t asked ≡ Ok (Closes ending) = sym (same_work p t t asked) ∙ inside_is in
       record {
         work = asked;
@@ -233,7 +235,7 @@ module _ {D : Type 0} (address : List ℕ → List ℕ) (epoch : ℤ) (session :
         transaction = t;
         place = Closing;
         started = start_is address epoch shared p t asked has.none has.taken_is (Ok (Closes ending)) work_is;
-        awaits = (refl, closes, (ending, same_awaiting p t t Closing asked ∙ work_is));
+        awaits = (refl, closes, (ending, same_awaiting p t t Closing asked ∙ work_is, found_is));
         session_stands = has.stands;
         later = has.later;
         new_is = has.now_is;
@@ -245,16 +247,18 @@ abbrev work_in : Work → Command → Work
 work_in other (Data asked) = asked
 work_in other command = other
 
-module _ {D : Type 0} (address : List ℕ → List ℕ) (epoch : ℤ) (session : Session D) (parts : Parts) (q : plain.Session) (asked : Command) (shared : Shared)
-    (between : IsBetween address session parts q asked pending.Closing shared) (work : Work) (asked_is : asked ≡ Data work) where
+module _ {D : Type 0} (address : List ℕ → List ℕ) (epoch : ℤ) (session : Session D) (parts : Parts) (q : plain.Session) (asked : Command) (had : Found) (shared : Shared)
+    (between : IsBetween address session parts q asked (pending.Closing had) shared) (work : Work) (asked_is : asked ≡ Data work) where
   same_asked : between.work ≡ work
   same_asked = ap (work_in work) (sym between.asked_is ∙ asked_is)
 
-  pub may_close_between : may_close work ≡ true
-  may_close_between = ap may_close (sym same_asked) ∙ between.awaits.1
-
-  pub closes_between : (ending : Ending) × (worked q between.transaction work ≡ Ok (Closes ending))
-  closes_between = (between.awaits.2.0, ap (worked q between.transaction) (sym same_asked) ∙ between.awaits.2.1)
+  pub closes_between : (ending : Ending) × (worked q between.transaction work ≡ Ok (Closes ending)) × IsFound address (chunks_of session.draft.chunks) between.transaction.commits had work ending
+  closes_between =
+      let came = between.awaits.2 in (
+        came.0,
+        ap (worked q between.transaction) (sym same_asked) ∙ came.1,
+        subst (λ (one : Work). IsFound address (chunks_of session.draft.chunks) between.transaction.commits had one came.0) same_asked came.2,
+      )
 
   -- it was decided on
   pub concluded : (new : Parts) (left : Session D) (reply : Reply) → ClosedAs address epoch q between.transaction closes_between.0 shared parts new reply

@@ -1,6 +1,7 @@
 -- What is known of a statement after one of its moments, before the session goes on.
 use Rattle.std.specs.Prelude.{◌≡◌, ℕ, ◌+◌, ℤ, List, [], ◌∷◌, ◌++◌, None, Some}
 use Rattle.chunk_store.specs.Chunks.{Lists}
+use Rattle.chunk_store.specs.Drafts.{chunks_of}
 use Rattle.script_text.specs.Output.{shortage}
 use Rattle.script_text.specs.declared.replies.Reply.{Reply}
 use Rattle.plain_sessions.specs.Moments.{Past, Still, moment_in, moment_of, past}
@@ -47,7 +48,7 @@ pub record HasStartedTo {D : Type 0} (address : List ℕ → List ℕ) (epoch : 
   pub transaction : Transaction
   pub place : plain.Place
   pub started : moment_of address epoch shared p asked ≡ Some (shared, Still transaction place)
-  pub awaits : Awaits wanted (awaiting p transaction place) transaction work
+  pub awaits : Awaits address (chunks_of session.draft.chunks) wanted (awaiting p transaction place) transaction work
   pub session_stands : SessionStands address session (within p transaction)
   pub later : Lists session.draft.chunks.base old.chunks
   pub new_is : new ≡ noted p.number p.statement old

@@ -1,6 +1,7 @@
 -- A decision in three parts: a look, a plan that needs no database, and what was planned settled on a database that has grown since.
 use Rattle.std.specs.Prelude.{◌≡◌, ℕ, ℤ, Bool, false, List, Option, None, Some, Result, Ok, Err, is_some}
 use Rattle.chunk_store.specs.Chunks.{Lists}
+use Rattle.chunk_store.specs.Drafts.{chunks_of}
 use Rattle.chunk_store.specs.Stores.{all_chunks}
 use Rattle.chunk_store.specs.declared.faults.PutFault.{PutFault}
 use Rattle.expr_eval.specs.Binding.{Outcome}
@@ -23,7 +24,9 @@ use Rattle.session_state.specs.declared.sessions.Session.{Session}
 use Rattle.session_plan.specs.Answering.{Decides}
 use Rattle.shared_db.specs.Plans.{PlanIs}
 use Rattle.shared_db.specs.declared.changes.DecisionPlan.{DecisionPlan}
+use Rattle.serving.specs.Closing.{IsFound}
 use Rattle.serving.specs.Serving.{IsHere}
+use Rattle.serving.specs.declared.courses.Found.{Found}
 use Rattle.serving.specs.declared.meeting.Pending.{Pending}
 use Rattle.serving.specs.declared.meeting.Pending.TheVariants as pending
 
@@ -84,14 +87,20 @@ PlansClosing address epoch session asked look plan =
     (p : plain.Session) (t : plain.Transaction) (ending : Ending) → SessionStands address session p → p.transaction ≡ Some t → worked p t asked ≡ Ok (Closes ending)
     → IsPlanned address session look plan p t (by_closing address epoch p t ending)
 
--- the decision in the open transaction, and the one behind a start
-abbrev pub PlansCommand : {D : Type 0} → (List ℕ → List ℕ) → ℤ → Session D → Command → Look → DecisionPlan → Type 0
-PlansCommand address epoch session (command.Data asked) look plan = PlansClosing address epoch session asked look plan
-PlansCommand address epoch session other look plan = PlansRule address session look plan
+-- the same where what was found is what the call comes to
+abbrev pub PlansFound : {D : Type 0} → (List ℕ → List ℕ) → ℤ → Session D → Work → Found → Look → DecisionPlan → Type 0
+PlansFound address epoch session asked found look plan =
+    (p : plain.Session) (t : plain.Transaction) (ending : Ending) → SessionStands address session p → p.transaction ≡ Some t → worked p t asked ≡ Ok (Closes ending)
+    → IsFound address (chunks_of session.draft.chunks) t.commits found asked ending → IsPlanned address session look plan p t (by_closing address epoch p t ending)
+
+-- the decision behind a start
+abbrev pub PlansCommand : {D : Type 0} → (List ℕ → List ℕ) → ℤ → Session D → Command → Found → Look → DecisionPlan → Type 0
+PlansCommand address epoch session (command.Data asked) found look plan = PlansFound address epoch session asked found look plan
+PlansCommand address epoch session other found look plan = PlansRule address session look plan
 
 abbrev pub PlansPending : {D : Type 0} → (List ℕ → List ℕ) → ℤ → Session D → Command → Pending → Look → DecisionPlan → Type 0
 PlansPending address epoch session asked (pending.Between reply) look plan = PlansRule address session look plan
-PlansPending address epoch session asked pending.Closing look plan = PlansCommand address epoch session asked look plan
+PlansPending address epoch session asked (pending.Closing found) look plan = PlansCommand address epoch session asked found look plan
 
 -- an open transaction that the statement may end at its first moment: by COMMIT, by SET autocommit, or by a closing call
 abbrev pub may_end_open : {D : Type 0} → Session D → Command → Bool

@@ -1,6 +1,7 @@
 -- One statement served on the shared database: alone, at its first moment, and at its decision; and whole, where no other session acts between its moments.
 use Rattle.std.specs.Prelude.{◌≡◌, ◌≢◌, ℕ, ℤ, true, List, [], ◌∷◌, ◌++◌, None, Ok, Some, slice_get}
-use Rattle.chunk_store.specs.Chunks.{Lists}
+use Rattle.chunk_store.specs.Chunks.{Chunks, Lists}
+use Rattle.chunk_store.specs.Drafts.{chunks_of}
 use Rattle.chunk_store.specs.declared.faults.PutFault.{PutFault}
 use Rattle.script_text.specs.Collisions.{TellsTruly}
 use Rattle.script_text.specs.Output.{Shortage, AtOnce, shortage}
@@ -22,6 +23,7 @@ use Rattle.session_state.specs.Standing.{SessionStands}
 use Rattle.session_state.specs.declared.sessions.Session.{Session}
 pub use Rattle.session_plan.specs.Showing.{is_sound_reply}
 use Rattle.shared_db.specs.Shared.{noted}
+use Rattle.serving.specs.Closing.{IsFound}
 use Rattle.serving.specs.Kinds.{may_close}
 use Rattle.serving.specs.Steps.{fault_reply}
 use Rattle.serving.specs.declared.meeting.Met.{Met}
@@ -45,11 +47,13 @@ pub record IsHere {D : Type 0} (address : List ℕ → List ℕ) (session : Sess
   pub placed : slice_get shared.places p.number ≡ Some p.branch
   pub later : Lists session.draft.chunks.base parts.chunks
 
--- what the decision will be: that on what the transaction changed, with this reply where it is well; or that of a closing call
-abbrev pub Awaits : Pending → plain.Session → Transaction → Work → Type 0
-Awaits (pending.Between reply) q t asked =
+-- what the decision will be: that on what the transaction changed, with this reply where it is well; or that of a closing call, where what was found for it is
+-- what it comes to in these chunks
+abbrev pub Awaits : (List ℕ → List ℕ) → Chunks → Pending → plain.Session → Transaction → Work → Type 0
+Awaits address chunks (pending.Between reply) q t asked =
     (q.place ≡ plain.Between reply) × (is_changed_since t ≡ true) × (shortage reply ≡ None) × (is_sound_reply reply ≡ true)
-Awaits pending.Closing q t asked = (q.place ≡ plain.Closing) × (may_close asked ≡ true) × ((ending : Ending) × (worked q t asked ≡ Ok (Closes ending)))
+Awaits address chunks (pending.Closing found) q t asked =
+    (q.place ≡ plain.Closing) × (may_close asked ≡ true) × ((ending : Ending) × (worked q t asked ≡ Ok (Closes ending)) × IsFound address chunks t.commits found asked ending)
 
 -- the session stands between the start of a statement and its decision
 pub record IsBetween {D : Type 0} (address : List ℕ → List ℕ) (session : Session D) (parts : Parts) (q : plain.Session) (asked : Command) (wanted : Pending) (shared : Shared) : Type 0 where
@@ -58,7 +62,7 @@ pub record IsBetween {D : Type 0} (address : List ℕ → List ℕ) (session : S
   pub asked_is : asked ≡ Data work
   pub transaction : Transaction
   pub has : q.transaction ≡ Some transaction
-  pub awaits : Awaits wanted q transaction work
+  pub awaits : Awaits address (chunks_of session.draft.chunks) wanted q transaction work
 
 -- what a moment of this session leaves of the parts, beside the session's own branch
 pub record Passes (session statement : ℕ) (shared left : Shared) (old new : Parts) : Type 0 where

@@ -2,7 +2,7 @@
 
 ghost use Rattle.std.specs.Prelude.{◌≡◌, ◌<◌, ◌+◌, ◌^◌, ◌&&◌, true, false, None, IfSome};
 ghost use Rattle.script_text.specs.Collisions.{TellsTruly};
-ghost use Rattle.plain_sessions.specs.Fitness.{IsFitCommand};
+ghost use Rattle.plain_sessions.specs.Fitness.{IsFitCommand, IsFitWork};
 ghost use Rattle.plain_sessions.specs.Moments.{alone, alone_by, ends_by_set};
 ghost use Rattle.plain_sessions.specs.Records.{Shared};
 ghost use Rattle.plain_sessions.specs.Sessions as plain;
@@ -21,7 +21,8 @@ use crate::alone::answer_alone;
 use crate::courses::{Course, find_course};
 use crate::faults::reply_to;
 use crate::places::{go_on, number_of};
-use merge_procs::merge_local;
+use chunk_store::{law_of_drafts, law_of_growth};
+use merge_procs::take_step;
 use plain_sessions::{Command, Work};
 use script_text::Reply;
 use session_plan::due;
@@ -167,6 +168,7 @@ fn closing_at_once<D: Digester>(
 ) -> Option<Reply>
     requires stands { (p : plain.Session) × SessionStands D.address session.old p }
     requires closes { may_close asked.now ≡ true }
+    requires fit { IsFitWork asked.now }
     ensures alone { IfSome result (λ reply. (p : plain.Session) → SessionStands D.address session.old p → AnswersAlone D.address p (command.Data asked.now) session.new reply) }
     ensures waits { result ≡ None → (p : plain.Session) → SessionStands D.address session.old p
         → (alone_by None p (command.Data asked.now) ≡ None) × SessionStands D.address session.new p }
@@ -180,10 +182,16 @@ fn closing_at_once<D: Digester>(
     if session.start.is_none() {
         return None;
     }
+    law_of_drafts();
+    law_of_growth();
+    let mark = session.draft.mark();
     match find_course(alloc, session, asked) {
-        Ok(Course::Closes) => None,
+        Ok(Course::Closes(_)) => {
+            session.draft.back_to(mark);
+            None
+        }
         Ok(Course::Refused(number)) => Some(due(Reply::Refused(number), 1)),
-        Ok(Course::Stays) => Some(merge_local(alloc, session, asked)),
+        Ok(Course::Stays(step)) => Some(take_step(session, step)),
         Err(fault) => Some(reply_to(fault)),
     }
 }

@@ -16,7 +16,8 @@ ghost use Rattle.serving.specs.Steps.{HasRoomStill, number_at};
 ghost use Rattle.serving.specs.declared.meeting.Pending.{Pending};
 ghost use Rattle.serving.specs.declared.meeting.Pending.TheVariants as pending;
 
-use crate::closing::close;
+use crate::closing::close_found;
+use crate::courses::Found;
 use crate::deciding::decide;
 use crate::faults::{after_start, reply_to};
 use crate::meeting::Pending;
@@ -87,7 +88,7 @@ fn conclude_wanted<D: Digester>(
 {
     match wanted {
         Pending::Between(reply) => conclude_work(alloc, db, session, reply),
-        Pending::Closing => conclude_closing(alloc, db, session, asked, epoch),
+        Pending::Closing(found) => conclude_closing(alloc, db, session, asked, &found, epoch),
     }
 }
 
@@ -122,14 +123,15 @@ fn conclude_closing<D: Digester>(
     db: &mut SharedDb,
     session: &mut Session<D>,
     asked: &Command,
+    found: &Found,
     epoch: i64,
 ) -> Result<Reply, PutFault>
-    requires between { (q : plain.Session) × (shared : Shared) × IsBetween D.address session.old db.old.parts q asked.now pending.Closing shared }
+    requires between { (q : plain.Session) × (shared : Shared) × IsBetween D.address session.old db.old.parts q asked.now (pending.Closing found.now) shared }
     requires moments { 0 < db.old.moments_room }
     requires segments { 0 < db.old.segments_room }
     requires epoch { pos 0 ≤ℤ epoch }
     requires fit { IsFitCommand asked.now }
-    ensures concluded { IfOk result (λ said. (q : plain.Session) (shared : Shared) → IsBetween D.address session.old db.old.parts q asked.now pending.Closing shared
+    ensures concluded { IfOk result (λ said. (q : plain.Session) (shared : Shared) → IsBetween D.address session.old db.old.parts q asked.now (pending.Closing found.now) shared
         → Concluded D.address epoch q asked.now shared db.old.parts db.new.parts session.new said) }
     ensures sound { IfOk result (λ said. is_sound_reply said ≡ true) }
     ensures truly { IfOk result (TellsTruly D.address) }
@@ -141,7 +143,7 @@ fn conclude_closing<D: Digester>(
 {
     match asked {
         Command::Data(work) => {
-            let reply = close(alloc, db, session, work, epoch)?;
+            let reply = close_found(alloc, db, session, work, found, epoch)?;
             session.start = None;
             Ok(reply)
         }

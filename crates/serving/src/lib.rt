@@ -26,6 +26,7 @@ mod working;
 pub use answering::serve;
 pub use coming::come_to;
 pub use concluding::{conclude, drop_started};
+pub use courses::Found;
 pub use faults::answer_fault;
 pub use meeting::{Begun, Met, Pending, meet_start};
 pub use planned::{Planned, conclude_planned, look_anew, look_for, plan_pending};

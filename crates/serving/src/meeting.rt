@@ -16,6 +16,7 @@ use crate::beginning::begin;
 use crate::branching::{go_to, step_branches};
 use crate::closing::decide_open;
 use crate::committing::commit_changed;
+use crate::courses::Found;
 use crate::places::{go_on, number_of};
 use crate::starting::take_start;
 use crate::switching::switch_changed;
@@ -51,8 +52,8 @@ pub enum Met {
 pub enum Pending {
     /// The commit rule's, on what the statement changed; where it is well the statement is answered so.
     Between(Reply),
-    /// That of DOLT_COMMIT or DOLT_MERGE.
-    Closing,
+    /// That of DOLT_COMMIT or DOLT_MERGE, on what was found for it.
+    Closing(Found),
 }
 
 /// Leads a statement that needs a moment to its first one, on the state found, and a database statement that takes a start through its work. Where

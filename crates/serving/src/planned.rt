@@ -15,8 +15,9 @@ ghost use Rattle.serving.specs.Serving.{Concludes, IsBetween, IsHere};
 ghost use Rattle.serving.specs.Steps.{HasRoomStill, number_at};
 ghost use Rattle.serving.specs.declared.meeting.Pending.TheVariants as pending;
 
-use crate::closing::{plan_closing, settle_closing};
+use crate::closing::{plan_found, settle_closing};
 use crate::concluding::{conclude, with_reply};
+use crate::courses::Found;
 use crate::deciding::{plan_decision, settle_decision};
 use crate::meeting::Pending;
 use crate::places::{go_on, number_of};
@@ -106,7 +107,9 @@ pub fn conclude_planned<D: Digester>(
         Pending::Between(reply) => {
             conclude_work_planned(alloc, db, session, asked, reply, planned, epoch)
         }
-        Pending::Closing => conclude_closing_planned(alloc, db, session, asked, planned, epoch),
+        Pending::Closing(found) => {
+            conclude_closing_planned(alloc, db, session, asked, found, planned, epoch)
+        }
     }
 }
 
@@ -156,18 +159,19 @@ fn conclude_closing_planned<D: Digester>(
     db: &mut SharedDb,
     session: &mut Session<D>,
     asked: &Command,
+    found: Found,
     planned: Planned,
     epoch: i64,
 ) -> Result<Reply, PutFault>
-    requires between { (q : plain.Session) × (shared : Shared) × IsBetween D.address session.old db.old.parts q asked.now pending.Closing shared }
-    requires planned { PlansCommand D.address epoch session.old asked.now planned.look planned.plan }
+    requires between { (q : plain.Session) × (shared : Shared) × IsBetween D.address session.old db.old.parts q asked.now (pending.Closing found) shared }
+    requires planned { PlansCommand D.address epoch session.old asked.now found planned.look planned.plan }
     requires grown { Lists (all_chunks planned.look.store) db.old.parts.chunks }
     requires place { number_at session.old.position + 1 < 2 ^ 32 }
     requires moments { 0 < db.old.moments_room }
     requires segments { 0 < db.old.segments_room }
     requires epoch { pos 0 ≤ℤ epoch }
     requires fit { IsFitCommand asked.now }
-    ensures concluded { IfOk result (λ said. (q : plain.Session) (shared : Shared) → IsBetween D.address session.old db.old.parts q asked.now pending.Closing shared
+    ensures concluded { IfOk result (λ said. (q : plain.Session) (shared : Shared) → IsBetween D.address session.old db.old.parts q asked.now (pending.Closing found) shared
         → Concludes D.address epoch q asked.now shared db.old.parts db.new.parts session.new said) }
     ensures sound { IfOk result (λ said. is_sound_reply said ≡ true) }
     ensures truly { IfOk result (TellsTruly D.address) }
@@ -185,7 +189,7 @@ fn conclude_closing_planned<D: Digester>(
             go_on(session, number);
             Ok(reply)
         }
-        None => conclude(alloc, db, session, asked, Pending::Closing, epoch),
+        None => conclude(alloc, db, session, asked, Pending::Closing(found), epoch),
     }
 }
 
@@ -207,7 +211,7 @@ pub fn plan_pending<D: Digester>(
 {
     match wanted {
         Pending::Between(_) => plan_decision(alloc, session, look),
-        Pending::Closing => plan_call(alloc, session, asked, look, epoch),
+        Pending::Closing(found) => plan_call(alloc, session, asked, found, look, epoch),
     }
 }
 
@@ -216,18 +220,19 @@ fn plan_call<D: Digester>(
     alloc: Global,
     session: &Session<D>,
     asked: &Command,
+    found: &Found,
     look: &Look,
     epoch: i64,
 ) -> Result<DecisionPlan, PutFault>
-    requires between { (parts : Parts) × (q : plain.Session) × (shared : Shared) × IsBetween D.address session.now parts q asked.now pending.Closing shared }
+    requires between { (parts : Parts) × (q : plain.Session) × (shared : Shared) × IsBetween D.address session.now parts q asked.now (pending.Closing found.now) shared }
     requires looked { HasLooked D.address session.now look.now }
     requires epoch { pos 0 ≤ℤ epoch }
     requires fit { IsFitCommand asked.now }
-    ensures planned { IfOk result (PlansCommand D.address epoch session.now asked.now look.now) }
+    ensures planned { IfOk result (PlansCommand D.address epoch session.now asked.now found.now look.now) }
     ensures fault { IfErr result (IsFault D.address) }
 {
     match asked {
-        Command::Data(work) => plan_closing(alloc, session, work, look, epoch),
+        Command::Data(work) => plan_found(alloc, session, work, found, look, epoch),
         Command::Faulty(_)
         | Command::Begin
         | Command::CommitAll

@@ -23,4 +23,4 @@ returns-in-Between-clause-concluded g c =
 pub returns-in-Closing-clause-concluded : goal.returns-in-Closing-clause-concluded
 returns-in-Closing-clause-concluded g c =
     closing_concludes g.D.Digester.address c.args.epoch c.args.session.now c.conclude_closing.new.session c.args.db.now.parts c.conclude_closing.new.db.parts c.args.asked.now c.args.wanted
-    _ (to_z-of_z w64 c.args.epoch c.ranges.epoch) c.in-Closing.is c.conclude_closing.result c.conclude_closing.ensures.concluded
+    c.in-Closing.found _ (to_z-of_z w64 c.args.epoch c.ranges.epoch) c.in-Closing.is c.conclude_closing.result c.conclude_closing.ensures.concluded

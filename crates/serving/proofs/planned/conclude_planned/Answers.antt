@@ -23,7 +23,7 @@ conclude_closing_planned-requires-clause-between g c κs within =
 
 pub conclude_closing_planned-requires-clause-planned : goal.conclude_closing_planned-requires-clause-planned
 conclude_closing_planned-requires-clause-planned g c κs within =
-    subst (λ (e : ℤ). PlansCommand g.D.Digester.address e c.args.session.now c.args.asked.now c.args.planned.look c.args.planned.plan) (sym (to_z-of_z w64 c.args.epoch c.ranges.epoch))
+    subst (λ (e : ℤ). PlansCommand g.D.Digester.address e c.args.session.now c.args.asked.now c.in-Closing.found c.args.planned.look c.args.planned.plan) (sym (to_z-of_z w64 c.args.epoch c.ranges.epoch))
     (subst (λ (w : Pending). PlansPending g.D.Digester.address c.args.epoch c.args.session.now c.args.asked.now w c.args.planned.look c.args.planned.plan) c.in-Closing.is c.requires.planned)
 
 pub returns-in-Between-clause-concluded : goal.returns-in-Between-clause-concluded
@@ -34,4 +34,4 @@ returns-in-Between-clause-concluded g c =
 pub returns-in-Closing-clause-concluded : goal.returns-in-Closing-clause-concluded
 returns-in-Closing-clause-concluded g c =
     concludes_of g.D.Digester.address c.args.epoch c.args.session.now c.conclude_closing_planned.new.session c.conclude_closing_planned.new.db.parts c.args.asked.now c.conclude_closing_planned.result
-    c.args.wanted pending.Closing c.in-Closing.is _ (to_z-of_z w64 c.args.epoch c.ranges.epoch) c.args.db.now.parts c.conclude_closing_planned.ensures.concluded
+    c.args.wanted (pending.Closing c.in-Closing.found) c.in-Closing.is _ (to_z-of_z w64 c.args.epoch c.ranges.epoch) c.args.db.now.parts c.conclude_closing_planned.ensures.concluded

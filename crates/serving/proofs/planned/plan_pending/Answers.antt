@@ -23,5 +23,5 @@ returns-in-Between-clause-planned g c =
 
 pub returns-in-Closing-clause-planned : goal.returns-in-Closing-clause-planned
 returns-in-Closing-clause-planned g c =
-    plans_of g.D.Digester.address c.args.epoch c.args.session.now c.args.asked.now c.args.look.now c.args.wanted.now pending.Closing c.in-Closing.is c.plan_call.result
-    (plans_dated g.D.Digester.address c.args.session.now c.args.asked.now c.args.look.now _ c.args.epoch (to_z-of_z w64 c.args.epoch c.ranges.epoch) c.plan_call.result c.plan_call.ensures.planned)
+    plans_of g.D.Digester.address c.args.epoch c.args.session.now c.args.asked.now c.args.look.now c.args.wanted.now (pending.Closing c.in-Closing.found) c.in-Closing.is c.plan_call.result
+    (plans_dated g.D.Digester.address c.args.session.now c.args.asked.now c.in-Closing.found c.args.look.now _ c.args.epoch (to_z-of_z w64 c.args.epoch c.ranges.epoch) c.plan_call.result c.plan_call.ensures.planned)
