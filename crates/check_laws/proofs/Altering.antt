@@ -19,8 +19,8 @@ use Rattle.sql_ast.specs.declared.statements.Write.TheVariants as write
 use Rattle.sql_grammar.specs.Checking.{canonical_expression}
 use Rattle.sql_values.specs.Kinds.{is_bool, may_assign}
 use Rattle.sql_values.specs.declared.kinds.Kind.{Kind}
-use Rattle.expr_laws.specs.CheckLaws.{BindAlike}
-use Rattle.expr_laws.proofs.Checks.{keeps_checks}
+use Rattle.check_laws.specs.CheckLaws.{BindAlike}
+use Rattle.check_laws.proofs.Checks.{keeps_checks}
 use Rattle.expr_eval.specs.Binding.{Outcome, and_then, bound, mismatch}
 use Rattle.expr_eval.specs.declared.bound.BoundExpr.{BoundExpr}
 use Rattle.expr_eval.specs.declared.scopes.ScopeColumn.{ScopeColumn}

@@ -9,7 +9,7 @@ use Rattle.schema_model.specs.declared.schemas.Schema.{Schema}
 use Rattle.sql_ast.specs.declared.expressions.Expr.{Expr}
 use Rattle.sql_values.specs.Kinds.{is_bool}
 use Rattle.tuple_codec.specs.Rows.{Cells}
-use Rattle.expr_laws.specs.CheckLaws.{BindAlike}
+use Rattle.check_laws.specs.CheckLaws.{BindAlike}
 use Rattle.expr_eval.specs.Binding.{Outcome, and_then, bound, if_truth}
 use Rattle.expr_eval.specs.declared.bound.BoundExpr.{BoundExpr}
 use Rattle.expr_eval.specs.declared.scopes.ScopeColumn.{ScopeColumn}

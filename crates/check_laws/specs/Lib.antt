@@ -1,5 +1,9 @@
-pub mod Meant
-pub mod Named
+pub mod CheckLaws
+pub mod KindLaws
+pub mod Kinds
 pub mod Laws
+pub mod LongestTokens
+pub mod Meant
 pub mod Moments
+pub mod Named
 pub mod Runs

@@ -1,4 +1,0 @@
-pub mod CheckLaws
-pub mod KindLaws
-pub mod Kinds
-pub mod LongestTokens
