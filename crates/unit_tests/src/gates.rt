@@ -195,7 +195,7 @@ fn moves<T: Send>() {}
 fn crosses<T: Send + Sync>() {}
 
 // A gate is shared among threads; a seat, the value and a stand are handed from thread to thread.
-fn gate_crosses<'a, T: Kept + 'a>() {
+fn gate_crosses<'a, T: Kept + Send + 'a>() {
     crosses::<Gate<T>>();
     moves::<Seat>();
     moves::<Held<'a, T>>();

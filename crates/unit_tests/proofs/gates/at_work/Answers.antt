@@ -43,7 +43,7 @@ work_all-workers-requires-clause-own g c κs within k d lt =
     subst HasMade (sym (is.view ∙ ap (λ (v : View). newcomer (giving_out k v)) c.in_ok-gate.ensures.seat)) refl
 
 pub close_all-list-requires-clause-all : goal.close_all-list-requires-clause-all
-close_all-list-requires-clause-all g c κs =
+close_all-list-requires-clause-all g c =
     subst (λ (ws : List (Worker Task)). AreAllGivenOut (seat_view c.seat_workers.new.first) (views_of ws)) (sym c.deref_mut.ensures.value)
     (all_given_out _ _ _ _ _ _ _ c.in_ok-gate.ensures.seat c.in_ok-ready.ensures.first c.in_ok-ready.ensures.new c.work_all-workers.ensures.many c.work_all-workers.ensures.keeps)
 

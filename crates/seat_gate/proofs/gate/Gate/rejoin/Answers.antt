@@ -32,7 +32,7 @@ returns-clause-joined g c k h =
     subst (HasJoined k) (ap (λ (z : View × View). joined_with z.0 z.1) (λ i. (as_into i, as_other i)) ∙ sym (as_now ∙ as_joined)) (joined_kept v w k h)
 
 pub recall-requires-clause-live : goal.recall-requires-clause-live
-recall-requires-clause-live g c κs within =
+recall-requires-clause-live g c =
     let p = c.into_seat-place.result.me.0 in
     let r = rests c.args.into.badge.views p c.args.into.rests c.into_seat-place.ensures.2 in
     ap (λ m. m.0.spent) c.join_seat.ensures.2 ∙ r.live

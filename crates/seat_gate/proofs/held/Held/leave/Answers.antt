@@ -4,7 +4,7 @@ use Rattle.seat_gate.specs.declared.place.SeatState.{SeatState}
 use Rattle.seat_gate.proofs.held.Held.leave.Goals as goal
 
 pub serve_next-requires-clause-fits : goal.serve_next-requires-clause-fits
-serve_next-requires-clause-fits g c κs within =
+serve_next-requires-clause-fits g c =
     let value = c.args.self.value in
     let put = c.exchange.ensures.3 in (
       value,
