@@ -1,75 +1,20 @@
 -- How many lines each session has.
-use Rattle.std.proofs.Common.{◌≡◌, refl, sym, ◌∙◌, ap, subst, ℕ, zero, suc, ◌+◌, ◌<◌, ◌≤◌, ◌==◌, true, false, nat_lt, List, [], ◌∷◌, ◌++◌, length, take, Some, slice_get, arith, if◌then◌else◌}
+use Rattle.std.proofs.Common.{◌≡◌, ◌≢◌, refl, sym, ◌∙◌, ap, subst, ℕ, zero, suc, ◌+◌, ◌<◌, ◌≤◌, ◌==◌, true, false, List, [], ◌∷◌, ◌++◌, length, take, Some, slice_get, arith, if◌then◌else◌}
 use Rattle.std.specs.Prelude.{sum}
-use Rattle.std.specs.List.{list_all}
 use Rattle.std.proofs.lemmas.List.{length-append}
 use Rattle.std.proofs.lemmas.List.Sums.{sum_by-append}
 use Rattle.std.proofs.lemmas.Bool.Decides.{nat_tests}
-use Rattle.std.proofs.lemmas.Bool.{and_parts as both}
+use Rattle.tuple_codec.proofs.Lists.{take_at_get}
 use Rattle.tuple_codec.proofs.Truths.{if_true}
 use Rattle.script_text.specs.declared.scripts.Line.{Line}
 use Rattle.run_laws.specs.Orders.{count_of}
 use Rattle.run_laws.proofs.ListLemmas.{get_behind, get_front, if_false}
 use Rattle.script_run.specs.Opening.{counts}
 
-sum_push : (xs : List ℕ) (x : ℕ) → sum (xs ++ x ∷ []) ≡ sum xs + x
-sum_push xs x =
-    let one : 0 + x ≡ x = omega arith in
-    sum_by-append (λ (n : ℕ). n) xs (x ∷ []) ∙ ap (λ n. sum xs + n) one
-
 pub sum_cons : (x : ℕ) (xs : List ℕ) → sum (x ∷ xs) ≡ x + sum xs
 sum_cons x xs =
     let one : 0 + x ≡ x = omega arith in
     sum_by-append (λ (n : ℕ). n) (x ∷ []) xs ∙ ap (λ n. n + sum xs) one
-
-none_counted : (sessions : ℕ) → sum (counts sessions []) ≡ 0
-none_counted zero = refl
-none_counted (suc sessions) =
-    let rest : sum (counts sessions []) ≡ 0 = none_counted sessions in
-    let none : sum (counts sessions []) + 0 ≡ 0 = omega arith in
-    sum_push (counts sessions []) 0 ∙ none
-
--- a line of a session behind these, and one of one of them
-behind : (sessions : ℕ) (line : Line) (lines : List Line) → sessions ≤ line.session → sum (counts sessions (line ∷ lines)) ≡ sum (counts sessions lines)
-behind zero line lines h = refl
-behind (suc sessions) line lines h =
-    let other : (line.session == sessions) ≡ false = grind (arith, nat_tests) in
-    let own : count_of sessions (line ∷ lines) ≡ count_of sessions lines = if_false (line.session == sessions) (suc (count_of sessions lines)) (count_of sessions lines) other in
-    let rest : sum (counts sessions (line ∷ lines)) ≡ sum (counts sessions lines) = behind sessions line lines (omega arith) in
-    sum_push (counts sessions (line ∷ lines)) (count_of sessions (line ∷ lines))
-    ∙ ap (λ n. n + count_of sessions (line ∷ lines)) rest ∙ ap (λ n. sum (counts sessions lines) + n) own
-    ∙ sym (sum_push (counts sessions lines) (count_of sessions lines))
-
-among : (sessions : ℕ) (line : Line) (lines : List Line) → line.session < sessions → sum (counts sessions (line ∷ lines)) ≡ suc (sum (counts sessions lines))
-among zero line lines h = absurd (omega arith)
-among (suc sessions) line lines h =
-    elim (line.session == sessions) as (λ test. (line.session == sessions) ≡ test → sum (counts (suc sessions) (line ∷ lines)) ≡ suc (sum (counts (suc sessions) lines))) [
-      | true ↦ λ test.
-          let same : line.session ≡ sessions = grind (arith, nat_tests) in
-          let own : count_of sessions (line ∷ lines) ≡ suc (count_of sessions lines) = if_true (line.session == sessions) (suc (count_of sessions lines)) (count_of sessions lines) test in
-          let rest : sum (counts sessions (line ∷ lines)) ≡ sum (counts sessions lines) = behind sessions line lines (omega arith) in
-          let more : (m n : ℕ) → m + suc n ≡ suc (m + n) = λ m n. omega arith in
-          sum_push (counts sessions (line ∷ lines)) (count_of sessions (line ∷ lines))
-          ∙ ap (λ n. n + count_of sessions (line ∷ lines)) rest ∙ ap (λ n. sum (counts sessions lines) + n) own
-          ∙ more (sum (counts sessions lines)) (count_of sessions lines) ∙ ap suc (sym (sum_push (counts sessions lines) (count_of sessions lines)))
-      | false ↦ λ test.
-          let less : line.session < sessions = grind (arith, nat_tests) in
-          let own : count_of sessions (line ∷ lines) ≡ count_of sessions lines = if_false (line.session == sessions) (suc (count_of sessions lines)) (count_of sessions lines) test in
-          let rest : sum (counts sessions (line ∷ lines)) ≡ suc (sum (counts sessions lines)) = among sessions line lines less in
-          let more : (m n : ℕ) → suc m + n ≡ suc (m + n) = λ m n. omega arith in
-          sum_push (counts sessions (line ∷ lines)) (count_of sessions (line ∷ lines))
-          ∙ ap (λ n. n + count_of sessions (line ∷ lines)) rest ∙ ap (λ n. suc (sum (counts sessions lines)) + n) own
-          ∙ more (sum (counts sessions lines)) (count_of sessions lines) ∙ ap suc (sym (sum_push (counts sessions lines) (count_of sessions lines)))
-    ] refl
-
--- each line is one of one session
-pub all_counted : (sessions : ℕ) (lines : List Line) → list_all (λ (line : Line). nat_lt line.session sessions) lines ≡ true → sum (counts sessions lines) ≡ length lines
-all_counted sessions [] h = none_counted sessions
-all_counted sessions (line ∷ lines) h =
-    let parts = both (nat_lt line.session sessions) (list_all (λ (other : Line). nat_lt other.session sessions) lines) h in
-    let first : nat_lt line.session sessions ≡ true = parts.0 in
-    let less : line.session < sessions = grind (arith, nat_tests) in
-    among sessions line lines less ∙ ap suc (all_counted sessions lines parts.1)
 
 pub as_many : (sessions : ℕ) (lines : List Line) → length (counts sessions lines) ≡ sessions
 as_many zero lines = refl
@@ -92,6 +37,15 @@ count_at (suc sessions) lines place h =
           ∙ count_at sessions lines place less
     ] refl
 
+count_more : (place : ℕ) (lines more : List Line) → count_of place (lines ++ more) ≡ count_of place lines + count_of place more
+count_more place [] more = omega arith
+count_more place (line ∷ lines) more =
+    let rest : count_of place (lines ++ more) ≡ count_of place lines + count_of place more = count_more place lines more in
+    elim (line.session == place) as (λ test. (if test then suc (count_of place (lines ++ more)) else count_of place (lines ++ more)) ≡ (if test then suc (count_of place lines) else count_of place lines) + count_of place more) [
+      | true ↦ omega (arith, rest)
+      | false ↦ rest
+    ]
+
 -- the lines before one of a session's are fewer
 pub count_rises : (lines : List Line) (count : ℕ) (line : Line) → slice_get lines count ≡ Some line → count_of line.session (take count lines) < count_of line.session lines
 count_rises [] count line h = absurd (cc)
@@ -107,3 +61,17 @@ count_rises (first ∷ lines) (suc count) line h =
       | true ↦ omega arith
       | false ↦ rest
     ]
+
+-- and with it they are one more, and of another session's as many
+pub count_own : (lines : List Line) (count : ℕ) (line : Line) → slice_get lines count ≡ Some line → count_of line.session (take (count + 1) lines) ≡ count_of line.session (take count lines) + 1
+count_own lines count line there =
+    let test : (line.session == line.session) ≡ true = grind (arith, nat_tests) in
+    let one : count_of line.session (line ∷ []) ≡ 1 = if_true (line.session == line.session) 1 0 test in
+    ap (count_of line.session) (take_at_get lines count line there) ∙ count_more line.session (take count lines) (line ∷ []) ∙ ap (λ n. count_of line.session (take count lines) + n) one
+
+pub count_other : (lines : List Line) (count place : ℕ) (line : Line) → slice_get lines count ≡ Some line → line.session ≢ place → count_of place (take (count + 1) lines) ≡ count_of place (take count lines)
+count_other lines count place line there apart =
+    let test : (line.session == place) ≡ false = grind (arith, nat_tests) in
+    let none : count_of place (line ∷ []) ≡ 0 = if_false (line.session == place) 1 0 test in
+    let same : count_of place (take count lines) + 0 ≡ count_of place (take count lines) = omega arith in
+    ap (count_of place) (take_at_get lines count line there) ∙ count_more place (take count lines) (line ∷ []) ∙ ap (λ n. count_of place (take count lines) + n) none ∙ same

@@ -101,20 +101,20 @@ module _ {D : Type 0} (address : List ℕ → List ℕ) (epoch : ℤ) (script : 
   shows replies order branches = record { names = script.names; replies = replies; order = order; branches = branches }
 
   pub shown_is : (replies : List (List Reply)) (order : List Moment) (branches : List BranchLine)
-      → replies ≡ map (λ (speaker : Speaker D). speaker.replies.items) running.speakers.items → order ≡ running.db.parts.moments → branches ≡ running.db.parts.branches
-      → record { names = script.names; replies = replies; order = order; branches = branches } ≡ shown_by address script running.db.parts.moments ended.shared ended.spoken
+      → replies ≡ map (λ (speaker : Speaker D). speaker.replies.items) running.speakers.items → order ≡ running.lone.db.parts.moments → branches ≡ running.lone.db.parts.branches
+      → record { names = script.names; replies = replies; order = order; branches = branches } ≡ shown_by address script running.lone.db.parts.moments ended.shared ended.spoken
   shown_is replies order branches said in_order lines =
       ap (λ (rs : List (List Reply)). shows rs order branches) (said ∙ replies_are)
       ∙ ap (λ (o : List Moment). shows (replies_of ended.spoken) o branches) in_order
-      ∙ ap (λ (bs : List BranchLine). shows (replies_of ended.spoken) running.db.parts.moments bs)
-      (lines ∙ branches_are address running.db.parts.chunks ended.shared.commits running.db.parts.branches ended.shared.branches ended.stands.branches)
+      ∙ ap (λ (bs : List BranchLine). shows (replies_of ended.spoken) running.lone.db.parts.moments bs)
+      (lines ∙ branches_are address running.lone.db.parts.chunks ended.shared.commits running.lone.db.parts.branches ended.shared.branches ended.stands.branches)
 
-  pub is_plain : LinesAreRun → IsPlainRun command address epoch script (shown_by address script running.db.parts.moments ended.shared ended.spoken)
-  is_plain laws = laws.plain command address epoch script running.db.parts.moments ended.shared ended.spoken ended.run
+  pub is_plain : LinesAreRun → IsPlainRun command address epoch script (shown_by address script running.lone.db.parts.moments ended.shared ended.spoken)
+  is_plain laws = laws.plain command address epoch script running.lone.db.parts.moments ended.shared ended.spoken ended.run
 
   -- the session at a place has its speaker
   speaker_at : (place : ℕ) (p : plain.Session) (replies : List Reply) → slice_get ended.spoken place ≡ Some (p, replies)
-      → (speaker : Speaker D) × IsSpeaker address script.lines running.db.parts ended.shared place p replies speaker
+      → (speaker : Speaker D) × IsSpeaker address script.lines running.lone.db.parts ended.shared place p replies speaker
   speaker_at place p replies h =
       let one = there_at running.speakers.items place (subst (λ n. place < n) (sym ended.speakers.lists) (slice_get_within ended.spoken place (p, replies) h)) in
       (one.0, ended.speakers.each place p replies one.0 h one.1)
@@ -122,7 +122,7 @@ module _ {D : Type 0} (address : List ℕ → List ℕ) (epoch : ℤ) (script : 
   pub is_truly : AllTellTruly address (replies_of ended.spoken)
   is_truly = all_of (λ (replies : List Reply). AllByRecursion (TellsTruly address) replies) ended.spoken (λ place p replies h. (speaker_at place p replies h).1.truly)
 
-  pub is_in_order : IsTextOrder script running.db.parts.moments
+  pub is_in_order : IsTextOrder script running.lone.db.parts.moments
   is_in_order = ended.run.order_to.rises
 
   sound_replies : list_all (list_all is_sound_reply) (replies_of ended.spoken) ≡ true
@@ -131,15 +131,15 @@ module _ {D : Type 0} (address : List ℕ → List ℕ) (epoch : ℤ) (script : 
   as_many_replies : length (replies_of ended.spoken) ≡ length script.names
   as_many_replies = length-map ended.spoken (λ (one : plain.Session × List Reply). one.1) ∙ ended.run.lists
 
-  pub is_printable : IsPrintable (shown_by address script running.db.parts.moments ended.shared ended.spoken)
+  pub is_printable : IsPrintable (shown_by address script running.lone.db.parts.moments ended.shared ended.spoken)
   is_printable = record {
     lists = as_many_replies;
     replies = all_weaker (list_all is_sound_reply) (list_all is_printable_reply) (λ replies h. all_weaker is_sound_reply is_printable_reply printable_reply replies h) (replies_of ended.spoken) sound_replies;
     moments = all_weaker (is_within script) (is_printable_moment (length script.names)) (λ moment h. (both (nat_lt moment.session (length script.names)) (nat_le moment.statement (length script.lines)) h).0)
-        running.db.parts.moments ended.run.order_to.within;
+        running.lone.db.parts.moments ended.run.order_to.within;
   }
 
-  pub is_shown : IsSoundScript script → IsShown (shown_by address script running.db.parts.moments ended.shared ended.spoken)
+  pub is_shown : IsSoundScript script → IsShown (shown_by address script running.lone.db.parts.moments ended.shared ended.spoken)
   is_shown sound = record {
     names = sound.names;
     distinct = sound.distinct;
@@ -152,5 +152,5 @@ module _ {D : Type 0} (address : List ℕ → List ℕ) (epoch : ℤ) (script : 
         let fits : moment.statement ≤ length script.lines = grind (arith, nat_tests) in
         let less : moment.statement < 2 ^ 32 = omega arith in
         let test : nat_lt moment.statement (2 ^ 32) ≡ true = grind (arith, nat_tests) in
-        join (nat_lt moment.session (length script.names)) (nat_lt moment.statement (2 ^ 32)) parts.0 test) running.db.parts.moments ended.run.order_to.within;
+        join (nat_lt moment.session (length script.names)) (nat_lt moment.statement (2 ^ 32)) parts.0 test) running.lone.db.parts.moments ended.run.order_to.within;
   }

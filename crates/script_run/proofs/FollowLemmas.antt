@@ -1,6 +1,6 @@
 -- The sessions of a run along a given order, when one of them goes on.
 use Rattle.std.proofs.Common.{◌≡◌, ◌≢◌, refl, sym, ◌∙◌, ap, subst, ℕ, ℤ, zero, suc, ◌+◌, ◌<◌, ◌≤◌, ◌==◌, ◌^◌, Bool, true, false, nat_lt, List, [], ◌∷◌, ◌++◌, length, map, option_map, Option, None, Some, slice_get, slice_set, arith}
-use Rattle.std.specs.Prelude.{sum, unwrap_or}
+use Rattle.std.specs.Prelude.{unwrap_or}
 use Rattle.std.specs.List.{list_all}
 use Rattle.std.proofs.lemmas.List.{length-set}
 use Rattle.std.proofs.lemmas.List.Quantifiers.{position-Some}
@@ -23,11 +23,12 @@ use Rattle.run_laws.specs.Replaying.{Along, dropped, reply_of}
 use Rattle.run_laws.proofs.ListLemmas.{get_put, get_put_other, put_same}
 use Rattle.session_state.specs.Changes.{Parts, StateStands}
 use Rattle.script_run.specs.Following.{ArePlayers, AreSettledTo, CantFollow, GoesOn, Stays, Answers, Drops, HasFollowed, IsFurther, IsPlayer, IsPlayingAt, StandsAt, Turns, Meets, Starts, Decides, is_next_at, is_settled, moments_left}
+use Rattle.script_run.specs.Seats.{IsAtRest, room_at}
 use Rattle.script_run.specs.declared.players.Player.{Player}
 use Rattle.script_run.specs.declared.players.Playing.{Playing}
 use Rattle.script_run.specs.declared.players.Stage.{Stage}
 use Rattle.script_run.specs.declared.players.Stage.TheVariants as stage
-use Rattle.script_run.proofs.CountLemmas.{sum_cons}
+use Rattle.script_run.proofs.RoomLemmas.{one_less_room, same_room}
 
 -- ---- lists
 
@@ -35,33 +36,6 @@ pub put_twice : {X : Type 0} (xs : List X) (i : ℕ) (x y : X) → slice_set (sl
 put_twice [] i x y = refl
 put_twice (z ∷ xs) zero x y = refl
 put_twice (z ∷ xs) (suc i) x y = ap (λ (more : List _). z ∷ more) (put_twice xs i x y)
-
-module _ {X : Type 0} (f : X → ℕ) where
-  pub sum_put : (xs : List X) (i : ℕ) (x y : X) → slice_get xs i ≡ Some x → sum (map f (slice_set xs i y)) + f x ≡ sum (map f xs) + f y
-  sum_put [] i x y h = absurd (cc)
-  sum_put (z ∷ xs) zero x y h =
-      let same : z ≡ x = cc in
-      let first : f z ≡ f x = ap f same in
-      let old : sum (map f (z ∷ xs)) ≡ f z + sum (map f xs) = sum_cons (f z) (map f xs) in
-      let new : sum (map f (slice_set (z ∷ xs) 0 y)) ≡ f y + sum (map f xs) = sum_cons (f y) (map f xs) in
-      omega arith
-  sum_put (z ∷ xs) (suc i) x y h =
-      let rest : sum (map f (slice_set xs i y)) + f x ≡ sum (map f xs) + f y = sum_put xs i x y h in
-      let old : sum (map f (z ∷ xs)) ≡ f z + sum (map f xs) = sum_cons (f z) (map f xs) in
-      let new : sum (map f (slice_set (z ∷ xs) (suc i) y)) ≡ f z + sum (map f (slice_set xs i y)) = sum_cons (f z) (map f (slice_set xs i y)) in
-      omega arith
-
-  pub one_of_sum : (xs : List X) (i : ℕ) (x : X) → slice_get xs i ≡ Some x → f x ≤ sum (map f xs)
-  one_of_sum [] i x h = absurd (cc)
-  one_of_sum (z ∷ xs) zero x h =
-      let same : z ≡ x = cc in
-      let first : f z ≡ f x = ap f same in
-      let old : sum (map f (z ∷ xs)) ≡ f z + sum (map f xs) = sum_cons (f z) (map f xs) in
-      omega arith
-  one_of_sum (z ∷ xs) (suc i) x h =
-      let rest : f x ≤ sum (map f xs) = one_of_sum xs i x h in
-      let old : sum (map f (z ∷ xs)) ≡ f z + sum (map f xs) = sum_cons (f z) (map f xs) in
-      omega arith
 
 -- ---- the machine goes on with the session
 
@@ -195,12 +169,30 @@ module _ {D : Type 0} (address : List ℕ → List ℕ) (old new : Parts) (share
         ] refl;
   }
 
+-- there is room for the moments that each may still take
+room_next : {D : Type 0} (parts : Parts) (players : List (Player D)) (place : ℕ) (player next : Player D) → slice_get players place ≡ Some player → moments_left next ≤ room_at parts place
+    → ((at : ℕ) (one : Player D) → at ≢ place → slice_get players at ≡ Some one → moments_left one ≤ room_at parts at)
+    → (at : ℕ) (one : Player D) → slice_get (slice_set players place next) at ≡ Some one → moments_left one ≤ room_at parts at
+room_next parts players place player next found own others at one there =
+    elim (at == place) as (λ test. (at == place) ≡ test → moments_left one ≤ room_at parts at) [
+      | true ↦ λ test.
+          let same : place ≡ at = grind (arith, nat_tests) in
+          let is_one : next ≡ one = same_Some _ _ (sym (get_put players place player next found) ∙ ap (slice_get (slice_set players place next)) same ∙ there) in
+          subst (λ (o : Player _). moments_left o ≤ room_at parts at) is_one (subst (λ n. moments_left next ≤ room_at parts n) same own)
+      | false ↦ λ test.
+          let apart : at ≢ place = grind (arith, nat_tests) in
+          others at one apart (sym (get_put_other players place at next apart) ∙ there)
+    ] refl
+
+le_trans : {a b c : ℕ} → a ≤ b → b ≤ c → a ≤ c
+le_trans one more = omega (arith, one, more)
+
 -- the session at a place, in the machine and in the program
 pub record IsFound {D : Type 0} (address : List ℕ → List ℕ) (epoch : ℤ) (script : Script) (moments : List Moment) (playing : Playing D) (place : ℕ) (player : Player D)
     (now : IsPlayingAt address epoch script moments playing) : Type 0 where
   pub runner : Runner
   pub there : slice_get now.runners place ≡ Some runner
-  pub is : IsPlayer address playing.db.parts now.shared place runner player
+  pub is : IsPlayer address playing.lone.db.parts now.shared place runner player
 
 module _ {D : Type 0} (address : List ℕ → List ℕ) (epoch : ℤ) (script : Script) (moments : List Moment) (playing : Playing D) (place : ℕ) (player : Player D)
     (now : IsPlayingAt address epoch script moments playing) (found : slice_get playing.players.items place ≡ Some player) where
@@ -209,29 +201,14 @@ module _ {D : Type 0} (address : List ℕ → List ℕ) (epoch : ℤ) (script : 
       let one = there_at now.runners place (subst (λ n. place < n) now.players.lists (slice_get_within playing.players.items place player found)) in
       record { runner = one.0; there = one.1; is = now.players.each place one.0 player one.1 found }
 
-  pub moments_enough : moments_left player ≤ playing.db.moments_room
-  moments_enough =
-      let one : moments_left player ≤ sum (map moments_left playing.players.items) = one_of_sum moments_left playing.players.items place player found in
-      omega (arith, now.moments_room)
-
-  pub segments_enough : moments_left player ≤ playing.db.segments_room
-  segments_enough =
-      let one : moments_left player ≤ sum (map moments_left playing.players.items) = one_of_sum moments_left playing.players.items place player found in
-      omega (arith, now.segments_room)
-
   -- without a moment
   pub went_on : (after : Playing D) (next : Player D) → OrdersAreFollowed
-      → ((runner : Runner) → IsPlayer address playing.db.parts now.shared place runner player → IsFurther address playing.db.parts now.shared place runner next)
-      → after.players.items ≡ slice_set playing.players.items place next → after.db.parts ≡ playing.db.parts
-      → playing.db.moments_room + moments_left next ≤ after.db.moments_room + moments_left player
-      → playing.db.segments_room + moments_left next ≤ after.db.segments_room + moments_left player
+      → ((runner : Runner) → IsPlayer address playing.lone.db.parts now.shared place runner player → IsFurther address playing.lone.db.parts now.shared place runner next)
+      → after.players.items ≡ slice_set playing.players.items place next → after.lone.db.parts ≡ playing.lone.db.parts → IsAtRest address after.lone → moments_left next ≤ moments_left player
       → IsPlayingAt address epoch script moments after
-  went_on after next laws further put same moments_kept segments_kept =
+  went_on after next laws further put same rest fewer =
       let one = found_there in
       let on = further one.runner one.is in
-      let left : sum (map moments_left (slice_set playing.players.items place next)) + moments_left player ≡ sum (map moments_left playing.players.items) + moments_left next
-      = sum_put moments_left playing.players.items place player next found in
-      let all : sum (map moments_left after.players.items) ≡ sum (map moments_left (slice_set playing.players.items place next)) = ap (λ (ps : List (Player D)). sum (map moments_left ps)) put in
       record {
         shared = now.shared;
         runners = slice_set now.runners place on.next;
@@ -240,28 +217,26 @@ module _ {D : Type 0} (address : List ℕ → List ℕ) (epoch : ℤ) (script : 
         all = length-set now.runners place on.next ∙ now.all;
         within = now.within;
         stands = subst (λ (p : Parts). StateStands address p now.shared) (sym same) now.stands;
-        players = subst (λ (ps : List (Player D)). ArePlayers address after.db.parts now.shared (slice_set now.runners place on.next) ps) (sym put)
+        players = subst (λ (ps : List (Player D)). ArePlayers address after.lone.db.parts now.shared (slice_set now.runners place on.next) ps) (sym put)
             (subst (λ (p : Parts). ArePlayers address p now.shared (slice_set now.runners place on.next) (slice_set playing.players.items place next)) (sym same)
-            (players_next address playing.db.parts playing.db.parts now.shared now.shared now.runners playing.players.items place one.runner on.next player next now.players one.there found on.is
+            (players_next address playing.lone.db.parts playing.lone.db.parts now.shared now.shared now.runners playing.players.items place one.runner on.next player next now.players one.there found on.is
             (λ other runner another apart is. is)));
-        moments_room = omega (arith, now.moments_room);
-        segments_room = omega (arith, now.segments_room);
+        rest = rest;
+        room = λ other another there.
+            subst (λ (p : Parts). moments_left another ≤ room_at p other) (sym same)
+            (room_next playing.lone.db.parts playing.players.items place player next found (le_trans fewer (now.room place player found)) (λ at one apart was. now.room at one was) other another
+            (ap (λ (ps : List (Player D)). slice_get ps other) (sym put) ∙ there));
       }
 
   -- at its next moment
   pub followed : (after : Playing D) (next : Player D) (statement : ℕ) → OrdersAreFollowed → place < length script.names → statement < 2 ^ 32
-      → ((runner : Runner) → IsPlayer address playing.db.parts now.shared place runner player
-      → HasFollowed address epoch place statement runner now.shared playing.db.parts after.db.parts next)
-      → after.players.items ≡ slice_set playing.players.items place next
-      → playing.db.moments_room + moments_left next ≤ after.db.moments_room + moments_left player
-      → playing.db.segments_room + moments_left next ≤ after.db.segments_room + moments_left player
+      → ((runner : Runner) → IsPlayer address playing.lone.db.parts now.shared place runner player
+      → HasFollowed address epoch place statement runner now.shared playing.lone.db.parts after.lone.db.parts next)
+      → after.players.items ≡ slice_set playing.players.items place next → IsAtRest address after.lone → moments_left next + 1 ≤ moments_left player
       → IsPlayingAt address epoch script (moments ++ record { session = place; statement = statement } ∷ []) after
-  followed after next statement laws below small has put moments_kept segments_kept =
+  followed after next statement laws below small has put rest fewer =
       let one = found_there in
       let on = has one.runner one.is in
-      let left : sum (map moments_left (slice_set playing.players.items place next)) + moments_left player ≡ sum (map moments_left playing.players.items) + moments_left next
-      = sum_put moments_left playing.players.items place player next found in
-      let all : sum (map moments_left after.players.items) ≡ sum (map moments_left (slice_set playing.players.items place next)) = ap (λ (ps : List (Player D)). sum (map moments_left ps)) put in
       let named : nat_lt place (length script.names) ≡ true = grind (arith, nat_tests) in
       let numbered : nat_lt statement (2 ^ 32) ≡ true = grind (arith, nat_tests) in
       let moment : Moment = record { session = place; statement = statement } in
@@ -276,11 +251,16 @@ module _ {D : Type 0} (address : List ℕ → List ℕ) (epoch : ℤ) (script : 
         within = all_append (is_shown_moment (length script.names)) moments (moment ∷ []) now.within
             (join (is_shown_moment (length script.names) moment) true shown refl);
         stands = on.state_stands;
-        players = subst (λ (ps : List (Player D)). ArePlayers address after.db.parts on.left (slice_set now.runners place on.last) ps) (sym put)
-            (players_next address playing.db.parts after.db.parts now.shared on.left now.runners playing.players.items place one.runner on.last player next now.players one.there found on.is
-            (λ other runner another apart is. player_stays address playing.db.parts after.db.parts now.shared on.left on.state_stands on.passes.grown other runner another (on.passes.others other apart) is));
-        moments_room = omega (arith, now.moments_room);
-        segments_room = omega (arith, now.segments_room);
+        players = subst (λ (ps : List (Player D)). ArePlayers address after.lone.db.parts on.left (slice_set now.runners place on.last) ps) (sym put)
+            (players_next address playing.lone.db.parts after.lone.db.parts now.shared on.left now.runners playing.players.items place one.runner on.last player next now.players one.there found on.is
+            (λ other runner another apart is. player_stays address playing.lone.db.parts after.lone.db.parts now.shared on.left on.state_stands on.passes.grown other runner another (on.passes.others other apart) is));
+        rest = rest;
+        room = λ other another there.
+            room_next after.lone.db.parts playing.players.items place player next found
+            (one_less_room playing.lone.db.parts after.lone.db.parts place statement on.passes.moments on.passes.numbers (moments_left next) (moments_left player) fewer (now.room place player found))
+            (λ at one apart was. subst (λ n. moments_left one ≤ n)
+            (sym (same_room playing.lone.db.parts after.lone.db.parts place statement on.passes.moments on.passes.numbers at (λ same. apart (sym same)))) (now.room at one was)) other another
+            (ap (λ (ps : List (Player D)). slice_get ps other) (sym put) ∙ there);
       }
 
 -- ---- items

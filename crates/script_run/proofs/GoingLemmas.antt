@@ -19,22 +19,22 @@ use Rattle.plain_sessions.specs.Sessions.{Transaction, is_before_statement}
 use Rattle.plain_sessions.specs.declared.commands.Command.{Command}
 use Rattle.plain_sessions.specs.declared.commands.Command.TheVariants.{Data}
 use Rattle.plain_sessions.specs.declared.commands.Work.{Work}
-use Rattle.chunk_store.specs.Chunks.{Chunks, Listed}
+use Rattle.chunk_store.specs.Chunks.{Chunk, Chunks, Listed, Lists}
 use Rattle.chunk_store.specs.Drafts.{chunks_of}
 use Rattle.chunk_store.specs.declared.faults.PutFault.TheVariants.{Memory}
 use Rattle.run_laws.specs.Replaying.{dropped, reply_of}
 use Rattle.run_laws.proofs.Steps.{alone_past, moment_past}
 use Rattle.session_state.specs.Changes.{Parts, StateStands}
 use Rattle.session_state.specs.Standing.{SessionStands}
+use Rattle.session_state.specs.declared.sessions.Session.{Session}
 use Rattle.serving.specs.Serving.{is_sound_reply}
-use Rattle.serving.specs.Serving.{Awaits, Concludes, Drops, Fails, IsBefore, IsBetween, MeetsOnce, Passes, PassesAlone, Starts}
+use Rattle.serving.specs.Serving.{Awaits, Concludes, Drops, Fails, IsBefore, IsBetween, IsHere, MeetsOnce, Passes, PassesAlone, Starts}
 use Rattle.serving.specs.Steps.{number_at}
 use Rattle.serving.specs.declared.meeting.Pending.{Pending}
 use Rattle.serving.specs.declared.meeting.Pending.TheVariants as pending
-use Rattle.serving.proofs.BegunLemmas.{started_at as begun_at, started_passes, started_state}
 use Rattle.serving.proofs.AnswerLemmas.{same_number as number_is}
 use Rattle.script_run.specs.Following as going
-use Rattle.script_run.specs.Following.{GoesOn, IsAsked, IsFurther, IsLed, IsLedInto, IsPlayer, StandsAt, Turns, is_free, is_next_at, moments_left, starts_made}
+use Rattle.script_run.specs.Following.{GoesOn, IsAsked, IsFurther, IsLed, IsPlayer, StandsAt, Turns, is_free, is_next_at, moments_left, starts_made}
 use Rattle.script_run.specs.Scripts.{is_statement_text}
 use Rattle.script_run.specs.declared.players.Player.{Player}
 use Rattle.script_run.specs.declared.players.Stage.{Stage}
@@ -103,6 +103,16 @@ module _ {D : Type 0} {address : List ℕ → List ℕ} {parts : Parts} {shared 
     by stage.Free stands = stands.state_stands
     by (stage.Waits asked) stands = stands.0.state_stands
     by (stage.Between asked wanted) stands = stands.0.here.state_stands
+
+  pub here_of : IsHere address player.session parts runner.session shared
+  here_of = by player.stage is.stands where
+    before : IsBefore address player.session parts runner.session shared → IsHere address player.session parts runner.session shared
+    before stands = record { session_stands = stands.session_stands; state_stands = stands.state_stands; placed = stands.placed; later = stands.later }
+
+    by : (s : Stage) → StandsAt address player parts runner shared s → IsHere address player.session parts runner.session shared
+    by stage.Free stands = before stands
+    by (stage.Waits asked) stands = before stands.0
+    by (stage.Between asked wanted) stands = stands.0.here
 
   pub before_of : is_free player.stage ≡ true → IsBefore address player.session parts runner.session shared
   before_of free = by player.stage free is.stands where
@@ -189,6 +199,17 @@ module _ {D : Type 0} {address : List ℕ → List ℕ} {parts : Parts} {shared 
   pub text_of : (at : ℕ) (texts : List (List ℕ)) (text : List ℕ) → texts ≡ player.texts → at < length player.texts → text ≡ slice_index_or texts at text → is_statement_text text ≡ true
   text_of at texts text all more e = all_at is_statement_text player.texts at text (found_at player.texts texts at text all more e) is.spelled
 
+  -- it stands before its next statement in these parts still
+  before_next : (after : plain.Session) (session : Session D) → SessionStands address session after → after.place ≡ plain.Before → after.number ≡ runner.session.number
+      → after.branch ≡ runner.session.branch → session.draft.chunks.base ≡ player.session.draft.chunks.base → IsBefore address session parts after shared
+  before_next after session stands before number branch base = record {
+    session_stands = stands;
+    before = before;
+    state_stands = here_of.state_stands;
+    placed = ap (slice_get shared.places) number ∙ here_of.placed ∙ ap Some (sym branch);
+    later = subst (λ (chunks : List Chunk). Lists chunks parts.chunks) (sym base) here_of.later;
+  }
+
   here : (asked : Command) (rest : List Command) → runner.todo ≡ asked ∷ rest → GoesOn runner (record { session = runner.session; replies = runner.replies; todo = asked ∷ rest })
   here asked rest todo = subst (λ (left : List Command). GoesOn runner (record { session = runner.session; replies = runner.replies; todo = left })) todo (going.Stays runner)
 
@@ -217,25 +238,26 @@ module _ {D : Type 0} {address : List ℕ → List ℕ} {parts : Parts} {shared 
       }
 
   -- it has answered it alone
-  pub answers : (asked : Command) (rest : List Command) → runner.todo ≡ asked ∷ rest → (reply : Reply) (next : Player D) → PassesAlone address runner.session asked shared parts next.session reply
-      → is_before_statement runner.session.place ≡ true
+  pub answers : (asked : Command) (rest : List Command) → runner.todo ≡ asked ∷ rest → (reply : Reply) (next : Player D) → PassesAlone address runner.session asked next.session reply
+      → next.session.draft.chunks.base ≡ player.session.draft.chunks.base → is_before_statement runner.session.place ≡ true
       → next.replies.items ≡ player.replies.items ++ reply ∷ [] → vec_capacity next.replies ≡ vec_capacity player.replies → next.texts ≡ player.texts → next.stage ≡ stage.Free
       → is_sound_reply reply ≡ true → TellsTruly address reply → IsFurther address parts shared place runner next
-  answers asked rest todo reply next passes before pushed kept texts free sound truly = record {
+  answers asked rest todo reply next passes base before pushed kept texts free sound truly = record {
     next = record { session = passes.after; replies = runner.replies ++ reply ∷ []; todo = rest };
     goes = going.Answers runner runner.session runner.replies asked rest (passes.after, reply) (here asked rest todo) is.counted before passes.is;
-    is = next_player asked rest todo passes.after reply next passes.next passes.number (alone_past (shortage reply) runner.session asked (passes.after, reply) passes.is).0
+    is = next_player asked rest todo passes.after reply next (before_next passes.after next.session passes.stands passes.before passes.number passes.branch base) passes.number (alone_past (shortage reply) runner.session asked (passes.after, reply) passes.is).0
         pushed kept texts free sound truly;
   }
 
   -- it waits before it for a moment
-  pub waits : (asked : Command) → IsAsked asked runner → (next : Player D) → alone None runner.session asked ≡ None → IsBefore address next.session parts runner.session shared
-      → next.replies ≡ player.replies → next.texts ≡ player.texts → next.stage ≡ stage.Waits asked → IsFurther address parts shared place runner next
-  waits asked asks next none before replies texts stage_is = record {
+  pub waits : (asked : Command) → IsAsked asked runner → (next : Player D) → alone None runner.session asked ≡ None → SessionStands address next.session runner.session → runner.session.place ≡ plain.Before
+      → next.session.draft.chunks.base ≡ player.session.draft.chunks.base → next.replies ≡ player.replies → next.texts ≡ player.texts → next.stage ≡ stage.Waits asked → IsFurther address parts shared place runner next
+  waits asked asks next none stands before base replies texts stage_is = record {
     next = runner;
     goes = going.Stays runner;
     is = record {
-      stands = subst (λ (s : Stage). StandsAt address next parts runner shared s) (sym stage_is) (before, none, asks.fit, (asks.rest, asks.is));
+      stands = subst (λ (s : Stage). StandsAt address next parts runner shared s) (sym stage_is)
+          (before_next runner.session next.session stands before refl refl base, none, asks.fit, (asks.rest, asks.is));
       number = is.number;
       said = ap (λ rs. rs.items) replies ∙ is.said;
       counted = is.counted;
@@ -332,39 +354,13 @@ module _ {D : Type 0} {address : List ℕ → List ℕ} {parts : Parts} {shared 
 
   -- it was dropped in place of its decision
   pub was_dropped : (asked : Command) (rest : List Command) → runner.todo ≡ asked ∷ rest → (wanted : Pending) → IsBetween address player.session parts runner.session asked wanted shared
-      → (reply : Reply) (next : Player D) → Drops address runner.session shared parts next.session reply
-      → next.replies.items ≡ player.replies.items ++ reply ∷ [] → vec_capacity next.replies ≡ vec_capacity player.replies → next.texts ≡ player.texts → next.stage ≡ stage.Free
+      → (reply : Reply) (next : Player D) → Drops address runner.session next.session reply
+      → next.session.draft.chunks.base ≡ player.session.draft.chunks.base → next.replies.items ≡ player.replies.items ++ reply ∷ [] → vec_capacity next.replies ≡ vec_capacity player.replies → next.texts ≡ player.texts → next.stage ≡ stage.Free
       → is_sound_reply reply ≡ true → TellsTruly address reply → IsFurther address parts shared place runner next
-  was_dropped asked rest todo wanted between reply next drops pushed kept texts free sound truly = record {
+  was_dropped asked rest todo wanted between reply next drops base pushed kept texts free sound truly = record {
     next = record { session = dropped runner.session; replies = runner.replies ++ reply ∷ []; todo = rest };
     goes = subst (λ (r : Reply). GoesOn runner (record { session = dropped runner.session; replies = runner.replies ++ r ∷ []; todo = rest })) (sym drops.is)
         (going.Drops runner runner.session runner.replies asked rest drops.short (here asked rest todo) is.counted
         (started_at address (chunks_of player.session.draft.chunks) wanted runner.session between.transaction between.work between.awaits) drops.later);
-    is = next_player asked rest todo (dropped runner.session) reply next drops.next refl refl pushed kept texts free sound truly;
+    is = next_player asked rest todo (dropped runner.session) reply next (before_next (dropped runner.session) next.session drops.stands refl refl refl base) refl refl pushed kept texts free sound truly;
   }
-
--- ---- behind a start whose work is to be done
-
-module _ {D : Type 0} {address : List ℕ → List ℕ} {place : ℕ} {runner : Runner} {shared : Shared} {old new : Parts} {asked : Command} {player : Player D}
-    (is : IsLedInto address place runner shared old new asked player) where
-  -- its start was a moment of its own
-  pub into_passes : Passes place runner.session.statement shared shared old new
-  into_passes = passes_at is.is new shared (started_passes address runner.session asked shared old new player.session is.started)
-
-  -- and left what is shared as it was
-  pub into_stands : StateStands address new shared
-  into_stands = started_state address runner.session asked shared old new player.session is.started
-
-  pub into_more : length player.replies.items < length player.texts
-  into_more = more_said is.is asked is.is.stands.3.0 is.is.stands.3.1
-
-  pub into_room : vec_len player.replies < vec_capacity player.replies
-  into_room = has_room is.is (more_of is.is asked is.is.stands.3.0 is.is.stands.3.1)
-
-  -- its statement's number is the one that it had
-  pub into_number : number_at player.session.position + 1 < 2 ^ 32
-  into_number =
-      let number : number_at player.session.position ≡ runner.session.statement = begun_at address runner.session asked shared old new player.session is.started in
-      let counted : runner.session.statement ≡ length runner.replies + 1 = is.is.counted in
-      let few : length player.texts + 2 < 2 ^ 32 = is.is.few in
-      omega (arith, more_of is.is asked is.is.stands.3.0 is.is.stands.3.1)

@@ -43,24 +43,14 @@ module _ {D : Type 0} (player next : Player D) where
         by (stage.Waits asked) free = refl
         by (stage.Between asked wanted) free = absurd (cc)
 
-  -- its start was made, and its work is to be done
-  pub started_left : (asked : Command) → player.stage ≡ stage.Waits asked → next.replies ≡ player.replies → next.texts ≡ player.texts → next.stage ≡ stage.Free → moments_left next + 0 ≤ moments_left player
-  started_left asked waits replies texts free =
-      let same : length next.replies.items ≡ length player.replies.items = ap (λ rs. length rs.items) replies in
-      let all : length next.texts ≡ length player.texts = ap length texts in
-      let none : starts_made next.stage ≡ 0 = ap starts_made free in
-      let none_before : starts_made player.stage ≡ 0 = ap starts_made waits in
-      omega arith
-
-  -- the work of its start was done, and its decision is to come
-  pub one_less : (asked : Command) (wanted : Pending) → length player.replies.items < length player.texts → player.stage ≡ stage.Free → next.replies ≡ player.replies → next.texts ≡ player.texts
+  -- its start was made, and its decision is to come
+  pub one_less : (asked : Command) (wanted : Pending) → length player.replies.items < length player.texts → starts_made player.stage ≡ 0 → next.replies ≡ player.replies → next.texts ≡ player.texts
       → next.stage ≡ stage.Between asked wanted → moments_left next + 1 ≤ moments_left player
-  one_less asked wanted more free replies texts stage_is =
+  one_less asked wanted more none replies texts stage_is =
       let same : length next.replies.items ≡ length player.replies.items = ap (λ rs. length rs.items) replies in
       let all : length next.texts ≡ length player.texts = ap length texts in
       let one : starts_made next.stage ≡ 1 = ap starts_made stage_is in
-      let none : starts_made player.stage ≡ 0 = ap starts_made free in
-      omega (arith, more)
+      omega (arith, more, none)
 
 -- ---- further, and further on
 

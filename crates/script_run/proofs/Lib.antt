@@ -5,9 +5,11 @@ pub mod GoingLemmas
 pub mod LeftLemmas
 pub mod LineLemmas
 pub mod OpenLemmas
-pub mod PlanningLemmas
 pub mod PlayerLemmas
 pub mod ReplayLemmas
+pub mod RoomLemmas
 pub mod ScriptLemmas
+pub mod SeatLemmas
+pub mod ServedLemmas
 pub mod SpeakerLemmas
 mod StatementLemmas

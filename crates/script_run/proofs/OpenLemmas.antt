@@ -1,6 +1,6 @@
 -- A run before its first line.
 use Rattle.std.proofs.Common.{◌≡◌, ◌≢◌, refl, sym, ◌∙◌, ap, subst, ℕ, ℤ, zero, suc, ◌+◌, ◌*◌, ◌<◌, ◌≤◌, ◌==◌, true, false, List, [], ◌∷◌, ◌++◌, codes, length, Some, slice_get, arith}
-use Rattle.std.specs.Prelude.{slice_index_or, sum}
+use Rattle.std.specs.Prelude.{slice_index_or}
 use Rattle.std.specs.Option.{option_map}
 use Rattle.std.proofs.lemmas.Option.{get_or_from_slice_get, same_Some, slice_get-map, slice_get_within}
 use Rattle.std.proofs.lemmas.List.{length-append}
@@ -20,12 +20,13 @@ use Rattle.run_laws.specs.Orders.{count_of}
 use Rattle.run_laws.proofs.ListLemmas.{get_behind, get_front}
 use Rattle.run_laws.proofs.RunLemmas.{as_many as as_many_new}
 use Rattle.session_state.specs.Changes.{Parts, StateStands}
+use Rattle.shared_history.specs.Meeting.{moments_by}
 use Rattle.script_run.specs.Opening.{AreNew, IsNew, counts}
 use Rattle.script_run.specs.Running.{AreSpeakers, IsRunningAt, IsSpeaker}
-use Rattle.script_run.specs.Scripts.{IsSoundScript}
+use Rattle.script_run.specs.Seats.{IsAtRest}
 use Rattle.script_run.specs.declared.running.Running.{Running}
 use Rattle.script_run.specs.declared.running.Speaker.{Speaker}
-use Rattle.script_run.proofs.CountLemmas.{all_counted, as_many, count_at}
+use Rattle.script_run.proofs.CountLemmas.{as_many, count_at}
 
 new_at : (place : ℕ) (names : List (List ℕ)) (at : ℕ) (name : List ℕ) → slice_get names at ≡ Some name → slice_get (new_spoken place names) at ≡ Some (new_session (place + at) name, [])
 new_at place [] at name h = absurd (cc)
@@ -104,23 +105,23 @@ module _ {D : Type 0} (address : List ℕ → List ℕ) (epoch : ℤ) (script : 
         (new_is place named.0 speaker are stands named.1 (new.each place (count_of place script.lines) speaker named.0 found named.1 counted));
   }
 
-pub run_opened : {D : Type 0} (address : List ℕ → List ℕ) (epoch : ℤ) (script : Script) (running : Running D) (statements : List ℕ) → LinesAreRun → IsSoundScript script
+pub run_opened : {D : Type 0} (address : List ℕ → List ℕ) (epoch : ℤ) (script : Script) (running : Running D) (statements : List ℕ) → LinesAreRun
     → statements ≡ counts (length script.names) script.lines
-    → ((names : List (List ℕ)) → length names ≡ length statements → StateStands address running.db.parts (opening address epoch names))
-    → running.db.parts.moments ≡ [] → 2 * sum statements ≤ running.db.moments_room → 2 * sum statements ≤ running.db.segments_room
+    → ((names : List (List ℕ)) → length names ≡ length statements → StateStands address running.lone.db.parts (opening address epoch names))
+    → running.lone.db.parts.moments ≡ [] → running.lone.db.parts.numbers ≡ statements → IsAtRest address running.lone
     → AreNew address script.names statements running.speakers.items
     → IsRunningAt address epoch script 0 running
-run_opened address epoch script running statements laws sound are opens none moments segments new =
+run_opened address epoch script running statements laws are opens none numbers rest new =
     let many : length script.names ≡ length statements = sym (ap length are ∙ as_many (length script.names) script.lines) in
     let stands = opens script.names many in
-    let all : sum statements ≡ length script.lines = ap sum are ∙ all_counted (length script.names) script.lines sound.sessions in
     record {
       shared = opening address epoch script.names;
       spoken = new_spoken 0 script.names;
       run = subst (λ (o : List Moment). IsRunTo command address epoch script 0 o (opening address epoch script.names) (new_spoken 0 script.names)) (sym none)
           (laws.first command address epoch script);
       stands = stands;
-      speakers = speakers_are address epoch script running.db.parts running.speakers.items statements are stands new;
-      moments_room = omega arith;
-      segments_room = omega arith;
+      speakers = speakers_are address epoch script running.lone.db.parts running.speakers.items statements are stands new;
+      rest = rest;
+      numbers = numbers ∙ are;
+      few = λ place. let made : moments_by place running.lone.db.parts.moments ≡ 0 = ap (moments_by place) none in omega (arith, made);
     }

@@ -1,6 +1,6 @@
 -- Sessions before their first statements, each with its lines' texts.
 use Rattle.std.proofs.Common.{◌≡◌, ◌≢◌, refl, sym, ◌∙◌, ap, subst, ℕ, ℤ, zero, suc, ◌+◌, ◌-◌, ◌*◌, ◌<◌, ◌≤◌, ◌^◌, ◌==◌, true, false, List, [], ◌∷◌, ◌++◌, codes, drop, length, map, Some, slice_get, vec_capacity, arith, if◌then◌else◌}
-use Rattle.std.specs.Prelude.{slice_index_or, sum}
+use Rattle.std.specs.Prelude.{slice_index_or}
 use Rattle.std.specs.List.{list_all}
 use Rattle.std.specs.Option.{option_map}
 use Rattle.std.proofs.lemmas.Bool.{and_parts as both, and_from as join}
@@ -22,15 +22,17 @@ use Rattle.run_laws.specs.Replaying.{first_runners}
 use Rattle.run_laws.proofs.ListLemmas.{get_behind, get_front}
 use Rattle.run_laws.proofs.OrderLemmas.{count_fits as count_most}
 use Rattle.session_state.specs.Changes.{Parts, StateStands}
+use Rattle.shared_history.specs.Meeting.{moments_by}
 use Rattle.script_run.specs.Following.{ArePlayers, IsPlayer, IsPlayingAt, StandsAt, moments_left, starts_made, texts_of}
 use Rattle.script_run.specs.Opening.{AreNewPlayers, IsNew, IsNewPlayer, counts}
 use Rattle.script_run.specs.Scripts.{IsSoundScript, has_statement, is_statement_text}
+use Rattle.script_run.specs.Seats.{IsAtRest, room_at}
 use Rattle.script_run.specs.declared.players.Player.{Player}
 use Rattle.script_run.specs.declared.players.Playing.{Playing}
 use Rattle.script_run.specs.declared.players.Stage.{Stage}
 use Rattle.script_run.specs.declared.players.Stage.TheVariants as stage
 use Rattle.script_run.specs.declared.running.Speaker.{Speaker}
-use Rattle.script_run.proofs.CountLemmas.{as_many, count_at, sum_cons}
+use Rattle.script_run.proofs.CountLemmas.{as_many, count_at}
 use Rattle.script_run.proofs.OpenLemmas.{no_chunks}
 
 -- ---- texts
@@ -127,20 +129,6 @@ found_first script place (first ∷ names) (suc at) name h =
 
 -- ---- room
 
-sum_left : {D : Type 0} (players : List (Player D)) (statements : List ℕ) → length players ≡ length statements
-    → ((place count : ℕ) (player : Player D) → slice_get players place ≡ Some player → slice_get statements place ≡ Some count → moments_left player ≡ 2 * count)
-    → sum (map moments_left players) ≡ 2 * sum statements
-sum_left [] [] many each = refl
-sum_left [] (count ∷ statements) many each = absurd (omega arith)
-sum_left (player ∷ players) [] many each = absurd (omega arith)
-sum_left (player ∷ players) (count ∷ statements) many each =
-    let rest : length players ≡ length statements = omega arith in
-    let first : moments_left player ≡ 2 * count = each 0 count player refl refl in
-    let more : sum (map moments_left players) ≡ 2 * sum statements = sum_left players statements rest (λ place n other h g. each (suc place) n other h g) in
-    let left : sum (map moments_left (player ∷ players)) ≡ moments_left player + sum (map moments_left players) = sum_cons (moments_left player) (map moments_left players) in
-    let counted : sum (count ∷ statements) ≡ count + sum statements = sum_cons count statements in
-    omega arith
-
 pub new_left : {D : Type 0} (address : List ℕ → List ℕ) (place : ℕ) (name : List ℕ) (lines : List Line) (player : Player D)
     → IsNewPlayer address place name lines (count_of place lines) player → moments_left player ≡ 2 * count_of place lines
 new_left address place name lines player new =
@@ -202,26 +190,28 @@ module _ {D : Type 0} (address : List ℕ → List ℕ) (epoch : ℤ) (script : 
         (new_is place named.0 player sound stands named.1 (new_at are new place named.0 player named.1 found));
   }
 
-  pub all_left : statements ≡ counts (length script.names) script.lines → AreNewPlayers address script.names script.lines statements players
-      → sum (map moments_left players) ≡ 2 * sum statements
-  all_left are new =
-      let many : length statements ≡ length script.names = ap length are ∙ as_many (length script.names) script.lines in
-      sum_left players statements (new.lists ∙ sym many) (λ place count player found counted.
+  -- for the moments of all its statements
+  pub new_room : statements ≡ counts (length script.names) script.lines → AreNewPlayers address script.names script.lines statements players → parts.moments ≡ [] → parts.numbers ≡ statements
+      → (place : ℕ) (player : Player D) → slice_get players place ≡ Some player → moments_left player ≤ room_at parts place
+  new_room are new none numbers place player found =
       let below : place < length script.names = subst (λ n. place < n) new.lists (slice_get_within players place player found) in
       let named = there_at script.names place below in
-      let same : count ≡ count_of place script.lines = same_Some _ _ (sym counted ∙ at_count are place below) in
-      subst (λ n. moments_left player ≡ 2 * n) (sym same) (new_left address place named.0 script.lines player (new_at are new place named.0 player named.1 found)))
+      let left : moments_left player ≡ 2 * count_of place script.lines = new_left address place named.0 script.lines player (new_at are new place named.0 player named.1 found) in
+      let counted : slice_index_or parts.numbers place 0 ≡ count_of place script.lines
+      = get_or_from_slice_get parts.numbers place (count_of place script.lines) 0 (ap (λ (ns : List ℕ). slice_get ns place) numbers ∙ at_count are place below) in
+      let made : moments_by place parts.moments ≡ 0 = ap (moments_by place) none in
+      let room : moments_left player ≤ 2 * slice_index_or parts.numbers place 0 - moments_by place parts.moments = omega (arith, left, counted, made) in
+      room
 
 pub play_opened : {D : Type 0} (address : List ℕ → List ℕ) (epoch : ℤ) (script : Script) (playing : Playing D) (statements : List ℕ) → OrdersAreFollowed → IsSoundScript script
     → statements ≡ counts (length script.names) script.lines
-    → ((names : List (List ℕ)) → length names ≡ length statements → StateStands address playing.db.parts (opening address epoch names))
-    → playing.db.parts.moments ≡ [] → 2 * sum statements ≤ playing.db.moments_room → 2 * sum statements ≤ playing.db.segments_room
+    → ((names : List (List ℕ)) → length names ≡ length statements → StateStands address playing.lone.db.parts (opening address epoch names))
+    → playing.lone.db.parts.moments ≡ [] → playing.lone.db.parts.numbers ≡ statements → IsAtRest address playing.lone
     → AreNewPlayers address script.names script.lines statements playing.players.items
     → IsPlayingAt address epoch script [] playing
-play_opened address epoch script playing statements laws sound are opens none moments segments new =
+play_opened address epoch script playing statements laws sound are opens none numbers rest new =
     let many : length script.names ≡ length statements = sym (ap length are ∙ as_many (length script.names) script.lines) in
     let stands = opens script.names many in
-    let left : sum (map moments_left playing.players.items) ≡ 2 * sum statements = all_left address epoch script playing.db.parts playing.players.items statements are new in
     record {
       shared = opening address epoch script.names;
       runners = first_runners command script 0 script.names;
@@ -230,7 +220,7 @@ play_opened address epoch script playing statements laws sound are opens none mo
       all = as_many_first script 0 script.names;
       within = refl;
       stands = stands;
-      players = players_are address epoch script playing.db.parts playing.players.items statements sound are stands new;
-      moments_room = omega arith;
-      segments_room = omega arith;
+      players = players_are address epoch script playing.lone.db.parts playing.players.items statements sound are stands new;
+      rest = rest;
+      room = new_room address epoch script playing.lone.db.parts playing.players.items statements are new none numbers;
     }

@@ -259,22 +259,22 @@ module _ {D : Type 0} (address : List ℕ → List ℕ) (script : Script) (momen
   }
 
 abbrev along_of : {D : Type 0} {address : List ℕ → List ℕ} {epoch : ℤ} {script : Script} {moments : List Moment} {playing : Playing D} → IsPlayingAt address epoch script moments playing
-    → AreAlong address script moments playing.db.parts playing.players.items
+    → AreAlong address script moments playing.lone.db.parts playing.players.items
 along_of now = record { shared = now.shared; runners = now.runners; made = now.made; all = now.all; within = now.within; stands = now.stands; players = now.players }
 
 pub is_replayed : {D : Type 0} (address : List ℕ → List ℕ) (epoch : ℤ) (script : Script) (playing : Playing D) (replies : List (List Reply)) (order : List Moment) (branches : List BranchLine)
     → OrdersAreFollowed → IsSoundScript script → IsPlayingAt address epoch script (asked_order script) playing
     → list_all is_settled playing.players.items ≡ true → list_all is_through playing.players.items ≡ true
-    → replies ≡ map (λ (player : Player D). player.replies.items) playing.players.items → order ≡ playing.db.parts.moments → branches ≡ playing.db.parts.branches
+    → replies ≡ map (λ (player : Player D). player.replies.items) playing.players.items → order ≡ playing.lone.db.parts.moments → branches ≡ playing.lone.db.parts.branches
     → IsReplayed address epoch script (record { names = script.names; replies = replies; order = order; branches = branches })
 is_replayed address epoch script playing replies order branches laws sound now settled through said in_order lines =
-    subst (λ (run : RunText). IsReplayed address epoch script run) (sym (shown_is address script (asked_order script) playing.db.parts playing.players.items (along_of now) replies order branches said in_order lines)) (record {
-      plain = laws.plain command address epoch script (asked_order script) now.shared now.runners (are_waiting address script (asked_order script) playing.db.parts playing.players.items (along_of now) settled)
-          (are_over address script (asked_order script) playing.db.parts playing.players.items (along_of now) ∙ through) now.along;
-      truly = are_truly address script (asked_order script) playing.db.parts playing.players.items (along_of now);
+    subst (λ (run : RunText). IsReplayed address epoch script run) (sym (shown_is address script (asked_order script) playing.lone.db.parts playing.players.items (along_of now) replies order branches said in_order lines)) (record {
+      plain = laws.plain command address epoch script (asked_order script) now.shared now.runners (are_waiting address script (asked_order script) playing.lone.db.parts playing.players.items (along_of now) settled)
+          (are_over address script (asked_order script) playing.lone.db.parts playing.players.items (along_of now) ∙ through) now.along;
+      truly = are_truly address script (asked_order script) playing.lone.db.parts playing.players.items (along_of now);
       order = refl;
-      printable = are_printable address script (asked_order script) playing.db.parts playing.players.items (along_of now);
-      shown = are_shown address script (asked_order script) playing.db.parts playing.players.items (along_of now) sound;
+      printable = are_printable address script (asked_order script) playing.lone.db.parts playing.players.items (along_of now);
+      shown = are_shown address script (asked_order script) playing.lone.db.parts playing.players.items (along_of now) sound;
     })
 
 -- ---- an item can't be followed, or a moment is left
@@ -294,14 +294,14 @@ pub is_stopped : {D : Type 0} (address : List ℕ → List ℕ) (epoch : ℤ) (s
     → IsStoppedAt address epoch script (record { item = item; names = script.names; replies = replies })
 is_stopped address epoch script playing count item replies laws sound fits now within settled cant left said numbered =
     let order : List Moment = asked_order script in
-    let same : all_replies now.runners ≡ replies = sym (said ∙ replies_are address script (take count order) playing.db.parts playing.players.items (along_of now)) in
+    let same : all_replies now.runners ≡ replies = sym (said ∙ replies_are address script (take count order) playing.lone.db.parts playing.players.items (along_of now)) in
     let stopped : (stop : IsStopped command address epoch script order count (shortages_in replies)) × (all_replies stop.state.runners ≡ replies)
     = subst (λ (rs : List (List Reply)). (stop : IsStopped command address epoch script order count (shortages_in rs)) × (all_replies stop.state.runners ≡ rs)) same
-    (laws.stopped command address epoch script order count now.shared now.runners (are_waiting address script (take count order) playing.db.parts playing.players.items (along_of now) settled) now.along within
+    (laws.stopped command address epoch script order count now.shared now.runners (are_waiting address script (take count order) playing.lone.db.parts playing.players.items (along_of now) settled) now.along within
     (option_cases (λ (found : Option Moment). CantGoOn address epoch (shortages_in (all_replies now.runners)) (record { shared = now.shared; runners = now.runners }) found) (slice_get order count)
-    (λ none. are_over address script (take count order) playing.db.parts playing.players.items (along_of now) ∙ left (behind_last order count within none))
+    (λ none. are_over address script (take count order) playing.lone.db.parts playing.players.items (along_of now) ∙ left (behind_last order count within none))
     (λ moment there. laws.refused address epoch (shortages_in (all_replies now.runners)) now.shared now.runners moment
-    (none_next address script (take count order) playing.db.parts playing.players.items (along_of now) moment (cant moment there))))) in
+    (none_next address script (take count order) playing.lone.db.parts playing.players.items (along_of now) moment (cant moment there))))) in
     record {
       count = count;
       item = numbered;
@@ -309,8 +309,8 @@ is_stopped address epoch script playing count item replies laws sound fits now w
       said = sym stopped.1;
       names = refl;
       shown = subst (λ (rs : List (List Reply)). IsShownStop (record { item = item; names = script.names; replies = rs })) same
-          (is_shown_stop address script (take count order) playing.db.parts playing.players.items (along_of now) item fits sound);
-      truly = subst (λ (rs : List (List Reply)). AllTellTruly address rs) same (are_truly address script (take count order) playing.db.parts playing.players.items (along_of now));
+          (is_shown_stop address script (take count order) playing.lone.db.parts playing.players.items (along_of now) item fits sound);
+      truly = subst (λ (rs : List (List Reply)). AllTellTruly address rs) same (are_truly address script (take count order) playing.lone.db.parts playing.players.items (along_of now));
     }
 
 -- ---- whole or not

@@ -1,5 +1,5 @@
 -- Sessions that follow a given order.
-use Rattle.std.specs.Prelude.{◌≡◌, ◌≢◌, ℕ, ℤ, ◌+◌, ◌-◌, ◌*◌, ◌<◌, ◌≤◌, ◌^◌, ◌==◌, Bool, true, false, ◌&&◌, not, List, [], ◌∷◌, ◌++◌, length, map, sum, drop, Option, None, Some, slice_get, vec_capacity, if◌then◌else◌}
+use Rattle.std.specs.Prelude.{◌≡◌, ◌≢◌, ℕ, ℤ, ◌+◌, ◌-◌, ◌*◌, ◌<◌, ◌≤◌, ◌^◌, ◌==◌, Bool, true, false, ◌&&◌, not, List, [], ◌∷◌, ◌++◌, length, map, drop, Option, None, Some, slice_get, vec_capacity, if◌then◌else◌}
 use Rattle.std.specs.List.{AllByRecursion, list_all}
 use Rattle.script_text.specs.Collisions.{AllTellTruly, TellsTruly}
 use Rattle.script_text.specs.Output.{Shortage, AtOnce, shortage}
@@ -27,13 +27,11 @@ use Rattle.session_state.specs.Changes.{Parts, StateStands}
 use Rattle.session_state.specs.declared.sessions.Session.{Session}
 use Rattle.serving.specs.Serving.{is_sound_reply}
 use Rattle.serving.specs.Serving.{IsBefore, IsBetween, Passes}
-use Rattle.serving.specs.Starting.{IsStarted}
 use Rattle.serving.specs.Steps.{number_at}
 use Rattle.script_run.specs.Scripts.{is_statement_text}
+use Rattle.script_run.specs.Seats.{IsAtRest, room_at}
 use Rattle.script_run.specs.declared.following.Replayed.{Replayed}
 use Rattle.script_run.specs.declared.following.Replayed.TheVariants as replayed
-use Rattle.script_run.specs.declared.going.Led.{Led}
-use Rattle.script_run.specs.declared.going.Led.TheVariants as led
 use Rattle.script_run.specs.declared.players.Player.{Player}
 use Rattle.script_run.specs.declared.players.Playing.{Playing}
 use Rattle.script_run.specs.declared.players.Stage.{Stage}
@@ -140,25 +138,6 @@ pub record IsLed {D : Type 0} (address : List ℕ → List ℕ) (epoch : ℤ) (p
   pub state_stands : StateStands address new left
   pub passes : Passes place runner.session.statement shared left old new
 
--- the start of its statement was made, and its work is to be done on what the start found
-pub record IsLedInto {D : Type 0} (address : List ℕ → List ℕ) (place : ℕ) (runner : Runner) (shared : Shared) (old new : Parts) (asked : Command) (player : Player D) : Type 0 where
-  pub was : Session D
-  pub is : IsPlayer address old shared place runner (record player { session = was; stage = stage.Waits asked })
-  pub started : IsStarted address runner.session asked shared old new player.session
-  pub free : player.stage ≡ stage.Free
-
--- what a session came to with the shared database
-abbrev pub LedAs : {D : Type 0} → (List ℕ → List ℕ) → ℤ → ℕ → Runner → Shared → Parts → Parts → Player D → Led → Type 0
-LedAs address epoch place runner shared old new player led.Missed = IsFurther address old shared place runner player
-LedAs address epoch place runner shared old new player led.Made = IsLed address epoch place runner shared old new player
-LedAs address epoch place runner shared old new player (led.Started asked) = IsLedInto address place runner shared old new asked player
-
--- a start whose work is to be done is counted with its work
-abbrev pub steps_made : Led → ℕ
-steps_made led.Missed = 1
-steps_made led.Made = 1
-steps_made (led.Started asked) = 0
-
 -- an item was followed: on to the moment of this statement, at it, and on to the next one
 pub record HasFollowed {D : Type 0} (address : List ℕ → List ℕ) (epoch : ℤ) (place statement : ℕ) (runner : Runner) (shared : Shared) (old new : Parts) (player : Player D) : Type 0 where
   pub here : Runner
@@ -206,19 +185,19 @@ pub record AreAlong {D : Type 0} (address : List ℕ → List ℕ) (script : Scr
   pub stands : StateStands address parts shared
   pub players : ArePlayers address parts shared runners sessions
 
--- along these moments the machine has come to a shared state and to sessions for which the program's stand; and there is room for the moments
--- and segments that may follow
+-- along these moments the machine has come to a shared state and to sessions for which the program's stand; no turn is under way, and there is
+-- room for the moments that each session may still take
 pub record IsPlayingAt {D : Type 0} (address : List ℕ → List ℕ) (epoch : ℤ) (script : Script) (moments : List Moment) (playing : Playing D) : Type 0 where
   pub shared : Shared
   pub runners : List Runner
   pub along : Along command address epoch script moments shared runners
-  pub made : playing.db.parts.moments ≡ moments
+  pub made : playing.lone.db.parts.moments ≡ moments
   pub all : length runners ≡ length script.names
   pub within : list_all (is_shown_moment (length script.names)) moments ≡ true
-  pub stands : StateStands address playing.db.parts shared
-  pub players : ArePlayers address playing.db.parts shared runners playing.players.items
-  pub moments_room : sum (map moments_left playing.players.items) ≤ playing.db.moments_room
-  pub segments_room : sum (map moments_left playing.players.items) ≤ playing.db.segments_room
+  pub stands : StateStands address playing.lone.db.parts shared
+  pub players : ArePlayers address playing.lone.db.parts shared runners playing.players.items
+  pub rest : IsAtRest address playing.lone
+  pub room : (place : ℕ) (player : Player D) → slice_get playing.players.items place ≡ Some player → moments_left player ≤ room_at playing.lone.db.parts place
 
 -- ---- the end
 

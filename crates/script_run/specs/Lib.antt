@@ -1,6 +1,6 @@
 pub mod Following
 pub mod Laws
 pub mod Opening
-pub mod Planning
 pub mod Running
 pub mod Scripts
+pub mod Seats

@@ -143,7 +143,7 @@ fn follow_at<D: Digester, P: Pacer>(
 {
     law_of_orders();
     let player = &mut playing.players[place];
-    follow(alloc, pacer, &mut playing.db, player, statement, epoch)
+    follow(alloc, pacer, &mut playing.lone, player, statement, epoch)
 }
 
 /// Each session runs to its next moment, or to its end.
@@ -200,8 +200,8 @@ fn run_text<D: Digester>(
 {
     let _ = epoch;
     law_of_orders();
-    let order = Vec::from_slice(alloc, playing.db.moments())?;
-    let branches = playing.db.branch_lines(alloc)?;
+    let order = Vec::from_slice(alloc, playing.lone.db.moments())?;
+    let branches = playing.lone.db.branch_lines(alloc)?;
     let replies = replies_of(alloc, playing.players)?;
     Ok(RunText {
         names: script.names,

@@ -1,28 +1,24 @@
 //! One session on its way along a given order: its statements without a moment, and its next moment.
 
-ghost use Rattle.std.specs.Prelude.{◌≡◌, ◌⊎◌, ◌<◌, ◌≤◌, ◌≤ℤ◌, ◌+◌, ℕ, ℤ, pos, true, false, length, IfSome};
-ghost use Rattle.chunk_store.specs.Chunks.{Lists};
-ghost use Rattle.chunk_store.specs.Stores.{all_chunks};
+ghost use Rattle.std.specs.Prelude.{◌≡◌, ◌⊎◌, ◌<◌, ◌≤◌, ◌≤ℤ◌, ◌+◌, ℕ, pos, true, false, length};
 ghost use Rattle.plain_sessions.specs.Records.{Shared};
 ghost use Rattle.plain_sessions.specs.Runs.{Runner};
 ghost use Rattle.session_state.specs.Changes.{Parts};
-ghost use Rattle.shared_db.specs.Shared.{KeepsRoom};
-ghost use Rattle.serving.specs.Planning.{PlansPending};
-ghost use Rattle.serving.specs.Steps.{HasRoomStill};
-ghost use Rattle.script_run.specs.Following.{HasFollowed, IsAsked, IsFurther, IsLed, IsLedInto, IsPlayer, LedAs, is_free, is_next_at, is_settled, moments_left, steps_made};
-ghost use Rattle.script_run.specs.Planning.{PlansStage};
-ghost use Rattle.script_run.specs.declared.going.Led.TheVariants as led;
+ghost use Rattle.shared_history.specs.Meeting.{room_of};
+ghost use Rattle.serving.specs.Meetings.{HoldsAfterThree, InOneMoment, WaitsFree};
+ghost use Rattle.script_run.specs.Following.{HasFollowed, IsAsked, IsFurther, IsLed, IsPlayer, is_free, is_next_at, is_settled, moments_left};
+ghost use Rattle.script_run.specs.Seats.{IsAtRest, IsSeatOf, room_at};
 ghost use Rattle.script_run.specs.declared.players.Stage.TheVariants as stage;
 
 use crate::asking::asked_by;
 use crate::lines::number_of;
-use crate::planning::{conclude_by, lead_planned, meet_by};
 use crate::players::{Player, Stage};
 use chunk_store::PutFault;
 use plain_sessions::Command;
-use serving::{Begun, Met, Pending, Planned, answer_fault, come_to, drop_started, work_started};
-use shared_db::SharedDb;
+use serving::{Met, Pending, answer_fault, come_to, conclude, drop_started, meet};
+use shared_history::{LoneDb, Meeting};
 use std::alloc::Global;
+use std::mem::replace;
 use tuple_codec::{Boxed, Digester};
 use wire_io::Pacer;
 
@@ -108,27 +104,28 @@ pub fn is_free(stage: &Stage) -> bool
 pub(crate) fn follow<D: Digester, P: Pacer>(
     alloc: Global,
     pacer: &P,
-    db: &mut SharedDb,
+    lone: &mut LoneDb<D>,
     player: &mut Player<D>,
     statement: u32,
     epoch: i64,
 ) -> bool
-    requires player { (shared : Shared) × (place : ℕ) × (runner : Runner) × IsPlayer D.address db.old.parts shared place runner player.old }
+    requires player { (shared : Shared) × (place : ℕ) × (runner : Runner) × IsPlayer D.address lone.old.db.parts shared place runner player.old
+        × (moments_left player.old ≤ room_at lone.old.db.parts place) }
+    requires rest { IsAtRest D.address lone.old }
     requires epoch { pos 0 ≤ℤ epoch }
-    requires moments { moments_left player.old ≤ db.old.moments_room }
-    requires segments { moments_left player.old ≤ db.old.segments_room }
-    ensures made { result ≡ true → (shared : Shared) (place : ℕ) (runner : Runner) → IsPlayer D.address db.old.parts shared place runner player.old
-        → HasFollowed D.address epoch place statement runner shared db.old.parts db.new.parts player.new }
-    ensures missed { result ≡ false → (shared : Shared) (place : ℕ) (runner : Runner) → IsPlayer D.address db.old.parts shared place runner player.old
-        → IsFurther D.address db.old.parts shared place runner player.new }
-    ensures same { result ≡ false → db.new.parts ≡ db.old.parts }
+    ensures made { result ≡ true → (shared : Shared) (place : ℕ) (runner : Runner) → IsPlayer D.address lone.old.db.parts shared place runner player.old
+        → HasFollowed D.address epoch place statement runner shared lone.old.db.parts lone.new.db.parts player.new }
+    ensures missed { result ≡ false → (shared : Shared) (place : ℕ) (runner : Runner) → IsPlayer D.address lone.old.db.parts shared place runner player.old
+        → IsFurther D.address lone.old.db.parts shared place runner player.new }
+    ensures same { result ≡ false → lone.new.db.parts ≡ lone.old.db.parts }
+    ensures rest { IsAtRest D.address lone.new }
     ensures settled { is_settled player.new ≡ true }
     ensures past { result ≡ false → is_next_at statement player.new ≡ false }
-    ensures moments_left { db.old.moments_room + moments_left player.new ≤ db.new.moments_room + moments_left player.old }
-    ensures segments_left { db.old.segments_room + moments_left player.new ≤ db.new.segments_room + moments_left player.old }
+    ensures left { moments_left player.new ≤ moments_left player.old }
+    ensures one_less { result ≡ true → moments_left player.new + 1 ≤ moments_left player.old }
 {
     go_on(alloc, pacer, player);
-    let made = lead_at(alloc, db, player, statement, epoch);
+    let made = lead_at(alloc, lone, player, statement, epoch);
     go_on(alloc, pacer, player);
     made
 }
@@ -136,28 +133,30 @@ pub(crate) fn follow<D: Digester, P: Pacer>(
 /// Leads the session to the moment of this statement, where that is the one that it needs next.
 fn lead_at<D: Digester>(
     alloc: Global,
-    db: &mut SharedDb,
+    lone: &mut LoneDb<D>,
     player: &mut Player<D>,
     statement: u32,
     epoch: i64,
 ) -> bool
-    requires player { (shared : Shared) × (place : ℕ) × (runner : Runner) × IsPlayer D.address db.old.parts shared place runner player.old }
+    requires player { (shared : Shared) × (place : ℕ) × (runner : Runner) × IsPlayer D.address lone.old.db.parts shared place runner player.old
+        × (moments_left player.old ≤ room_at lone.old.db.parts place) }
+    requires rest { IsAtRest D.address lone.old }
     requires epoch { pos 0 ≤ℤ epoch }
-    requires moments { moments_left player.old ≤ db.old.moments_room }
-    requires segments { moments_left player.old ≤ db.old.segments_room }
-    ensures led { result ≡ true → (shared : Shared) (place : ℕ) (runner : Runner) → IsPlayer D.address db.old.parts shared place runner player.old
-        → (runner.session.statement ≡ statement) × IsLed D.address epoch place runner shared db.old.parts db.new.parts player.new }
-    ensures missed { result ≡ false → (shared : Shared) (place : ℕ) (runner : Runner) → IsPlayer D.address db.old.parts shared place runner player.old
-        → IsFurther D.address db.old.parts shared place runner player.new }
-    ensures same { result ≡ false → db.new.parts ≡ db.old.parts }
+    ensures led { result ≡ true → (shared : Shared) (place : ℕ) (runner : Runner) → IsPlayer D.address lone.old.db.parts shared place runner player.old
+        → (runner.session.statement ≡ statement) × IsLed D.address epoch place runner shared lone.old.db.parts lone.new.db.parts player.new }
+    ensures missed { result ≡ false → (shared : Shared) (place : ℕ) (runner : Runner) → IsPlayer D.address lone.old.db.parts shared place runner player.old
+        → IsFurther D.address lone.old.db.parts shared place runner player.new }
+    ensures same { result ≡ false → lone.new.db.parts ≡ lone.old.db.parts }
+    ensures rest { IsAtRest D.address lone.new }
     ensures past { result ≡ false → ((player.new ≡ player.old) × (is_next_at statement player.old ≡ false)) ⊎ (statement ≤ length player.new.replies.items) }
-    ensures moments_left { db.old.moments_room + moments_left player.new ≤ db.new.moments_room + moments_left player.old }
-    ensures segments_left { db.old.segments_room + moments_left player.new ≤ db.new.segments_room + moments_left player.old }
+    ensures left { moments_left player.new ≤ moments_left player.old }
+    ensures one_less { result ≡ true → moments_left player.new + 1 ≤ moments_left player.old }
 {
     if !is_next(player, statement) {
         return false;
     }
-    lead(alloc, db, player, epoch)
+    lone.seat(player.session.number, statement);
+    lead(alloc, lone, player, epoch)
 }
 
 /// Whether the session needs its next moment at this statement.
@@ -167,165 +166,119 @@ fn is_next<D: Digester>(player: &Player<D>, statement: u32) -> bool
     !is_free(&player.stage) && number_of(player.session.position) == statement
 }
 
-/// What a session came to with the shared database.
-#[derive(Drop)]
-pub enum Led {
-    /// No moment was made; the statement is answered.
-    Missed,
-    /// The moment was made, and all that belongs to it is done.
-    Made,
-    /// The start of this statement was made. Its work is to be done, and needs no database.
-    Started(Boxed<Command>),
-}
-
 /// Leads the session, which needs a moment, to it, and through the work behind a start. Where memory is wanting or an address fails no moment is made,
 /// and the statement is answered.
-pub(crate) fn lead<D: Digester>(
+pub fn lead<D: Digester, T: Meeting<D>>(
     alloc: Global,
-    db: &mut SharedDb,
+    meeting: &mut T,
     player: &mut Player<D>,
     epoch: i64,
 ) -> bool
-    requires player { (shared : Shared) × (place : ℕ) × (runner : Runner) × IsPlayer D.address db.old.parts shared place runner player.old }
+    requires ready { (first : T) × T.ready first meeting.old }
+    requires player { (shared : Shared) × (place : ℕ) × (runner : Runner) × IsPlayer D.address (T.tells meeting.old).seen shared place runner player.old }
+    requires seat { IsSeatOf (T.tells meeting.old) player.old.session }
     requires waits { is_free player.old.stage ≡ false }
     requires epoch { pos 0 ≤ℤ epoch }
-    requires moments { 0 < db.old.moments_room }
-    requires segments { 0 < db.old.segments_room }
-    ensures led { result ≡ true → (shared : Shared) (place : ℕ) (runner : Runner) → IsPlayer D.address db.old.parts shared place runner player.old
-        → IsLed D.address epoch place runner shared db.old.parts db.new.parts player.new }
-    ensures missed { result ≡ false → (shared : Shared) (place : ℕ) (runner : Runner) → IsPlayer D.address db.old.parts shared place runner player.old
-        → IsFurther D.address db.old.parts shared place runner player.new }
-    ensures same { result ≡ false → db.new.parts ≡ db.old.parts }
+    requires room { 0 < room_of (T.tells meeting.old) }
+    ensures ready { (first : T) → T.ready first meeting.old → T.ready first meeting.new }
+    ensures led { result ≡ true → (shared : Shared) (place : ℕ) (runner : Runner) → IsPlayer D.address (T.tells meeting.old).seen shared place runner player.old
+        → InOneMoment D.address (λ found shared left. IsLed D.address epoch place runner shared found left player.new) (T.tells meeting.old) (T.tells meeting.new) }
+    ensures missed { result ≡ false → (parts : Parts) (shared : Shared) (place : ℕ) (runner : Runner) → IsPlayer D.address parts shared place runner player.old
+        → IsFurther D.address parts shared place runner player.new }
+    ensures stays { result ≡ false → WaitsFree (T.tells meeting.old) (T.tells meeting.new) }
     ensures answered { result ≡ false → length player.new.replies.items ≡ length player.old.replies.items + 1 }
     ensures left { moments_left player.new + 1 ≤ moments_left player.old }
-    ensures room { KeepsRoom 1 db.old db.new }
+    ensures holds { HoldsAfterThree (T.tells meeting.old) (T.tells meeting.new) }
 {
-    match lead_in(alloc, db, player, epoch) {
-        Led::Missed => false,
-        Led::Made => true,
-        Led::Started(asked) => {
-            work_out(alloc, player, asked);
-            true
-        }
+    match replace(&mut player.stage, Stage::Free) {
+        Stage::Free => unreachable!(),
+        Stage::Waits(asked) => meet_first(alloc, meeting, player, asked, epoch),
+        Stage::Between(asked, wanted) => decide(alloc, meeting, player, &asked, wanted, epoch),
     }
 }
 
-/// Leads the session, which needs a moment, to it. Behind a start the statement's work is left to be done.
-pub fn lead_in<D: Digester>(
+/// The first moment of its statement. Behind a start the session stands before its decision.
+fn meet_first<D: Digester, T: Meeting<D>>(
     alloc: Global,
-    db: &mut SharedDb,
-    player: &mut Player<D>,
-    epoch: i64,
-) -> Led
-    requires player { (shared : Shared) × (place : ℕ) × (runner : Runner) × IsPlayer D.address db.old.parts shared place runner player.old }
-    requires waits { is_free player.old.stage ≡ false }
-    requires epoch { pos 0 ≤ℤ epoch }
-    requires moments { 0 < db.old.moments_room }
-    requires segments { 0 < db.old.segments_room }
-    ensures led { (shared : Shared) (place : ℕ) (runner : Runner) → IsPlayer D.address db.old.parts shared place runner player.old
-        → LedAs D.address epoch place runner shared db.old.parts db.new.parts player.new result }
-    ensures same { result ≡ led.Missed → db.new.parts ≡ db.old.parts }
-    ensures answered { result ≡ led.Missed → length player.new.replies.items ≡ length player.old.replies.items + 1 }
-    ensures left { moments_left player.new + steps_made result ≤ moments_left player.old }
-    ensures room { KeepsRoom 1 db.old db.new }
-    ensures room_kept { result ≡ led.Missed → HasRoomStill db.old db.new }
-{
-    lead_planned(alloc, db, player, None, epoch)
-}
-
-/// The first moment of its statement, as it was planned where it was.
-pub(crate) fn meet_first<D: Digester>(
-    alloc: Global,
-    db: &mut SharedDb,
+    meeting: &mut T,
     player: &mut Player<D>,
     asked: Boxed<Command>,
-    planned: Option<Planned>,
     epoch: i64,
-) -> Led
-    requires player { (shared : Shared) × (place : ℕ) × (runner : Runner) × IsPlayer D.address db.old.parts shared place runner (record player.old { stage = stage.Waits asked }) }
+) -> bool
+    requires ready { (first : T) × T.ready first meeting.old }
+    requires player { (shared : Shared) × (place : ℕ) × (runner : Runner) × IsPlayer D.address (T.tells meeting.old).seen shared place runner (record player.old { stage = stage.Waits asked }) }
+    requires seat { IsSeatOf (T.tells meeting.old) player.old.session }
     requires free { player.old.stage ≡ stage.Free }
-    requires planned { IfSome planned (PlansStage D.address epoch player.old.session (stage.Waits asked)) }
-    requires grown { IfSome planned (λ planned. Lists (all_chunks planned.look.store) db.old.parts.chunks) }
     requires epoch { pos 0 ≤ℤ epoch }
-    requires moments { 0 < db.old.moments_room }
-    requires segments { 0 < db.old.segments_room }
-    ensures led { (shared : Shared) (place : ℕ) (runner : Runner) → IsPlayer D.address db.old.parts shared place runner (record player.old { stage = stage.Waits asked })
-        → LedAs D.address epoch place runner shared db.old.parts db.new.parts player.new result }
-    ensures same { result ≡ led.Missed → db.new.parts ≡ db.old.parts }
-    ensures answered { result ≡ led.Missed → length player.new.replies.items ≡ length player.old.replies.items + 1 }
-    ensures left { moments_left player.new + steps_made result ≤ moments_left (record player.old { stage = stage.Waits asked }) }
-    ensures room { KeepsRoom 1 db.old db.new }
-    ensures room_kept { result ≡ led.Missed → HasRoomStill db.old db.new }
+    requires room { 0 < room_of (T.tells meeting.old) }
+    ensures ready { (first : T) → T.ready first meeting.old → T.ready first meeting.new }
+    ensures led { result ≡ true → (shared : Shared) (place : ℕ) (runner : Runner) → IsPlayer D.address (T.tells meeting.old).seen shared place runner (record player.old { stage = stage.Waits asked })
+        → InOneMoment D.address (λ found shared left. IsLed D.address epoch place runner shared found left player.new) (T.tells meeting.old) (T.tells meeting.new) }
+    ensures missed { result ≡ false → (parts : Parts) (shared : Shared) (place : ℕ) (runner : Runner) → IsPlayer D.address parts shared place runner (record player.old { stage = stage.Waits asked })
+        → IsFurther D.address parts shared place runner player.new }
+    ensures stays { result ≡ false → WaitsFree (T.tells meeting.old) (T.tells meeting.new) }
+    ensures answered { result ≡ false → length player.new.replies.items ≡ length player.old.replies.items + 1 }
+    ensures left { moments_left player.new + 1 ≤ moments_left (record player.old { stage = stage.Waits asked }) }
+    ensures holds { HoldsAfterThree (T.tells meeting.old) (T.tells meeting.new) }
 {
-    match meet_by(alloc, db, &mut player.session, asked.get(), planned, epoch) {
-        Ok(Begun::Answered(reply)) => {
+    match meet(alloc, &mut player.session, asked.get(), meeting, epoch) {
+        Ok(Met::Answered(reply)) => {
             player.replies.push_reserved(reply);
-            Led::Made
+            true
         }
-        Ok(Begun::Started) => Led::Started(asked),
+        Ok(Met::Pending(wanted)) => {
+            player.stage = Stage::Between(asked, wanted);
+            true
+        }
         Err(fault) => {
             let reply = answer_fault(&mut player.session, fault);
             player.replies.push_reserved(reply);
-            Led::Missed
+            false
         }
     }
 }
 
-/// The work of a statement whose start was made, on what the start found. The session is answered, or stands before its decision.
-pub fn work_out<D: Digester>(alloc: Global, player: &mut Player<D>, asked: Boxed<Command>)
-    requires { (place : ℕ) × (runner : Runner) × (shared : Shared) × (old : Parts) × (new : Parts) × IsLedInto D.address place runner shared old new asked player.old }
-    ensures led { (epoch : ℤ) (place : ℕ) (runner : Runner) (shared : Shared) (old new : Parts) → IsLedInto D.address place runner shared old new asked player.old
-        → IsLed D.address epoch place runner shared old new player.new }
-    ensures left { moments_left player.new + 1 ≤ moments_left player.old }
-{
-    match work_started(alloc, &mut player.session, asked.get()) {
-        Met::Answered(reply) => player.replies.push_reserved(reply),
-        Met::Pending(wanted) => player.stage = Stage::Between(asked, wanted),
-    }
-}
-
-/// The decision behind its start, as it was planned where it was.
-pub(crate) fn decide<D: Digester>(
+/// The decision behind its start.
+fn decide<D: Digester, T: Meeting<D>>(
     alloc: Global,
-    db: &mut SharedDb,
+    meeting: &mut T,
     player: &mut Player<D>,
     asked: &Boxed<Command>,
     wanted: Pending,
-    planned: Option<Planned>,
     epoch: i64,
-) -> Led
-    requires player { (shared : Shared) × (place : ℕ) × (runner : Runner) × IsPlayer D.address db.old.parts shared place runner (record player.old { stage = stage.Between asked.now wanted }) }
+) -> bool
+    requires ready { (first : T) × T.ready first meeting.old }
+    requires player { (shared : Shared) × (place : ℕ) × (runner : Runner) × IsPlayer D.address (T.tells meeting.old).seen shared place runner (record player.old { stage = stage.Between asked.now wanted }) }
+    requires seat { IsSeatOf (T.tells meeting.old) player.old.session }
     requires free { player.old.stage ≡ stage.Free }
-    requires planned { IfSome planned (λ planned. PlansPending D.address epoch player.old.session asked.now wanted planned.look planned.plan) }
-    requires grown { IfSome planned (λ planned. Lists (all_chunks planned.look.store) db.old.parts.chunks) }
     requires epoch { pos 0 ≤ℤ epoch }
-    requires moments { 0 < db.old.moments_room }
-    requires segments { 0 < db.old.segments_room }
-    ensures led { (shared : Shared) (place : ℕ) (runner : Runner) → IsPlayer D.address db.old.parts shared place runner (record player.old { stage = stage.Between asked.now wanted })
-        → LedAs D.address epoch place runner shared db.old.parts db.new.parts player.new result }
-    ensures same { result ≡ led.Missed → db.new.parts ≡ db.old.parts }
-    ensures answered { result ≡ led.Missed → length player.new.replies.items ≡ length player.old.replies.items + 1 }
-    ensures left { moments_left player.new + steps_made result ≤ moments_left (record player.old { stage = stage.Between asked.now wanted }) }
-    ensures room { KeepsRoom 1 db.old db.new }
-    ensures room_kept { result ≡ led.Missed → HasRoomStill db.old db.new }
+    requires room { 0 < room_of (T.tells meeting.old) }
+    ensures ready { (first : T) → T.ready first meeting.old → T.ready first meeting.new }
+    ensures led { result ≡ true → (shared : Shared) (place : ℕ) (runner : Runner) → IsPlayer D.address (T.tells meeting.old).seen shared place runner (record player.old { stage = stage.Between asked.now wanted })
+        → InOneMoment D.address (λ found shared left. IsLed D.address epoch place runner shared found left player.new) (T.tells meeting.old) (T.tells meeting.new) }
+    ensures missed { result ≡ false → (parts : Parts) (shared : Shared) (place : ℕ) (runner : Runner) → IsPlayer D.address parts shared place runner (record player.old { stage = stage.Between asked.now wanted })
+        → IsFurther D.address parts shared place runner player.new }
+    ensures stays { result ≡ false → WaitsFree (T.tells meeting.old) (T.tells meeting.new) }
+    ensures answered { result ≡ false → length player.new.replies.items ≡ length player.old.replies.items + 1 }
+    ensures left { moments_left player.new + 1 ≤ moments_left (record player.old { stage = stage.Between asked.now wanted }) }
+    ensures holds { HoldsAfterThree (T.tells meeting.old) (T.tells meeting.new) }
 {
-    match conclude_by(
+    match conclude(
         alloc,
-        db,
         &mut player.session,
         asked.get(),
         wanted,
-        planned,
+        meeting,
         epoch,
     ) {
         Ok(reply) => {
             player.replies.push_reserved(reply);
-            Led::Made
+            true
         }
         Err(fault) => {
             let reply = drop_started(&mut player.session, fault);
             player.replies.push_reserved(reply);
-            Led::Missed
+            false
         }
     }
 }

@@ -13,6 +13,7 @@ ghost use Rattle.serving.specs.Steps.{number_at};
 ghost use Rattle.shared_db.specs.Opening.{IsOpeningFault};
 ghost use Rattle.script_run.specs.Running.{IsRunningAt, Speaks};
 ghost use Rattle.script_run.specs.Scripts.{IsSoundScript, is_statement_text};
+ghost use Rattle.script_run.specs.Seats.{IsAtRest, room_at};
 
 use crate::asking::serve_text;
 use crate::opening::open;
@@ -20,8 +21,8 @@ use crate::running::{Running, Speaker};
 use chunk_store::PutFault;
 use run_laws::law_of_lines;
 use script_text::{Reply, RunText, Script};
-use session_state::Position;
-use shared_db::SharedDb;
+use session_state::{Position, law_of_states};
+use shared_history::LoneDb;
 use std::alloc::{AllocError, Global};
 use tuple_codec::{Digester, Sequence};
 use wire_io::Pacer;
@@ -45,8 +46,8 @@ pub fn run_script<D: Digester, P: Pacer>(
     law_of_lines();
     let mut running = open::<D>(alloc, &script, epoch)?;
     run_lines(alloc, pacer, &script, &mut running, epoch);
-    let order = Vec::from_slice(alloc, running.db.moments())?;
-    let branches = running.db.branch_lines(alloc)?;
+    let order = Vec::from_slice(alloc, running.lone.db.moments())?;
+    let branches = running.lone.db.branch_lines(alloc)?;
     let replies = replies_of(alloc, running.speakers)?;
     Ok(RunText {
         names: script.names,
@@ -94,7 +95,7 @@ fn run_line<D: Digester, P: Pacer>(
     speak(
         alloc,
         pacer,
-        &mut running.db,
+        &mut running.lone,
         speaker,
         line.statement.as_slice(),
         epoch,
@@ -105,27 +106,28 @@ fn run_line<D: Digester, P: Pacer>(
 fn speak<D: Digester, P: Pacer>(
     alloc: Global,
     pacer: &P,
-    db: &mut SharedDb,
+    lone: &mut LoneDb<D>,
     speaker: &mut Speaker<D>,
     text: &[u8],
     epoch: i64,
 )
     requires epoch { pos 0 ≤ℤ epoch }
-    requires before { (p : plain.Session) × (shared : Shared) × IsBefore D.address speaker.old.session db.old.parts p shared }
+    requires before { (p : plain.Session) × (shared : Shared) × IsBefore D.address speaker.old.session lone.old.db.parts p shared }
     requires place { number_at speaker.old.session.position + 1 < 2 ^ 32 }
-    requires moments { 2 ≤ db.old.moments_room }
-    requires segments { 2 ≤ db.old.segments_room }
+    requires rest { IsAtRest D.address lone.old }
+    requires turns { 2 ≤ room_at lone.old.db.parts speaker.old.session.number }
     requires room { vec_len speaker.old.replies < vec_capacity speaker.old.replies }
     requires spelled { is_statement_text text.now ≡ true }
-    ensures speaks { (p : plain.Session) (shared : Shared) → IsBefore D.address speaker.old.session db.old.parts p shared
-        → Speaks D.address epoch p (command text.now) shared db.old.parts db.new.parts speaker.old speaker.new }
-    ensures moments { db.old.moments_room ≤ db.new.moments_room + 2 }
-    ensures segments { db.old.segments_room ≤ db.new.segments_room + 2 }
+    ensures speaks { (p : plain.Session) (shared : Shared) → IsBefore D.address speaker.old.session lone.old.db.parts p shared
+        → Speaks D.address epoch p (command text.now) shared lone.old.db.parts lone.new.db.parts speaker.old speaker.new }
+    ensures rest { IsAtRest D.address lone.new }
     ensures room { vec_capacity speaker.new.replies ≡ vec_capacity speaker.old.replies }
 {
+    law_of_states();
     let statement = number_of(speaker.session.position);
     pacer.before(speaker.session.number, statement);
-    let reply = serve_text(alloc, db, &mut speaker.session, text, epoch);
+    lone.seat(speaker.session.number, statement);
+    let reply = serve_text(alloc, &mut speaker.session, text, lone, epoch);
     speaker.replies.push_reserved(reply);
 }
 

@@ -15,7 +15,7 @@ use chunk_store::PutFault;
 use run_laws::law_of_lines;
 use script_text::{Line, Script};
 use session_state::Session;
-use shared_db::SharedDb;
+use shared_history::LoneDb;
 use std::alloc::{AllocError, Global};
 use tuple_codec::{Digester, Text};
 
@@ -30,8 +30,8 @@ pub fn open<D: Digester>(alloc: Global, script: &Script, epoch: i64) -> Result<R
     let names = script.names.as_slice();
     let statements = counts(alloc, script.lines.as_slice(), names.len())?;
     let speakers = new_speakers::<D>(alloc, names, statements.as_slice())?;
-    let db = SharedDb::open::<D>(alloc, statements.as_slice(), epoch)?;
-    Ok(Running { db, speakers })
+    let lone = LoneDb::<D>::open(alloc, statements.as_slice(), epoch)?;
+    Ok(Running { lone, speakers })
 }
 
 /// How many of the lines each session has.

@@ -15,7 +15,7 @@ use run_laws::law_of_orders;
 use script_text::{Line, Reply, Script};
 use serving::Pending;
 use session_state::Session;
-use shared_db::SharedDb;
+use shared_history::LoneDb;
 use std::alloc::{AllocError, Global};
 use tuple_codec::{Boxed, Digester, Sequence, Text};
 
@@ -42,7 +42,7 @@ pub struct Player<D: Digester> {
 /// A run under way along a given order: what the sessions share, and the sessions by their places.
 #[derive(Drop)]
 pub struct Playing<D: Digester> {
-    pub db: SharedDb,
+    pub lone: LoneDb<D>,
     pub players: Vec<Player<D>>,
 }
 
@@ -62,8 +62,8 @@ pub fn open_playing<D: Digester>(
     let lines = script.lines.as_slice();
     let statements = counts(alloc, lines, names.len())?;
     let players = new_players::<D>(alloc, names, lines, statements.as_slice())?;
-    let db = SharedDb::open::<D>(alloc, statements.as_slice(), epoch)?;
-    Ok(Playing { db, players })
+    let lone = LoneDb::<D>::open(alloc, statements.as_slice(), epoch)?;
+    Ok(Playing { lone, players })
 }
 
 /// Sessions of these names before their first statements, each with its lines' texts and room for as many replies.

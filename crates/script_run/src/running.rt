@@ -2,7 +2,7 @@
 
 use script_text::Reply;
 use session_state::Session;
-use shared_db::SharedDb;
+use shared_history::LoneDb;
 use tuple_codec::Digester;
 
 /// A session, and what it has answered so far.
@@ -15,6 +15,6 @@ pub struct Speaker<D: Digester> {
 /// A run under way: what the sessions share, and the sessions by their places.
 #[derive(Drop)]
 pub struct Running<D: Digester> {
-    pub db: SharedDb,
+    pub lone: LoneDb<D>,
     pub speakers: Vec<Speaker<D>>,
 }

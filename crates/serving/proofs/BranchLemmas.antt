@@ -31,10 +31,13 @@ use Rattle.shared_db.specs.Stepping.{Ends, IsPlainStep, IsStepped, StepsFollow, 
 use Rattle.shared_db.specs.declared.changes.BranchReply.{BranchReply}
 use Rattle.shared_db.specs.declared.changes.BranchReply.TheVariants as ended
 use Rattle.shared_db.specs.declared.changes.BranchStep.{BranchStep}
+use Rattle.shared_history.specs.Meeting.{Steps, Tells}
 use Rattle.serving.specs.Branching.{Went, step_reply}
+use Rattle.serving.specs.Meetings.{HoldsAfterThree, InOneMoment}
 use Rattle.serving.specs.Serving.{IsBefore, MeetsOnce, turn_at}
 use Rattle.serving.specs.Steps.{number_at}
 use Rattle.serving.proofs.AnswerLemmas.{same_number}
+use Rattle.serving.proofs.FoundLemmas.{holds_same, turned_by}
 use Rattle.serving.proofs.MomentLemmas.{in_one_turn}
 use Rattle.serving.proofs.StateLemmas.{stands_noted}
 
@@ -142,15 +145,21 @@ module _ {D : Type 0} (address : List ℕ → List ℕ) (epoch : ℤ) (old sessi
           by (Ok left) is ends = went_on left (moment ∙ ap (λ (o : Outcome Shared). Some (stepped shared p (next, good) o)) is) ends.0 ends.1
           by (Err n) is ends = stayed n (moment ∙ ap (λ (o : Outcome Shared). Some (stepped shared p (next, good) o)) is) ends
 
--- ---- what is asked of the step
+-- ---- the step over a meeting
 
-pub may_step : {D : Type 0} (address : List ℕ → List ℕ) (session : Session D) (parts : Parts) (p : plain.Session) (shared : Shared) → IsBefore address session parts p shared
-    → slice_get parts.places session.number ≢ None
-may_step address session parts p shared before none =
-    let same : Some p.branch ≡ None =
-    sym before.placed ∙ ap (λ (all : List (List ℕ)). slice_get all p.number) (sym before.state_stands.places)
-    ∙ ap (slice_get parts.places) (sym before.session_stands.number) ∙ none in
-    absurd (cc)
+module _ (address : List ℕ → List ℕ) (old new : Tells) (taken : BranchStep) (answer : BranchReply) (steps : Steps address taken answer old new) where
+  pub stepped_moment : (Leaves : Parts → Shared → Parts → Type 0) → ((shared : Shared) → StateStands address steps.found shared → Leaves steps.found shared steps.left) → InOneMoment address Leaves old new
+  stepped_moment Leaves leaves =
+      record { found = steps.found; is = steps.is; left = steps.left; leaves = leaves; turned = turned_by steps.found steps.left old new steps.tells }
+
+  pub stepped_own : (number : ℕ) → old.session ≡ number → IsStepped number old.statement taken answer steps.found steps.left
+  stepped_own number is = subst (λ (n : ℕ). IsStepped n old.statement taken answer steps.found steps.left) is steps.stepped
+
+  pub plainly_own : (number : ℕ) → old.session ≡ number → IsPlainStep number (λ (shared : Shared) (p : plain.Session). plain_step shared p taken) answer steps.found steps.left
+  plainly_own number is = subst (λ (n : ℕ). IsPlainStep n (λ (shared : Shared) (p : plain.Session). plain_step shared p taken) answer steps.found steps.left) is steps.is_plain
+
+  pub steps_holds : HoldsAfterThree old new
+  steps_holds = holds_same old new (ap (λ (m : Tells). m.holds) steps.tells) (ap (λ (m : Tells). m.lost) steps.tells)
 
 -- ---- replies
 
@@ -211,6 +220,14 @@ moved_stands address session name p stands = record {
   plain_own = stands.plain_own;
   committer = stands.committer;
 }
+
+-- the session that arrived, and the row that tells of it, by the name that was asked for
+pub arrived_at : {D : Type 0} (old session : Session D) (name asked : List ℕ) (answer : BranchReply) → name ≡ asked → (answer ≡ ended.Done → session ≡ record old { branch = name; start = None })
+    → answer ≡ ended.Done → session ≡ record old { branch = asked; start = None }
+arrived_at old session name asked answer is done so = done so ∙ ap (λ (n : List ℕ). record old { branch = n; start = None }) is
+
+pub row_at : (row : Answer) (bytes name asked : List ℕ) → Rows row ≡ switched_to bytes → bytes ≡ name → name ≡ asked → Rows row ≡ switched_to asked
+row_at row bytes name asked told read is = told ∙ ap switched_to (read ∙ is)
 
 set_places : (number : ℕ) (request : CheckoutRequest) (places : List (List ℕ)) → places_after number (step_of_checkout request) places ≡ set places number (checkout_name request)
 set_places number (checkout.Existing name) places = refl

@@ -19,9 +19,9 @@ use Rattle.plain_sessions.specs.Branching.{to_commit}
 use Rattle.plain_sessions.specs.CommitRule.{decide}
 use Rattle.plain_sessions.specs.Merging.{Worked, Answers, Closes, Ending, Committing, Forwarding, Joining}
 use Rattle.plain_sessions.specs.Moments as machine
-use Rattle.plain_sessions.specs.Moments.{closed, commit_of, committed_as, forwarded, merged_as, settled, unless_moved, with_change}
+use Rattle.plain_sessions.specs.Moments.{closed, commit_of, committed_as, forwarded, merged_as, settled, unless_moved, with_change, without_commit}
 use Rattle.plain_sessions.specs.Records.{BranchState, Shared, commit_on, is_same_state, state_of}
-use Rattle.plain_sessions.specs.Replies.{refused}
+use Rattle.plain_sessions.specs.Replies.{done, refused}
 use Rattle.plain_sessions.specs.Sessions as plain
 use Rattle.plain_sessions.specs.Sessions.{Transaction, own_root, within}
 use Rattle.plain_sessions.specs.Statements.{worked}
@@ -144,6 +144,13 @@ plainly_unmoved address t present change so = by (not (is_same_state present t.s
   by : (moved : Bool) → Plainly address (unless moved 1213 (Ok change))
   by true = record { short = refl; sound = refl; truly = tt }
   by false = so
+
+pub plainly_ruled : (address : List ℕ → List ℕ) (p : plain.Session) (t : Transaction) (present : BranchState) (verdict : Outcome BranchState) → decide t.start present t.own p.variables ≡ verdict
+    → Plainly address (and_then verdict (λ state. Ok (without_commit done state)))
+plainly_ruled address p t present (Ok state) is = record { short = refl; sound = refl; truly = tt }
+plainly_ruled address p t present (Err number) is =
+    let plain = refused_plainly t.start present t.own p.variables number is in
+    record { short = plain.short; sound = plain.sound; truly = tt }
 
 module _ (address : List ℕ → List ℕ) (epoch : ℤ) (shared : Shared) (p : plain.Session) (t : Transaction) (present : BranchState) where
   plainly_by : (own : BranchState) (message : List ℕ) (decided : Outcome BranchState) → decide t.start present own p.variables ≡ decided

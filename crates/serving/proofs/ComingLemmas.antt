@@ -1,7 +1,6 @@
 -- Statements that need no moment, and how it is known of one that it needs one.
-use Rattle.std.proofs.Common.{◌≡◌, refl, ◌∙◌, sym, ap, subst, inl, inr, ℕ, ◌+◌, Bool, true, false, not, ◌&&◌, ◌||◌, List, length, Option, Some, None, Err, IfSome, is_some, slice_get, if◌then◌else◌}
+use Rattle.std.proofs.Common.{◌≡◌, refl, ◌∙◌, sym, ap, subst, inl, inr, ℕ, ◌+◌, Bool, true, false, not, ◌&&◌, ◌||◌, List, length, Option, Some, None, Err, IfSome, is_some, if◌then◌else◌}
 use Rattle.std.specs.Option.{option_and_then}
-use Rattle.chunk_store.specs.Chunks.{Chunk, Lists}
 use Rattle.chunk_store.specs.Drafts.{Drafting, Grows, cut_to}
 use Rattle.chunk_store.specs.Kinds.{is_data}
 use Rattle.chunk_store.specs.Laws.{DraftsFollow, DraftsGrow}
@@ -11,7 +10,6 @@ use Rattle.script_text.specs.Output.{Shortage, shortage}
 use Rattle.script_text.specs.declared.replies.Reply.{Reply}
 use Rattle.script_text.specs.declared.replies.Reply.TheVariants as print
 use Rattle.plain_sessions.specs.Moments.{alone, alone_by, effect_alone, ends_by_set, if_answered, is_in_transaction, past}
-use Rattle.plain_sessions.specs.Records.{Shared}
 use Rattle.plain_sessions.specs.Replies.{refused}
 use Rattle.plain_sessions.specs.Sessions as plain
 use Rattle.plain_sessions.specs.Sessions.{Before, Transaction, is_changed}
@@ -22,7 +20,6 @@ use Rattle.plain_sessions.specs.declared.commands.Work.{Work}
 use Rattle.plain_sessions.specs.declared.commands.Work.TheVariants as work
 use Rattle.sql_procedures.specs.declared.requests.CheckoutRequest.{CheckoutRequest}
 use Rattle.sql_procedures.specs.declared.requests.MergeRequest.TheVariants as merging
-use Rattle.session_state.specs.Changes.{Parts}
 use Rattle.session_state.specs.Standing.{IsInTransaction, SessionStands}
 use Rattle.session_state.specs.declared.sessions.Position.{Position}
 use Rattle.session_state.specs.declared.sessions.Position.TheVariants as place
@@ -35,7 +32,7 @@ use Rattle.merge_procs.specs.Closing.{IsAsBefore}
 use Rattle.merge_procs.specs.Steps.{IsSame}
 use Rattle.merge_procs.proofs.ClosingLemmas.{comes_back}
 use Rattle.serving.specs.Kinds.{is_alone, is_in_place, may_close}
-use Rattle.serving.specs.Serving.{Fails, IsBefore, PassesAlone}
+use Rattle.serving.specs.Serving.{Fails, PassesAlone}
 use Rattle.serving.specs.Steps.{IsStillAt, fault_reply, number_at}
 use Rattle.serving.proofs.AloneLemmas.{alone_before, still_alone}
 use Rattle.serving.proofs.AnswerLemmas.{same_number, short_alone}
@@ -43,55 +40,45 @@ use Rattle.serving.proofs.SettlingLemmas.{inside_by as started_by}
 
 -- ---- the session goes on
 
-module _ {D : Type 0} (address : List ℕ → List ℕ) (old session : Session D) (parts : Parts) (p : plain.Session) (shared : Shared) (before : IsBefore address old parts p shared) where
-  base_later : session.draft.chunks.base ≡ old.draft.chunks.base → Lists session.draft.chunks.base parts.chunks
-  base_later base = subst (λ (chunks : List Chunk). Lists chunks parts.chunks) (sym base) before.later
-
-  passes : (asked : Command) (reply : Reply) → AnswersAlone address p asked session reply → session.draft.chunks.base ≡ old.draft.chunks.base
-      → PassesAlone address p asked shared parts (record session { position = place.Before (number_at old.position + 1) }) reply
-  passes asked reply alone base =
+module _ {D : Type 0} (address : List ℕ → List ℕ) (old session : Session D) (p : plain.Session) (here : SessionStands address old p) (before : p.place ≡ Before) where
+  passes : (asked : Command) (reply : Reply) → AnswersAlone address p asked session reply → PassesAlone address p asked (record session { position = place.Before (number_at old.position + 1) }) reply
+  passes asked reply alone =
       let still : IsStillAt p alone.after = still_alone (shortage reply) p asked alone.after reply alone.is in
-      let after = (past p.statement (alone.after, reply)).0 in
-      let stands : SessionStands address (record session { position = place.Before (number_at old.position + 1) }) after = record {
-        name = alone.stands.name;
-        number = alone.stands.number;
-        branch = alone.stands.branch;
-        autocommit = alone.stands.autocommit;
-        allow = alone.stands.allow;
-        force = alone.stands.force;
-        position = (ap (λ n. n + 1) (same_number old.position p.statement p.place before.session_stands.position), refl);
-        transaction = alone.stands.transaction;
-        named = alone.stands.named;
-        plain_own = alone.stands.plain_own;
-        committer = alone.stands.committer;
-      } in
       record {
-        after = after;
-        is = alone_before (shortage reply) p asked (alone.after, reply) before.before alone.is;
-        next = record {
-          session_stands = stands;
-          before = refl;
-          state_stands = before.state_stands;
-          placed = ap (slice_get shared.places) still.number ∙ before.placed ∙ ap Some (sym still.branch);
-          later = base_later base;
+        after = (past p.statement (alone.after, reply)).0;
+        is = alone_before (shortage reply) p asked (alone.after, reply) before alone.is;
+        stands = record {
+          name = alone.stands.name;
+          number = alone.stands.number;
+          branch = alone.stands.branch;
+          autocommit = alone.stands.autocommit;
+          allow = alone.stands.allow;
+          force = alone.stands.force;
+          position = (ap (λ n. n + 1) (same_number old.position p.statement p.place here.position), refl);
+          transaction = alone.stands.transaction;
+          named = alone.stands.named;
+          plain_own = alone.stands.plain_own;
+          committer = alone.stands.committer;
         };
+        before = refl;
         number = still.number;
+        branch = still.branch;
       }
 
   -- with the steps that lead there
   pub passes_by : (asked : Command) (reply : Reply) (gone : Session D) (number : ℕ) → number ≡ number_at old.position → gone ≡ record session { position = place.Before (number + 1) }
-      → AnswersAlone address p asked session reply → session.draft.chunks.base ≡ old.draft.chunks.base → PassesAlone address p asked shared parts gone reply
-  passes_by asked reply gone number same is alone base =
-      subst (λ (s : Session D). PassesAlone address p asked shared parts s reply) (sym (is ∙ ap (λ (n : ℕ). record session { position = place.Before (n + 1) }) same))
-      (passes asked reply alone base)
+      → AnswersAlone address p asked session reply → PassesAlone address p asked gone reply
+  passes_by asked reply gone number same is alone =
+      subst (λ (s : Session D). PassesAlone address p asked s reply) (sym (is ∙ ap (λ (n : ℕ). record session { position = place.Before (n + 1) }) same))
+      (passes asked reply alone)
 
 -- a fault that is answered at once
 pub fault_passes : {D : Type 0} (address : List ℕ → List ℕ) (session gone : Session D) (number : ℕ) (fault : PutFault) (reply : Reply) → number ≡ number_at session.position
     → gone ≡ record session { position = place.Before (number + 1) } → reply ≡ fault_reply fault
-    → (parts : Parts) (p : plain.Session) (asked : Command) (shared : Shared) → IsBefore address session parts p shared → Fails p asked fault → PassesAlone address p asked shared parts gone reply
-fault_passes address session gone number fault reply same is says parts p asked shared before fails =
-    passes_by address session session parts p shared before asked reply gone number same is
-    (record { after = p; is = subst (λ (r : Reply). alone_by (shortage r) p asked ≡ Some (p, r)) (sym says) fails; stands = before.session_stands }) refl
+    → (p : plain.Session) (asked : Command) → SessionStands address session p → p.place ≡ Before → Fails p asked fault → PassesAlone address p asked gone reply
+fault_passes address session gone number fault reply same is says p asked here before fails =
+    passes_by address session session p here before asked reply gone number same is
+    (record { after = p; is = subst (λ (r : Reply). alone_by (shortage r) p asked ≡ Some (p, r)) (sym says) fails; stands = here })
 
 -- ---- what needs a moment
 

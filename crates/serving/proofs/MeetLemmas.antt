@@ -42,11 +42,13 @@ use Rattle.plain_sessions.specs.declared.commands.Work.TheVariants as work
 use Rattle.session_state.specs.Changes.{Parts, StateStands}
 use Rattle.session_state.specs.declared.sessions.Position.TheVariants as place
 use Rattle.session_state.specs.declared.sessions.Session.{Session}
+use Rattle.shared_history.specs.Meeting.{Tells}
 use Rattle.merge_procs.specs.Closing.{is_closing}
 use Rattle.merge_procs.proofs.ClosingLemmas.{abort_stays}
 use Rattle.serving.specs.Answering.{Answered, Concluded, HasMet, HasStartedTo, place_after}
 use Rattle.serving.specs.Branching.{Went}
 use Rattle.serving.specs.Kinds.{may_close}
+use Rattle.serving.specs.Meetings.{InOneMoment, IsBeforeAt}
 use Rattle.serving.specs.Serving.{Awaits, Concludes, Fails, IsBefore, IsBetween, Meets, Starts}
 use Rattle.serving.specs.Starting.{HasBegun}
 use Rattle.serving.specs.Steps.{number_at}
@@ -57,9 +59,10 @@ use Rattle.serving.specs.declared.courses.Found.{Found}
 use Rattle.serving.specs.declared.meeting.Pending.{Pending}
 use Rattle.serving.specs.declared.meeting.Pending.TheVariants as pending
 use Rattle.serving.proofs.AnswerLemmas.{same_number, short_alone, went_of}
-use Rattle.serving.proofs.BranchLemmas.{gone_on, next_stands}
-use Rattle.serving.proofs.StateLemmas.{stands_noted}
 use Rattle.serving.proofs.BeginLemmas.{changed_open as open_of}
+use Rattle.serving.proofs.BranchLemmas.{gone_on, next_stands}
+use Rattle.serving.proofs.FoundLemmas.{before_found, in_moment}
+use Rattle.serving.proofs.StateLemmas.{stands_noted}
 
 -- ---- what waits for a moment
 
@@ -169,67 +172,69 @@ closing_may p t asked ending is = by (may_close asked) refl where
 
 -- ---- what the first moment comes to, by the kind of statement
 
-module _ {D : Type 0} (address : List ℕ → List ℕ) (epoch : ℤ) (old session : Session D) (parts new : Parts) (reply : Reply) where
-  abbrev GoesBy : Command → Type 0
-  GoesBy asked = (p : plain.Session) (shared : Shared) → IsBefore address old parts p shared → alone None p asked ≡ None → Went address epoch p asked shared parts new session reply
+module _ {D : Type 0} (address : List ℕ → List ℕ) (epoch : ℤ) (old session : Session D) (m n : Tells) (reply : Reply) where
+  abbrev pub AnswersIn : ℤ → plain.Session → Command → Type 0
+  AnswersIn e p asked = InOneMoment address (λ found shared left. Answered address e p asked shared found left session reply) m n
+
+  abbrev pub WentIn : ℤ → plain.Session → Command → Type 0
+  WentIn e p asked = InOneMoment address (λ found shared left. Went address e p asked shared found left session reply) m n
+
+  abbrev pub GoesBy : Command → Type 0
+  GoesBy asked = (p : plain.Session) → IsBeforeAt address old m p → alone None p asked ≡ None → WentIn epoch p asked
 
   goes_as : (asked one : Command) → asked ≡ one → GoesBy one → GoesBy asked
   goes_as asked one is goes = subst GoesBy (sym is) goes
 
-  pub begin_goes : (asked : Command) → asked ≡ command.Begin
-      → ((e : ℤ) (p : plain.Session) (shared : Shared) → IsBefore address old parts p shared → Answered address e p command.Begin shared parts new session reply)
-      → GoesBy asked
-  begin_goes asked is answered =
-      goes_as asked command.Begin is (λ p shared before waits. went_of address epoch old session parts p shared before command.Begin new reply (answered epoch p shared before))
+  -- it stays on its branch
+  stays_on : (p : plain.Session) → IsBeforeAt address old m p → (asked : Command) → AnswersIn epoch p asked → WentIn epoch p asked
+  stays_on p before asked moment =
+      in_moment address (λ found shared left. Answered address epoch p asked shared found left session reply) (λ found shared left. Went address epoch p asked shared found left session reply) m n
+      (λ found is shared stands left answered. went_of address epoch old session found p shared (before_found address old m p before found is shared stands) asked left reply answered) moment
+
+  pub begin_goes : (asked : Command) → asked ≡ command.Begin → ((e : ℤ) (p : plain.Session) → IsBeforeAt address old m p → AnswersIn e p command.Begin) → GoesBy asked
+  begin_goes asked is answered = goes_as asked command.Begin is (λ p before waits. stays_on p before command.Begin (answered epoch p before))
 
   pub commit_goes : (asked : Command) → asked ≡ command.CommitAll
-      → ((e : ℤ) (p : plain.Session) (t : Transaction) (shared : Shared) → IsBefore address old parts p shared → p.transaction ≡ Some t → is_changed p ≡ true
-      → Answered address e p command.CommitAll shared parts new session reply)
+      → ((e : ℤ) (p : plain.Session) (t : Transaction) → IsBeforeAt address old m p → p.transaction ≡ Some t → is_changed p ≡ true → AnswersIn e p command.CommitAll)
       → GoesBy asked
   commit_goes asked is answered =
-      goes_as asked command.CommitAll is (λ p shared before waits.
+      goes_as asked command.CommitAll is (λ p before waits.
       let changed = commit_waits p (waits_by None p command.CommitAll before.before waits) in
       let held = open_of p changed in
-      went_of address epoch old session parts p shared before command.CommitAll new reply (answered epoch p held.0 shared before held.1 changed))
+      stays_on p before command.CommitAll (answered epoch p held.0 before held.1 changed))
 
   pub switch_goes : (asked : Command) (setting : Setting) → asked ≡ command.Switch setting
-      → ((e : ℤ) (p : plain.Session) (t : Transaction) (shared : Shared) → IsBefore address old parts p shared → p.transaction ≡ Some t → is_changed p ≡ true
-      → ends_by_set p setting.variable setting.on ≡ true → Answered address e p (command.Switch setting) shared parts new session reply)
+      → ((e : ℤ) (p : plain.Session) (t : Transaction) → IsBeforeAt address old m p → p.transaction ≡ Some t → is_changed p ≡ true
+      → ends_by_set p setting.variable setting.on ≡ true → AnswersIn e p (command.Switch setting))
       → GoesBy asked
   switch_goes asked setting is answered =
-      goes_as asked (command.Switch setting) is (λ p shared before waits.
+      goes_as asked (command.Switch setting) is (λ p before waits.
       let ends = switch_waits p setting (waits_by None p (command.Switch setting) before.before waits) in
       let held = open_of p ends.1 in
-      went_of address epoch old session parts p shared before (command.Switch setting) new reply (answered epoch p held.0 shared before held.1 ends.1 ends.0))
+      stays_on p before (command.Switch setting) (answered epoch p held.0 before held.1 ends.1 ends.0))
 
   pub branches_go : (asked : Command) (request : BranchRequest) → asked ≡ command.OnBranches request
-      → ((e : ℤ) (p : plain.Session) (shared : Shared) → IsBefore address old parts p shared → Went address e p (command.OnBranches request) shared parts new session reply)
-      → GoesBy asked
-  branches_go asked request is went = goes_as asked (command.OnBranches request) is (λ p shared before waits. went epoch p shared before)
+      → ((e : ℤ) (p : plain.Session) → IsBeforeAt address old m p → WentIn e p (command.OnBranches request)) → GoesBy asked
+  branches_go asked request is went = goes_as asked (command.OnBranches request) is (λ p before waits. went epoch p before)
 
   pub checkout_goes : (asked : Command) (request : CheckoutRequest) → asked ≡ command.Checkout request
-      → ((e : ℤ) (p : plain.Session) (shared : Shared) → IsBefore address old parts p shared → is_changed p ≡ false
-      → Went address e p (command.Checkout request) shared parts new session reply)
-      → GoesBy asked
+      → ((e : ℤ) (p : plain.Session) → IsBeforeAt address old m p → is_changed p ≡ false → WentIn e p (command.Checkout request)) → GoesBy asked
   checkout_goes asked request is went =
-      goes_as asked (command.Checkout request) is (λ p shared before waits.
-      went epoch p shared before (checkout_waits p request (waits_by None p (command.Checkout request) before.before waits)))
+      goes_as asked (command.Checkout request) is (λ p before waits.
+      went epoch p before (checkout_waits p request (waits_by None p (command.Checkout request) before.before waits)))
 
 -- what the callees ask of the transaction
-pub commit_opens : {D : Type 0} (address : List ℕ → List ℕ) (session : Session D) (parts : Parts) (asked : Command) → asked ≡ command.CommitAll
-    → (p : plain.Session) (shared : Shared) → IsBefore address session parts p shared → alone None p asked ≡ None → (t : Transaction) × (p.transaction ≡ Some t)
-commit_opens address session parts asked is p shared before waits =
-    open_of p (commit_waits p (waits_by None p command.CommitAll before.before (subst (λ (one : Command). alone None p one ≡ None) is waits)))
+pub commit_opens : (asked : Command) → asked ≡ command.CommitAll → (p : plain.Session) → p.place ≡ Before → alone None p asked ≡ None → (t : Transaction) × (p.transaction ≡ Some t)
+commit_opens asked is p before waits = open_of p (commit_waits p (waits_by None p command.CommitAll before (subst (λ (one : Command). alone None p one ≡ None) is waits)))
 
-pub switch_opens : {D : Type 0} (address : List ℕ → List ℕ) (session : Session D) (parts : Parts) (asked : Command) (setting : Setting) → asked ≡ command.Switch setting
-    → (p : plain.Session) (shared : Shared) → IsBefore address session parts p shared → alone None p asked ≡ None → (t : Transaction) × (p.transaction ≡ Some t)
-switch_opens address session parts asked setting is p shared before waits =
-    open_of p (switch_waits p setting (waits_by None p (command.Switch setting) before.before (subst (λ (one : Command). alone None p one ≡ None) is waits))).1
+pub switch_opens : (asked : Command) (setting : Setting) → asked ≡ command.Switch setting → (p : plain.Session) → p.place ≡ Before → alone None p asked ≡ None
+    → (t : Transaction) × (p.transaction ≡ Some t)
+switch_opens asked setting is p before waits =
+    open_of p (switch_waits p setting (waits_by None p (command.Switch setting) before (subst (λ (one : Command). alone None p one ≡ None) is waits))).1
 
-pub checkout_keeps : {D : Type 0} (address : List ℕ → List ℕ) (session : Session D) (parts : Parts) (asked : Command) (request : CheckoutRequest) → asked ≡ command.Checkout request
-    → (p : plain.Session) (shared : Shared) → IsBefore address session parts p shared → alone None p asked ≡ None → is_changed p ≡ false
-checkout_keeps address session parts asked request is p shared before waits =
-    checkout_waits p request (waits_by None p (command.Checkout request) before.before (subst (λ (one : Command). alone None p one ≡ None) is waits))
+pub checkout_keeps : (asked : Command) (request : CheckoutRequest) → asked ≡ command.Checkout request → (p : plain.Session) → p.place ≡ Before → alone None p asked ≡ None → is_changed p ≡ false
+checkout_keeps asked request is p before waits =
+    checkout_waits p request (waits_by None p (command.Checkout request) before (subst (λ (one : Command). alone None p one ≡ None) is waits))
 
 -- ---- to the next statement, or to the decision
 
@@ -310,19 +315,19 @@ concluded_on {D = D} address epoch old session gone number parts new asked wante
 
 -- ---- the first moment of a database statement
 
-abbrev pub BeginsAs : {D : Type 0} → (List ℕ → List ℕ) → ℤ → Session D → Session D → Parts → Parts → Command → Result Begun PutFault → Type 0
-BeginsAs address epoch old session parts new asked result =
-    IfOk result (λ begun. (p : plain.Session) (shared : Shared) → IsBefore address old parts p shared → alone None p asked ≡ None → HasBegun address epoch p asked shared parts new session begun)
+abbrev pub BeginsAs : {D : Type 0} → (List ℕ → List ℕ) → ℤ → Session D → Session D → Tells → Tells → Command → Result Begun PutFault → Type 0
+BeginsAs address epoch old session m n asked result =
+    IfOk result (λ begun. (p : plain.Session) → IsBeforeAt address old m p → alone None p asked ≡ None
+    → InOneMoment address (λ found shared left. HasBegun address epoch p asked shared found left session begun) m n)
 
-abbrev pub FailsAs : {D : Type 0} → (List ℕ → List ℕ) → Session D → Parts → Command → Result Begun PutFault → Type 0
-FailsAs address old parts asked result =
-    IfErr result (λ fault. (p : plain.Session) (shared : Shared) → IsBefore address old parts p shared → alone None p asked ≡ None → Fails p asked fault)
+abbrev pub FailsAs : {A D : Type 0} → (List ℕ → List ℕ) → Session D → Tells → Command → Result A PutFault → Type 0
+FailsAs address old m asked result = IfErr result (λ fault. (p : plain.Session) → IsBeforeAt address old m p → alone None p asked ≡ None → Fails p asked fault)
 
 -- a fault of a statement that takes no start of its own
-pub fails_without : {D : Type 0} (address : List ℕ → List ℕ) (old : Session D) (parts : Parts) (asked one : Command) → asked ≡ one → ((p : plain.Session) → takes_start p one ≡ false)
-    → (result : Result Begun PutFault) → FailsAs address old parts asked result
-fails_without address old parts asked one is local (Ok begun) = tt
-fails_without address old parts asked one is local (Err fault) = λ p shared before waits. subst (λ (c : Command). Fails p c fault) (sym is) (short_alone fault p one (local p))
+pub fails_without : {A D : Type 0} (address : List ℕ → List ℕ) (old : Session D) (m : Tells) (asked one : Command) → asked ≡ one → ((p : plain.Session) → IsBeforeAt address old m p → takes_start p one ≡ false)
+    → (result : Result A PutFault) → FailsAs address old m asked result
+fails_without address old m asked one is local (Ok made) = tt
+fails_without address old m asked one is local (Err fault) = λ p before waits. subst (λ (c : Command). Fails p c fault) (sym is) (short_alone fault p one (local p before))
 
 -- where the start was made the session is at the same statement
 pub place_kept : {D : Type 0} (address : List ℕ → List ℕ) (epoch : ℤ) (old rested : Session D) (parts mid : Parts) (p : plain.Session) (asked : Command) (shared : Shared) (wanted : Pending)

@@ -1,109 +1,59 @@
--- Calls that may have a decision of their own: from the plan to what was settled, in a transaction and outside one.
-use Rattle.std.proofs.Common.{◌≡◌, refl, ◌∙◌, sym, ap, subst, inl, inr, ℕ, ℤ, true, false, List, Option, Some, None, Ok, Err, IfErr, is_some, not, option_map, slice_get, if◌then◌else◌}
-use Rattle.std.specs.Prelude.{Result}
-use Rattle.std.specs.Arc.{arc_value}
+-- Calls that may have a decision of their own: what their decision leaves, in a transaction and outside one.
+use Rattle.std.proofs.Common.{◌≡◌, refl, ◌∙◌, sym, ap, subst, inl, inr, ℕ, ℤ, true, false, List, Option, Some, None, Ok, Err, is_some, not, option_map, slice_get, if◌then◌else◌}
 use Rattle.std.specs.Option.{option_and_then}
 use Rattle.tuple_codec.proofs.Options.{some_there}
-use Rattle.chunk_store.specs.Chunks.{IsSingle, chunk_bytes}
-use Rattle.chunk_store.specs.Clashes.{IsCause}
 use Rattle.chunk_store.specs.Drafts.{DraftParts, chunks_of}
-use Rattle.chunk_store.specs.Laws.{ChunksFollow}
 use Rattle.chunk_store.specs.declared.faults.PutFault.{PutFault}
 use Rattle.chunk_store.specs.declared.faults.PutFault.TheVariants.{Memory, Collision}
 use Rattle.expr_eval.specs.Binding.{Outcome}
 use Rattle.tuple_codec.specs.declared.records.BranchRecord.{BranchRecord}
-use Rattle.script_text.specs.Collisions.{IsFault, TellsTruly}
 use Rattle.script_text.specs.Output.{Shortage, shortage}
 use Rattle.script_text.specs.declared.replies.Reply.{Reply}
 use Rattle.script_text.specs.declared.replies.Reply.TheVariants as print
 use Rattle.table_root.specs.declared.heads.Look.{Look}
-use Rattle.plain_sessions.specs.Merging.{Worked, Answers, Closes, Ending}
+use Rattle.sql_procedures.specs.Arguments.{is_message}
+use Rattle.sql_procedures.specs.declared.requests.CommitRequest.{CommitRequest}
+use Rattle.plain_sessions.specs.Fitness.{IsFitWork}
+use Rattle.plain_sessions.specs.Merging.{Worked, Answers, Closes, Committing, Ending}
 use Rattle.plain_sessions.specs.Moments as machine
 use Rattle.plain_sessions.specs.Moments.{Past, alone_by, closed, decided_closing, if_answered, if_closing, is_in_transaction, moment_in, moment_of, past, settled, start_of}
 use Rattle.plain_sessions.specs.Records.{BranchState, Shared, state_of}
 use Rattle.plain_sessions.specs.Replies.{is_refusal}
 use Rattle.plain_sessions.specs.Runs.{awaiting}
 use Rattle.plain_sessions.specs.Sessions as plain
-use Rattle.plain_sessions.specs.Sessions.{Closing, Transaction, over, within}
+use Rattle.plain_sessions.specs.Sessions.{Transaction, over, within}
 use Rattle.plain_sessions.specs.Statements.{worked}
 use Rattle.plain_sessions.specs.declared.commands.Command.{Command}
 use Rattle.plain_sessions.specs.declared.commands.Command.TheVariants.{Data}
 use Rattle.plain_sessions.specs.declared.commands.Work.{Work}
+use Rattle.plain_sessions.specs.declared.commands.Work.TheVariants as work
 use Rattle.run_laws.specs.Turns.{InOneTurn}
 use Rattle.session_state.specs.Changes.{Parts}
 use Rattle.session_state.specs.Transactions.{StartStands}
 use Rattle.session_state.specs.Standing.{SessionStands}
 use Rattle.session_state.specs.declared.sessions.Session.{Session}
-use Rattle.session_plan.specs.Showing.{IsDue, is_sound_reply}
+use Rattle.session_plan.specs.Showing.{IsDue}
 use Rattle.session_plan.proofs.ShowLemmas.{plain_told}
-use Rattle.shared_db.specs.Plans.{brought}
-use Rattle.shared_db.specs.Shared.{IsSettled, noted, record_at}
-use Rattle.shared_db.specs.declared.changes.DecisionPlan.{DecisionPlan}
+use Rattle.shared_db.specs.Shared.{noted}
+use Rattle.shared_history.specs.Meeting.{Tells}
 use Rattle.serving.specs.Answering.{Concluded, HasStartedTo}
 use Rattle.serving.specs.Branching.{Went}
-use Rattle.serving.specs.Closing.{ClosedAs, IsFound, LeavesAs}
+use Rattle.merge_procs.specs.Courses.{IsClosing, IsShort}
+use Rattle.merge_procs.specs.declared.courses.Closing.{Closing}
+use Rattle.serving.specs.Closing.{ClosedAs, IsFound, LeavesAs, is_commit}
 use Rattle.serving.specs.Kinds.{may_close}
-use Rattle.serving.specs.Planning.{IfSettled, IsPlanned, IsPlannedFor, by_closing}
-use Rattle.serving.specs.Serving.{Fails, IsBefore, IsBetween, turn_at}
+use Rattle.serving.specs.Meetings.{IsBetweenAt}
+use Rattle.serving.specs.Serving.{Fails, IsBefore, IsHere, turn_at}
 use Rattle.serving.specs.Starting.{HasStarted}
-use Rattle.serving.specs.Steps.{after_start, fault_reply, number_at}
+use Rattle.serving.specs.Steps.{after_start, fault_reply}
 use Rattle.serving.specs.declared.courses.Found.{Found}
+use Rattle.serving.specs.declared.courses.Found.TheVariants as finding
 use Rattle.serving.specs.declared.meeting.Pending.TheVariants as pending
 use Rattle.serving.proofs.AnswerLemmas.{over_stands, short_alone, started_answered, went_of}
-use Rattle.serving.proofs.GrowthLemmas.{SettlingFollows, commits_among, present_again, settled_own}
+use Rattle.serving.proofs.ClosingLemmas.{commit_found, committing, merge_found}
 use Rattle.serving.proofs.MomentLemmas.{both_at, in_one_turn}
 use Rattle.serving.proofs.StartLemmas.{fault_came, fault_refused, over_same}
 use Rattle.serving.proofs.WorkLemmas.{Came, Faulted, Starved, never_answered, refused_after, same_work, start_is}
-use Rattle.serving.proofs.ClosingLemmas.{IsPlainly, plainly_closed, planned_plainly, named_by, closed_by}
-
--- ---- from the plan to what was settled
-
-module _ {D : Type 0} (address : List ℕ → List ℕ) (epoch : ℤ) (session : Session D) (look : Look) (plan : DecisionPlan) (p : plain.Session) (t : Transaction) (ending : Ending) where
-  plan_plainly : IsPlanned address session look plan p t (by_closing address epoch p t ending) → IsPlainly address plan.reply
-  plan_plainly planned =
-      planned_plainly address epoch planned.seen p t planned.present look plan _ (plainly_closed address epoch planned.seen p t planned.present ending) planned.is
-
-  pub closing_sound : IsPlanned address session look plan p t (by_closing address epoch p t ending) → (result : Result (Option Reply) PutFault) → IfSettled result (λ reply. reply ≡ plan.reply)
-      → IfSettled result (λ reply. is_sound_reply reply ≡ true)
-  closing_sound planned (Ok (Some reply)) said = ap is_sound_reply said ∙ (plan_plainly planned).sound
-  closing_sound planned (Ok None) said = tt
-  closing_sound planned (Err fault) said = tt
-
-  pub closing_truly : IsPlanned address session look plan p t (by_closing address epoch p t ending) → (result : Result (Option Reply) PutFault) → IfSettled result (λ reply. reply ≡ plan.reply)
-      → IfSettled result (TellsTruly address)
-  closing_truly planned (Ok (Some reply)) said = subst (TellsTruly address) (sym said) (plan_plainly planned).truly
-  closing_truly planned (Ok None) said = tt
-  closing_truly planned (Err fault) said = tt
-
-  pub closing_fault : ChunksFollow → (parts : Parts) (shared : Shared) → IsPlannedFor address session look plan p t (by_closing address epoch p t ending) parts shared
-      → (result : Result (Option Reply) PutFault) → IfErr result (IsCause (chunk_bytes parts.chunks) (chunk_bytes (brought plan))) → IfErr result (IsFault address)
-  closing_fault chunks_follow parts shared has (Ok settled) cause = tt
-  closing_fault chunks_follow parts shared has (Err Memory) cause = tt
-  closing_fault chunks_follow parts shared has (Err (Collision clash)) cause = record {
-    first = chunks_follow.is_named address parts.chunks clash.address.0 clash.first has.here.state_stands.named cause.is_held;
-    second = chunks_follow.is_named address (brought plan) clash.address.0 clash.second
-        (named_by address epoch has.planned.seen p t has.planned.present look plan _ has.planned.is) cause.is_brought;
-    differ = cause.differ;
-  }
-
-  pub closed_planned : (laws : SettlingFollows) (parts new : Parts) (shared : Shared) → IsPlannedFor address session look plan p t (by_closing address epoch p t ending) parts shared
-      → record_at look.branch parts.branches ≡ Some look.rec → IsSingle new.chunks → IsSettled p.number p.statement look.branch plan.change (option_map arc_value plan.sealed) parts new
-      → ClosedAs address epoch p t ending shared parts new plan.reply
-  closed_planned laws parts new shared has there single settled =
-      let d = has.planned.decides in
-      closed_by address epoch has.planned.seen p t has.planned.present shared (commits_among laws address session look p t has.planned.seen has.planned.present d parts shared has.here.state_stands has.grown)
-      ending laws.states parts new look plan _ refl (present_again laws address session look p t has.planned.seen has.planned.present d parts shared has.here.state_stands has.grown there)
-      d.look_is d.branch has.grown has.here.state_stands has.planned.is single settled
-
-  pub closed_result : (laws : SettlingFollows) (parts new : Parts) (number : ℕ) → number ≡ number_at session.position → (result : Result (Option Reply) PutFault)
-      → IfSettled result (λ reply. reply ≡ plan.reply) → IfSettled result (λ reply. IsSettled session.number number look.branch plan.change (option_map arc_value plan.sealed) parts new)
-      → IfSettled result (λ reply. IsSingle new.chunks) → IfSettled result (λ reply. record_at look.branch parts.branches ≡ Some look.rec)
-      → IfSettled result (λ reply. (shared : Shared) → IsPlannedFor address session look plan p t (by_closing address epoch p t ending) parts shared → ClosedAs address epoch p t ending shared parts new reply)
-  closed_result laws parts new number is (Ok (Some reply)) said settled single there = λ shared has.
-      subst (λ (r : Reply). ClosedAs address epoch p t ending shared parts new r) (sym said)
-      (closed_planned laws parts new shared has there single (settled_own address session p has.here.session_stands number is look.branch plan.change (option_map arc_value plan.sealed) parts new settled))
-  closed_result laws parts new number is (Ok None) said settled single there = tt
-  closed_result laws parts new number is (Err fault) said settled single there = tt
 
 -- ---- the moment of the decision
 
@@ -233,9 +183,9 @@ module _ {D : Type 0} (address : List ℕ → List ℕ) (epoch : ℤ) (session :
         asked_is = refl;
         outside = has.none;
         transaction = t;
-        place = Closing;
+        place = plain.Closing;
         started = start_is address epoch shared p t asked has.none has.taken_is (Ok (Closes ending)) work_is;
-        awaits = (refl, closes, (ending, same_awaiting p t t Closing asked ∙ work_is, found_is));
+        awaits = (refl, closes, (ending, same_awaiting p t t plain.Closing asked ∙ work_is, found_is));
         session_stands = has.stands;
         later = has.later;
         new_is = has.now_is;
@@ -247,12 +197,12 @@ abbrev work_in : Work → Command → Work
 work_in other (Data asked) = asked
 work_in other command = other
 
-module _ {D : Type 0} (address : List ℕ → List ℕ) (epoch : ℤ) (session : Session D) (parts : Parts) (q : plain.Session) (asked : Command) (had : Found) (shared : Shared)
-    (between : IsBetween address session parts q asked (pending.Closing had) shared) (work : Work) (asked_is : asked ≡ Data work) where
-  same_asked : between.work ≡ work
-  same_asked = ap (work_in work) (sym between.asked_is ∙ asked_is)
+module _ {D : Type 0} (address : List ℕ → List ℕ) (session : Session D) (m : Tells) (q : plain.Session) (asked : Work) (had : Found)
+    (between : IsBetweenAt address session m q (Data asked) (pending.Closing had)) where
+  same_asked : between.work ≡ asked
+  same_asked = ap (work_in asked) (sym between.asked_is)
 
-  pub closes_between : (ending : Ending) × (worked q between.transaction work ≡ Ok (Closes ending)) × IsFound address (chunks_of session.draft.chunks) between.transaction.commits had work ending
+  pub closes_between : (ending : Ending) × (worked q between.transaction asked ≡ Ok (Closes ending)) × IsFound address (chunks_of session.draft.chunks) between.transaction.commits had asked ending
   closes_between =
       let came = between.awaits.2 in (
         came.0,
@@ -261,27 +211,46 @@ module _ {D : Type 0} (address : List ℕ → List ℕ) (epoch : ℤ) (session :
       )
 
   -- it was decided on
-  pub concluded : (new : Parts) (left : Session D) (reply : Reply) → ClosedAs address epoch q between.transaction closes_between.0 shared parts new reply
-      → left ≡ record session { start = None } → Concluded address epoch q asked shared parts new left reply
-  concluded new left reply c left_is =
-      let moment : moment_in address epoch None shared q asked q.place ≡ Some (c.last, Past (over q, reply)) =
-      ap (moment_in address epoch None shared q asked) between.awaits.0
-      ∙ ap (λ (command : Command). moment_in address epoch None shared q command Closing) asked_is
-      ∙ closing_moment address epoch shared c.last q between.transaction work closes_between.0 c.present c.outcome reply between.has closes_between.1 c.there c.is c.leaves in
-      subst (λ (s : Session D). Concluded address epoch q asked shared parts new s reply) (sym left_is) (record {
+  pub concluded : (epoch : ℤ) (shared : Shared) (found left : Parts) (gone : Session D) (reply : Reply) → IsHere address session found q shared
+      → ClosedAs address epoch q between.transaction closes_between.0 shared found left reply → gone ≡ record session { start = None }
+      → Concluded address epoch q (Data asked) shared found left gone reply
+  concluded epoch shared found left gone reply here c gone_is =
+      let moment : moment_in address epoch None shared q (Data asked) q.place ≡ Some (c.last, Past (over q, reply)) =
+      ap (moment_in address epoch None shared q (Data asked)) between.awaits.0
+      ∙ closing_moment address epoch shared c.last q between.transaction asked closes_between.0 c.present c.outcome reply between.has closes_between.1 c.there c.is c.leaves in
+      subst (λ (s : Session D). Concluded address epoch q (Data asked) shared found left s reply) (sym gone_is) (record {
         said = over q;
         last = c.last;
         short = c.short;
         is = moment;
-        session_stands = over_stands address session q between.here.session_stands;
+        session_stands = over_stands address session q here.session_stands;
         still = record { number = refl; branch = refl };
         state_stands = c.state_stands;
         places = c.places;
-        later = λ k bytes listed. c.chunks k bytes (between.here.later k bytes listed);
+        later = λ k bytes listed. c.chunks k bytes (here.later k bytes listed);
         grown = c.chunks;
         moments = c.moments;
         numbers = c.numbers;
       })
+
+  -- what the decision asks of a DOLT_COMMIT
+  pub commits_then : (request : CommitRequest) → asked ≡ work.Commit request → IsFitWork asked
+      → (is_message request.message ≡ true) × ((own : BranchState) × ◌≡◌ {A = Option Ending} (Some closes_between.0) (Some (Committing own request.message))
+      × (worked q between.transaction (work.Commit request) ≡ Ok (Closes (Committing own request.message))))
+  commits_then request is fit =
+      let said : worked q between.transaction (work.Commit request) ≡ Ok (Closes closes_between.0) = ap (worked q between.transaction) (sym is) ∙ closes_between.1 in
+      let so = committing q between.transaction request closes_between.0 said in
+      (subst IsFitWork is fit, (so.0, ap Some so.1, said ∙ ap (λ (call : Ending). Ok (Closes call)) so.1))
+
+  -- and of a DOLT_MERGE
+  pub merges_then : (closing : Closing) → had ≡ finding.Merge closing
+      → IsShort closing × ((ending : Ending) × ◌≡◌ {A = Option Ending} (Some closes_between.0) (Some ending) × IsClosing address (chunks_of session.draft.chunks) between.transaction.commits closing ending)
+  merges_then closing is =
+      let has = merge_found address (chunks_of session.draft.chunks) between.transaction.commits asked closes_between.0 had closing is closes_between.2 in
+      (has.1, (closes_between.0, refl, has.0))
+
+  pub commits_at : had ≡ finding.Commit → is_commit asked ≡ true
+  commits_at is = commit_found address (chunks_of session.draft.chunks) between.transaction.commits asked closes_between.0 had is closes_between.2
 
 -- ---- whether the session is in a transaction
 

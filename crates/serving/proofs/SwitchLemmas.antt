@@ -16,7 +16,7 @@ use Rattle.session_state.specs.Standing.{SessionStands}
 use Rattle.session_state.specs.declared.sessions.Session.{Session}
 use Rattle.serving.specs.Serving.{IsBefore}
 use Rattle.serving.specs.Answering.{Answered}
-use Rattle.serving.specs.Steps.{ComesTo, Decided, IsStillAt, ended_with}
+use Rattle.serving.specs.Steps.{ComesTo, Decided, IsStillAt, switched_by}
 use Rattle.serving.proofs.AnswerLemmas.{decided_answered, over_stands}
 use Rattle.serving.proofs.MomentLemmas.{verdict_said}
 
@@ -48,7 +48,7 @@ module _ {D : Type 0} (address : List ℕ → List ℕ) (epoch : ℤ) (old : Ses
   record Ended (verdict : Outcome BranchState) (reply : Reply) : Type 0 where
     said : plain.Session
     says : verdict_said address epoch p switched_over done verdict ≡ (said, reply)
-    stands : SessionStands address (ended_with setting.on reply old) said
+    stands : SessionStands address (switched_by setting.on reply (record old { start = None })) said
     still : IsStillAt p said
 
   ended : is_autocommit setting.variable ≡ true → (last : Shared) (reply : Reply) (verdict : Outcome BranchState) → ComesTo shared p.branch verdict last reply → Ended verdict reply
@@ -65,17 +65,17 @@ module _ {D : Type 0} (address : List ℕ → List ℕ) (epoch : ℤ) (old : Ses
     still = record { number = refl; branch = refl };
   })
 
-  base_kept : (reply : Reply) → (ended_with setting.on reply old).draft.chunks.base ≡ old.draft.chunks.base
+  base_kept : (reply : Reply) → (switched_by setting.on reply (record old { start = None })).draft.chunks.base ≡ old.draft.chunks.base
   base_kept Done = refl
   base_kept other = refl
 
   pub switch_answered : (t : Transaction) (new : Parts) (reply : Reply) → p.transaction ≡ Some t → is_changed p ≡ true → ends_by_set p setting.variable setting.on ≡ true
-      → Decided address p t shared parts new reply → Answered address epoch p (command.Switch setting) shared parts new (ended_with setting.on reply old) reply
+      → Decided address p t shared parts new reply → Answered address epoch p (command.Switch setting) shared parts new (switched_by setting.on reply (record old { start = None })) reply
   switch_answered t new reply transaction changed ends d =
       let autocommit = (both (is_autocommit setting.variable) setting.on (both (is_autocommit setting.variable && setting.on) (not p.variables.autocommit) ends).0).0 in
       let e = ended autocommit d.last reply d.verdict d.comes in
       let waits : effect_alone p (command.Switch setting) ≡ None =
       ap (λ (test : Bool). if test then (if is_changed p then None else Some (switched_over, done)) else Some (with_variable setting.variable setting.on p, done)) ends
       ∙ ap (λ (test : Bool). if test then None else Some (switched_over, done)) changed in
-      decided_answered address epoch old (ended_with setting.on reply old) parts p shared before (command.Switch setting) switched_over t new reply transaction d waits refl
+      decided_answered address epoch old (switched_by setting.on reply (record old { start = None })) parts p shared before (command.Switch setting) switched_over t new reply transaction d waits refl
       e.said e.says e.stands e.still (base_kept reply)

@@ -45,3 +45,7 @@ calls asked = false
 -- the session answers it by itself
 abbrev pub is_alone : plain.Session → Command → Bool
 is_alone p asked = (calls asked && is_in_transaction p) || is_local p asked
+
+abbrev pub is_data : Command → Bool
+is_data (command.Data asked) = true
+is_data asked = false

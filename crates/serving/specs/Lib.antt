@@ -1,8 +1,9 @@
-pub mod Ahead
 pub mod Answering
 pub mod Branching
 pub mod Closing
+pub mod Deciding
 pub mod Kinds
+pub mod Meetings
 pub mod Planning
 pub mod Serving
 pub mod Starting

@@ -17,7 +17,7 @@ use Rattle.plain_sessions.specs.declared.commands.Command.{Command}
 use Rattle.plain_sessions.specs.declared.commands.Command.TheVariants.{Data}
 use Rattle.plain_sessions.specs.declared.commands.Work.{Work}
 use Rattle.run_laws.specs.Replaying.{dropped, reply_of}
-use Rattle.run_laws.specs.Turns.{InOneTurn, ServedIn, Turn, TurnsFollow, moments_of}
+use Rattle.run_laws.specs.Turns.{InOneTurn, Turn}
 use Rattle.session_state.specs.Changes.{Parts, StateStands}
 use Rattle.session_state.specs.Standing.{SessionStands}
 use Rattle.session_state.specs.declared.sessions.Session.{Session}
@@ -77,11 +77,13 @@ abbrev pub turn_at : plain.Session → Shared → Shared → Turn
 turn_at p found left = record { statement = p.statement; found = found; left = left }
 
 -- the statement was answered without a moment
-pub record PassesAlone {D : Type 0} (address : List ℕ → List ℕ) (p : plain.Session) (asked : Command) (shared : Shared) (parts : Parts) (session : Session D) (reply : Reply) : Type 0 where
+pub record PassesAlone {D : Type 0} (address : List ℕ → List ℕ) (p : plain.Session) (asked : Command) (session : Session D) (reply : Reply) : Type 0 where
   pub after : plain.Session
   pub is : alone (shortage reply) p asked ≡ Some (after, reply)
-  pub next : IsBefore address session parts after shared
+  pub stands : SessionStands address session after
+  pub before : after.place ≡ plain.Before
   pub number : after.number ≡ p.number
+  pub branch : after.branch ≡ p.branch
 
 -- memory was wanting for it before its first moment, or an address failed
 abbrev pub Fails : plain.Session → Command → PutFault → Type 0
@@ -128,24 +130,8 @@ pub record Concludes {D : Type 0} (address : List ℕ → List ℕ) (epoch : ℤ
   pub passes : Passes q.number q.statement shared left old new
 
 -- it was dropped in place of its decision: memory was wanting, or an address failed
-pub record Drops {D : Type 0} (address : List ℕ → List ℕ) (q : plain.Session) (shared : Shared) (parts : Parts) (session : Session D) (reply : Reply) : Type 0 where
+pub record Drops {D : Type 0} (address : List ℕ → List ℕ) (q : plain.Session) (session : Session D) (reply : Reply) : Type 0 where
   pub short : Shortage
   pub later : short ≢ AtOnce
   pub is : reply ≡ reply_of short
-  pub next : IsBefore address session parts (dropped q) shared
-
--- the plain session and the shared state after it, and the turns between
-pub record Serves {D : Type 0} (address : List ℕ → List ℕ) (epoch : ℤ) (p : plain.Session) (asked : Command) (shared : Shared) (old new : Parts) (session : Session D) (reply : Reply) : Type 0 where
-  pub after : plain.Session
-  pub last : Shared
-  pub turns : List Turn
-  pub is : ServedIn address epoch (shortage reply) p asked turns (after, reply)
-  pub follows : TurnsFollow shared turns last
-  pub next : IsBefore address session new after last
-  pub moments : new.moments ≡ old.moments ++ moments_of p.number turns
-  pub numbers : new.numbers ≡ old.numbers
-  pub number : after.number ≡ p.number
-  -- the other sessions stay on their branches
-  pub others : (place : ℕ) → place ≢ p.number → slice_get last.places place ≡ slice_get shared.places place
-  -- and all chunks that were there are there
-  pub grown : Lists old.chunks new.chunks
+  pub stands : SessionStands address session (dropped q)

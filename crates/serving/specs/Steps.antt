@@ -1,5 +1,5 @@
 -- Steps of a statement: the decision on an open transaction, and replies to faults.
-use Rattle.std.specs.Prelude.{◌≡◌, ℕ, ◌==◌, ◌≤◌, Bool, true, List, [], ◌∷◌, ◌++◌, Option, None, Some, Ok, Err, if◌then◌else◌}
+use Rattle.std.specs.Prelude.{◌≡◌, ℕ, ◌==◌, Bool, true, List, [], ◌∷◌, ◌++◌, Option, None, Some, Ok, Err, if◌then◌else◌}
 use Rattle.chunk_store.specs.Chunks.{Lists}
 use Rattle.chunk_store.specs.declared.faults.PutFault.{PutFault}
 use Rattle.chunk_store.specs.declared.faults.PutFault.TheVariants.{Memory, Collision}
@@ -15,7 +15,6 @@ use Rattle.session_state.specs.Changes.{Parts, StateStands}
 use Rattle.session_state.specs.declared.sessions.Position.{Position}
 use Rattle.session_state.specs.declared.sessions.Position.TheVariants as place
 use Rattle.session_state.specs.declared.sessions.Session.{Session}
-use Rattle.shared_db.specs.Shared.{Db}
 
 -- the number of the statement before or in which a session is
 abbrev pub number_at : Position → ℕ
@@ -45,10 +44,6 @@ pub record Decided (address : List ℕ → List ℕ) (p : plain.Session) (t : pl
   pub moments : new.moments ≡ old.moments ++ record { session = p.number; statement = p.statement } ∷ []
   pub numbers : new.numbers ≡ old.numbers
 
--- no room was used up
-abbrev pub HasRoomStill : Db → Db → Type 0
-HasRoomStill old new = (old.moments_room ≤ new.moments_room) × (old.segments_room ≤ new.segments_room)
-
 -- a want of memory that came after the start is told so
 abbrev pub after_start : Reply → Reply
 after_start (Refused number) = if number == 1 then Refused 2 else Refused number
@@ -59,10 +54,10 @@ abbrev pub fault_reply : PutFault → Reply
 fault_reply Memory = Refused 1
 fault_reply (Collision clash) = Collided clash
 
--- the transaction is over, and autocommit is set where the decision was well
-abbrev pub ended_with : {D : Type 0} → Bool → Reply → Session D → Session D
-ended_with on Done session = record session { start = None; autocommit = on }
-ended_with on other session = record session { start = None }
+-- autocommit is set where the decision was well
+abbrev pub switched_by : {D : Type 0} → Bool → Reply → Session D → Session D
+switched_by on Done session = record session { autocommit = on }
+switched_by on other session = session
 
 -- it was refused, or hasn't been answered
 abbrev pub is_undone : Option Reply → Bool

@@ -1,186 +1,99 @@
 //! BEGIN.
 
-ghost use Rattle.std.specs.Prelude.{◌≡◌, ◌<◌, ℤ, true, false, Some, IfOk, IfErr, OnErr, map};
-ghost use Rattle.chunk_store.specs.Stores.{all_chunks};
+ghost use Rattle.std.specs.Prelude.{◌≡◌, ◌<◌, ◌≤ℤ◌, ℤ, pos, true, false, Some, IfOk, IfErr, OnErr, OnOk};
 ghost use Rattle.script_text.specs.Collisions.{IsFault, TellsTruly};
-ghost use Rattle.plain_sessions.specs.Records.{BranchState, Shared};
 ghost use Rattle.plain_sessions.specs.Sessions as plain;
 ghost use Rattle.plain_sessions.specs.Sessions.{is_changed};
 ghost use Rattle.plain_sessions.specs.declared.commands.Command.TheVariants as command;
-ghost use Rattle.script_text.specs.declared.replies.Reply.TheVariants.{Done};
-ghost use Rattle.session_state.specs.Laws.{head_in};
-ghost use Rattle.session_plan.specs.Answering.{Decides};
 ghost use Rattle.session_plan.specs.Showing.{is_sound_reply};
-ghost use Rattle.shared_db.specs.Plans.{PlanIs};
-ghost use Rattle.shared_db.specs.Shared.{KeepsRoom, record_at};
-ghost use Rattle.shared_db.specs.declared.changes.RecordChange.TheVariants as change;
-ghost use Rattle.serving.specs.Serving.{IsBefore};
+ghost use Rattle.script_text.specs.declared.replies.Reply.TheVariants.{Done};
+ghost use Rattle.shared_history.specs.Meeting.{room_of};
 ghost use Rattle.serving.specs.Answering.{Answered};
-ghost use Rattle.serving.specs.Planning.{by_rule};
-ghost use Rattle.serving.specs.Steps.{HasRoomStill};
+ghost use Rattle.serving.specs.Meetings.{HoldsAfterThree, InOneMoment, IsBeforeAt, WaitsFree};
 
-use crate::ahead::look_ahead;
-use crate::deciding::settle;
+use crate::deciding::{Decision, decide_in};
 use crate::filling::start_at;
-use crate::places::number_of;
-use chunk_store::{PutFault, law_of_chunks};
+use chunk_store::PutFault;
 use script_text::Reply;
 use session_state::{Session, law_of_states};
-use session_txn::plan_commit;
-use shared_db::{DecisionPlan, RecordChange, SharedDb};
-use std::alloc::Global;
-use table_root::Look;
-use tuple_codec::{BranchRecord, Digester};
+use shared_history::Meeting;
+use std::alloc::{AllocError, Global};
+use tuple_codec::Digester;
 
 /// BEGIN: it takes its start, and an open transaction that changed nothing is given up; one that changed something is decided on first, at
-/// the same moment. A fault leaves all as it was.
-pub(crate) fn begin<D: Digester>(
+/// the same moment. A fault leaves the session as it was.
+pub(crate) fn begin<D: Digester, T: Meeting<D>>(
     alloc: Global,
-    db: &mut SharedDb,
     session: &mut Session<D>,
+    meeting: &mut T,
+    epoch: i64,
 ) -> Result<Reply, PutFault>
-    requires before { (p : plain.Session) × (shared : Shared) × IsBefore D.address session.old db.old.parts p shared }
-    requires moments { 0 < db.old.moments_room }
-    requires segments { 0 < db.old.segments_room }
-    ensures answered { IfOk result (λ reply. (epoch : ℤ) (p : plain.Session) (shared : Shared) → IsBefore D.address session.old db.old.parts p shared
-        → Answered D.address epoch p command.Begin shared db.old.parts db.new.parts session.new reply) }
+    requires ready { (first : T) × T.ready first meeting.old }
+    requires before { (p : plain.Session) × IsBeforeAt D.address session.old (T.tells meeting.old) p }
+    requires room { 0 < room_of (T.tells meeting.old) }
+    requires epoch { pos 0 ≤ℤ epoch }
+    ensures ready { (first : T) → T.ready first meeting.old → T.ready first meeting.new }
+    ensures answered { IfOk result (λ reply. (e : ℤ) (p : plain.Session) → IsBeforeAt D.address session.old (T.tells meeting.old) p
+        → InOneMoment D.address (λ found shared left. Answered D.address e p command.Begin shared found left session.new reply) (T.tells meeting.old) (T.tells meeting.new)) }
     ensures sound { IfOk result (λ reply. is_sound_reply reply ≡ true) }
     ensures truly { IfOk result (TellsTruly D.address) }
     ensures fault { IfErr result (IsFault D.address) }
-    ensures same { OnErr result (db.new.parts ≡ db.old.parts) }
+    ensures waits { OnErr result (WaitsFree (T.tells meeting.old) (T.tells meeting.new)) }
     ensures kept { OnErr result (session.new ≡ session.old) }
-    ensures room { KeepsRoom 1 db.old db.new }
-    ensures room_kept { OnErr result (HasRoomStill db.old db.new) }
+    ensures holds { HoldsAfterThree (T.tells meeting.old) (T.tells meeting.new) }
 {
     if session.is_changed() {
-        begin_anew(alloc, db, session)
+        begin_anew(alloc, session, meeting, epoch)
     } else {
-        begin_unchanged(alloc, db, session)
+        begin_unchanged(alloc, session, meeting)?;
+        Ok(Reply::Done)
     }
 }
 
 /// BEGIN where nothing has changed.
-fn begin_unchanged<D: Digester>(
+fn begin_unchanged<D: Digester, T: Meeting<D>>(
     alloc: Global,
-    db: &mut SharedDb,
     session: &mut Session<D>,
-) -> Result<Reply, PutFault>
-    requires before { (p : plain.Session) × (shared : Shared) × IsBefore D.address session.old db.old.parts p shared }
-    requires moments { 0 < db.old.moments_room }
-    ensures answered { IfOk result (λ reply. (epoch : ℤ) (p : plain.Session) (shared : Shared) → IsBefore D.address session.old db.old.parts p shared → is_changed p ≡ false
-        → Answered D.address epoch p command.Begin shared db.old.parts db.new.parts session.new reply) }
-    ensures done { IfOk result (λ reply. reply ≡ Done) }
-    ensures fault { IfErr result (IsFault D.address) }
-    ensures same { OnErr result (db.new.parts ≡ db.old.parts) }
+    meeting: &mut T,
+) -> Result<(), AllocError>
+    requires ready { (first : T) × T.ready first meeting.old }
+    requires before { (p : plain.Session) × IsBeforeAt D.address session.old (T.tells meeting.old) p }
+    requires room { 0 < room_of (T.tells meeting.old) }
+    ensures ready { (first : T) → T.ready first meeting.old → T.ready first meeting.new }
+    ensures answered { OnOk result ((e : ℤ) (p : plain.Session) → IsBeforeAt D.address session.old (T.tells meeting.old) p → is_changed p ≡ false
+        → InOneMoment D.address (λ found shared left. Answered D.address e p command.Begin shared found left session.new Done) (T.tells meeting.old) (T.tells meeting.new)) }
+    ensures waits { OnErr result (WaitsFree (T.tells meeting.old) (T.tells meeting.new)) }
     ensures kept { OnErr result (session.new ≡ session.old) }
-    ensures room { KeepsRoom 0 db.old db.new }
-    ensures room_kept { OnErr result (HasRoomStill db.old db.new) }
+    ensures holds { HoldsAfterThree (T.tells meeting.old) (T.tells meeting.new) }
 {
     law_of_states();
-    let look = db.look(alloc, &session.branch)?;
-    let number = number_of(session.position);
-    db.start(session.number, number);
+    let look = meeting.start(alloc, &session.branch)?;
     start_at(alloc, session, look);
-    Ok(Reply::Done)
+    Ok(())
 }
 
-/// Decides and begins; a fault leaves all as it was.
-fn begin_anew<D: Digester>(
+/// Decides and begins at one moment.
+fn begin_anew<D: Digester, T: Meeting<D>>(
     alloc: Global,
-    db: &mut SharedDb,
     session: &mut Session<D>,
+    meeting: &mut T,
+    epoch: i64,
 ) -> Result<Reply, PutFault>
-    requires open { (p : plain.Session) × (t : plain.Transaction) × (shared : Shared) × IsBefore D.address session.old db.old.parts p shared × (p.transaction ≡ Some t) }
-    requires moments { 0 < db.old.moments_room }
-    requires segments { 0 < db.old.segments_room }
-    ensures answered { IfOk result (λ reply. (epoch : ℤ) (p : plain.Session) (t : plain.Transaction) (shared : Shared) → IsBefore D.address session.old db.old.parts p shared
-        → p.transaction ≡ Some t → is_changed p ≡ true → Answered D.address epoch p command.Begin shared db.old.parts db.new.parts session.new reply) }
+    requires ready { (first : T) × T.ready first meeting.old }
+    requires open { (p : plain.Session) × (t : plain.Transaction) × IsBeforeAt D.address session.old (T.tells meeting.old) p × (p.transaction ≡ Some t) }
+    requires room { 0 < room_of (T.tells meeting.old) }
+    requires epoch { pos 0 ≤ℤ epoch }
+    ensures ready { (first : T) → T.ready first meeting.old → T.ready first meeting.new }
+    ensures answered { IfOk result (λ reply. (e : ℤ) (p : plain.Session) (t : plain.Transaction) → IsBeforeAt D.address session.old (T.tells meeting.old) p
+        → p.transaction ≡ Some t → is_changed p ≡ true
+        → InOneMoment D.address (λ found shared left. Answered D.address e p command.Begin shared found left session.new reply) (T.tells meeting.old) (T.tells meeting.new)) }
     ensures sound { IfOk result (λ reply. is_sound_reply reply ≡ true) }
     ensures truly { IfOk result (TellsTruly D.address) }
     ensures fault { IfErr result (IsFault D.address) }
-    ensures same { OnErr result (db.new.parts ≡ db.old.parts) }
+    ensures waits { OnErr result (WaitsFree (T.tells meeting.old) (T.tells meeting.new)) }
     ensures kept { OnErr result (session.new ≡ session.old) }
-    ensures room { KeepsRoom 1 db.old db.new }
-    ensures room_kept { OnErr result (HasRoomStill db.old db.new) }
+    ensures holds { HoldsAfterThree (T.tells meeting.old) (T.tells meeting.new) }
 {
     law_of_states();
-    let look = db.look(alloc, &session.branch)?;
-    let plan = plan_commit(alloc, session, &look)?;
-    match plan.change {
-        RecordChange::Nothing => end_refused(db, session, &look, plan),
-        RecordChange::Record(rec) => end_and_begin(alloc, db, session, &look, rec, plan),
-    }
-}
-
-/// Where the rule refuses what has changed the transaction is over, and none is begun.
-fn end_refused<D: Digester>(
-    db: &mut SharedDb,
-    session: &mut Session<D>,
-    look: &Look,
-    plan: DecisionPlan,
-) -> Result<Reply, PutFault>
-    requires open { (p : plain.Session) × (t : plain.Transaction) × (shared : Shared) × IsBefore D.address session.old db.old.parts p shared × (p.transaction ≡ Some t) }
-    requires moments { 0 < db.old.moments_room }
-    requires segments { 0 < db.old.segments_room }
-    requires branch { look.now.branch ≡ session.old.branch }
-    requires there { record_at session.old.branch db.old.parts.branches ≡ Some look.now.rec }
-    requires heads { look.now.heads ≡ map head_in db.old.parts.branches }
-    requires chunks { all_chunks look.now.store ≡ db.old.parts.chunks }
-    requires planned { (p : plain.Session) (t : plain.Transaction) (shared : Shared) (present : BranchState) → Decides D.address session.old look.now p t shared present
-        → PlanIs D.address look.now shared.commits plan (by_rule p t shared.commits present) }
-    requires refused { plan.change ≡ change.Nothing }
-    ensures answered { IfOk result (λ reply. (epoch : ℤ) (p : plain.Session) (t : plain.Transaction) (shared : Shared) → IsBefore D.address session.old db.old.parts p shared
-        → p.transaction ≡ Some t → is_changed p ≡ true → Answered D.address epoch p command.Begin shared db.old.parts db.new.parts session.new reply) }
-    ensures sound { IfOk result (λ reply. is_sound_reply reply ≡ true) }
-    ensures truly { IfOk result (TellsTruly D.address) }
-    ensures fault { IfErr result (IsFault D.address) }
-    ensures same { OnErr result (db.new.parts ≡ db.old.parts) }
-    ensures kept { OnErr result (session.new ≡ session.old) }
-    ensures room { KeepsRoom 1 db.old db.new }
-    ensures room_kept { OnErr result (HasRoomStill db.old db.new) }
-{
-    law_of_chunks();
-    law_of_states();
-    let number = number_of(session.position);
-    let reply = settle(db, session.number, number, look, plan)?;
-    session.start = None;
-    Ok(reply)
-}
-
-/// Where the rule is well the next transaction is begun on what it leaves. The memory for that is taken before.
-fn end_and_begin<D: Digester>(
-    alloc: Global,
-    db: &mut SharedDb,
-    session: &mut Session<D>,
-    look: &Look,
-    rec: BranchRecord,
-    plan: DecisionPlan,
-) -> Result<Reply, PutFault>
-    requires open { (p : plain.Session) × (t : plain.Transaction) × (shared : Shared) × IsBefore D.address session.old db.old.parts p shared × (p.transaction ≡ Some t) }
-    requires moments { 0 < db.old.moments_room }
-    requires segments { 0 < db.old.segments_room }
-    requires branch { look.now.branch ≡ session.old.branch }
-    requires there { record_at session.old.branch db.old.parts.branches ≡ Some look.now.rec }
-    requires heads { look.now.heads ≡ map head_in db.old.parts.branches }
-    requires chunks { all_chunks look.now.store ≡ db.old.parts.chunks }
-    requires planned { (p : plain.Session) (t : plain.Transaction) (shared : Shared) (present : BranchState) → Decides D.address session.old look.now p t shared present
-        → PlanIs D.address look.now shared.commits plan (by_rule p t shared.commits present) }
-    requires changed { plan.change ≡ change.Record rec }
-    ensures answered { IfOk result (λ reply. (epoch : ℤ) (p : plain.Session) (t : plain.Transaction) (shared : Shared) → IsBefore D.address session.old db.old.parts p shared
-        → p.transaction ≡ Some t → is_changed p ≡ true → Answered D.address epoch p command.Begin shared db.old.parts db.new.parts session.new reply) }
-    ensures sound { IfOk result (λ reply. is_sound_reply reply ≡ true) }
-    ensures truly { IfOk result (TellsTruly D.address) }
-    ensures fault { IfErr result (IsFault D.address) }
-    ensures same { OnErr result (db.new.parts ≡ db.old.parts) }
-    ensures kept { OnErr result (session.new ≡ session.old) }
-    ensures room { KeepsRoom 1 db.old db.new }
-    ensures room_kept { OnErr result (HasRoomStill db.old db.new) }
-{
-    law_of_chunks();
-    law_of_states();
-    let number = number_of(session.position);
-    let next = look_ahead(alloc, db, &look.branch, rec, &plan.sealed)?;
-    let reply = settle(db, session.number, number, look, plan)?;
-    start_at(alloc, session, next);
-    Ok(reply)
+    decide_in(alloc, session, Decision::Begin, meeting, epoch)
 }

@@ -4,85 +4,83 @@ ghost use Rattle.std.specs.Prelude.{◌≡◌, ◌≢◌, ◌<◌, ℤ, true, fa
 ghost use Rattle.script_text.specs.Collisions.{IsFault, TellsTruly};
 ghost use Rattle.plain_sessions.specs.Branching.{checkout_name};
 ghost use Rattle.plain_sessions.specs.Fitness.{is_fit_branch, is_fit_checkout, is_fit_new};
-ghost use Rattle.plain_sessions.specs.Records.{Shared};
 ghost use Rattle.plain_sessions.specs.Sessions as plain;
 ghost use Rattle.plain_sessions.specs.Sessions.{is_changed};
 ghost use Rattle.plain_sessions.specs.declared.commands.Command.TheVariants as command;
 ghost use Rattle.sql_procedures.specs.Arguments.{is_point};
 ghost use Rattle.session_plan.specs.Showing.{is_sound_reply};
-ghost use Rattle.shared_db.specs.Shared.{KeepsRoom};
 ghost use Rattle.shared_db.specs.Stepping.{point_of, step_of_branch, step_of_checkout};
 ghost use Rattle.shared_db.specs.declared.changes.BranchReply.TheVariants as reply;
+ghost use Rattle.shared_history.specs.Meeting.{room_of};
 ghost use Rattle.serving.specs.Branching.{Went, step_reply};
-ghost use Rattle.serving.specs.Serving.{IsBefore};
-ghost use Rattle.serving.specs.Steps.{HasRoomStill};
+ghost use Rattle.serving.specs.Meetings.{HoldsAfterThree, InOneMoment, IsBeforeAt, WaitsFree};
 
-use crate::places::number_of;
 use crate::rows::{status_row, switched_row};
 use chunk_store::PutFault;
 use script_text::Reply;
 use session_state::Session;
-use shared_db::{BranchReply, BranchStep, Point, SharedDb, law_of_steps};
+use shared_db::{BranchReply, BranchStep, Point, law_of_steps};
+use shared_history::Meeting;
 use sql_procedures::{BranchRequest, CheckoutRequest, NewBranch};
 use std::alloc::Global;
 use table_root::BranchName;
 use tuple_codec::{Answer, Digester, Text};
 
 /// DOLT_BRANCH. Where memory was wanting there is no moment.
-pub(crate) fn step_branches<D: Digester>(
+pub(crate) fn step_branches<D: Digester, T: Meeting<D>>(
     alloc: Global,
-    db: &mut SharedDb,
     session: &Session<D>,
     request: &BranchRequest,
+    meeting: &mut T,
 ) -> Result<Reply, PutFault>
-    requires before { (p : plain.Session) × (shared : Shared) × IsBefore D.address session.now db.old.parts p shared }
+    requires ready { (first : T) × T.ready first meeting.old }
+    requires before { (p : plain.Session) × IsBeforeAt D.address session.now (T.tells meeting.old) p }
     requires fit { is_fit_branch request.now ≡ true }
-    requires moments { 0 < db.old.moments_room }
-    ensures went { IfOk result (λ reply. (epoch : ℤ) (p : plain.Session) (shared : Shared) → IsBefore D.address session.now db.old.parts p shared
-        → Went D.address epoch p (command.OnBranches request.now) shared db.old.parts db.new.parts session.now reply) }
+    requires room { 0 < room_of (T.tells meeting.old) }
+    ensures ready { (first : T) → T.ready first meeting.old → T.ready first meeting.new }
+    ensures went { IfOk result (λ reply. (epoch : ℤ) (p : plain.Session) → IsBeforeAt D.address session.now (T.tells meeting.old) p
+        → InOneMoment D.address (λ found shared left. Went D.address epoch p (command.OnBranches request.now) shared found left session.now reply) (T.tells meeting.old) (T.tells meeting.new)) }
     ensures sound { IfOk result (λ reply. is_sound_reply reply ≡ true) }
     ensures truly { IfOk result (TellsTruly D.address) }
     ensures fault { IfErr result (IsFault D.address) }
-    ensures same { OnErr result (db.new.parts ≡ db.old.parts) }
-    ensures room { KeepsRoom 0 db.old db.new }
-    ensures room_kept { OnErr result (HasRoomStill db.old db.new) }
+    ensures waits { OnErr result (WaitsFree (T.tells meeting.old) (T.tells meeting.new)) }
+    ensures holds { HoldsAfterThree (T.tells meeting.old) (T.tells meeting.new) }
 {
     law_of_steps();
     let step = step_of_branch(request);
     let row = status_row(alloc)?;
-    let number = number_of(session.position);
-    let ended = db.branch_step(session.number, number, &step);
+    let ended = meeting.branch_step(&step);
     Ok(step_reply(row, ended))
 }
 
 /// DOLT_CHECKOUT, but in a transaction that changed something: the session is on the branch that it is on then, and its transaction is over.
 /// Where memory was wanting there is no moment, and all is as it was.
-pub(crate) fn go_to<D: Digester>(
+pub(crate) fn go_to<D: Digester, T: Meeting<D>>(
     alloc: Global,
-    db: &mut SharedDb,
     session: &mut Session<D>,
     request: &CheckoutRequest,
+    meeting: &mut T,
 ) -> Result<Reply, PutFault>
-    requires before { (p : plain.Session) × (shared : Shared) × IsBefore D.address session.old db.old.parts p shared × (is_changed p ≡ false) }
+    requires ready { (first : T) × T.ready first meeting.old }
+    requires before { (p : plain.Session) × IsBeforeAt D.address session.old (T.tells meeting.old) p × (is_changed p ≡ false) }
     requires fit { is_fit_checkout request.now ≡ true }
-    requires moments { 0 < db.old.moments_room }
-    ensures went { IfOk result (λ reply. (epoch : ℤ) (p : plain.Session) (shared : Shared) → IsBefore D.address session.old db.old.parts p shared → is_changed p ≡ false
-        → Went D.address epoch p (command.Checkout request.now) shared db.old.parts db.new.parts session.new reply) }
+    requires room { 0 < room_of (T.tells meeting.old) }
+    ensures ready { (first : T) → T.ready first meeting.old → T.ready first meeting.new }
+    ensures went { IfOk result (λ reply. (epoch : ℤ) (p : plain.Session) → IsBeforeAt D.address session.old (T.tells meeting.old) p → is_changed p ≡ false
+        → InOneMoment D.address (λ found shared left. Went D.address epoch p (command.Checkout request.now) shared found left session.new reply) (T.tells meeting.old) (T.tells meeting.new)) }
     ensures position { session.new.position ≡ session.old.position }
     ensures sound { IfOk result (λ reply. is_sound_reply reply ≡ true) }
     ensures truly { IfOk result (TellsTruly D.address) }
     ensures fault { IfErr result (IsFault D.address) }
-    ensures same { OnErr result (db.new.parts ≡ db.old.parts) }
+    ensures waits { OnErr result (WaitsFree (T.tells meeting.old) (T.tells meeting.new)) }
     ensures kept { OnErr result (session.new ≡ session.old) }
-    ensures room { KeepsRoom 0 db.old db.new }
-    ensures room_kept { OnErr result (HasRoomStill db.old db.new) }
+    ensures holds { HoldsAfterThree (T.tells meeting.old) (T.tells meeting.new) }
 {
     law_of_steps();
     let branch = checkout_name(request);
     let row = switched_row(alloc, branch.bytes())?;
     let step = step_of_checkout(request);
-    let number = number_of(session.position);
-    let ended = db.branch_step(session.number, number, &step);
+    let ended = meeting.branch_step(&step);
     arrive(session, branch, ended);
     Ok(step_reply(row, ended))
 }

@@ -4,17 +4,15 @@ ghost use Rattle.std.specs.Prelude.{◌≡◌, ◌<◌, ◌+◌, ◌^◌, ◌&&�
 ghost use Rattle.script_text.specs.Collisions.{TellsTruly};
 ghost use Rattle.plain_sessions.specs.Fitness.{IsFitCommand, IsFitWork};
 ghost use Rattle.plain_sessions.specs.Moments.{alone, alone_by, ends_by_set};
-ghost use Rattle.plain_sessions.specs.Records.{Shared};
 ghost use Rattle.plain_sessions.specs.Sessions as plain;
 ghost use Rattle.plain_sessions.specs.Sessions.{is_changed};
 ghost use Rattle.script_text.specs.declared.replies.Reply.TheVariants.{Refused};
 ghost use Rattle.plain_sessions.specs.declared.commands.Command.TheVariants as command;
-ghost use Rattle.session_state.specs.Changes.{Parts};
 ghost use Rattle.session_state.specs.Standing.{SessionStands};
 ghost use Rattle.session_plan.specs.Answering.{AnswersAlone};
 ghost use Rattle.session_plan.specs.Showing.{is_sound_reply};
 ghost use Rattle.serving.specs.Kinds.{is_alone, is_in_place, may_close};
-ghost use Rattle.serving.specs.Serving.{IsBefore, PassesAlone};
+ghost use Rattle.serving.specs.Serving.{PassesAlone};
 ghost use Rattle.serving.specs.Steps.{is_undone, number_at};
 
 use crate::alone::answer_alone;
@@ -40,13 +38,13 @@ pub fn come_to<D: Digester>(
     session: &mut Session<D>,
     asked: &Command,
 ) -> Option<Reply>
-    requires before { (parts : Parts) × (p : plain.Session) × (shared : Shared) × IsBefore D.address session.old parts p shared }
+    requires before { (p : plain.Session) × SessionStands D.address session.old p × (p.place ≡ plain.Before) }
     requires place { number_at session.old.position + 1 < 2 ^ 32 }
     requires fit { IsFitCommand asked.now }
-    ensures alone { IfSome result (λ reply. (parts : Parts) (p : plain.Session) (shared : Shared) → IsBefore D.address session.old parts p shared
-        → PassesAlone D.address p asked.now shared parts session.new reply) }
-    ensures waits { result ≡ None → (parts : Parts) (p : plain.Session) (shared : Shared) → IsBefore D.address session.old parts p shared
-        → (alone None p asked.now ≡ None) × IsBefore D.address session.new parts p shared }
+    ensures alone { IfSome result (λ reply. (p : plain.Session) → SessionStands D.address session.old p → p.place ≡ plain.Before → PassesAlone D.address p asked.now session.new reply) }
+    ensures waits { result ≡ None → (p : plain.Session) → SessionStands D.address session.old p → p.place ≡ plain.Before
+        → (alone None p asked.now ≡ None) × SessionStands D.address session.new p }
+    ensures base { session.new.draft.chunks.base ≡ session.old.draft.chunks.base }
     ensures place { result ≡ None → session.new.position ≡ session.old.position }
     ensures sound { IfSome result (λ reply. is_sound_reply reply ≡ true) }
     ensures truly { IfSome result (TellsTruly D.address) }

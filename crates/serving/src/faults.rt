@@ -2,12 +2,11 @@
 
 ghost use Rattle.std.specs.Prelude.{◌≡◌, ◌<◌, ◌+◌, ◌^◌, true};
 ghost use Rattle.script_text.specs.Collisions.{IsFault, TellsTruly};
-ghost use Rattle.plain_sessions.specs.Records.{Shared};
 ghost use Rattle.plain_sessions.specs.Sessions as plain;
 ghost use Rattle.plain_sessions.specs.declared.commands.Command.{Command};
-ghost use Rattle.session_state.specs.Changes.{Parts};
+ghost use Rattle.session_state.specs.Standing.{SessionStands};
 ghost use Rattle.session_plan.specs.Showing.{is_sound_reply};
-ghost use Rattle.serving.specs.Serving.{Fails, IsBefore, PassesAlone};
+ghost use Rattle.serving.specs.Serving.{Fails, PassesAlone};
 ghost use Rattle.serving.specs.Steps.{after_start, fault_reply, number_at};
 
 use crate::places::{go_on, number_of};
@@ -45,11 +44,10 @@ pub(crate) fn after_start(reply: Reply) -> Reply
 
 /// Answers a statement that met a fault before its first moment, and the session goes on to the next one.
 pub fn answer_fault<D: Digester>(session: &mut Session<D>, fault: PutFault) -> Reply
-    requires before { (parts : Parts) × (p : plain.Session) × (shared : Shared) × IsBefore D.address session.old parts p shared }
+    requires before { (p : plain.Session) × SessionStands D.address session.old p × (p.place ≡ plain.Before) }
     requires place { number_at session.old.position + 1 < 2 ^ 32 }
     requires fault { IsFault D.address fault }
-    ensures alone { (parts : Parts) (p : plain.Session) (asked : Command) (shared : Shared) → IsBefore D.address session.old parts p shared → Fails p asked fault
-        → PassesAlone D.address p asked shared parts session.new result }
+    ensures alone { (p : plain.Session) (asked : Command) → SessionStands D.address session.old p → p.place ≡ plain.Before → Fails p asked fault → PassesAlone D.address p asked session.new result }
     ensures sound { is_sound_reply result ≡ true }
     ensures truly { TellsTruly D.address result }
     ensures same { session.new ≡ record session.old { position = session.new.position } }

@@ -1,14 +1,12 @@
-//! One statement of a session on the shared database, from what its text asks to its reply.
+//! One statement of a session over its meeting with what all sessions share, from what its text asks to its reply.
 #![tactic(auto)]
 
-mod ahead;
 mod alone;
 mod answering;
 mod beginning;
 mod branching;
 mod closing;
 mod coming;
-mod committing;
 mod concluding;
 mod courses;
 mod deciding;
@@ -16,19 +14,16 @@ mod faults;
 mod filling;
 mod meeting;
 mod places;
-mod planned;
-mod planned_open;
 mod rows;
 mod starting;
 mod switching;
+mod trying;
 mod working;
 
 pub use answering::serve;
 pub use coming::come_to;
 pub use concluding::{conclude, drop_started};
 pub use courses::Found;
+pub use deciding::{Decision, decide};
 pub use faults::answer_fault;
-pub use meeting::{Begun, Met, Pending, meet_start};
-pub use planned::{Planned, conclude_planned, look_anew, look_for, plan_pending};
-pub use planned_open::{may_end_open, meet_planned, plan_open};
-pub use working::work_started;
+pub use meeting::{Met, Pending, meet};

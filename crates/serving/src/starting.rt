@@ -10,44 +10,43 @@ ghost use Rattle.plain_sessions.specs.declared.commands.Command.TheVariants as c
 ghost use Rattle.plain_sessions.specs.declared.commands.Work.{Work};
 ghost use Rattle.session_state.specs.Changes.{Parts};
 ghost use Rattle.session_plan.specs.Showing.{is_sound_reply};
-ghost use Rattle.shared_db.specs.Shared.{KeepsRoom};
+ghost use Rattle.shared_history.specs.Meeting.{room_of};
 ghost use Rattle.serving.specs.Answering.{HasMet};
 ghost use Rattle.serving.specs.Kinds.{is_in_place};
-ghost use Rattle.serving.specs.Serving.{IsBefore, IsSoundMet, MetTellsTruly};
+ghost use Rattle.serving.specs.Meetings.{HoldsAfterThree, InOneMoment, IsBeforeAt, WaitsFree};
+ghost use Rattle.serving.specs.Serving.{IsSoundMet, MetTellsTruly};
 ghost use Rattle.serving.specs.Starting.{HasAnswered, HasStarted, HasWorked, IsStarted};
-ghost use Rattle.serving.specs.Steps.{HasRoomStill, after_start};
+ghost use Rattle.serving.specs.Steps.{after_start};
 
 use crate::alone::answer_alone;
 use crate::faults::after_start;
 use crate::filling::start_at;
 use crate::meeting::{Met, Pending};
-use crate::places::number_of;
 use plain_sessions::Command;
 use script_text::Reply;
 use session_state::{Session, law_of_states};
-use shared_db::SharedDb;
+use shared_history::Meeting;
 use std::alloc::{AllocError, Global};
 use tuple_codec::Digester;
 
 /// Takes the start of a transaction: its moment is made, and the session is in it.
-pub(crate) fn take_start<D: Digester>(
+pub(crate) fn take_start<D: Digester, T: Meeting<D>>(
     alloc: Global,
-    db: &mut SharedDb,
     session: &mut Session<D>,
+    meeting: &mut T,
 ) -> Result<(), AllocError>
-    requires before { (p : plain.Session) × (shared : Shared) × IsBefore D.address session.old db.old.parts p shared × (p.transaction ≡ None) }
-    requires moments { 0 < db.old.moments_room }
-    ensures started { OnOk result ((p : plain.Session) (shared : Shared) → IsBefore D.address session.old db.old.parts p shared → p.transaction ≡ None
-        → (t : plain.Transaction) × HasStarted D.address session.new db.old.parts db.new.parts p t shared) }
-    ensures same { OnErr result (db.new.parts ≡ db.old.parts) }
+    requires ready { (first : T) × T.ready first meeting.old }
+    requires before { (p : plain.Session) × IsBeforeAt D.address session.old (T.tells meeting.old) p × (p.transaction ≡ None) }
+    requires room { 0 < room_of (T.tells meeting.old) }
+    ensures ready { (first : T) → T.ready first meeting.old → T.ready first meeting.new }
+    ensures started { OnOk result ((p : plain.Session) → IsBeforeAt D.address session.old (T.tells meeting.old) p → p.transaction ≡ None
+        → InOneMoment D.address (λ found shared left. (t : plain.Transaction) × HasStarted D.address session.new found left p t shared) (T.tells meeting.old) (T.tells meeting.new)) }
+    ensures waits { OnErr result (WaitsFree (T.tells meeting.old) (T.tells meeting.new)) }
     ensures kept { OnErr result (session.new ≡ session.old) }
-    ensures room { KeepsRoom 0 db.old db.new }
-    ensures room_kept { OnErr result (HasRoomStill db.old db.new) }
+    ensures holds { HoldsAfterThree (T.tells meeting.old) (T.tells meeting.new) }
 {
     law_of_states();
-    let look = db.look(alloc, &session.branch)?;
-    let number = number_of(session.position);
-    db.start(session.number, number);
+    let look = meeting.start(alloc, &session.branch)?;
     start_at(alloc, session, look);
     Ok(())
 }

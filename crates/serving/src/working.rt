@@ -23,7 +23,11 @@ use tuple_codec::Digester;
 
 /// Does the work of a statement whose start was made, on what its start found: the statement is answered, or its decision is to come. Where
 /// memory was wanting or an address failed it is answered so.
-pub fn work_started<D: Digester>(alloc: Global, session: &mut Session<D>, asked: &Command) -> Met
+pub(crate) fn work_started<D: Digester>(
+    alloc: Global,
+    session: &mut Session<D>,
+    asked: &Command,
+) -> Met
     requires started { (p : plain.Session) × (shared : Shared) × (old : Parts) × (new : Parts) × IsStarted D.address p asked.now shared old new session.old }
     requires place { number_at session.old.position + 1 < 2 ^ 32 }
     requires fit { IsFitCommand asked.now }

@@ -1,6 +1,6 @@
 //! A meeting without other threads.
 
-ghost use Rattle.std.specs.Prelude.{◌≡◌, ◌≤ℤ◌, ℕ, List, length, pos, IfErr, IfOk};
+ghost use Rattle.std.specs.Prelude.{◌≡◌, ◌≤ℤ◌, ℕ, List, [], false, length, pos, IfErr, IfOk};
 ghost use Rattle.plain_sessions.specs.Records.{opening};
 ghost use Rattle.session_state.specs.Changes.{StateStands};
 ghost use Rattle.shared_db.specs.Opening.{IsOpeningFault};
@@ -35,6 +35,8 @@ impl<D: Digester> LoneDb<D> {
         requires { pos 0 ≤ℤ epoch }
         ensures opening { IfOk result (λ lone. (names : List (List ℕ)) → length names ≡ length statements.now → StateStands D.address lone.db.parts (opening D.address epoch names)) }
         ensures numbers { IfOk result (λ lone. lone.db.parts.numbers ≡ statements.now) }
+        ensures moments { IfOk result (λ lone. lone.db.parts.moments ≡ []) }
+        ensures free { IfOk result (λ lone. (tells_alone lone).held ≡ false) }
         ensures ready { IfOk result (λ lone. IsAlone D.address lone lone) }
         ensures fault { IfErr result (IsOpeningFault D.address epoch) }
     {

@@ -1,5 +1,5 @@
 -- A run in threads at its end.
-use Rattle.std.proofs.Common.{◌≡◌, ◌≢◌, refl, sym, ◌∙◌, ap, subst, ℕ, ℤ, zero, suc, ◌+◌, ◌-◌, ◌<◌, ◌≤◌, ◌^◌, ◌==◌, Bool, true, false, cond, nat_lt, List, [], ◌∷◌, get_or, length, map, Some, slice_get, arith}
+use Rattle.std.proofs.Common.{◌≡◌, ◌≢◌, refl, sym, ◌∙◌, ap, subst, ℕ, ℤ, zero, suc, ◌+◌, ◌-◌, ◌<◌, ◌^◌, ◌==◌, Bool, true, false, cond, nat_lt, List, [], ◌∷◌, get_or, length, map, Some, slice_get, arith}
 use Rattle.std.specs.List.{AllByRecursion, list_all}
 use Rattle.std.specs.Prelude.{All}
 use Rattle.std.proofs.lemmas.Bool.Decides.{nat_tests}
@@ -46,10 +46,11 @@ use Rattle.script_run.specs.declared.players.Player.{Player}
 use Rattle.script_run.proofs.ReplayLemmas.{are_over, are_printable, are_shown, are_truly, are_waiting, as_many_test, shown_is}
 use Rattle.shared_history.specs.declared.gated.GatedDb.{GatedDb}
 use Rattle.thread_run.specs.Ending.{HasEnded, HaveWorked}
-use Rattle.thread_run.specs.Going.{HasWorked, IsAtWork, IsGoing, IsMeeting, told_turn}
+use Rattle.thread_run.specs.Going.{HasWorked, IsAtWork, IsGoing, IsThere}
 use Rattle.thread_run.specs.Opening.{IsOpenAtGate}
-use Rattle.thread_run.specs.declared.opening.AtGate.{AtGate}
-use Rattle.thread_run.proofs.GoingLemmas.{meets}
+use Rattle.thread_run.specs.Turns.{told_turn}
+use Rattle.thread_run.specs.declared.opening.OpenedGate.{OpenedGate}
+use Rattle.thread_run.proofs.GoingLemmas.{stands_there}
 
 -- ---- the gate's history and the machine's
 
@@ -161,12 +162,12 @@ module _ {D : Type 0} (address : List ℕ → List ℕ) (epoch : ℤ) (script : 
       → IsPlayer address db.parts fits.shared place runner worker.work
       × Way (SpellsState address) address epoch (new_session place name) (commands_of command place script.lines) (laws.told_by place opened (map entry_of log)) runner
 
-  meeting_at : (place : ℕ) (name : List ℕ) (worker : Worker (Player D)) → slice_get script.names place ≡ Some name → slice_get workers place ≡ Some worker
-      → IsMeeting address epoch place (new_session place name) (commands_of command place script.lines) (having_seen log (view_in worker.seat)) db worker.work
-  meeting_at place name worker named there =
+  there_at : (place : ℕ) (name : List ℕ) (worker : Worker (Player D)) → slice_get script.names place ≡ Some name → slice_get workers place ≡ Some worker
+      → IsThere address epoch place (new_session place name) (commands_of command place script.lines) (having_seen log (view_in worker.seat)) db worker.work
+  there_at place name worker named there =
       let one = over place name worker named there in
       let within = stands_in place worker there in
-      meets address epoch place (new_session place name) (commands_of command place script.lines) (view_in worker.seat) log db worker.work one.own
+      stands_there address epoch place (new_session place name) (commands_of command place script.lines) (view_in worker.seat) log db worker.work one.own
       (subst (λ o. Fits address db o log) (sym one.opened_as) fits) within.0 within.1 one.going
 
   last_at : (place : ℕ) → place < length script.names → (runner : Runner) × IsLast place runner
@@ -174,20 +175,20 @@ module _ {D : Type 0} (address : List ℕ → List ℕ) (epoch : ℤ) (script : 
       let named = found_there script.names place below in
       let there = found_there workers place (omega (arith, many, below)) in
       let one = over place named.0 there.0 named.1 there.1 in
-      let meeting = meeting_at place named.0 there.0 named.1 there.1 in (
-        meeting.runner,
+      let stood = there_at place named.0 there.0 named.1 there.1 in (
+        stood.runner,
         λ name worker h g.
             let is_name : named.0 ≡ name = let n = named.1 in cc in
             let is_worker : there.0 ≡ worker = let t = there.1 in cc in
-            subst (λ (n : List ℕ). IsPlayer address db.parts fits.shared place meeting.runner worker.work
-            × Way (SpellsState address) address epoch (new_session place n) (commands_of command place script.lines) (laws.told_by place opened (map entry_of log)) meeting.runner) is_name
-            (subst (λ (w : Worker (Player D)). IsPlayer address db.parts fits.shared place meeting.runner w.work
-            × Way (SpellsState address) address epoch (new_session place named.0) (commands_of command place script.lines) (laws.told_by place opened (map entry_of log)) meeting.runner) is_worker (
-              subst (λ (s : Shared). IsPlayer address db.parts s place meeting.runner there.0.work) (states.one address db.parts meeting.fits.shared fits.shared meeting.fits.stands fits.stands) meeting.is,
-              subst (λ (turns : List (ToldTurn Spelling)). Way (SpellsState address) address epoch (new_session place named.0) (commands_of command place script.lines) turns meeting.runner)
+            subst (λ (n : List ℕ). IsPlayer address db.parts fits.shared place stood.runner worker.work
+            × Way (SpellsState address) address epoch (new_session place n) (commands_of command place script.lines) (laws.told_by place opened (map entry_of log)) stood.runner) is_name
+            (subst (λ (w : Worker (Player D)). IsPlayer address db.parts fits.shared place stood.runner w.work
+            × Way (SpellsState address) address epoch (new_session place named.0) (commands_of command place script.lines) (laws.told_by place opened (map entry_of log)) stood.runner) is_worker (
+              subst (λ (s : Shared). IsPlayer address db.parts s place stood.runner there.0.work) (states.one address db.parts stood.fits.shared fits.shared stood.fits.stands fits.stands) stood.is,
+              subst (λ (turns : List (ToldTurn Spelling)). Way (SpellsState address) address epoch (new_session place named.0) (commands_of command place script.lines) turns stood.runner)
                   (ap (λ n. map told_turn (told_by n (view_in there.0.seat).opened log)) one.number
                   ∙ (ap (λ o. map told_turn (told_by (seat_of place) o log)) one.opened_as
-                  ∙ sym (told_same place opened log (seats_of (length script.names) log known)))) meeting.way,
+                  ∙ sym (told_same place opened log (seats_of (length script.names) log known)))) stood.way,
             )),
       )
 
@@ -237,7 +238,7 @@ module _ {D : Type 0} (address : List ℕ → List ℕ) (epoch : ℤ) (script : 
 -- ---- the gate was closed
 
 -- each worker has its seat, and its session is before its first statement
-pub all_at_work : {D : Type 0} (address : List ℕ → List ℕ) (epoch : ℤ) (script : Script) (at : AtGate D) → IsOpenAtGate address epoch script at → All (IsAtWork address epoch (gate_id at.gate)) at.workers.items
+pub all_at_work : {D : Type 0} (address : List ℕ → List ℕ) (epoch : ℤ) (script : Script) (at : OpenedGate D) → IsOpenAtGate address epoch script at → All (IsAtWork address epoch (gate_id at.gate)) at.workers.items
 all_at_work address epoch script at begun k d below =
     let workers : List (Worker (Player _)) = at.workers.items in
     let first : View = first_view (spelling_of begun.parts) in

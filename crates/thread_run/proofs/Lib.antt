@@ -1,3 +1,5 @@
+mod SeatLemmas
+mod AtGateLemmas
 pub mod WayLemmas
 pub mod GoingLemmas
 pub mod EndingLemmas

@@ -1,6 +1,5 @@
 -- A run in threads before its first statement.
-use Rattle.std.proofs.Common.{◌≡◌, refl, sym, ◌∙◌, ap, subst, ℕ, ℤ, ◌+◌, ◌*◌, ◌<◌, ◌≤◌, List, get_or, length, Some, slice_get, arith}
-use Rattle.std.specs.Prelude.{slice_index_or}
+use Rattle.std.proofs.Common.{◌≡◌, refl, sym, subst, ℕ, ℤ, ◌+◌, ◌<◌, List, [], get_or, length, Some, slice_get, arith}
 use Rattle.std.proofs.lemmas.Option.{get_or_from_slice_get, slice_get_within}
 use Rattle.tuple_codec.proofs.Lists.{there_at as found_there}
 use Rattle.script_text.specs.declared.scripts.Script.{Script}
@@ -8,37 +7,28 @@ use Rattle.plain_sessions.specs.Commands.{command}
 use Rattle.plain_sessions.specs.Records.{opening}
 use Rattle.plain_sessions.specs.Runs.{commands_of}
 use Rattle.plain_sessions.specs.Sessions.{new_session}
-use Rattle.run_laws.specs.Orders.{count_of}
 use Rattle.run_laws.proofs.ThreadLemmas.{way_first}
 use Rattle.session_state.specs.Changes.{Parts, StateStands}
 use Rattle.seat_gate.specs.History.{View, first_view, newcomer}
-use Rattle.seat_gate.specs.Words.{GateId, gate_id, gate_of, seat_view}
-use Rattle.seat_gate.specs.Working.{AreNewcomers, IsNewcomer, giving_out, view_in}
+use Rattle.seat_gate.specs.Words.{gate_id, gate_of, seat_view}
+use Rattle.seat_gate.specs.Working.{AreNewcomers, IsNewcomer, giving_out}
 use Rattle.seat_gate.specs.declared.workers.Worker.{Worker}
 use Rattle.shared_history.specs.Spelling.{SpellsState, spelling_of}
-use Rattle.script_run.specs.Following.{moments_left}
 use Rattle.script_run.specs.Opening.{AreNewPlayers, counts}
 use Rattle.script_run.specs.Scripts.{IsSoundScript}
 use Rattle.script_run.specs.declared.players.Player.{Player}
-use Rattle.script_run.proofs.CountLemmas.{as_many}
-use Rattle.script_run.proofs.PlayerLemmas.{at_count, first_at, new_at, new_is, new_left}
+use Rattle.script_run.proofs.PlayerLemmas.{first_at, new_at, new_is, new_room}
 use Rattle.thread_run.specs.Going.{IsGoing}
 use Rattle.thread_run.specs.Opening.{IsOpenAtGate}
-use Rattle.thread_run.specs.declared.opening.AtGate.{AtGate}
+use Rattle.thread_run.specs.declared.opening.OpenedGate.{OpenedGate}
 
 module _ {D : Type 0} (address : List ℕ → List ℕ) (epoch : ℤ) (script : Script) (parts : Parts) (statements : List ℕ) (players : List (Player D)) (sound : IsSoundScript script)
     (counted : statements ≡ counts (length script.names) script.lines) (stands : StateStands address parts (opening address epoch script.names)) (numbers : parts.numbers ≡ statements)
-    (new : AreNewPlayers address script.names script.lines statements players) where
+    (none : parts.moments ≡ []) (new : AreNewPlayers address script.names script.lines statements players) where
   -- the session at its place, before its first statement
   going_at : (place : ℕ) (name : List ℕ) (player : Player D) → slice_get script.names place ≡ Some name → slice_get players place ≡ Some player
       → IsGoing address epoch place (new_session place name) (commands_of command place script.lines) (newcomer (giving_out place (first_view (spelling_of parts)))) player
   going_at place name player named there =
-      let below : place < length script.names = slice_get_within script.names place name named in
-      let left : moments_left player ≡ 2 * count_of place script.lines
-      = new_left address place name script.lines player (new_at address epoch script parts players statements counted new place name player named there) in
-      let own : slice_index_or parts.numbers place 0 ≡ count_of place script.lines
-      = ap (λ ns. slice_index_or ns place 0) numbers
-      ∙ get_or_from_slice_get statements place (count_of place script.lines) 0 (at_count address epoch script parts players statements counted place below) in
       record {
         number = let number : 1 + place ≡ place + 1 = omega arith in number;
         parts = parts;
@@ -47,10 +37,10 @@ module _ {D : Type 0} (address : List ℕ → List ℕ) (epoch : ℤ) (script : 
         runner = first_at script place name;
         is = new_is address epoch script parts players statements place name player sound stands named (new_at address epoch script parts players statements counted new place name player named there);
         way = way_first (SpellsState address) address epoch (new_session place name) (commands_of command place script.lines) refl;
-        counted = omega (arith, left, own);
+        counted = new_room address epoch script parts players statements counted new none numbers place player there;
       }
 
-  pub is_open : (at : AtGate D) → gate_of at.first ≡ gate_id at.gate → seat_view at.first ≡ giving_out (length players) (first_view (spelling_of parts))
+  pub is_open : (at : OpenedGate D) → gate_of at.first ≡ gate_id at.gate → seat_view at.first ≡ giving_out (length players) (first_view (spelling_of parts))
       → AreNewcomers (gate_id at.gate) (first_view (spelling_of parts)) players at.workers.items → IsOpenAtGate address epoch script at
   is_open at gate view seated = record {
     gate = gate;

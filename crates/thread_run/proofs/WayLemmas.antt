@@ -1,5 +1,5 @@
 -- A session's own way goes on with what it does at a moment and without one.
-use Rattle.std.proofs.Common.{◌≡◌, ℕ, ℤ, List, [], ◌∷◌, ◌++◌}
+use Rattle.std.proofs.Common.{ℕ, ℤ, List, [], ◌∷◌, ◌++◌}
 use Rattle.plain_sessions.specs.Records.{Shared}
 use Rattle.plain_sessions.specs.Runs.{Runner}
 use Rattle.plain_sessions.specs.Sessions.{Session}

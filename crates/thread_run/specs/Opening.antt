@@ -13,10 +13,10 @@ use Rattle.seat_gate.specs.declared.workers.Worker.{Worker}
 use Rattle.shared_history.specs.Spelling.{spelling_of}
 use Rattle.script_run.specs.declared.players.Player.{Player}
 use Rattle.thread_run.specs.Going.{IsGoing}
-use Rattle.thread_run.specs.declared.opening.AtGate.{AtGate}
+use Rattle.thread_run.specs.declared.opening.OpenedGate.{OpenedGate}
 
 -- the gate keeps a database that stands for the opening, its first seat gave a seat to each session, and each session is before its first statement
-pub record IsOpenAtGate {D : Type 0} (address : List ℕ → List ℕ) (epoch : ℤ) (script : Script) (at : AtGate D) : Type 0 where
+pub record IsOpenAtGate {D : Type 0} (address : List ℕ → List ℕ) (epoch : ℤ) (script : Script) (at : OpenedGate D) : Type 0 where
   pub gate : gate_of at.first ≡ gate_id at.gate
   pub parts : Parts
   pub stands : StateStands address parts (opening address epoch script.names)

@@ -2,8 +2,11 @@
 //! order of moments.
 #![tactic(auto)]
 
+mod at_gate;
+mod holding;
 mod opening;
 mod running;
 mod session;
 
+pub use at_gate::AtGate;
 pub use running::{Ended, run_text, run_threads, run_to_end};

@@ -15,7 +15,7 @@ use tuple_codec::Digester;
 
 /// The gate, the seat with which it was opened, and the sessions by their places, each with its seat.
 #[derive(Drop)]
-pub(crate) struct AtGate<D: Digester> {
+pub(crate) struct OpenedGate<D: Digester> {
     pub gate: Gate<GatedDb<D>>,
     pub first: Seat,
     pub workers: Vec<Worker<Player<D>>>,
@@ -26,7 +26,7 @@ pub(crate) fn open_at_gate<D: Digester>(
     alloc: Global,
     script: &Script,
     epoch: i64,
-) -> Result<AtGate<D>, PutFault>
+) -> Result<OpenedGate<D>, PutFault>
     requires sound { IsSoundScript script.now }
     requires epoch { pos 0 ≤ℤ epoch }
     ensures opened { IfOk result (IsOpenAtGate D.address epoch script.now) }
@@ -39,7 +39,7 @@ pub(crate) fn open_at_gate<D: Digester>(
     let gated = GatedDb::<D>::open(alloc, statements.as_slice(), epoch)?;
     let (gate, mut first) = Gate::open(alloc, gated)?;
     let workers = gate.seat_workers(alloc, &mut first, players)?;
-    Ok(AtGate {
+    Ok(OpenedGate {
         gate,
         first,
         workers,

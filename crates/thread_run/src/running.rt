@@ -13,7 +13,7 @@ ghost use Rattle.script_run.specs.Scripts.{IsSoundScript};
 ghost use Rattle.thread_run.specs.Ending.{HasEnded, HaveWorked};
 ghost use Rattle.thread_run.specs.Going.{HasWorked, IsAtWork};
 
-use crate::opening::{AtGate, open_at_gate};
+use crate::opening::{OpenedGate, open_at_gate};
 use crate::session::run_session;
 use chunk_store::PutFault;
 use script_run::Player;
@@ -74,7 +74,7 @@ pub fn run_to_end<R: Threads + Wait + Sync, D: Digester, P: Pacer>(
     ensures fault { IfErr result (IsOpeningFault D.address epoch) }
 {
     law_of_states();
-    let AtGate {
+    let OpenedGate {
         gate,
         first,
         workers,

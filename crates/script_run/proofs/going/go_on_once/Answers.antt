@@ -1,6 +1,7 @@
 use Rattle.std.proofs.Common.{◌≡◌, ◌∙◌, refl, sym, ap, subst, true, List, ℕ, length, arith}
 use Rattle.plain_sessions.specs.Commands.{command}
 use Rattle.plain_sessions.specs.Sessions.{is_before_statement}
+use Rattle.session_state.specs.declared.sessions.Session.{Session}
 use Rattle.script_run.specs.Scripts.{is_statement_text}
 use Rattle.script_run.proofs.GoingLemmas.{answers, as_many, asked_of, before_of, fails_for, free_is, has_room, may_number, next_asks, said_of, text_of}
 use Rattle.script_run.proofs.LeftLemmas.{at_less, fewer_left, said_less, settled_at_end, settled_waiting, still, unsettled}
@@ -68,7 +69,9 @@ returns-in-Ok-clause-more g c = λ goes. said_less c.args.player.now c.len-at.re
 
 pub answer_fault-reply-requires-clause-before : goal.answer_fault-reply-requires-clause-before
 answer_fault-reply-requires-clause-before g c κs within =
-    let p = c.requires.player in (p.0, p.3.session, p.1, before_of p.4 (sym c.is_free.ensures ∙ c.if-not-is_free.false))
+    let p = c.requires.player in
+    let before = before_of p.4 (sym c.is_free.ensures ∙ c.if-not-is_free.false) in
+    (p.3.session, before.session_stands, before.before)
 
 pub answer_fault-reply-requires-clause-place : goal.answer_fault-reply-requires-clause-place
 answer_fault-reply-requires-clause-place g c κs within =
@@ -83,8 +86,8 @@ returns-in-Err-clause-goes g c = λ parts shared place runner is.
     let before = before_of is (sym c.is_free.ensures ∙ c.if-not-is_free.false) in
     let next = next_asks is (said_of is (said_less c.args.player.now c.len-at.result c.as_slice-all.result.now (c.len-at.ensures ∙ c.args.player.now.replies.ok.0) c.as_slice-all.ensures c.if-at-all.false)) in
     answers is next.0 next.1.0 next.1.1 c.answer_fault-reply.result _
-    (c.answer_fault-reply.ensures.alone parts runner.session next.0 shared before (fails_for is next.0))
-    (ap is_before_statement before.before) c.push_reserved.ensures.items c.push_reserved.ensures.capacity refl (free_is c.args.player.now.stage (sym c.is_free.ensures ∙ c.if-not-is_free.false))
+    (c.answer_fault-reply.ensures.alone runner.session next.0 before.session_stands before.before (fails_for is next.0))
+    (ap (λ (s : Session g.row.D.Denot). s.draft.chunks.base) c.answer_fault-reply.ensures.same) (ap is_before_statement before.before) c.push_reserved.ensures.items c.push_reserved.ensures.capacity refl (free_is c.args.player.now.stage (sym c.is_free.ensures ∙ c.if-not-is_free.false))
     c.answer_fault-reply.ensures.sound c.answer_fault-reply.ensures.truly
 
 pub returns-in-Err-clause-same : goal.returns-in-Err-clause-same

@@ -1,48 +1,52 @@
-use Rattle.std.proofs.Common.{◌+◌, ◌≤◌, ℤ, subst, arith, w64, to_z, of_z}
+use Rattle.std.proofs.Common.{◌∙◌, ◌+◌, ◌≤◌, ℤ, sym, ap, subst, w64}
+use Rattle.std.proofs.lemmas.Bool.{false≢true}
 use Rattle.std.proofs.lemmas.Int.{to_z-of_z}
-use Rattle.script_run.specs.Following.{IsLed, LedAs, moments_left, steps_made}
-use Rattle.script_run.specs.declared.going.Led.{Led}
+use Rattle.serving.specs.Meetings.{InOneMoment}
+use Rattle.script_run.specs.Following.{IsLed, IsPlayer, is_free, moments_left}
+use Rattle.script_run.specs.declared.players.Stage.{Stage}
 use Rattle.script_run.proofs.going.lead.Goals as goal
 
-pub returns-in-Missed-clause-missed : goal.returns-in-Missed-clause-missed
-returns-in-Missed-clause-missed g c = λ missed shared place runner is.
-    subst (LedAs g.D.Digester.address (to_z w64 (of_z w64 c.args.epoch)) place runner shared c.args.db.now.parts c.lead_in.new.db.parts c.lead_in.new.player) c.in-Missed.is
-    (c.lead_in.ensures.led shared place runner is)
+pub unreachable-requires : goal.unreachable-requires
+unreachable-requires g c = false≢true (sym c.requires.waits ∙ ap is_free (sym c.replace.ensures.value ∙ c.in-Free.is))
 
-pub returns-in-Missed-clause-left : goal.returns-in-Missed-clause-left
-returns-in-Missed-clause-left g c =
-    subst (λ (led : Led). moments_left c.lead_in.new.player + steps_made led ≤ moments_left c.args.player.now) c.in-Missed.is c.lead_in.ensures.left
+pub meet_first-requires-clause-player : goal.meet_first-requires-clause-player
+meet_first-requires-clause-player g c κs within =
+    let p = c.requires.player in
+    (p.0, p.1, p.2, subst (λ (s : Stage). IsPlayer g.D.Digester.address (g.T.Meeting.tells c.args.meeting.now).seen p.0 p.1 p.2 (record c.args.player.now { stage = s })) (sym c.replace.ensures.value ∙ c.in-Waits.is) p.3)
 
-pub returns-in-Made-clause-led : goal.returns-in-Made-clause-led
-returns-in-Made-clause-led g c = λ made shared place runner is.
-    subst (λ (e : ℤ). IsLed g.D.Digester.address e place runner shared c.args.db.now.parts c.lead_in.new.db.parts c.lead_in.new.player) (to_z-of_z w64 c.args.epoch c.ranges.epoch)
-    (subst (LedAs g.D.Digester.address (to_z w64 (of_z w64 c.args.epoch)) place runner shared c.args.db.now.parts c.lead_in.new.db.parts c.lead_in.new.player) c.in-Made.is
-    (c.lead_in.ensures.led shared place runner is))
+pub returns-in-Waits-clause-led : goal.returns-in-Waits-clause-led
+returns-in-Waits-clause-led g c = λ made shared place runner is.
+    subst (λ (e : ℤ). InOneMoment g.D.Digester.address (λ found shared left. IsLed g.D.Digester.address e place runner shared found left c.meet_first.new.player) (g.T.Meeting.tells c.args.meeting.now) (g.T.Meeting.tells c.meet_first.new.meeting))
+    (to_z-of_z w64 c.args.epoch c.ranges.epoch)
+    (c.meet_first.ensures.led made shared place runner
+    (subst (λ (s : Stage). IsPlayer g.D.Digester.address (g.T.Meeting.tells c.args.meeting.now).seen shared place runner (record c.args.player.now { stage = s })) (sym c.replace.ensures.value ∙ c.in-Waits.is) is))
 
-pub returns-in-Made-clause-left : goal.returns-in-Made-clause-left
-returns-in-Made-clause-left g c =
-    subst (λ (led : Led). moments_left c.lead_in.new.player + steps_made led ≤ moments_left c.args.player.now) c.in-Made.is c.lead_in.ensures.left
+pub returns-in-Waits-clause-missed : goal.returns-in-Waits-clause-missed
+returns-in-Waits-clause-missed g c = λ missed parts shared place runner is.
+    c.meet_first.ensures.missed missed parts shared place runner
+    (subst (λ (s : Stage). IsPlayer g.D.Digester.address parts shared place runner (record c.args.player.now { stage = s })) (sym c.replace.ensures.value ∙ c.in-Waits.is) is)
 
-pub work_out-requires-after_bounds : goal.work_out-requires-after_bounds
-work_out-requires-after_bounds g c κs within =
-    let p = c.requires.player in (
-      p.1,
-      p.2,
-      p.0,
-      c.args.db.now.parts,
-      c.lead_in.new.db.parts,
-      subst (LedAs g.D.Digester.address (to_z w64 (of_z w64 c.args.epoch)) p.1 p.2 p.0 c.args.db.now.parts c.lead_in.new.db.parts c.lead_in.new.player) c.in-Started.is
-          (c.lead_in.ensures.led p.0 p.1 p.2 p.3),
-    )
+pub returns-in-Waits-clause-left : goal.returns-in-Waits-clause-left
+returns-in-Waits-clause-left g c =
+    subst (λ (s : Stage). moments_left c.meet_first.new.player + 1 ≤ moments_left (record c.args.player.now { stage = s })) (sym (sym c.replace.ensures.value ∙ c.in-Waits.is)) c.meet_first.ensures.left
 
-pub returns-in-Started-clause-led : goal.returns-in-Started-clause-led
-returns-in-Started-clause-led g c = λ made shared place runner is.
-    c.work_out.ensures.led c.args.epoch place runner shared c.args.db.now.parts c.lead_in.new.db.parts
-    (subst (LedAs g.D.Digester.address (to_z w64 (of_z w64 c.args.epoch)) place runner shared c.args.db.now.parts c.lead_in.new.db.parts c.lead_in.new.player) c.in-Started.is
-    (c.lead_in.ensures.led shared place runner is))
+pub decide-requires-clause-player : goal.decide-requires-clause-player
+decide-requires-clause-player g c κs within =
+    let p = c.requires.player in
+    (p.0, p.1, p.2, subst (λ (s : Stage). IsPlayer g.D.Digester.address (g.T.Meeting.tells c.args.meeting.now).seen p.0 p.1 p.2 (record c.args.player.now { stage = s })) (sym c.replace.ensures.value ∙ c.in-Between.is) p.3)
 
-pub returns-in-Started-clause-left : goal.returns-in-Started-clause-left
-returns-in-Started-clause-left g c =
-    let left : moments_left c.lead_in.new.player + 0 ≤ moments_left c.args.player.now
-    = subst (λ (led : Led). moments_left c.lead_in.new.player + steps_made led ≤ moments_left c.args.player.now) c.in-Started.is c.lead_in.ensures.left in
-    omega (arith, left, c.work_out.ensures.left)
+pub returns-in-Between-clause-led : goal.returns-in-Between-clause-led
+returns-in-Between-clause-led g c = λ made shared place runner is.
+    subst (λ (e : ℤ). InOneMoment g.D.Digester.address (λ found shared left. IsLed g.D.Digester.address e place runner shared found left c.decide.new.player) (g.T.Meeting.tells c.args.meeting.now) (g.T.Meeting.tells c.decide.new.meeting))
+    (to_z-of_z w64 c.args.epoch c.ranges.epoch)
+    (c.decide.ensures.led made shared place runner
+    (subst (λ (s : Stage). IsPlayer g.D.Digester.address (g.T.Meeting.tells c.args.meeting.now).seen shared place runner (record c.args.player.now { stage = s })) (sym c.replace.ensures.value ∙ c.in-Between.is) is))
+
+pub returns-in-Between-clause-missed : goal.returns-in-Between-clause-missed
+returns-in-Between-clause-missed g c = λ missed parts shared place runner is.
+    c.decide.ensures.missed missed parts shared place runner
+    (subst (λ (s : Stage). IsPlayer g.D.Digester.address parts shared place runner (record c.args.player.now { stage = s })) (sym c.replace.ensures.value ∙ c.in-Between.is) is)
+
+pub returns-in-Between-clause-left : goal.returns-in-Between-clause-left
+returns-in-Between-clause-left g c =
+    subst (λ (s : Stage). moments_left c.decide.new.player + 1 ≤ moments_left (record c.args.player.now { stage = s })) (sym (sym c.replace.ensures.value ∙ c.in-Between.is)) c.decide.ensures.left

@@ -1,49 +1,48 @@
-use Rattle.std.proofs.Common.{ℤ, of_z, subst, to_z, w64}
+use Rattle.std.proofs.Common.{Some, ap, refl, subst, w64}
 use Rattle.std.proofs.lemmas.Int.{to_z-of_z}
-use Rattle.script_text.specs.declared.replies.Reply.{Reply}
-use Rattle.plain_sessions.specs.Records.{Shared}
-use Rattle.serving.specs.Closing.{ClosedAs}
-use Rattle.serving.specs.Planning.{IsPlannedFor, by_closing}
-use Rattle.serving.proofs.LookLemmas.{Looks}
-use Rattle.serving.proofs.PlanningLemmas.{looked_here, planned_here, settled_some}
-use Rattle.serving.proofs.StateLemmas.{may_look}
+use Rattle.plain_sessions.specs.declared.commands.Command.TheVariants.{Data}
+use Rattle.serving.specs.Meetings.{IsBetweenAt}
+use Rattle.serving.specs.declared.courses.Found.{Found}
+use Rattle.serving.specs.declared.meeting.Pending.TheVariants as pending
+use Rattle.serving.proofs.ConcludeLemmas.{closing_concludes, found_concludes}
+use Rattle.serving.proofs.SettlingLemmas.{closes_between, commits_at, merges_then}
 use Rattle.serving.proofs.closing.close_found.Goals as goal
 
-pub look-requires : goal.look-requires
-look-requires g c = may_look g.D.Digester.address c.args.session.now c.args.db.now.parts c.requires.closing.0 c.requires.closing.3 c.requires.closing.4
-
-pub plan_found-requires-clause-open : goal.plan_found-requires-clause-open
-plan_found-requires-clause-open g c κs within = let held = c.requires.closing in (held.0, held.1, held.2, held.4.session_stands, held.5, held.6, held.7)
-
-pub plan_found-requires-clause-looked : goal.plan_found-requires-clause-looked
-plan_found-requires-clause-looked g c κs within =
-    let looks : Looks c.args.session.now c.args.db.now.parts c.in_ok-look.look =
-    record { branch = c.in_ok-look.ensures.branch; there = c.in_ok-look.ensures.there; heads = c.in_ok-look.ensures.heads; chunks = c.in_ok-look.ensures.chunks } in
-    let held = c.requires.closing in looked_here c.law_of_states.ensures g.D.Digester.address c.args.session.now c.args.db.now.parts c.in_ok-look.look looks held.0 held.3 held.4
-
-pub settle_closing-requires-clause-planned : goal.settle_closing-requires-clause-planned
-settle_closing-requires-clause-planned g c κs within =
-    let looks : Looks c.args.session.now c.args.db.now.parts c.in_ok-look.look =
-    record { branch = c.in_ok-look.ensures.branch; there = c.in_ok-look.ensures.there; heads = c.in_ok-look.ensures.heads; chunks = c.in_ok-look.ensures.chunks } in
-    let held = c.requires.closing in
-    let date = to_z w64 (of_z w64 c.args.epoch) in (
-      date,
+pub decide_in-requires-clause-asks : goal.decide_in-requires-clause-asks
+decide_in-requires-clause-asks g c κs within =
+    let address = g.D.Digester.address in
+    let m = g.T.Meeting.tells c.args.meeting.now in
+    let held = c.requires.between in (
       held.0,
-      held.1,
-      held.2,
-      held.3,
-      planned_here c.law_of_states.ensures g.D.Digester.address c.args.session.now c.args.db.now.parts c.in_ok-look.look looks held.0 held.1 (by_closing g.D.Digester.address date held.0 held.1 held.2) held.3 held.4
-          c.in_ok-plan.plan (c.in_ok-plan.ensures.planned held.0 held.1 held.2 held.4.session_stands held.5 held.6 held.7),
+      held.1.transaction,
+      Some (closes_between address c.args.session.now m held.0 c.args.asked.now c.args.found.now held.1).0,
+      held.1.at,
+      record {
+        stands = held.1.at.stands;
+        has = held.1.has;
+        of = merges_then address c.args.session.now m held.0 c.args.asked.now c.args.found.now held.1 c.in-Merge.closing c.in-Merge.is;
+      },
     )
 
-pub returns-clause-closed : goal.returns-clause-closed
-returns-clause-closed g c = λ p t ending shared here transaction work_is found_is.
-    let looks : Looks c.args.session.now c.args.db.now.parts c.in_ok-look.look =
-    record { branch = c.in_ok-look.ensures.branch; there = c.in_ok-look.ensures.there; heads = c.in_ok-look.ensures.heads; chunks = c.in_ok-look.ensures.chunks } in
-    let date = to_z w64 (of_z w64 c.args.epoch) in
-    subst (λ (e : ℤ). ClosedAs g.D.Digester.address e p t ending shared c.args.db.now.parts c.settle_closing.new.db.parts c.in-Some.reply) (to_z-of_z w64 c.args.epoch c.ranges.epoch)
-    (settled_some (λ (reply : Reply). (found : Shared) → IsPlannedFor g.D.Digester.address c.args.session.now c.in_ok-look.look c.in_ok-plan.plan p t (by_closing g.D.Digester.address date p t ending) c.args.db.now.parts found
-    → ClosedAs g.D.Digester.address date p t ending found c.args.db.now.parts c.settle_closing.new.db.parts reply)
-    c.in_ok-reply.field-0 c.in-Some.reply c.in-Some.is (c.in_ok-reply.ensures.closed date p t ending) shared
-    (planned_here c.law_of_states.ensures g.D.Digester.address c.args.session.now c.args.db.now.parts c.in_ok-look.look looks p t (by_closing g.D.Digester.address date p t ending) shared here c.in_ok-plan.plan
-    (c.in_ok-plan.ensures.planned p t ending here.session_stands transaction work_is found_is)))
+pub close_commit-requires-clause-between : goal.close_commit-requires-clause-between
+close_commit-requires-clause-between g c κs within =
+    let held = c.requires.between in
+    (held.0, subst (λ (had : Found). IsBetweenAt g.D.Digester.address c.args.session.now (g.T.Meeting.tells c.args.meeting.now) held.0 (Data c.args.asked.now) (pending.Closing had)) c.in-Commit.is held.1)
+
+pub close_commit-requires-clause-commits : goal.close_commit-requires-clause-commits
+close_commit-requires-clause-commits g c κs within =
+    let held = c.requires.between in
+    commits_at g.D.Digester.address c.args.session.now (g.T.Meeting.tells c.args.meeting.now) held.0 c.args.asked.now c.args.found.now held.1 c.in-Commit.is
+
+pub returns-in-Merge-clause-concluded : goal.returns-in-Merge-clause-concluded
+returns-in-Merge-clause-concluded g c =
+    let address = g.D.Digester.address in
+    let m = g.T.Meeting.tells c.args.meeting.now in
+    closing_concludes address c.args.epoch _ (to_z-of_z w64 c.args.epoch c.ranges.epoch) c.args.session.now c.decide_in.new.session m (g.T.Meeting.tells c.decide_in.new.meeting)
+    c.args.asked.now c.args.found.now _ (λ q between. merges_then address c.args.session.now m q c.args.asked.now c.args.found.now between c.in-Merge.closing c.in-Merge.is) (λ q left reply is. is)
+    c.decide_in.result c.decide_in.ensures.decided
+
+pub returns-in-Commit-clause-concluded : goal.returns-in-Commit-clause-concluded
+returns-in-Commit-clause-concluded g c =
+    found_concludes g.D.Digester.address c.args.epoch _ (to_z-of_z w64 c.args.epoch c.ranges.epoch) c.args.session.now c.close_commit.new.session (g.T.Meeting.tells c.args.meeting.now)
+    (g.T.Meeting.tells c.close_commit.new.meeting) (Data c.args.asked.now) (Data c.args.asked.now) refl (pending.Closing c.args.found.now) _ (ap (λ (had : Found). pending.Closing had) c.in-Commit.is) c.close_commit.result c.close_commit.ensures.concluded

@@ -1,13 +1,17 @@
-use Rattle.std.proofs.Common.{ℤ, refl, subst, w64}
+use Rattle.std.proofs.Common.{refl, subst, w64}
 use Rattle.std.proofs.lemmas.Int.{to_z-of_z}
-use Rattle.serving.specs.Closing.{ClosedAs}
-use Rattle.serving.proofs.SettlingLemmas.{closes_between, concluded}
+use Rattle.plain_sessions.specs.declared.commands.Command.{Command}
+use Rattle.serving.specs.Meetings.{IsBetweenAt}
+use Rattle.serving.specs.declared.meeting.Pending.TheVariants as pending
+use Rattle.serving.proofs.ConcludeLemmas.{found_concludes}
 use Rattle.serving.proofs.concluding.conclude_closing.Goals as goal
 
+pub close_found-requires-clause-between : goal.close_found-requires-clause-between
+close_found-requires-clause-between g c κs within =
+    let held = c.requires.between in
+    (held.0, subst (λ (asked : Command). IsBetweenAt g.D.Digester.address c.args.session.now (g.T.Meeting.tells c.args.meeting.now) held.0 asked (pending.Closing c.args.found.now)) c.in-Data.is held.1)
+
 pub returns-clause-concluded : goal.returns-clause-concluded
-returns-clause-concluded g c = λ q shared between.
-    let so = closes_between g.D.Digester.address c.args.epoch c.args.session.now c.args.db.now.parts q c.args.asked.now c.args.found.now shared between c.in-Data.work c.in-Data.is in
-    concluded g.D.Digester.address c.args.epoch c.args.session.now c.args.db.now.parts q c.args.asked.now c.args.found.now shared between c.in-Data.work c.in-Data.is c.close_found.new.db.parts _
-    c.in_ok-reply-in-Data.reply
-    (subst (λ (e : ℤ). ClosedAs g.D.Digester.address e q between.transaction so.0 shared c.args.db.now.parts c.close_found.new.db.parts c.in_ok-reply-in-Data.reply)
-    (to_z-of_z w64 c.args.epoch c.ranges.epoch) (c.in_ok-reply-in-Data.ensures.closed q between.transaction so.0 shared between.here between.has so.1 so.2)) refl
+returns-clause-concluded g c =
+    found_concludes g.D.Digester.address c.args.epoch _ (to_z-of_z w64 c.args.epoch c.ranges.epoch) c.args.session.now c.close_found.new.session (g.T.Meeting.tells c.args.meeting.now)
+    (g.T.Meeting.tells c.close_found.new.meeting) c.args.asked.now _ c.in-Data.is (pending.Closing c.args.found.now) _ refl c.close_found.result c.close_found.ensures.concluded

@@ -1,4 +1,4 @@
-use Rattle.std.proofs.Common.{◌≡◌, ◌∙◌, ℤ, List, ap, length, subst, sym, w64}
+use Rattle.std.proofs.Common.{◌∙◌, ℤ, List, subst, sym, w64}
 use Rattle.std.proofs.lemmas.Int.{to_z-of_z}
 use Rattle.std.proofs.lemmas.List.{take_at}
 use Rattle.seat_gate.specs.Words.{gate_id}

@@ -1,4 +1,4 @@
-use Rattle.std.proofs.Common.{◌≡◌, ◌∙◌, ℤ, List, ap, length, of_z, subst, sym, to_z, w64}
+use Rattle.std.proofs.Common.{◌∙◌, ℤ, List, ap, length, of_z, subst, sym, to_z, w64}
 use Rattle.std.proofs.lemmas.Int.{to_z-of_z}
 use Rattle.std.proofs.lemmas.List.{take_at}
 use Rattle.seat_gate.specs.History.{gathered}
@@ -17,7 +17,7 @@ pub run_all-workers-requires-clause-ready : goal.run_all-workers-requires-clause
 run_all-workers-requires-clause-ready g c κs within = all_at_work g.D.Digester.address (to_z w64 (of_z w64 c.args.epoch)) c.args.script.now c.in_ok-gate.field-0 c.in_ok-gate.ensures.opened
 
 pub close_all-gated-requires-clause-all : goal.close_all-gated-requires-clause-all
-close_all-gated-requires-clause-all g c κs within =
+close_all-gated-requires-clause-all g c =
     let begun = c.in_ok-gate.ensures.opened in
     subst (λ (workers : List (Worker (Player g.row.D.Denot))). AreAllGivenOut (seat_view c.in_ok-gate.field-0.first) (views_of workers)) (sym c.as_mut_slice.ensures.value)
     (all_back g.D.Digester.address (to_z w64 (of_z w64 c.args.epoch)) c.args.script.now c.law_of_states.ensures begun.parts begun.stands begun.players (gate_id c.in_ok-gate.field-0.gate) (seat_view c.in_ok-gate.field-0.first) c.in_ok-gate.field-0.workers.items c.run_all-workers.result.items

@@ -1,11 +1,8 @@
-use Rattle.std.proofs.Common.{◌≡◌, ◌∙◌, ℕ, ℤ, List, Option, Some, ap, refl, subst, sym, w64}
+use Rattle.std.proofs.Common.{◌≡◌, ◌∙◌, ℤ, ap, subst, sym, w64}
 use Rattle.std.proofs.lemmas.Int.{to_z-of_z}
-use Rattle.plain_sessions.specs.Sessions as plain
-use Rattle.plain_sessions.specs.declared.commands.Command.{Command}
 use Rattle.seat_gate.specs.History.{View}
 use Rattle.seat_gate.specs.Words.{seat_view}
 use Rattle.seat_gate.specs.Working.{KeepsPlace, view_in}
-use Rattle.seat_gate.specs.declared.seat.Seat.{Seat}
 use Rattle.thread_run.specs.Going.{IsGoing}
 use Rattle.thread_run.proofs.session.run_session.Goals as goal
 

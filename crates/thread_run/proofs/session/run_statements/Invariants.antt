@@ -1,20 +1,18 @@
-use Rattle.std.proofs.Common.{◌≡◌, ℕ, List, true}
+use Rattle.std.proofs.Common.{◌≡◌, ℕ, List, false, true}
 use Rattle.plain_sessions.specs.Sessions as plain
 use Rattle.plain_sessions.specs.declared.commands.Command.{Command}
-use Rattle.seat_gate.specs.History.{HasMade}
-use Rattle.seat_gate.specs.Words.{gate_id, gate_of, seat_view}
-use Rattle.seat_gate.specs.Working.{KeepsPlace}
+use Rattle.seat_gate.specs.Words.{gate_id, seat_view}
 use Rattle.script_run.specs.Following.{is_settled, moments_left}
+use Rattle.thread_run.specs.Gate.{IsFrom, gate_at, tells_at, view_at}
 use Rattle.thread_run.specs.Going.{IsGoing}
 use Rattle.thread_run.proofs.session.run_statements.Given as goal
 
 abbrev pub invariant-turns : goal.invariant-turns
 invariant-turns g l = record {
-  gate : gate_of l.seat ≡ gate_id l.gate;
-  own : HasMade (seat_view l.seat);
-  keeps : KeepsPlace (seat_view l.fn.seat) (seat_view l.seat);
+  ready : (begun : _) × (gate_at begun ≡ gate_id l.gate) × (view_at begun ≡ seat_view l.fn.seat) × IsFrom g.D.Digester.address begun l.meeting;
+  rests : (tells_at l.meeting).held ≡ false;
   going : (place : ℕ) (first : plain.Session) (all : List Command) → IsGoing g.D.Digester.address l.fn.epoch place first all (seat_view l.fn.seat) l.fn.player
-      → IsGoing g.D.Digester.address l.fn.epoch place first all (seat_view l.seat) l.player;
+      → IsGoing g.D.Digester.address l.fn.epoch place first all (view_at l.meeting) l.player;
   settled : is_settled l.player ≡ true;
 }
 

@@ -10,6 +10,9 @@ returns-clause-opening g c =
     subst (λ (epoch : ℤ). (names : List (List ℕ)) → length names ≡ length c.args.statements.now → StateStands g.D.Digester.address c.in_ok-gated.gated.db.parts (opening g.D.Digester.address epoch names))
     (to_z-of_z w64 c.args.epoch c.ranges.epoch) c.in_ok-gated.ensures.opening
 
+pub returns-clause-moments : goal.returns-clause-moments
+returns-clause-moments g c = c.in_ok-gated.ensures.fits.moments
+
 pub returns-clause-ready : goal.returns-clause-ready
 returns-clause-ready g c = record {
   opened = _;
